@@ -14,9 +14,9 @@ all: bin/desk
 bin/desk: $(SOURCES)
 	@$(HAS_RT)
 	@echo 'Proving and building the program desk, with the crates below it (minutes at the first time).'
-	cd crates/desk && rt run -- batch </dev/null
+	cd crates/desk_app && rt run -- batch </dev/null
 	@mkdir -p bin
-	@cp crates/desk/out/desk $@
+	@cp crates/desk_app/out/desk_app $@
 	@touch $@
 	@echo 'The program is bin/desk.'
 
@@ -30,10 +30,11 @@ first: bin/desk
 	@bin/desk batch < examples/first.jsonl
 
 edits:
-	@echo 'Looking whether each edit that the prover must refuse still applies.'
+	@echo 'Looking whether each edit that the prover must refuse still applies, and whether the crates are those that are drawn.'
 	@python3 scripts/edits.py check
+	@python3 -B scripts/crates.py check
 
-# The gate leaves the program that it proved, built and ran in crates/desk/out. It runs as many checks side by side as there
+# The gate leaves the program that it proved, built and ran in crates/desk_app/out. It runs as many checks side by side as there
 # are processors, each by one job. The prover's allocator gives back what was freed after a tenth of a second, not after a
 # whole one: the largest process, the check of the program, takes up to a quarter of a GB less so.
 test: edits
@@ -41,7 +42,7 @@ test: edits
 	@echo 'Running the merge gate: every proof from nothing, the edits that must fail, every test.'
 	@start=$$SECONDS; MIMALLOC_PURGE_DELAY=100 RT_JOBS=$${RT_JOBS:-$$(nproc)} rt ci || exit 1; echo "The gate took $$((SECONDS - start)) seconds on $$(nproc) processors."
 	@mkdir -p bin
-	@cp crates/desk/out/desk bin/desk
+	@cp crates/desk_app/out/desk_app bin/desk
 	@set -o pipefail; for calls in examples/*.jsonl; do \
 		echo "Comparing the replies to $$calls."; \
 		bin/desk batch < $$calls | diff $${calls%.jsonl}.expected - || exit 1; \
@@ -150,6 +151,8 @@ bench:
 	@python3 bench/reports.py >> bin/PERFORMANCE.md
 	@echo 'Timing the opening of a file of format 1.'
 	@python3 bench/upgrade.py >> bin/PERFORMANCE.md
+	@echo 'Timing a file of a million orders.'
+	@python3 bench/million.py >> bin/PERFORMANCE.md
 	@echo 'Counting the instructions of a call.'
 	@python3 bench/instructions.py --into bin/PERFORMANCE.md
 	@mv bin/PERFORMANCE.md docs/PERFORMANCE.md

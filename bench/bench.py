@@ -11,6 +11,7 @@ left out.
 
 import argparse
 import base64
+import functools
 import hashlib
 import json
 import os
@@ -71,10 +72,15 @@ def made_at(order, orders):
     return OPENED + (NOW - OPENED) * (order - 1) // orders
 
 
+@functools.cache
 def definitions(form=2):
-    """The statements that make the tables and indexes of a format, as the program's own source has them."""
-    with open(os.path.join(TOP, "crates/desk_saving/src/definitions.rt"), encoding="utf-8") as source:
-        found = re.findall(r'"(CREATE [^"]+)"', source.read())
+    """The statements that make the tables and indexes of a format, as a desk has them that the program makes."""
+    with tempfile.TemporaryDirectory(prefix="desk-made-") as folder:
+        path = f"{folder}/desk.db"
+        subprocess.run([f"{TOP}/bin/desk", "make", path, "--base", BASE], check=True, stdout=subprocess.DEVNULL)
+        database = sqlite3.connect(path)
+        found = [text for (text,) in database.execute("SELECT sql FROM sqlite_master WHERE sql IS NOT NULL ORDER BY rowid")]
+        database.close()
     return found if form > 1 else [text for text in found if "TABLE chall_key" not in text]
 
 

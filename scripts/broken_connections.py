@@ -12,12 +12,12 @@ SAID = b"desk: connection\n"
 
 
 class Broken:
-    """A desk whose connections fail (scripts/break_connection.c), and an account's client."""
+    """A desk whose connections fail (scripts/faults.c), and an account's client."""
 
     def __init__(self, program, folder, name):
         self.file, self.folder = f"{folder}/connection-{name}", folder
         self.let_be()
-        env = {**os.environ, "LD_PRELOAD": library("break_connection", folder), "CONNECTION": self.file}
+        env = {**os.environ, "LD_PRELOAD": library(folder), "CONNECTION": self.file}
         self.server = Server(program, fresh(program, folder, f"broken-{name}"), env=env)
         self.client, self.failures = Client(self.server), 0
         self.client.open_account()

@@ -1,12 +1,22 @@
 #!/usr/bin/env python3
 """The edits that the prover must refuse: those of the gate (crates/NAME/must-fail) and the planted ones (planted/NAME).
 
-  scripts/edits.py check         sees that each edit still applies: its old texts stand once, and its first line says what it gets wrong
+  scripts/edits.py check         sees that each edit still applies: its old texts stand once, it says what it gets wrong, and where
   scripts/edits.py try [NAME..]  tries the planted edits of these crates, or of all, crates side by side; the prover must refuse each. Edits of different
                                  functions are made together and told apart by what it says of each function; what this leaves open is tried alone
+  scripts/edits.py uncovered [NAME..]  prints the public functions of these crates, or of all, that no edit changes
 
-An edit may leave out modules that its wrong body does not need, so that it is tried in less time: it puts #[cfg(test)] before what names them. That the
-crate is proved without these, so that it is refused for its wrong body alone, is tried with the planted edits.
+The edits of src/MODULE.rt are planted/NAME/MODULE.edits, those of a file of specs/ or proofs/ stand under the name of that folder. Each is
+
+  edit: its name
+  in: the function that it makes wrong (Type::name of a method), or the item
+  wrong: what is wrong then
+  old: a line, or a part of one, that stands once in the file
+  new: what stands there instead
+
+with further pairs of the last two, and a line `file: src/OTHER.rt` before those of another file. An edit of the gate is a file of its own, as rt wants it.
+It may leave out modules that its wrong body does not need, so that it is tried in less time: it puts #[cfg(test)] before what names them. That the crate
+is proved without these, so that it is refused for its wrong body alone, is tried with the planted edits.
 """
 import contextlib
 import os
@@ -24,10 +34,72 @@ LEFT_OUT = "#[cfg(test)] "
 LOST = re.compile(r"has no field|is not in scope|has no `|was not admitted")  # of a proof that names what an edit took away
 
 
-def edits_of(folder):
-    """The edit files of a folder, by name."""
-    names = sorted(os.listdir(folder)) if os.path.isdir(folder) else []
-    return [f"{folder}/{name}" for name in names if name.endswith(".edit")]
+class Edit:
+    """An edit: where it stands, its name, what it says of itself, and the pairs of texts that it replaces, each with its file."""
+
+    def __init__(self, crate, where, name):
+        self.crate, self.where, self.name = crate, where, name
+        self.item = self.wrong = ""
+        self.pairs = []
+
+    def text(self):
+        """The edit as a file of its own, as rt reads it."""
+        lines = [f"wrong: {self.wrong}"]
+        for at, (path, old, new) in enumerate(self.pairs):
+            lines += [f"file: {path}"] if at == 0 or path != self.pairs[at - 1][0] else []
+            lines += [f"old: {old}", f"new: {new}"]
+        return "\n".join(lines) + "\n"
+
+
+def read_edits(crate, where, path, name=""):
+    """The edits of a file: the one that is its own, of the file's name, or those of a module's file, each after its line `edit:`."""
+    lines = read(where).split("\n")
+    found = [Edit(crate, where, name)] if name else []
+    now, old = path, None
+    for line in lines:
+        word, _, text = line.partition(": ") if not line.startswith("new:") else ("new", "", line[4:].removeprefix(" "))
+        if word == "edit" and not name:
+            found.append(Edit(crate, where, text))
+            now = path
+        elif not found:
+            continue
+        elif word == "in":
+            found[-1].item = text
+        elif word == "wrong":
+            found[-1].wrong = text
+        elif word == "file":
+            now = text.strip()
+        elif word == "old":
+            old = text
+        elif word == "new":
+            found[-1].pairs.append((now, old, text))
+            old = None
+    return found
+
+
+def gate_edits(crate):
+    """A crate's edits of the gate, by name."""
+    folder = f"{ROOT}/crates/{crate}/must-fail"
+    names = sorted(it for it in os.listdir(folder) if it.endswith(".edit")) if os.path.isdir(folder) else []
+    return [edit for name in names for edit in read_edits(crate, f"{folder}/{name}", None, name.removesuffix(".edit"))]
+
+
+def planted_edits(crate):
+    """A crate's planted edits, module by module."""
+    top = f"{ROOT}/planted/{crate}"
+    files = sorted(f"{where}/{name}" for where, _, names in os.walk(top) for name in names if name.endswith(".edits"))
+    return [edit for where in files for edit in read_edits(crate, where, source_of(os.path.relpath(where, top)))]
+
+
+def source_of(edits):
+    """The file of a crate whose edits a file of its planted folder has."""
+    module = edits.removesuffix(".edits")
+    return f"{module}.antt" if module.startswith(("specs/", "proofs/")) else f"src/{module}.rt"
+
+
+def read(path):
+    with open(path, encoding="utf-8") as file:
+        return file.read()
 
 
 def crates_with(folder):
@@ -40,46 +112,45 @@ def leaves_out(old, new):
     return new == LEFT_OUT + old
 
 
-def fault_of(edit, crate):
+def fault_of(edit):
     """Why an edit does not apply to its crate, or nothing."""
-    with open(edit, encoding="utf-8") as file:
-        lines = file.read().split("\n")
-    if not lines[0].startswith("wrong: "):
-        return "its first line does not say what it gets wrong"
-    texts, path, old, changes = {}, None, None, 0
-    for line in lines[1:]:
-        word, _, text = line.partition(": ") if not line.startswith("new:") else ("new", "", line[4:].removeprefix(" "))
-        if word == "file":
-            path = text.strip()
-        elif word == "old":
-            old = text
-        elif word == "new":
-            if path is None or not old:
-                return "a new text stands before any file or old text"
-            if path not in texts:
-                source = f"{ROOT}/crates/{crate}/{path}"
-                if not os.path.isfile(source):
-                    return f"there is no file {path}"
-                with open(source, encoding="utf-8") as file:
-                    texts[path] = file.read()
-            if texts[path].count(old) != 1:
-                return f"{old.strip()!r} stands {texts[path].count(old)} times in {path}"
-            if LEFT_OUT in text and not leaves_out(old, text):
-                return f"{old.strip()!r} is left out and changed"
-            texts[path], changes, old = texts[path].replace(old, text), changes + (not leaves_out(old, text)), None
+    if not edit.wrong:
+        return "it does not say what it gets wrong"
+    texts, changes = {}, 0
+    for path, old, new in edit.pairs:
+        if path is None or not old:
+            return "a new text stands before any file or old text"
+        source = f"{ROOT}/crates/{edit.crate}/{path}"
+        if not os.path.isfile(source):
+            return f"there is no file {path}"
+        text = texts.get(path) or read(source)
+        if text.count(old) != 1:
+            return f"{old.strip()!r} stands {text.count(old)} times in {path}"
+        if LEFT_OUT in new and not leaves_out(old, new):
+            return f"{old.strip()!r} is left out and changed"
+        texts[path], changes = text.replace(old, new), changes + (not leaves_out(old, new))
     return None if changes else "it changes nothing"
+
+
+def misplaced(edit):
+    """Why a planted edit does not stand where it belongs, or nothing."""
+    items = items_changed(edit)
+    if edit.item in items:
+        return None
+    return f"it says that it is in {edit.item or 'nothing'}, and changes {', '.join(items) or 'no item'}"
 
 
 def check():
     """Prints the edits that do not apply; returns whether all do."""
-    found = 0
-    faults = []
+    faults, found = [], 0
     for crate in sorted(os.listdir(f"{ROOT}/crates")):
-        for edit in edits_of(f"{ROOT}/crates/{crate}/must-fail") + edits_of(f"{ROOT}/planted/{crate}"):
-            found += 1
-            why = fault_of(edit, crate)
+        gate, planted = gate_edits(crate), planted_edits(crate)
+        names = [it.name for it in planted]
+        found += len(gate) + len(planted)
+        for edit in gate + planted:
+            why = fault_of(edit) or (misplaced(edit) or ("its name stands twice" if names.count(edit.name) > 1 else None) if edit in planted else None)
             if why:
-                faults.append(f"{os.path.relpath(edit, ROOT)}: {why}")
+                faults.append(f"{os.path.relpath(edit.where, ROOT)}: {edit.name}: {why}")
     for crate in crates_with(f"{ROOT}/planted"):
         if not os.path.isdir(f"{ROOT}/crates/{crate}"):
             faults.append(f"planted/{crate}: there is no such crate")
@@ -95,10 +166,12 @@ def lanes():
 
 
 class Function:
-    """A function of a source: its file, its name, its lines, from 0, and whether no other in the file has its name."""
+    """A function of a source: its file, its name, that with its type's, its lines, from 0, and whether no other in the file has its name."""
 
-    def __init__(self, path, name, first, last):
-        self.path, self.name, self.first, self.last = path, name, first, last
+    def __init__(self, path, head, owner, first, last):
+        self.path, self.first, self.last = path, first, last
+        self.name, self.is_public = head[3], head[2] == "pub "
+        self.owner = owner
         self.is_only = True
         self.key = path, first
 
@@ -109,15 +182,30 @@ class Function:
         """Whether the proof files of this name in a folder of proofs/ are this function's, and no other's."""
         return self.is_only and self.name == name and f"{folder}/".startswith(self.path[len("src/") : -len(".rt")] + "/")
 
+    def item(self):
+        """How an edit names it: by its type, and by its trait, too, where the type has others of this name."""
+        if not self.owner:
+            return self.name
+        trait, _, of = self.owner.rpartition(" for ")
+        return f"{of}::{self.name}" if self.is_only or not trait else f"<{of} as {trait}>::{self.name}"
+
+
+FUNCTION = re.compile(r"( *)(pub |pub\([a-z]+\) )?(?:const )?fn (\w+)")
+OWNER = re.compile(r"impl(?:<[^{]*?>)? (?:([\w<>', &()\[\];:]+) for )?([^{]+?)(?: where .*)?(?: \{|$)|(?:pub )?trait (\w+)")
+ITEM = re.compile(r"(?:pub(?:\([a-z]+\))? )?(?:(?:struct|enum|trait|const|type|static|ghost|abbrev|unfoldable|data|record) )+(?:pub )?([\w-]+)|([\w-]+)")
+
 
 def functions_of(path, text):
     """The functions of a formatted source; each ends at the brace that stands as deep as it begins, or on its own line."""
-    lines, found = text.split("\n"), []
+    lines, found, owner = text.split("\n"), [], ""
     for first, line in enumerate(lines):
-        head = re.match(r"( *)(?:pub(?:\([a-z]+\))? )?(?:const )?fn (\w+)", line)
+        if re.match(r"\S", line) and not line.startswith(("}", "#", "/", ")")):
+            head = OWNER.match(line)
+            owner = (f"{head[1]} for " if head[1] else "") + re.sub(r"<.*>$", "", head[2] or head[3]) if head else ""
+        head = FUNCTION.match(line)
         if head:
             ends = (at for at in range(first, len(lines)) if lines[at] == head[1] + "}" or lines[at].endswith("{}") or lines[at].endswith(";") and at == first)
-            found.append(Function(path, head[2], first, next(ends, len(lines) - 1)))
+            found.append(Function(path, head, owner if head[1] else "", first, next(ends, len(lines) - 1)))
     names = [it.name for it in found]
     for it in found:
         it.is_only = names.count(it.name) == 1
@@ -129,47 +217,57 @@ def messages(said):
     return re.sub(r"\n  +", " ", said).split("\n")
 
 
-class Edit:
-    """A planted edit: the texts that it replaces, and the functions of src/ that it changes, none where it changes more than functions."""
+def functions_changed(edit):
+    """The functions of src/ that an edit changes, none where it changes more than functions."""
+    found = []
+    for path, old, _ in edit.pairs:
+        inside = functions_at(edit.crate, path, old)
+        if not inside:
+            return []
+        found.append(inside[-1])
+    return found
 
-    def __init__(self, file, folder):
-        self.file, self.name = file, os.path.basename(file)
-        self.pairs, self.functions = [], []
-        path = old = None
-        with open(file, encoding="utf-8") as it:
-            for line in it.read().split("\n")[1:]:
-                if line.startswith("file: "):
-                    path = line[len("file: ") :].strip()
-                elif line.startswith("old: "):
-                    old = line[len("old: ") :]
-                elif line.startswith("new:"):
-                    self.pairs.append((path, old, line[len("new:") :].removeprefix(" ")))
-        for path, old, _ in self.pairs:
-            with open(f"{folder}/{path}", encoding="utf-8") as it:
-                text = it.read()
-            line = text[: text.index(old)].count("\n")
-            inside = [it for it in functions_of(path, text) if it.holds(path, line)]
-            if not path.startswith("src/") or not inside:
-                self.functions = []
-                return
-            self.functions.append(inside[-1])
 
-    def is_refused(self, said):
-        """Whether the prover's words refuse a function that the edit changes, for what stands in it and not for a name that it lost."""
-        for line in messages(said):
-            at = re.match(r"(?:note: )?(?:\./)?(src/\S+?):(\d+):\d+: (?:error: |it is not proved)", line)
-            if at and any(it.holds(at[1], int(at[2]) - 1) for it in self.functions):
-                return True
-            at = re.match(r"(?:\./)?proofs/(\S+)/(\w+)/\w+\.antt:\d+:\d+: error: (.*)", line)
-            if at and not LOST.search(at[3]) and any(it.is_proved_in(at[1], at[2]) for it in self.functions):
-                return True
-        return False
+def functions_at(crate, path, old):
+    """The functions of a source in which a text stands, the innermost last."""
+    if not path.startswith("src/"):
+        return []
+    text = read(f"{ROOT}/crates/{crate}/{path}")
+    line = text[: text.index(old)].count("\n")
+    return [it for it in functions_of(path, text) if it.holds(path, line)]
+
+
+def items_changed(edit):
+    """What an edit may say that it is in: the functions that it changes, or the items in which its texts stand."""
+    found = []
+    for path, old, new in edit.pairs:
+        inside = functions_at(edit.crate, path, old)
+        if inside:
+            found.append(inside[-1].item())
+        elif not leaves_out(old, new):
+            before = read(f"{ROOT}/crates/{edit.crate}/{path}").partition(old)
+            lines = (before[0] + old).split("\n")
+            heads = (ITEM.match(line) for line in reversed(lines) if re.match(r"\w", line))
+            found += [next((it[1] or it[2] for it in heads if it), "")]
+    return list(dict.fromkeys(it for it in found if it))
+
+
+def is_refused(functions, said):
+    """Whether the prover's words refuse a function that an edit changes, for what stands in it and not for a name that it lost."""
+    for line in messages(said):
+        at = re.match(r"(?:note: )?(?:\./)?(src/\S+?):(\d+):\d+: (?:error: |it is not proved)", line)
+        if at and any(it.holds(at[1], int(at[2]) - 1) for it in functions):
+            return True
+        at = re.match(r"(?:\./)?proofs/(\S+)/(\w+)/\w+\.antt:\d+:\d+: error: (.*)", line)
+        if at and not LOST.search(at[3]) and any(it.is_proved_in(at[1], at[2]) for it in functions):
+            return True
+    return False
 
 
 @contextlib.contextmanager
 def made(folder, pairs):
     """Has a crate's texts replaced for a while."""
-    sources = {path: open(f"{folder}/{path}", encoding="utf-8").read() for path, _, _ in pairs}
+    sources = {path: read(f"{folder}/{path}") for path, _, _ in pairs}
     texts = dict(sources)
     for path, old, new in pairs:
         texts[path] = texts[path].replace(old, new)
@@ -220,7 +318,7 @@ def refused_together(folder, edits):
     seed, kept = f"{folder}/out/seed", f"{folder}/out/incremental"
     taken, chosen = set(), []
     for edit in edits:
-        keys = {it.key for it in edit.functions}
+        keys = {it.key for it in functions_changed(edit)}
         if keys and not keys & taken:
             taken |= keys
             chosen.append(edit)
@@ -229,14 +327,13 @@ def refused_together(folder, edits):
     with made(folder, [pair for edit in chosen for pair in edit.pairs]):
         status, said = run(folder, "check", "--jobs", "1")
     is_verdict = status == 1 and "logic=not-proved" in said
-    return [it for it in chosen if is_verdict and it.is_refused(said)]
+    return [it for it in chosen if is_verdict and is_refused(functions_changed(it), said)]
 
 
 def unproved_without(crate, folder):
     """The lines on the gate's edits of a crate that leave out what it is not proved without."""
     bad = []
-    for file in edits_of(f"{ROOT}/crates/{crate}/must-fail"):
-        edit = Edit(file, folder)
+    for edit in gate_edits(crate):
         without = [(path, old, new) for path, old, new in edit.pairs if leaves_out(old, new)]
         if without:
             with made(folder, without):
@@ -253,7 +350,8 @@ def try_alone(copy, crate, edits):
     folder = f"{copy}/crates/{crate}/must-fail"
     os.mkdir(folder)
     for edit in edits:
-        shutil.copy2(edit.file, folder)
+        with open(f"{folder}/{edit.name}.edit", "w", encoding="utf-8") as file:
+            file.write(edit.text())
     status, said = run(copy, "must-fail", crate)
     lines = [line for line in said.splitlines() if line.startswith("rt: must-fail ")]
     bad = [line for line in lines if ": refused" not in line or "names what the edit took away" in line]
@@ -265,7 +363,7 @@ def try_alone(copy, crate, edits):
 def try_crate(copy, crate):
     """Tries a crate's planted edits; returns how many were tried alone, and the lines on those that are not refused."""
     folder = f"{copy}/crates/{crate}"
-    left = [Edit(it, folder) for it in edits_of(f"{ROOT}/planted/{crate}")]
+    left = planted_edits(crate)
     status, said = run(folder, "check", "--jobs", "1")
     if status:
         return 0, [f"{crate} is not proved as it stands", said[-2000:]]
@@ -290,19 +388,50 @@ def try_planted(names):
             copy_for(name, copy)
             alone, bad = try_crate(copy, name)
         with printing:
-            tried.append(len(edits_of(f"{ROOT}/planted/{name}")))
+            tried.append(len(planted_edits(name)))
             print(f"{name}: {tried[-1]} edits, {alone} of them alone, {len(bad)} not refused", *bad, sep="\n  ", flush=True)
             if bad:
                 failed.append(name)
 
-    names = sorted(names, key=lambda it: -len(edits_of(f"{ROOT}/planted/{it}")))
+    names = sorted(names, key=lambda it: -len(planted_edits(it)))
     with ThreadPoolExecutor(lanes()) as pool:
         list(pool.map(one, names))
     print(f"{sum(tried)} planted edits tried; {'crates with one that was not refused: ' + ' '.join(sorted(failed)) if failed else 'each was refused'}")
     return not failed
 
 
+def public_functions(crate):
+    """The public functions of a crate that have a body: a law has none, and a test is none."""
+    for where, _, names in sorted(os.walk(f"{ROOT}/crates/{crate}/src")):
+        for name in sorted(it for it in names if it.endswith(".rt")):
+            text = read(f"{where}/{name}")
+            lines = text.split("\n")
+            path = os.path.relpath(f"{where}/{name}", f"{ROOT}/crates/{crate}")
+            for it in functions_of(path, text):
+                if it.is_public and not lines[it.last].endswith(("{}", ";")):
+                    yield it
+
+
+def uncovered(crates):
+    """Prints the public functions that no edit changes, and how many there are of how many."""
+    all_, lacking = 0, 0
+    for crate in crates:
+        changed = set()
+        for edit in gate_edits(crate) + planted_edits(crate):
+            for path, old, _ in edit.pairs:
+                changed |= {it.key for it in functions_at(crate, path, old)[-1:]}
+        for it in public_functions(crate):
+            all_ += 1
+            if it.key not in changed:
+                lacking += 1
+                print(f"{crate}/{it.path}:{it.first + 1}: {it.item()}")
+    print(f"{all_} public functions, {lacking} that no edit changes")
+
+
 def main(words):
+    if words[:1] == ["uncovered"]:
+        uncovered(words[1:] or sorted(os.listdir(f"{ROOT}/crates")))
+        return 0
     if words[:1] == ["check"] and len(words) == 1:
         return 0 if check() else 1
     if words[:1] == ["try"]:

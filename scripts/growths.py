@@ -219,7 +219,7 @@ def main():
     parser.add_argument("--step", type=int, default=1)
     words = parser.parse_args()
     with workspace("growths") as folder, tempfile.TemporaryDirectory() as built:
-        given = os.path.abspath(words.program), library("refuse_growth", built), words.step
+        given = os.path.abspath(words.program), library(built), words.step
         tries = [partial(served, *given, kind, alone) for kind in KINDS for alone in (True, False)]
         side_by_side([*batches(*given), *tries, partial(long_methods, *given[:2])], folder)
     return finish("Growths")

@@ -133,7 +133,7 @@ class TriedHouse(House):
         self.say("The program is compiled as it is, WITHOUT PROOF: some minutes.")
         start = time.monotonic()
         words = ["rt", "try", "--seconds", str(RUNNING), "--cases", cases]
-        self.desk = Run("rt", words, self.note, "case=2-serve", cwd=f"{ROOT}/crates/desk")
+        self.desk = Run("rt", words, self.note, "case=2-serve", cwd=f"{ROOT}/crates/desk_app")
         self.runs.append(self.desk)
         while not self._is_there():
             if self.desk.run.poll() is not None:

@@ -19,24 +19,23 @@ import sys
 import tempfile
 
 ROOT = os.path.dirname(os.path.dirname(os.path.abspath(__file__)))
-CRATES = "desk_model desk_book desk_storage desk_columns stored_rows written_rows desk_decisions desk_calls"
+CRATES = "desk_model desk_book store_api store_columns store_book desk_core desk"
 # More growths than the program makes by its calls, and than it makes before them.
 MOST = 900
 MAIN = r"""
 //! Calls of the library, one growth refused; each is made again with memory.
 #![tactic(auto)]
 use desk_book::{Book, Row, Table};
-use desk_calls::{Desk, DeskFault, Memory};
-use desk_columns::StoredRows;
-use desk_decisions::decide;
+use desk::{Desk, DeskFault, Memory};
+use desk_core::decide;
 use desk_model::*;
-use desk_storage::{Storage, StorageFault};
+use store_api::{Storage, StorageFault};
 use std::alloc::Global;
 use std::io::BufRead;
 use std::marker::Model;
 use std::process::ExitCode;
-use stored_rows::{RowsFault, from_rows};
-use written_rows::*;
+use store_book::{RowsFault, from_rows};
+use store_columns::*;
 
 const STATUSES: [u16; 5] = [204, 201, 201, 200, 200];
 
@@ -153,27 +152,112 @@ fn applied(alloc: Global) -> Option<(Book, bool)> {
 
 // ---- from_rows
 
-fn columns<R: Row, C: Drop>(alloc: Global, rows: &Table<R>, columns_of: fn(Global, &R) -> Result<C, WriteFault>) -> Option<Sequence<C>> {
+fn bytes(alloc: Global, bytes: &[u8]) -> Option<Sequence<u8>> {
+    Some(Sequence::new(Vec::from_slice(alloc, bytes).ok()?))
+}
+
+fn meta_columns(alloc: Global, row: &Meta) -> Option<MetaColumns> {
+    Some(MetaColumns {
+        id: 1,
+        format: FORMAT,
+        base: text(alloc, row.policy.base())?,
+        nonce_life: row.policy.nonce_life() as i64,
+        order_life: row.policy.order_life() as i64,
+        authz_life: row.policy.authz_life() as i64,
+        clock: row.counters.clock.moment() as i64,
+        nonces: row.counters.nonces as i64,
+        accounts: row.counters.accounts as i64,
+        orders: row.counters.orders as i64,
+        authzs: row.counters.authorizations as i64,
+        challs: row.counters.challenges as i64,
+    })
+}
+
+fn nonce_columns(alloc: Global, row: &Nonce) -> Option<NonceColumns> {
+    Some(NonceColumns { serial: row.serial as i64, random: bytes(alloc, row.random.as_slice())?, issued: row.issued as i64 })
+}
+
+// Of an account with the contact of `calls`.
+fn account_columns(alloc: Global, row: &AccountRow) -> Option<AccountColumns> {
+    Some(AccountColumns {
+        num: row.number as i64,
+        jwk: text(alloc, row.key.canonical())?,
+        contacts: text(alloc, r#"["mailto:a@b.example"]"#)?,
+        opened: row.opened as i64,
+        ended: None,
+        end_kind: None,
+        status: text(alloc, row.status.as_str())?,
+    })
+}
+
+// Of an order that is not finalized.
+fn order_columns(alloc: Global, row: &OrderRow) -> Option<OrderColumns> {
+    Some(OrderColumns {
+        num: row.number as i64,
+        account: row.account as i64,
+        made: row.made as i64,
+        expires: row.expires as i64,
+        finalized: None,
+        csr: None,
+        certified: None,
+        cert: None,
+        failed: None,
+        problem: None,
+        status: text(alloc, row.status.as_str())?,
+    })
+}
+
+// Of an authorization that nothing ended.
+fn authorization_columns(alloc: Global, row: &AuthorizationRow) -> Option<AuthzColumns> {
+    Some(AuthzColumns {
+        num: row.number as i64,
+        account: row.account as i64,
+        name: text(alloc, row.name.base())?,
+        wildcard: if row.name.is_wildcard() { 1 } else { 0 },
+        made: row.made as i64,
+        expires: row.expires as i64,
+        ended: None,
+        end_kind: None,
+        status: text(alloc, row.status.as_str())?,
+    })
+}
+
+// Of a challenge that was not answered.
+fn challenge_columns(alloc: Global, authorization: u64, row: &ChallengeRow) -> Option<ChallColumns> {
+    Some(ChallColumns {
+        num: row.number as i64,
+        authz: authorization as i64,
+        kind: text(alloc, row.kind.as_str())?,
+        token: bytes(alloc, row.token.as_slice())?,
+        answered: None,
+        reported: None,
+        outcome: None,
+        status: text(alloc, row.status.as_str())?,
+    })
+}
+
+fn columns<R: Row, C: Drop>(alloc: Global, rows: &Table<R>, columns_of: fn(Global, &R) -> Option<C>) -> Option<Sequence<C>> {
     let mut all = Vec::new(alloc);
     for row in rows.iter() {
-        all.push(columns_of(alloc, row).ok()?).ok()?;
+        all.push(columns_of(alloc, row)?).ok()?;
     }
     Some(Sequence::new(all))
 }
 
 fn stored(alloc: Global, book: &Book) -> Option<StoredRows> {
     let mut metas = Vec::new(alloc);
-    metas.push(meta_columns(alloc, book.meta()).ok()?).ok()?;
+    metas.push(meta_columns(alloc, book.meta())?).ok()?;
     let mut order_authzs = Vec::new(alloc);
     for order in book.orders().iter() {
         for listed in order.listed.as_slice() {
-            order_authzs.push(listed_columns(order.number, listed).ok()?).ok()?;
+            let columns = OrderAuthzColumns { ord: order.number as i64, place: listed.place as i64, authz: listed.authorization as i64 };
+            order_authzs.push(columns).ok()?;
         }
     }
     let mut challs = Vec::new(alloc);
     for authz in book.authorizations().iter() {
         for challenge in authz.challenges.as_slice() {
-            challs.push(challenge_columns(alloc, authz.number, challenge).ok()?).ok()?;
+            challs.push(challenge_columns(alloc, authz.number, challenge)?).ok()?;
         }
     }
     Some(StoredRows {
@@ -222,7 +306,7 @@ impl Model for Unsaved {
 
 impl Storage for Unsaved {
     ghost use Rattle.desk_model.specs.Tables.{Tables};
-    ghost use Rattle.desk_storage.specs.InMemory.{in_memory};
+    ghost use Rattle.store_api.specs.InMemory.{in_memory};
 
     ghost Content = { Tables };
 

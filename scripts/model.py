@@ -527,3 +527,26 @@ class Desk:
             setattr(found, name, (content, self.m))
             self.clock = self.m
         return 200, None, None, compact(self.order_document(number))
+
+    # ---- what the operator ends
+
+    def revoke_authorization(self, number, _):
+        if not 1 <= number <= len(self.authorizations):
+            raise Refused(2)
+        status = self.authorization_status(number)
+        if status not in ("pending", "valid", "revoked"):
+            raise Refused(14)
+        if status != "revoked":
+            self.authorizations[number - 1].end, self.clock = ("revoked", self.m), self.m
+        return 200, None, None, compact(self.authorization_document(number))
+
+    def revoke_account(self, number, _):
+        if not 1 <= number <= len(self.accounts):
+            raise Refused(2)
+        status = self.accounts[number - 1].status()
+        if status not in ("valid", "revoked"):
+            raise Refused(14)
+        if status != "revoked":
+            self.end_account(number, "revoked")
+            self.clock = self.m
+        return 200, None, None, compact(self.account_document(number))

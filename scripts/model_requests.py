@@ -23,8 +23,10 @@ ROUTES = [(re.compile(path.replace("{n}", "([1-9][0-9]*)")), methods, call) for 
     ("/office/report/{n}", ("POST",), "report"),
     ("/office/certify/{n}", ("POST",), "certify"),
     ("/office/fail/{n}", ("POST",), "fail"),
+    ("/office/revoke-authz/{n}", ("POST",), "revoke_authorization"),
+    ("/office/revoke-account/{n}", ("POST",), "revoke_account"),
 )]
-UNSIGNED = {"directory", "new_nonce", "key_of", "challenge_work", "order_work", "report", "certify", "fail"}
+UNSIGNED = {"directory", "new_nonce", "key_of", "challenge_work", "order_work", "report", "certify", "fail", "revoke_authorization", "revoke_account"}
 
 
 def route(call):

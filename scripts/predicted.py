@@ -2,8 +2,8 @@
 """Compares random batches with a model of the specification: scripts/predicted.py PROGRAM [--batches 100] [--seed N]
 
 Each batch is answered over a file of its own, by a desk of long or short lives: accounts, key changes, orders of few names, so
-that authorizations are used again, challenges, reports by the right key and by others, certificates, ends, all at moments that
-rise and fall. Each reply is the one that scripts/model.py gives, and the file has its tables then. The same seed makes the same
+that authorizations are used again, challenges, reports by the right key and by others, certificates, ends, revocations, all at moments
+that rise and fall. Each reply is the one that scripts/model.py gives, and the file has its tables then. The same seed makes the same
 batches.
 """
 import json
@@ -134,9 +134,15 @@ class Calls:
             ("GET", f"/office/key/{self.number(self.desk.accounts)}", ""), ("GET", "/office/challenges", ""), ("GET", "/office/orders", "")))
         return self.call(method, path, body)
 
+    def revocation(self):
+        """Of an authorization, now and then of an account."""
+        if self.chance.random() < 0.1:
+            return self.call("POST", f"/office/revoke-account/{self.number(self.desk.accounts)}")
+        return self.call("POST", f"/office/revoke-authz/{self.number(self.desk.authorizations)}", self.chance.choice(("", "{}", "no body")))
+
     def all(self):
         """A batch; it ends early where a call ends in a fault."""
-        kinds = (self.new_nonce, self.key_change, self.account, self.authorization, *(self.new_account, self.office) * 2,
+        kinds = (self.new_nonce, self.key_change, self.account, self.authorization, self.revocation, *(self.new_account, self.office) * 2,
                  *(self.new_order, self.order, self.challenge, self.report) * 4)
         is_going = self.call("GET", "/new-nonce")
         while is_going and len(self.lines) < CALLS:

@@ -2,8 +2,8 @@
 """Tries `serve` from outside, over loopback: scripts/serve.py PROGRAM [GROUP..]
 
 The worked replies and the refusals of docs/SPECIFICATION.md byte for byte, the batches of examples/ as HTTP requests
-(stories.py), requests that are none (bad_requests.py), connections that fail (broken_connections.py), clients that are slow,
-silent, or gone, and what ends the program. The clients that wait for the desk's patience to end are tried beside the rest. With
+(stories.py), requests that are none (bad_requests.py), connections that fail (broken_connections.py), the log, revocations by
+the port and a file that is taken away (operated.py), clients that are slow, silent, or gone, and what ends the program. The clients that wait for the desk's patience to end are tried beside the rest. With
 groups only these are tried.
 """
 import os
@@ -17,6 +17,7 @@ import time
 
 from bad_requests import bad_requests, limits, padded
 from broken_connections import failing_reads, failing_writes
+from operated import OPERATED
 from served import (BASE, BODY, DIRECTORY, HEAD, NEW_NONCE, ROUTES, STOPPED, WORKED, Client, Reply, Server, compact,
                     directory_reply, masked, nonce_reply, received, refusal, reply, request, serial_of, signed)
 from stories import set_machine, stories
@@ -276,7 +277,7 @@ def words(program, folder):
     path = fresh(program, folder, "words")
     missing = f"{folder}/missing.db"
     wrong = ("", "--port", "--port 65536", "--port -1", "--port x", "--port 0 --count -1", "--port 0 --count x",
-             "--port 0 --count", "--port 0 more", f"--port 0 --base {BASE}")
+             "--port 0 --count", "--port 0 --log xml", "--port 0 --log text json", "--port 0 more", f"--port 0 --base {BASE}")
     for more in [*map(str.split, wrong), ["--port", ""]]:
         status, out, said = run(program, "serve", missing, *more)
         see(f"serve with the words {more}", (status, out, said != b""), (2, b"", True))
@@ -364,7 +365,7 @@ def full_disk(program, folder):
 
 PATIENT = (silent, dripping, staying, flooding)
 PROMPT = (worked, methods, key_changes, renewed, stories, set_machine, bad_requests, limits, slow, pipelined, gone, failing_reads,
-          failing_writes, waiting, counts, words, together, outputs, terminated, full_disk)
+          failing_writes, waiting, counts, words, together, outputs, terminated, full_disk, *OPERATED)
 
 
 def tried(group, program, folder):

@@ -171,11 +171,11 @@ def try_failures(whole, preload):
 class Served:
     """A call that `serve` answers over the file of a whole run, at the moment and with the random bytes of that run."""
 
-    def __init__(self, whole, preloads):
+    def __init__(self, whole, preload):
         call = json.loads(whole.call)
-        self.whole, self.path, self.preloads = whole, call["path"], preloads
+        self.whole, self.path = whole, call["path"]
         self.request = request(call["method"], call["path"], call["body"].encode())
-        self.machine = Machine(whole.folder, preloads["machine"])
+        self.machine = Machine(whole.folder, preload)
         self.machine.set(call["at"])
 
     def serve(self, count=1, **env):
@@ -192,8 +192,7 @@ class Served:
     def fail(self, at):
         """The reply and the end where a call to the disk fails, and whether it did."""
         self.whole.again()
-        preload = f"{self.preloads['stop_at_write']}:{self.preloads['machine']}"
-        server = self.serve(LD_PRELOAD=preload, STOP_SERVING="1", **failing(self.whole.path, at))
+        server = self.serve(STOP_SERVING="1", **failing(self.whole.path, at))
         came = server.ask(self.request).removesuffix(b"(reset)")
         return came, server.ended(), has_failed(self.whole.path)
 
@@ -208,9 +207,9 @@ class Served:
         return found
 
 
-def try_serving(whole, preloads):
+def try_serving(whole, preload):
     """Has each call to the disk fail in turn while `serve` answers a call and ends."""
-    served, ends = Served(whole, preloads), collections.Counter()
+    served, ends = Served(whole, preload), collections.Counter()
     replies = served.replies()
     for at in range(1, 10000):
         came, ended, is_failed = served.fail(at)
@@ -227,15 +226,15 @@ def try_serving(whole, preloads):
     print(f"{whole.name}, served: {sum(ends.values())} calls to the disk failed: {', '.join(f'{end} {times}' for end, times in sorted(ends.items()))}")
 
 
-def try_call(name, desk, call, statuses, preloads, folder):
+def try_call(name, desk, call, statuses, preload, folder):
     """Stops and fails a call on a desk, whose orders have these statuses before it and after it."""
     whole = Whole(name, desk.program, desk.path, call, folder)
     see(f"{name}: the whole run", (whole.status, whole.reply[:2] in (b"20", b"40")), (0, True))
     found = tuple(" ".join(row[-1].decode() for row in tables["ord"]) for tables in (whole.before, whole.after))
     see(f"{name}: the orders", found, statuses)
-    try_stops(whole, preloads["stop_at_write"])
-    try_failures(whole, preloads["stop_at_write"])
-    try_serving(whole, preloads)
+    try_stops(whole, preload)
+    try_failures(whole, preload)
+    try_serving(whole, preload)
 
 
 def try_upgrade(program, preload, name, folder):
@@ -299,11 +298,11 @@ def first_calls(desk):
     ]
 
 
-def first_requests(program, preloads, folder):
+def first_requests(program, preload, folder):
     """The first requests on a new desk, each stopped at each write."""
     desk = Desk(program, folder)
     for name, call, statuses in first_calls(desk):
-        try_call(name, desk, call, statuses, preloads, folder)
+        try_call(name, desk, call, statuses, preload, folder)
         desk.answer(call)
 
 
@@ -456,20 +455,19 @@ SCENARIOS = [
 ]
 
 
-def try_scenario(program, preloads, scenario, folder):
+def try_scenario(program, preload, scenario, folder):
     name, prepared, terms, statuses = scenario
     desk = Desk(program, folder, terms)
-    try_call(name, desk, prepared(desk), statuses, preloads, folder)
+    try_call(name, desk, prepared(desk), statuses, preload, folder)
 
 
 def main(program):
     with workspace("stops") as folder, tempfile.TemporaryDirectory() as built:
-        preloads = {name: library(name, built) for name in ("stop_at_write", "machine", "count_syncs")}
-        given = program, preloads["stop_at_write"]
-        tries = [partial(first_requests, program, preloads), partial(try_make, *given), partial(new_nonce, *given)]
-        tries += [partial(try_scenario, program, preloads, scenario) for scenario in SCENARIOS]
+        given = program, library(built)
+        tries = [partial(first_requests, *given), partial(try_make, *given), partial(new_nonce, *given)]
+        tries += [partial(try_scenario, *given, scenario) for scenario in SCENARIOS]
         tries += [partial(try_together, *given, syncs=syncs) for syncs in ("once", "twice")]
-        tries += [partial(try_syncs, program, preloads["count_syncs"])]
+        tries += [partial(try_syncs, *given)]
         side_by_side([*tries, *(partial(try_upgrade, *given, name) for name in RICH)], folder)
     return finish("Stops")
 

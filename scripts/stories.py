@@ -123,7 +123,7 @@ class Story:
 
 
 class Machine:
-    """The clock and the random bytes of a program, which the script sets (by scripts/machine.c, compiled into `preload`)."""
+    """The clock and the random bytes of a program, which the script sets (by scripts/faults.c, compiled into `preload`)."""
 
     def __init__(self, folder, preload):
         self.file = f"{folder}/moment"
@@ -153,7 +153,7 @@ class SetStory(Story):
 
 def set_machine(program, folder):
     """Batches at moments of their own; a clock past the last moment; a machine that fails."""
-    machine = Machine(folder, library("machine", folder))
+    machine = Machine(folder, library(folder))
     for name in ("clock", "moments", "order", "renewal"):
         calls, lines = batch_of(name)
         story = SetStory(Server(program, fresh(program, folder, name), env=machine.env), folder, machine)

@@ -17,8 +17,8 @@ CALLS, LOG = f"{ROOT}/examples/first.jsonl", f"{ROOT}/bin/try.log"
 MAIN = """\
 //! Answers the lines of standard input by a new desk in memory.
 #![tactic(auto)]
-use batches::batch;
-use desk_calls::{Desk, Memory};
+use app_batch::batch;
+use desk::{Desk, Memory};
 use desk_model::{Clock, Policy};
 use std::io;
 use std::process::ExitCode;
@@ -41,7 +41,7 @@ def write_crates(room):
     shutil.copytree(f"{ROOT}/crates", f"{room}/crates", ignore=shutil.ignore_patterns("out", "must-fail"))
     shutil.copyfile(f"{ROOT}/crates.txt", f"{room}/crates.txt")
     with open(f"{room}/crates.txt", "a", encoding="utf-8") as crates:
-        crates.write("first: batches desk_calls desk_model\n")
+        crates.write("first: app_batch desk desk_model\n")
     os.makedirs(f"{room}/crates/first/src")
     with open(f"{room}/crates/first/src/main.rt", "w", encoding="utf-8") as program:
         program.write(MAIN)

@@ -2,6 +2,7 @@
 import argparse
 import base64
 import os
+import re
 import resource
 import shutil
 import signal
@@ -13,6 +14,8 @@ from concurrent.futures import ThreadPoolExecutor
 
 ROOT = os.path.dirname(os.path.dirname(os.path.abspath(__file__)))
 BASE = "https://ca.example"
+# What a check says of a desk whose clock is ahead of the machine's.
+AHEAD = re.compile(rb"\Adesk: the desk's clock is \d+ seconds ahead of the machine's\n\Z")
 KEY = {"crv": "P-256", "kty": "EC", "x": "AQ", "y": "Ag"}
 TABLES = {
     "meta": "id format base nonce_life order_life authz_life clock nonces accounts orders authzs challs",
@@ -55,11 +58,11 @@ def workspace(name):
     return tempfile.TemporaryDirectory(prefix=f"desk-{name}-", dir="/dev/shm" if has_room else None)
 
 
-def library(name, folder):
-    """The library that is loaded before the program, compiled from scripts/NAME.c into a folder."""
+def library(folder):
+    """The library that is loaded before the program, compiled from scripts/faults.c into a folder."""
     need("gcc")
-    built = f"{folder}/{name}.so"
-    subprocess.run(["gcc", "-O2", "-shared", "-fPIC", "-o", built, f"{ROOT}/scripts/{name}.c", "-ldl"], check=True)
+    built = f"{folder}/faults.so"
+    subprocess.run(["gcc", "-O2", "-shared", "-fPIC", "-o", built, f"{ROOT}/scripts/faults.c", "-ldl"], check=True)
     return built
 
 
@@ -120,8 +123,10 @@ def terms_of(lives):
 
 
 def checked(program, path):
-    """The end, the output and the errors of a check of the stored statuses, which opens the file again."""
-    return run(program, "check", path)
+    """The end, the output and the errors of a check of the stored statuses, which opens the file again; that a desk whose calls were at
+    later moments than the machine's has its clock ahead is no error of it."""
+    ended, said, errors = run(program, "check", path)
+    return ended, said, AHEAD.sub(b"", errors)
 
 
 def nonce_text(serial):

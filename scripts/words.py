@@ -1,37 +1,53 @@
 #!/usr/bin/env python3
 """Tries the operator's words on files: scripts/words.py PROGRAM
 
-`status`, `check`, `revoke-authz` and `revoke-account` print what docs/SPECIFICATION.md says, section 14, and end with the
+`about`, `status`, `accounts`, `authorizations`, `check`, `revoke-authz` and `revoke-account` print what docs/SPECIFICATION.md says, section 14, and end with the
 status that it gives; the reports change nothing, also where they are stopped after a line. Help names the options of each word,
-their limits, and the exit statuses.
+their limits, and the exit statuses. What files and faults say, and copies of a desk, are in backups.py.
 """
+import base64
 import fcntl
+import hashlib
+import json
 import os
+import re
+import socket
 import subprocess
 import time
 
+import backups
 from stops import Desk
-from trying import BASE, NOT_A_DESK, begin, bytes_of, change, finish, nonce_text, order_of, run, see, small_files, tables_of, workspace
+from trying import BASE, KEY, NOT_A_DESK, begin, bytes_of, change, finish, nonce_text, order_of, run, see, small_files, tables_of, workspace
 
 NO_FIT = (1, b"", b"desk: the report does not fit the records\n")
+NO_NAME = (2, b"", b"desk: not a name that is served\n")
 NOTHING_HERE = (1, b"", b"desk: there is nothing here\n")
 FULL = (1, None, b"desk: output\n")
 LAST = 2**62
 # The bytes of a page, the smallest room of a pipe.
 PAGE = 4096
+REPORTS = ("about", "status", "accounts", "authorizations", "check")
 OTHER_KEY = {"crv": "P-256", "kty": "EC", "x": "Aw", "y": "BA"}
 LIFE = "1 to 315360000"
+WAIT = ("--wait <SECONDS>", "as serve does while it runs", "0 to 86400", "--verbose")
 SYNCS = ("--sync", "once, twice", "default: twice", "loss of power", "the old or the new one")
 HELP = {
-    "make": ("FILE", "--base", "8 to 256 bytes", "--nonce-life", "3600", "--order-life", "604800", "--authz-life", "2592000", LIFE),
-    "serve": ("FILE", "--port", "0 to 65535", "--count", "2^64 - 1", *SYNCS),
-    "batch": ("--file", "in memory", *SYNCS),
-    "status": ("FILE", "--account", "1 to 2^62", "--status", "pending, ready, processing, valid, invalid", "--json"),
-    "check": ("FILE", "--json", "status 3"),
-    "revoke-authz": ("FILE", "N", "1 to 2^62"),
-    "revoke-account": ("FILE", "N", "1 to 2^62"),
+    "make": ("FILE", "--verbose", "mode 600", "--base", "8 to 256 bytes", "--nonce-life", "3600", "--order-life", "604800", "--authz-life", "2592000", LIFE),
+    "serve": ("FILE", "--verbose", "no other word works on the file", "--port", "0 to 65535", "--count", "2^64 - 1", "--log", "text, json", "microseconds", *SYNCS),
+    "batch": ("--file", "in memory", *SYNCS, *WAIT),
+    "status": ("FILE", "--account", "1 to 2^62", "--status", "pending, ready, processing, valid, invalid", "--name", "--json", *WAIT),
+    "about": ("FILE", *WAIT),
+    "accounts": ("FILE", "--json", *WAIT),
+    "authorizations": ("FILE", "--account", "1 to 2^62", "--name", "--json", *WAIT),
+    "check": ("FILE", "--json", "status 3", *WAIT),
+    "backup": ("FILE", "TO", "not copied", "remove the old FILE-wal", *WAIT),
+    "revoke-authz": ("FILE", "N", "1 to 2^62", "--port", "desk: connection", *WAIT),
+    "revoke-account": ("FILE", "N", "1 to 2^62", "--port", "desk: connection", *WAIT),
 }
-EXITS = ("0  done", "1  a fault or a refusal", "2  wrong words, or a limit that is broken", "3  check found a stored status that is wrong")
+# What help says of all words, below them.
+FILES = ("One program at a time has a file: while serve runs", "--wait", "20 memory", "21 device", "hard link", "22 reopen", "23 not a desk", "24 moment",
+         "25 short random", "26 full", "27 newer format")
+EXITS = ("0  done", "1  a fault or a refusal", "2  wrong words, or a limit that is broken", "3  a stored status is wrong")
 
 
 def desk_with_orders(program, folder, name, at=0):
@@ -54,12 +70,37 @@ def order_document(number, account, status, expires):
     return f'{{"number":{number},"account":{account},"status":"{status}","expires":"{expires}"}}\n'.encode()
 
 
+def account_line(number, status, thumbprint, contacts):
+    return f"{number:>10} {status:<11} {thumbprint} {contacts}\n".encode()
+
+
+def account_document(number, status, thumbprint, contacts):
+    return f'{{"number":{number},"status":"{status}","contact":{contacts},"thumbprint":"{thumbprint}"}}\n'.encode()
+
+
+def authorization_line(number, account, name, status, expires):
+    return f"{number:>10} {account:>10} {status:<11} {expires} {name}\n".encode()
+
+
+def authorization_document(number, account, name, status, expires):
+    return f'{{"number":{number},"account":{account},"name":"{name}","status":"{status}","expires":"{expires}"}}\n'.encode()
+
+
+def thumbprint_of(key):
+    """The thumbprint of a key (RFC 7638, 3)."""
+    canonical = json.dumps(key, separators=(",", ":"), sort_keys=True).encode()
+    return base64.urlsafe_b64encode(hashlib.sha256(canonical).digest()).rstrip(b"=").decode()
+
+
 def reports(program, folder):
     """Orders are listed, and stored statuses that are wrong."""
     os.mkdir(f"{folder}/empty")
     empty = Desk(program, f"{folder}/empty").path
     see("status of an empty desk", run(program, "status", empty), (0, b"orders 0\n", b""))
     see("check of an empty desk", run(program, "check", empty), (0, b"no fault\n", b""))
+    for word in ("accounts", "authorizations"):
+        see(f"{word} of an empty desk", run(program, word, empty), (0, f"{word} 0\n".encode(), b""))
+        see(f"{word} of an empty desk as JSON", run(program, word, empty, "--json"), (0, b"", b""))
     desk = desk_with_orders(program, folder, "reports")
     before = tables_of(desk.path, folder)
     lines = order_line(1, 1, "pending", "1970-01-08T00:00:00Z") + order_line(2, 1, "pending", "1970-01-08T00:00:00Z") + b"orders 2\n"
@@ -67,11 +108,11 @@ def reports(program, folder):
     see("check", run(program, "check", desk.path), (0, b"no fault\n", b""))
     see("reports change nothing", tables_of(desk.path, folder), before)
     with open("/dev/full", "wb") as full:
-        for word in ("status", "check"):
+        for word in REPORTS:
             see(f"{word} on a full output", run(program, word, desk.path, stdout=full), FULL)
     reader, writer = os.pipe()
     os.close(reader)
-    for word in ("status", "check"):
+    for word in REPORTS:
         see(f"{word} to a closed pipe", run(program, word, desk.path, stdout=writer), FULL)
     os.close(writer)
 
@@ -134,6 +175,147 @@ def narrowed(program, folder):
         see(f"check {words}", run(program, "check", desk.path, *words)[:2], (2, b""))
 
 
+def named(program, folder):
+    """Orders and authorizations are listed by name, with and without an account, as text and as JSON."""
+    desk = desk_with_orders(program, folder, "named")
+    desk.order("a.example", "c.example")
+    see("an order of a wildcard", desk.answer(desk.signed("/new-order", order_of("*.a.example"), random="00" * 32))[0], "201")
+    see("an order of a name that is not ASCII", desk.answer(desk.signed("/new-order", order_of("b\u00fccher.example"), random="00" * 48))[0], "201")
+    see("a second account", desk.answer(desk.signed("/new-account", {}, key=OTHER_KEY))[0], "201")
+    see("its order", desk.answer(desk.signed("/new-order", order_of("a.example"), key=OTHER_KEY, random="00" * 48))[0], "201")
+    order_end, end = "1970-01-08T00:00:00Z", "1970-01-31T00:00:00Z"
+    orders = {number: (number, 2 if number == 6 else 1, "pending", order_end) for number in range(1, 7)}
+    names = ("a.example", "b.example", "c.example", "*.a.example", "xn--bcher-kva.example", "a.example")
+    authorizations = {number: (number, 2 if number == 6 else 1, name, "pending", end) for number, name in enumerate(names, 1)}
+    one, two = ("--account", "1"), ("--account", "2")
+    rows = (((), (1, 2, 3, 4, 5, 6), (1, 2, 3, 4, 5, 6)), (("a.example",), (1, 3, 6), (1, 6)), (("b.example",), (2,), (2,)), (("c.example",), (3,), (3,)),
+            (("*.a.example",), (4,), (4,)), (("A.Example",), (1, 3, 6), (1, 6)), (("b\u00fccher.example",), (5,), (5,)),
+            (("xn--bcher-kva.example",), (5,), (5,)), (("d.example",), (), ()), (("*.b.example",), (), ()), (("www.a.example",), (), ()))
+    for asked, listed, found in rows:
+        words = tuple(word for name in asked for word in ("--name", name))
+        text = b"".join(order_line(*orders[number]) for number in listed) + f"orders {len(listed)}\n".encode()
+        see(f"status {words}", run(program, "status", desk.path, *words), (0, text, b""))
+        documents = b"".join(order_document(*orders[number]) for number in listed)
+        see(f"status {words} as JSON", run(program, "status", desk.path, *words, "--json"), (0, documents, b""))
+        for account, number in ((one, 1), (two, 2), ((), None)):
+            kept = [authorizations[place] for place in found if number in (None, authorizations[place][1])]
+            text = b"".join(authorization_line(*row) for row in kept) + f"authorizations {len(kept)}\n".encode()
+            see(f"authorizations {words + account}", run(program, "authorizations", desk.path, *words, *account), (0, text, b""))
+            documents = b"".join(authorization_document(*row) for row in kept)
+            see(f"authorizations {words + account} as JSON", run(program, "authorizations", desk.path, *words, *account, "--json"), (0, documents, b""))
+    see("status by all three", run(program, "status", desk.path, "--name", "a.example", *two, "--status", "pending", "--json"),
+        (0, order_document(*orders[6]), b""))
+    see("status by all three, none", run(program, "status", desk.path, "--name", "a.example", *two, "--status", "valid", "--json"), (0, b"", b""))
+    for word in ("status", "authorizations"):
+        for name in ("", "example", "a..example", "*", "*.example", "a.*.example", "-a.example", "10.0.0.1", "a_b.example", "a example", "*.*.a.example"):
+            see(f"{word} of {name!r}", run(program, word, desk.path, "--name", name), NO_NAME)
+        for words in (("--name",), ("--name", "a.example", "--name", "b.example")):
+            see(f"{word} {words}", run(program, word, desk.path, *words)[:2], (2, b""))
+    see("a wrong status and a wrong name", run(program, "status", desk.path, "--status", "pending", "--name", ""), NO_NAME)
+    for words in (("--status", "pending"), ("--account", "0"), ("--account", "+1")):
+        see(f"authorizations {words}", run(program, "authorizations", desk.path, *words)[:2], (2, b""))
+    see("a wrong name of a missing file", run(program, "status", f"{folder}/none.db", "--name", ""), NO_NAME)
+
+
+def accounts(program, folder):
+    """Accounts are listed, with their contacts as a client gave them, escaped, and the thumbprints of their keys."""
+    os.mkdir(f"{folder}/accounts")
+    desk = Desk(program, f"{folder}/accounts")
+    desk.answer(desk.line("GET", "/new-nonce", random="00" * 16))
+    see("an account with contacts", desk.answer(desk.signed("/new-account", {"contact": ["mailto:a@b.example", 'mailto:"x\\y\n\u001b"@c.example']}))[0], "201")
+    see("an account without", desk.answer(desk.signed("/new-account", {}, key=OTHER_KEY))[0], "201")
+    see("its end", desk.answer(desk.signed("/account/2", {"status": "deactivated"}, key=OTHER_KEY))[0], "200")
+    contacts = '["mailto:a@b.example","mailto:\\"x\\\\y\\n\\u001b\\"@c.example"]'
+    rows = ((1, "valid", thumbprint_of(KEY), contacts), (2, "deactivated", thumbprint_of(OTHER_KEY), "[]"))
+    text = b"".join(account_line(*row) for row in rows) + b"accounts 2\n"
+    see("accounts", run(program, "accounts", desk.path), (0, text, b""))
+    documents = b"".join(account_document(*row) for row in rows)
+    see("accounts as JSON", run(program, "accounts", desk.path, "--json"), (0, documents, b""))
+    see("contacts as JSON reads them", [json.loads(line)["contact"] for line in documents.splitlines()],
+        [["mailto:a@b.example", 'mailto:"x\\y\n\u001b"@c.example'], []])
+    for words in (("--account", "1"), ("--name", "a.example"), ("--json", "--json"), ("1",)):
+        see(f"accounts {words}", run(program, "accounts", desk.path, *words)[:2], (2, b""))
+
+
+def log_of(path):
+    """How many bytes the log beside a file has."""
+    return os.path.getsize(path + "-wal") if os.path.exists(path + "-wal") else 0
+
+
+def about_text(path, clock, accounts, authorizations, challenges, orders, lives=(3600, 604800, 2592000)):
+    """What `about` prints of the desk in a file."""
+    said = {"accounts": ("valid", "deactivated", "revoked"),
+            "authorizations": ("pending", "valid", "invalid", "deactivated", "expired", "revoked"),
+            "challenges": ("pending", "processing", "valid", "invalid"), "orders": ("pending", "ready", "processing", "valid", "invalid")}
+    counts = {"accounts": accounts, "authorizations": authorizations, "challenges": challenges, "orders": orders}
+    lines = ["format: 2", f"base: {BASE}", *(f"{name} life: {life}" for name, life in zip(("nonce", "order", "authorization"), lives)), f"clock: {clock}"]
+    lines += [f"{name}: " + ", ".join(f"{number} {text}" for number, text in zip(numbers, said[name])) for name, numbers in counts.items()]
+    return "".join(f"{line}\n" for line in (*lines, f"log: {log_of(path)}")).encode()
+
+
+def about(program, folder):
+    """What a desk is, its clock, its objects by stored status, and the size of its log."""
+    os.mkdir(f"{folder}/about")
+    desk = Desk(program, f"{folder}/about", terms=("--nonce-life", "60", "--order-life", "1", "--authz-life", "315360000"))
+    none = ((0, 0, 0), (0,) * 6, (0,) * 4, (0,) * 5)
+    text = about_text(desk.path, "1970-01-01T00:00:00Z", *none, lives=(60, 1, 315360000))
+    see("about a new desk", run(program, "about", desk.path), (0, text, b""))
+    desk = desk_with_orders(program, folder, "told")
+    text = about_text(desk.path, "1970-01-01T00:00:00Z", (1, 0, 0), (2, 0, 0, 0, 0, 0), (4, 0, 0, 0), (2, 0, 0, 0, 0))
+    see("about two orders", run(program, "about", desk.path), (0, text, b""))
+    before = files_of(desk)
+    see("about: nothing is changed", (run(program, "about", desk.path)[0], files_of(desk)), (0, before))
+    change(desk.path, "UPDATE chall SET status = 'processing' WHERE num = 1", "UPDATE chall SET status = 'valid' WHERE num = 2",
+           "UPDATE chall SET status = 'invalid' WHERE num = 3", "UPDATE ord SET status = 'ready' WHERE num = 1",
+           "UPDATE ord SET status = 'processing' WHERE num = 2", "UPDATE authz SET status = 'revoked' WHERE num = 1",
+           "UPDATE authz SET status = 'expired' WHERE num = 2")
+    text = about_text(desk.path, "1970-01-01T00:00:00Z", (1, 0, 0), (0, 0, 0, 0, 1, 1), (1, 1, 1, 1), (0, 1, 1, 0, 0))
+    see("about stored statuses", run(program, "about", desk.path), (0, text, b""))
+    change(desk.path, "UPDATE authz SET status = 'valid' WHERE num = 1", "UPDATE authz SET status = 'invalid' WHERE num = 2",
+           "UPDATE ord SET status = 'valid' WHERE num = 1", "UPDATE ord SET status = 'invalid' WHERE num = 2",
+           "UPDATE account SET status = 'revoked'")
+    text = about_text(desk.path, "1970-01-01T00:00:00Z", (0, 0, 1), (0, 1, 1, 0, 0, 0), (1, 1, 1, 1), (0, 0, 0, 1, 1))
+    see("about other stored statuses", run(program, "about", desk.path), (0, text, b""))
+    change(desk.path, "UPDATE authz SET status = 'deactivated'", "UPDATE account SET status = 'deactivated'")
+    text = about_text(desk.path, "1970-01-01T00:00:00Z", (0, 1, 0), (0, 0, 0, 2, 0, 0), (1, 1, 1, 1), (0, 0, 0, 1, 1))
+    see("about the last stored statuses", run(program, "about", desk.path), (0, text, b""))
+    see("about a missing file", run(program, "about", f"{folder}/none.db"), NOT_A_DESK)
+
+
+def log_left(program, folder):
+    """`about` tells how many bytes the log has that a program left beside the file, and then it has none."""
+    desk = desk_with_orders(program, folder, "log")
+    with subprocess.Popen([program, "serve", desk.path, "--port", "0"], stdout=subprocess.PIPE) as serving:
+        port = int(serving.stdout.readline().rsplit(b":", 1)[1])
+        with socket.create_connection(("127.0.0.1", port)) as client:
+            client.sendall(b"HEAD /new-nonce HTTP/1.1\r\n\r\n")
+            see("a nonce", client.makefile("rb").read()[:12], b"HTTP/1.1 200")
+        serving.kill()
+    see("a log is left", log_of(desk.path) > PAGE, True)
+    for what in ("that is left", "behind the closing"):
+        size = log_of(desk.path)
+        see(f"about: the log {what}", run(program, "about", desk.path)[1].splitlines()[-1], f"log: {size}".encode())
+    see("no log is left", log_of(desk.path) < PAGE, True)
+
+
+def clock_ahead(program, folder):
+    """A desk's clock that is ahead of the machine's is told by `about`, and by `check` on standard error."""
+    ahead = int(time.time()) + 7200
+    desk = desk_with_orders(program, folder, "ahead", at=ahead)
+    ended, said, errors = run(program, "about", desk.path)
+    line = next(line.decode() for line in said.splitlines() if line.startswith(b"clock: "))
+    moment = time.strftime("%Y-%m-%dT%H:%M:%SZ", time.gmtime(ahead))
+    found = re.fullmatch(rf"clock: {moment}, (\d+) seconds ahead of the machine's", line)
+    see("about: the clock is ahead", (ended, errors, bool(found) and 7100 < int(found[1]) <= 7200), (0, b"", True))
+    ended, said, errors = run(program, "check", desk.path)
+    found = re.fullmatch(rb"desk: the desk's clock is (\d+) seconds ahead of the machine's\n", errors)
+    see("check: the clock is ahead", (ended, said, bool(found) and 7100 < int(found[1]) <= 7200), (0, b"no fault\n", True))
+    see("status says nothing of it", run(program, "status", desk.path)[::2], (0, b""))
+    behind = desk_with_orders(program, folder, "behind", at=int(time.time()) - 60)
+    see("about: a clock behind", b"ahead" in run(program, "about", behind.path)[1], False)
+    see("check: a clock behind", run(program, "check", behind.path), (0, b"no fault\n", b""))
+
+
 def wrong_statuses_as_json(program, folder):
     """Each kind of stored status that is wrong is a document of its own."""
     desk = desk_with_orders(program, folder, "documents")
@@ -186,7 +368,8 @@ def stopped_reports(program, folder):
            "UPDATE authz SET status = 'expired' WHERE num = 2", "UPDATE chall SET status = 'valid'")
     see("a report that is stopped: its opening", run(program, "status", desk.path)[0], 0)
     before = files_of(desk)
-    for word, *more in (("status",), ("status", "--json"), ("check",), ("check", "--json")):
+    for word, *more in (("status",), ("status", "--json"), ("status", "--name", "a.example"), ("about",), ("accounts",), ("authorizations",),
+                        ("authorizations", "--json"), ("check",), ("check", "--json")):
         words = (program, word, desk.path, *more)
         whole = run(*words)
         lines = whole[1].splitlines(keepends=True)
@@ -275,7 +458,7 @@ def wrong_words(program, folder):
             see(f"{word} {number!r}", run(program, word, desk.path, number)[::2][0], 2)
         see(f"{word} without a number", run(program, word, desk.path)[:2], (2, b""))
         see(f"{word} without a file", run(program, word, f"{folder}/none.db", "1"), NOT_A_DESK)
-    for word in ("status", "check"):
+    for word in REPORTS:
         see(f"{word} without a file", run(program, word), (2, b"", run(program, word)[2]))
         see(f"{word} of a missing file", run(program, word, f"{folder}/none.db"), NOT_A_DESK)
         see(f"{word} with more words", run(program, word, desk.path, "1")[:2], (2, b""))
@@ -302,7 +485,7 @@ def helps(program, folder):
     """The version, and what help says of each word."""
     see("version", run(program, "--version"), (0, b"desk 0.1.0\n", b""))
     see("no version of a word", run(program, "status", "--version")[:2], (2, b""))
-    for word, texts in {"": tuple(HELP), **HELP}.items():
+    for word, texts in {"": (*HELP, *FILES), **HELP}.items():
         ended, said, errors = run(program, *word.split(), "--help")
         see(f"help of {word!r}", (ended, errors), (0, b""))
         for text in (*texts, f"Example:\n  desk {word or 'status'} ", *EXITS):
@@ -311,8 +494,8 @@ def helps(program, folder):
 
 def main(program):
     with workspace("words") as folder:
-        for tries in (reports, wrong_statuses, interleaved, narrowed, wrong_statuses_as_json, stopped_reports, readers_gone, revocations, shared_revocation,
-                      wrong_words, numbers_of_other_forms, helps):
+        for tries in (reports, wrong_statuses, interleaved, narrowed, named, accounts, about, log_left, clock_ahead, wrong_statuses_as_json, stopped_reports, readers_gone, revocations, shared_revocation,
+                      wrong_words, numbers_of_other_forms, helps, *backups.TRIES):
             tries(program, folder)
     return finish("Words")
 

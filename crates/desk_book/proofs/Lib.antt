@@ -1,2 +1,4 @@
 pub mod Applied
 pub mod KeyedRows
+pub mod Sweeping
+pub mod SweptRows

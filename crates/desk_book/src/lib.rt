@@ -1,14 +1,21 @@
-//! The rows of a desk in memory, and changes of them.
+//! The rows of a desk in memory, changes of them, and what the passing of time makes of them (RFC 8555, 7.1.6).
 #![tactic(auto)]
 
+mod at_moment;
 mod book;
 mod derived;
 mod row;
+mod serving;
+mod standing;
+mod sweep;
 mod table;
 
+pub use at_moment::At;
 pub use book::{Book, has_challenge};
 pub use derived::{
     derived_account, derived_authorization, derived_challenge, derived_order, is_past,
 };
 pub use row::Row;
+pub use standing::{authorization_status, challenge_of, order_status};
+pub use sweep::sweep_changes;
 pub use table::Table;

@@ -17,7 +17,7 @@ use Rattle.sqlite.specs.WalFiles.{outcomes}
 use Rattle.desk_model.specs.Tables.{Tables}
 use Rattle.desk_store.specs.Desks.{AreOfDesk, HasDesk, IsDesk}
 use Rattle.desk_store.specs.declared.store.Store.{Store}
-use Rattle.desk_openings.specs.LeftFiles.{LeavesFound}
+use Rattle.desk_files.specs.LeftFiles.{LeavesFound}
 use Rattle.desk_files.specs.Closing.{HasClosed, IsInFile}
 
 -- bytes that hold the trees of a desk

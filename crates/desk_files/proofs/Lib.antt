@@ -1,3 +1,5 @@
+pub mod Adopting
 pub mod Closed
+pub mod Finding
 pub mod Opened
 pub mod Refused

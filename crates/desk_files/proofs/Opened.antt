@@ -12,17 +12,17 @@ use Rattle.sqlite.specs.Tree.{Trees}
 use Rattle.sqlite.specs.View.{doubt}
 use Rattle.desk_model.specs.Tables.{Tables}
 use Rattle.desk_model.specs.Terms.{Terms}
-use Rattle.desk_schema.specs.Names.{uses_key_table, uses_names}
-use Rattle.desk_schema.specs.Schema.{no_schema}
-use Rattle.desk_schema.specs.Stays.{Asks}
-use Rattle.desk_storage.specs.declared.fault.StorageFault.TheVariants as fault
+use Rattle.sql_schema.specs.Names.{uses_key_table, uses_names}
+use Rattle.sql_schema.specs.Schema.{no_schema}
+use Rattle.sql_schema.specs.Stays.{Asks}
+use Rattle.store_api.specs.declared.fault.StorageFault.TheVariants as fault
 use Rattle.desk_store.specs.Opening.{IsUpgraded}
 use Rattle.desk_store.specs.declared.open_fault.OpenFault.{OpenFault}
 use Rattle.desk_store.specs.declared.open_fault.OpenFault.TheVariants.{NewerFormat, NotADesk, Storage}
-use Rattle.desk_upgrading.specs.FirstDesks.{HasFirst}
-use Rattle.desk_openings.specs.Formats.{AreOfFirst, HasEither}
-use Rattle.desk_openings.specs.LeftFiles.{AreOfOpening, LeftFiles, file_sight, schema_in}
-use Rattle.desk_openings.proofs.Finding.{empty_files_are_opened, first_files_are_opened, found_files_are_opened, reads_files}
+use Rattle.sql_upgrade.specs.FirstDesks.{HasFirst}
+use Rattle.desk_files.specs.Formats.{AreOfFirst, HasEither}
+use Rattle.desk_files.specs.LeftFiles.{AreOfOpening, LeftFiles, file_sight, schema_in}
+use Rattle.desk_files.proofs.Finding.{empty_files_are_opened, first_files_are_opened, found_files_are_opened, reads_files}
 use Rattle.desk_files.specs.Opening.{Connects, IsEarly, IsTaken, LeavesNewDesk}
 
 -- by cases on a test

@@ -7,9 +7,9 @@ use Rattle.sqlite.specs.Files.{FailsToOpenFiles, HoldsDatabase, faults_left, fau
 use Rattle.sqlite.specs.Recovery.{Image}
 use Rattle.sqlite.specs.declared.error.Error.{Error}
 use Rattle.sqlite.specs.declared.file.Leftover.{Leftover}
-use Rattle.desk_storage.specs.declared.fault.StorageFault.TheVariants as fault
+use Rattle.store_api.specs.declared.fault.StorageFault.TheVariants as fault
 use Rattle.desk_store.specs.Making.{IsOfStorage}
-use Rattle.desk_openings.specs.LeftFiles.{LeftFiles}
+use Rattle.desk_files.specs.LeftFiles.{LeftFiles}
 use Rattle.desk_files.specs.Opening.{fault_of_refusal}
 
 -- what is so of what there is

@@ -7,6 +7,7 @@ use Rattle.sqlite_disk.specs.declared.Files.{Files}
 use Rattle.sqlite_store.specs.declared.store.FileStore.{FileStore}
 use Rattle.sqlite.specs.Files.{FailsToClose, file_state, image_of}
 use Rattle.sqlite.specs.Recovery.{Image}
+use Rattle.sqlite.specs.State.{HasCleanDisk}
 use Rattle.sqlite.specs.WalFiles.{outcomes}
 use Rattle.sqlite.specs.WalReads.{AreClean}
 use Rattle.desk_model.specs.Tables.{Tables}
@@ -14,7 +15,7 @@ use Rattle.sqlite.specs.declared.error.Error.{Error}
 use Rattle.desk_store.specs.Desks.{HasDesk}
 use Rattle.desk_store.specs.declared.open_fault.OpenFault.{OpenFault}
 use Rattle.desk_store.specs.declared.store.Store.{Store}
-use Rattle.desk_openings.specs.LeftFiles.{HoldDesk, LeavesFound}
+use Rattle.desk_files.specs.LeftFiles.{HoldDesk, LeavesFound}
 use Rattle.desk_files.specs.Opening.{fault_of_close}
 
 -- the desk is in the two files, and in the database file without its log
@@ -31,6 +32,10 @@ module _ {D : Type 0} {g : disk.Ghosts D} where
   -- whatever desk the store had
   abbrev pub KeepsInFile : Store (FileStore D g) → Files D → Type 0
   KeepsInFile store files = AreClean g files.log files.db → (T : Tables) → HasDesk (file_state store.conn) T → HasClosed g files T
+
+  -- a disk that was honest to the end of closing was so before it
+  abbrev pub WasHonest : Store (FileStore D g) → Files D → Type 0
+  WasHonest store files = AreClean g files.log files.db → HasCleanDisk (file_state store.conn)
 
   -- the store left its files so: what they hold now, and after a stop, is what a stop could leave of the store
   abbrev pub EndsAsStop : Store (FileStore D g) → Files D → Type 0

@@ -16,20 +16,20 @@ use Rattle.sqlite.specs.Tree.{Trees}
 use Rattle.desk_model.specs.Tables.{Tables, picture}
 use Rattle.desk_model.specs.History.{first_history}
 use Rattle.desk_model.specs.Terms.{Terms}
-use Rattle.desk_schema.specs.Names.{uses_names}
-use Rattle.desk_storage.specs.Sight.{Keeps, Opens}
+use Rattle.sql_schema.specs.Names.{uses_names}
+use Rattle.store_api.specs.Sight.{Keeps, Opens}
 use Rattle.desk_store.specs.Causes.{cause_of}
 use Rattle.desk_store.specs.Desks.{AreOfDesk}
 use Rattle.desk_store.specs.Making.{FailedToMake, IsOfStorage}
 use Rattle.desk_store.specs.Opening.{FailedToOpen, ShowsNewerFormat}
-use Rattle.desk_storage.specs.declared.fault.StorageFault.{StorageFault}
-use Rattle.desk_storage.specs.declared.fault.StorageFault.TheVariants as fault
+use Rattle.store_api.specs.declared.fault.StorageFault.{StorageFault}
+use Rattle.store_api.specs.declared.fault.StorageFault.TheVariants as fault
 use Rattle.desk_store.specs.declared.faults.Cause.{Cause}
 use Rattle.desk_store.specs.declared.faults.Cause.TheVariants as cause
 use Rattle.desk_store.specs.declared.open_fault.OpenFault.{OpenFault}
 use Rattle.desk_store.specs.declared.open_fault.OpenFault.TheVariants.{NewerFormat, NotADesk, Storage}
 use Rattle.desk_store.specs.declared.store.Store.{Store}
-use Rattle.desk_openings.specs.LeftFiles.{AreOfOpening, LeftFiles, file_sight, schema_in}
+use Rattle.desk_files.specs.LeftFiles.{AreOfOpening, LeftFiles, file_sight, schema_in}
 
 -- memory was refused, or the disk failed
 abbrev pub fault_of_files : Cause → StorageFault

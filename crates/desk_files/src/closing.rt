@@ -3,7 +3,7 @@ ghost use Rattle.std.specs.Prelude.{◌≡◌, IfErr, IfOk};
 ghost use Rattle.sqlite.specs.FileStore.{recovers, view};
 ghost use Rattle.sqlite.specs.Tree.{Trees};
 ghost use Rattle.sqlite.specs.View.{IsClean};
-ghost use Rattle.desk_files.specs.Closing.{EndsAsStop, FailedToCloseBy, KeepsInFile, LeavesAsStop};
+ghost use Rattle.desk_files.specs.Closing.{EndsAsStop, FailedToCloseBy, KeepsInFile, LeavesAsStop, WasHonest};
 ghost use Rattle.desk_store.specs.Making.{IsOfStorage};
 
 use crate::fault::close_fault;
@@ -24,6 +24,7 @@ pub fn close_from<D: Disk + Drop>(
 ) -> Result<Files<D>, (OpenFault, FileStore<D>)>
     ensures closed { IfOk result (KeepsInFile store) }
     ensures ended { IfOk result (EndsAsStop store) }
+    ensures honest { IfOk result (WasHonest store) }
     ensures fault { IfErr result (λ e. IsOfStorage e.0) }
     ensures failed { IfErr result (λ e. FailedToCloseBy store e.0 e.1) }
     ensures left { IfErr result (λ e. (trees : Trees) → recovers e.1 trees → recovers store.conn.store trees) }

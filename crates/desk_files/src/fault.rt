@@ -3,9 +3,9 @@ ghost use Rattle.std.specs.Prelude.{◌≡◌};
 ghost use Rattle.desk_store.specs.Causes.{cause_of};
 ghost use Rattle.desk_files.specs.Opening.{fault_of_close, fault_of_files, fault_of_refusal};
 
-use desk_storage::StorageFault;
 use desk_store::{Cause, OpenFault, cause_of};
 use sqlite::{Error, ErrorCode};
+use store_api::StorageFault;
 
 /// The fault of files that the engine does not open. Those that it calls corrupt, or whose rows break their schema (a foreign
 /// key to no row, say), are no desk's.

@@ -18,8 +18,12 @@
 
 mod closing;
 mod fault;
+mod left_files;
 mod opening;
+mod stored_desk;
 mod tables;
 
 pub use closing::{close_from, leave_from};
+pub use left_files::left_files_are_opened;
 pub use opening::{NotOpened, make_from, open_from};
+pub use stored_desk::{close_desk, make_desk, open_desk};

@@ -3,20 +3,21 @@ use Rattle.std.proofs.Common.{ℕ, List, Option, Some, None, Result, Ok, Err, Bo
 use Rattle.std.specs.Prelude.{MatchResult}
 use Rattle.desk_model.specs.declared.call.Call.{Call}
 use Rattle.desk_model.specs.declared.reply.Reply.{Reply}
-use Rattle.desk_storage.specs.Sight.{Sight}
-use Rattle.desk_storage.specs.Storing.{Causes}
-use Rattle.desk_calls.specs.Meets.{ActsOnce, Meets}
-use Rattle.desk_calls.specs.State.{DeskState}
-use Rattle.desk_calls.specs.declared.fault.DeskFault.{DeskFault}
-use Rattle.requests.specs.declared.request.Request.{Request}
-use Rattle.requests.specs.declared.request.Request.TheVariants as request
-use Rattle.http_requests.specs.declared.call.Manner.{Manner}
+use Rattle.store_api.specs.Sight.{Sight}
+use Rattle.store_api.specs.Storing.{Causes}
+use Rattle.desk.specs.Meets.{ActsOnce, Meets}
+use Rattle.desk.specs.State.{DeskState}
+use Rattle.desk.specs.declared.fault.DeskFault.{DeskFault}
+use Rattle.http_routes.specs.declared.request.Request.{Request}
+use Rattle.http_routes.specs.declared.request.Request.TheVariants as request
+use Rattle.http_wire.specs.declared.call.ReplyForm.{ReplyForm}
 use Rattle.desk_http.specs.Serving.{Breaks, Fails, HasAnswer, IsAnswer, IsLeft, Responds, Serves, ServesBy, call_of}
 use Rattle.desk_http.specs.declared.saying.Cause.{Cause}
 use Rattle.desk_http.specs.declared.saying.Cause.TheVariants as cause
 use Rattle.desk_http.specs.declared.sending.IoFault.{IoFault}
 use Rattle.desk_http.specs.declared.sending.IoFault.TheVariants as iofault
 use Rattle.desk_http.specs.declared.serving.Served.{Served}
+use Rattle.desk_http.specs.declared.telling.Told.{Told}
 
 module _ {S C : Type 0} (v : Sight S C) (causes : Causes S) where
   -- as a desk answers a call
@@ -48,15 +49,15 @@ module _ {S C : Type 0} (v : Sight S C) (causes : Causes S) where
     left_acts old new (inr a) = answer_acts a.0 old new a.1
 
     -- it was served
-    served_acts : (base : List ℕ) (old new : DeskState S) (manner : Manner) (why : Option Cause) (written : Bool)
-        → ServesBy v causes at random base None None None old new manner why written → ActsOnce v old new
-    served_acts base old new manner None written s = answer_acts (Ok s.0) old new s.1
-    served_acts base old new manner (Some why) written s = fails_acts why old new s.0
+    served_acts : (base : List ℕ) (old new : DeskState S) (form : ReplyForm) (why : Option Cause) (written : Bool) (told : Option Told)
+        → ServesBy v causes at random base None None None old new form why written told → ActsOnce v old new
+    served_acts base old new form None written told s = answer_acts (Ok s.0) old new s.1
+    served_acts base old new form (Some why) written told s = fails_acts why old new s.0
 
     -- whatever became of it
     pub once_acts : (base : List ℕ) (old new : DeskState S) (served : Result Served IoFault)
         → MatchResult served (λ s. Serves v causes at random base None None None old new s) (λ e. Breaks v causes at random None None None old new e)
         → ActsOnce v old new
-    once_acts base old new (Ok served) s = served_acts base old new s.0 served.cause served.written s.2
+    once_acts base old new (Ok served) s = served_acts base old new s.0 served.cause served.written served.told s.2
     once_acts base old new (Err iofault.Read) s = inl (s.0)
     once_acts base old new (Err iofault.Write) s = left_acts old new s

@@ -7,26 +7,28 @@ use Rattle.desk_model.specs.declared.call.Call.{Call}
 use Rattle.desk_model.specs.declared.refusal.Refusal.TheVariants as refusal
 use Rattle.desk_model.specs.declared.reply.Allow.TheVariants as allow
 use Rattle.desk_model.specs.declared.reply.Reply.{Reply}
-use Rattle.desk_storage.specs.Sight.{Sight}
-use Rattle.desk_storage.specs.Storing.{Causes}
-use Rattle.desk_calls.specs.Answers.{Answers, is_closed_after}
-use Rattle.desk_calls.specs.Causes.{IsCaused}
-use Rattle.desk_calls.specs.State.{DeskState}
-use Rattle.desk_calls.specs.declared.fault.DeskFault.{DeskFault}
-use Rattle.desk_calls.specs.declared.fault.DeskFault.TheVariants as deskfault
-use Rattle.requests.specs.Request.{refused_request}
-use Rattle.requests.specs.declared.request.Request.{Request}
-use Rattle.requests.specs.declared.request.Request.TheVariants as request
-use Rattle.http_replies.specs.Replies.{reply_bytes}
-use Rattle.http_requests.specs.Heard.{Hears}
-use Rattle.http_requests.specs.Spelled.{IsManner, Spells}
-use Rattle.http_requests.specs.declared.call.Heard.{Heard}
-use Rattle.http_requests.specs.declared.call.Manner.{Manner}
+use Rattle.store_api.specs.Sight.{Sight}
+use Rattle.store_api.specs.Storing.{Causes}
+use Rattle.desk.specs.Answers.{Answers, is_closed_after}
+use Rattle.desk.specs.Causes.{IsCaused}
+use Rattle.desk.specs.State.{DeskState}
+use Rattle.desk.specs.declared.fault.DeskFault.{DeskFault}
+use Rattle.desk.specs.declared.fault.DeskFault.TheVariants as deskfault
+use Rattle.http_routes.specs.Request.{refused_reply, refused_request}
+use Rattle.http_routes.specs.declared.request.Request.{Request}
+use Rattle.http_routes.specs.declared.request.Request.TheVariants as request
+use Rattle.http_wire.specs.Replies.{reply_bytes}
+use Rattle.http_wire.specs.ParsedRequest.{Parses}
+use Rattle.http_wire.specs.Spelled.{IsReplyForm, Spells}
+use Rattle.http_wire.specs.declared.call.ParsedRequest.{ParsedRequest}
+use Rattle.http_wire.specs.declared.call.ReplyForm.{ReplyForm}
+use Rattle.desk_http.specs.Noted.{IsToldOf}
 use Rattle.desk_http.specs.declared.saying.Cause.{Cause}
 use Rattle.desk_http.specs.declared.saying.Cause.TheVariants as cause
 use Rattle.desk_http.specs.declared.sending.IoFault.{IoFault}
 use Rattle.desk_http.specs.declared.sending.IoFault.TheVariants as iofault
 use Rattle.desk_http.specs.declared.serving.Served.{Served}
+use Rattle.desk_http.specs.declared.telling.Told.{Told}
 use Rattle.desk_model.specs.Limits.{last_moment}
 
 -- the call of a request that asks this
@@ -38,26 +40,31 @@ abbrev pub Spelled : Option (List ℕ) → Request → Type 0
 Spelled known q = IfSome known (λ input. Spells input q)
 
 -- this was read of the input, where it is known
-abbrev pub IsHeardOf : Option (List ℕ) → Heard → Type 0
-IsHeardOf known heard = IfSome known (λ input. Hears input heard)
+abbrev pub IsParsedOf : Option (List ℕ) → ParsedRequest → Type 0
+IsParsedOf known parsed = IfSome known (λ input. Parses input parsed)
 
 -- ---- what is written in place of a reply: that the desk could not act, or nothing where memory for it was refused
 
 -- whether it has the link to the directory: by the path, which is not known where memory was refused in reading the call
-abbrev pub index_for : Cause → Manner → Bool
-index_for cause.Reading manner = true
-index_for _ manner = manner.index
+abbrev pub index_for : Cause → ReplyForm → Bool
+index_for cause.Reading form = true
+index_for _ form = form.index
 
 -- refusal 15 without a nonce, or nothing
 abbrev pub Tells : List ℕ → Bool → Bool → Option (List ℕ) → Option (List ℕ) → Bool → Type 0
 Tells base index head_only before after true =
-    Appends before after (reply_bytes base (refused_request refusal.ServerInternal allow.No index) head_only)
+    Appends before after (reply_bytes base (refused_reply (refused_request refusal.ServerInternal allow.No index)) head_only)
 Tells base index head_only before after false = Keeps before after
+
+-- what is told is what the reply tells
+abbrev pub IsTold : List ℕ → Reply → Option Told → Type 0
+IsTold base reply None = ⊥
+IsTold base reply (Some told) = IsToldOf base reply told
 
 -- ---- the desk
 
 module _ {S C : Type 0} (v : Sight S C) (causes : Causes S) where
-  -- what a desk promises of a call (`desk_calls::Desk::answer`)
+  -- what a desk promises of a call (`desk::Desk::answer`)
   pub record IsAnswer (call : Call) (old new : DeskState S) (result : Result Reply DeskFault) : Type 0 where
     pub closed : IsTrue old.is_closed → (result ≡ Err deskfault.Reopen) × (new ≡ old)
     pub late : old.is_closed ≡ false → (result ≡ Err deskfault.Moment) ↔ (last_moment < call.at)
@@ -71,7 +78,7 @@ module _ {S C : Type 0} (v : Sight S C) (causes : Causes S) where
     -- the answer to a request: the desk's to its call, or its refusal, and then nothing changed
     abbrev pub Responds : DeskState S → Request → Result Reply DeskFault → DeskState S → Type 0
     Responds old (request.Asks what) result new = IsAnswer (call_of at random what) old new result
-    Responds old (request.Refused reply) result new = (result ≡ Ok reply) × (new ≡ old)
+    Responds old (request.Refused why) result new = (result ≡ Ok (refused_reply why)) × (new ≡ old)
 
     -- ---- one request, of a reader whose bytes may be known
 
@@ -88,18 +95,19 @@ module _ {S C : Type 0} (v : Sight S C) (causes : Causes S) where
     Fails known old new cause.Text = (reply : Reply) × HasAnswer known old new (Ok reply)
 
     -- the reply was written, or in its place that the desk could not act
-    abbrev pub ServesBy : List ℕ → Option (List ℕ) → Option (List ℕ) → Option (List ℕ) → DeskState S → DeskState S → Manner
-        → Option Cause → Bool → Type 0
-    ServesBy base known before after old new manner None written =
-        (reply : Reply) × HasAnswer known old new (Ok reply) × Appends before after (reply_bytes base reply manner.head_only) × (written ≡ true)
-    ServesBy base known before after old new manner (Some why) written =
-        Fails known old new why × Tells base (index_for why manner) manner.head_only before after written
+    abbrev pub ServesBy : List ℕ → Option (List ℕ) → Option (List ℕ) → Option (List ℕ) → DeskState S → DeskState S → ReplyForm
+        → Option Cause → Bool → Option Told → Type 0
+    ServesBy base known before after old new form None written told =
+        (reply : Reply) × HasAnswer known old new (Ok reply) × Appends before after (reply_bytes base reply form.head_only) × (written ≡ true)
+        × IsTold base reply told
+    ServesBy base known before after old new form (Some why) written told =
+        Fails known old new why × Tells base (index_for why form) form.head_only before after written × (told ≡ None)
 
     -- what was served: how the reply is written is the input's, too
     abbrev pub Serves : List ℕ → Option (List ℕ) → Option (List ℕ) → Option (List ℕ) → DeskState S → DeskState S → Served → Type 0
     Serves base known before after old new served =
-        (manner : Manner) × IfSome known (λ input. IsManner input manner)
-        × ServesBy base known before after old new manner served.cause served.written
+        (form : ReplyForm) × IfSome known (λ input. IsReplyForm input form)
+        × ServesBy base known before after old new form served.cause served.written served.told
 
     -- the desk is as it was, or as its answer to the input's request left it
     abbrev pub IsLeft : Option (List ℕ) → DeskState S → DeskState S → Type 0
@@ -118,10 +126,10 @@ module _ {S C : Type 0} (v : Sight S C) (causes : Causes S) where
       pub is_read : read ≡ Ok request
       pub responds : Responds old request result new
 
-    -- the text is that of the reply to the request that was read
-    abbrev pub Says : List ℕ → Result Request AllocError → Bool → List ℕ → DeskState S → DeskState S → Type 0
-    Says base read head_only text old new =
-        (reply : Reply) × ReadAnswer read old new (Ok reply) × (text ≡ reply_bytes base reply head_only)
+    -- the text is that of the reply to the request that was read, and what is told is what the reply tells
+    abbrev pub Says : List ℕ → Result Request AllocError → Bool → List ℕ → Told → DeskState S → DeskState S → Type 0
+    Says base read head_only text told old new =
+        (reply : Reply) × ReadAnswer read old new (Ok reply) × (text ≡ reply_bytes base reply head_only) × IsToldOf base reply told
 
     -- why there is no text
     abbrev pub LacksText : Result Request AllocError → Cause → DeskState S → DeskState S → Type 0

@@ -1,44 +1,81 @@
-//! Calls of one account.
-use desk_model::{Ask, Call, Jwk, Sequence, Signed, Target, Text};
-use std::alloc::Global;
-use std::process::Abort;
-use std::test::Fail;
+//! A request to a desk that is served, and what its reply tells.
+ghost use Rattle.std.specs.Prelude.{◌≡◌, ℕ, List, Some, IfOk};
+ghost use Rattle.std.specs.Io.KnownBytes.{Appends, Consumes};
+ghost use Rattle.desk_http.specs.Asking.{told_by};
 
-const KEY: &str = r#"{"crv":"P-256","kty":"EC","x":"AQ","y":"Ag"}"#;
+use crate::clients::{Patient, end};
+use crate::sending::{IoFault, send};
+use desk_model::Refusal;
+use http_wire::fill_from;
+use std::io::{Read, Write};
+use std::net::{Ipv4Addr, Net, SocketAddr, TcpListener, TcpStream};
+use std::time::Clock;
 
-/// A call at 0, with the random bytes of an order for one name.
+// How long a desk that is served may take to reply, in seconds: it may have other clients before.
+const PATIENCE: u64 = 60;
+
+// The bytes up to and with the space behind the status of a reply (RFC 9112, 4).
+const BEGINNING: usize = 13;
+
+/// Sends the bytes of a request to the desk that is served at a port of 127.0.0.1, and gives the refusal that its reply tells, or
+/// `None` where it was done.
 ///
 /// # Errors
 ///
-/// Where there is no memory for it.
-pub fn call(alloc: Global, ask: Ask) -> Result<Call, Fail> {
-    let mut random = Vec::new(alloc);
-    random.extend_from_slice(&[0u8; 48])?;
-    Ok(Call {
-        at: 0,
-        random: Sequence::new(random),
-        ask,
-    })
+/// `Write` where the desk could not be reached or took no request, `Read` where it gave no such reply within a minute.
+pub fn ask_at<M: Clock + Net<Stream = TcpStream, Listener = TcpListener>>(
+    machine: &M,
+    port: u16,
+    request: &[u8],
+) -> Result<Option<Refusal>, IoFault> {
+    let Ok(stream) = machine.connect(SocketAddr::from((Ipv4Addr::LOCALHOST, port))) else {
+        return Err(IoFault::Write);
+    };
+    let mut reader = Patient::new(&stream, machine, PATIENCE);
+    let mut writer = Patient::new(&stream, machine, PATIENCE);
+    let told = ask(&mut reader, &mut writer, request);
+    end(&stream, machine);
+    told
 }
 
-/// A request of the account.
+/// Sends the bytes of a request to the desk at the other end, and gives the refusal that the beginning of its reply tells, or
+/// `None` where it was done (RFC 9112, 4).
 ///
 /// # Errors
 ///
-/// Where there is no memory for it.
-pub fn request(
-    rt: &impl Abort,
-    alloc: Global,
-    target: Target,
-    nonce: Option<Text>,
-    payload: String,
-) -> Result<Call, Fail> {
-    let key = Jwk::from_canonical(String::from_str(alloc, KEY)?);
-    let signed = Signed {
-        target,
-        key: Ok(key.expect(rt, "a key")),
-        nonce,
-        payload: Text::new(payload),
+/// `Write` where the writer failed, `Read` where the reader did, or gave no reply that tells one of these.
+pub fn ask<R: Read, W: Write>(
+    reader: &mut R,
+    writer: &mut W,
+    request: &[u8],
+) -> Result<Option<Refusal>, IoFault>
+    ensures asked { IfOk result (λ _. Appends (W.contents writer.old) (W.contents writer.new) request.now) }
+    ensures told { IfOk result (λ told. (read : List ℕ) × Consumes (R.remaining reader.old) (R.remaining reader.new) read × (told_by read ≡ Some told)) }
+{
+    send(writer, request)?;
+    let mut beginning = [0u8; BEGINNING];
+    let Ok(count) = fill_from(reader, &mut beginning, 0) else {
+        return Err(IoFault::Read);
     };
-    call(alloc, Ask::Signed(signed))
+    match told_by(&beginning[..count]) {
+        Some(told) => Ok(told),
+        None => Err(IoFault::Read),
+    }
+}
+
+// What the beginning of a reply tells: that it was done, or why not; `None` where the desk gives no such reply.
+fn told_by(reply: &[u8]) -> Option<Option<Refusal>>
+    ensures { result ≡ told_by reply.now }
+{
+    if reply.starts_with(b"HTTP/1.1 200 ") {
+        Some(None)
+    } else if reply.starts_with(b"HTTP/1.1 404 ") {
+        Some(Some(Refusal::NotFound))
+    } else if reply.starts_with(b"HTTP/1.1 409 ") {
+        Some(Some(Refusal::Conflict))
+    } else if reply.starts_with(b"HTTP/1.1 500 ") {
+        Some(Some(Refusal::ServerInternal))
+    } else {
+        None
+    }
 }

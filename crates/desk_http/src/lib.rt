@@ -1,32 +1,25 @@
-//! Calls over HTTP: a request in, its reply out (RFC 9112).
+//! Calls over HTTP: a request in, its reply out, and connections served one after the other (RFC 9112).
 #![tactic(auto)]
 
-#[cfg(test)]
 mod asking;
-#[cfg(test)]
-mod failing_streams;
-#[cfg(test)]
-mod loopback;
+mod clients;
+mod connections;
+mod noting;
+mod overseeing;
 mod saying;
 mod sending;
+mod serve_fault;
 mod serving;
-#[cfg(test)]
-mod tests;
-#[cfg(test)]
-mod thousand_orders;
-#[cfg(test)]
-mod worked_key_changes;
-#[cfg(test)]
-mod worked_replies;
-#[cfg(test)]
-mod worked_reports;
-#[cfg(test)]
-mod worked_run;
+mod telling;
 
-pub use http_replies::reply_text;
-pub use http_requests::{Heard, Manner, ReadFailed, read_call, read_call_by};
-pub use refusals::problem_document;
-pub use requests::{Request, Routes};
+pub use asking::{ask, ask_at};
+pub use connections::{bind, moment, serve_all};
+pub use http_routes::{Request, Routes};
+pub use http_wire::{ParsedRequest, ReadFailed, ReplyForm, read_call, read_call_by, reply_text};
+pub use json_texts::problem_document;
+pub use overseeing::{Entry, Overseer};
 pub use saying::Cause;
 pub use sending::IoFault;
-pub use serving::{Served, serve_heard, serve_one, serve_one_by};
+pub use serve_fault::ServeFault;
+pub use serving::{Served, serve_one, serve_one_by, serve_parsed};
+pub use telling::Told;

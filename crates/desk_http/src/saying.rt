@@ -2,12 +2,13 @@
 ghost use Rattle.std.specs.Prelude.{◌≡◌, IfOk, MatchResult, Ok};
 ghost use Rattle.desk_http.specs.Serving.{IsAnswer, LacksReply, LacksText, Responds, Says, call_of};
 
-use desk_calls::{Desk, DeskFault};
+use crate::telling::{Told, told_of};
+use desk::{Desk, DeskFault};
 use desk_model::{Ask, Call, Reply, Sequence};
-use desk_storage::Storage;
-use http_replies::reply_text;
-use requests::Request;
+use http_routes::Request;
+use http_wire::reply_text;
 use std::alloc::{AllocError, Global};
+use store_api::Storage;
 use thiserror::Error;
 
 /// Why a request did not have its reply.
@@ -24,7 +25,14 @@ pub enum Cause {
     Text,
 }
 
-/// The bytes of the reply to a request that was read.
+/// The bytes of a reply, and what it tells.
+#[derive(Drop)]
+pub struct Said {
+    pub(crate) text: Vec<u8>,
+    pub(crate) told: Told,
+}
+
+/// The bytes of the reply to a request that was read, and what it tells.
 ///
 /// # Errors
 ///
@@ -36,10 +44,10 @@ pub(crate) fn say<K: Storage + Drop>(
     random: &[u8],
     request: Result<Request, AllocError>,
     head_only: bool,
-) -> Result<Vec<u8>, Cause>
+) -> Result<Said, Cause>
     ensures policy { desk.new.policy ≡ desk.old.policy }
     ensures said { MatchResult result
-        (λ text. Says K.Storage.sight K.Storage.causes at random.now desk.new.policy.base request head_only text.items desk.old desk.new)
+        (λ said. Says K.Storage.sight K.Storage.causes at random.now desk.new.policy.base request head_only said.text.items said.told desk.old desk.new)
         (λ cause. LacksText K.Storage.sight K.Storage.causes at random.now request cause desk.old desk.new) }
 {
     let Ok(request) = request else {
@@ -50,9 +58,10 @@ pub(crate) fn say<K: Storage + Drop>(
         Err(cause) => return Err(cause),
     };
     let text = reply_text(alloc, desk.base(), &reply, head_only);
+    let told = told_of(desk.base(), &reply);
     drop(reply);
     match text {
-        Ok(text) => Ok(text),
+        Ok(text) => Ok(Said { text, told }),
         Err(_) => Err(Cause::Text),
     }
 }
@@ -82,7 +91,7 @@ fn reply_to<K: Storage + Drop>(
                 Err(fault) => Err(Cause::Desk(fault)),
             }
         }
-        Request::Refused(reply) => Ok(reply),
+        Request::Refused(why) => Ok(why.reply(alloc)),
     }
 }
 

@@ -3,13 +3,13 @@ ghost use Rattle.std.specs.Prelude.{◌≡◌, IfOk, IfErr, OnOk};
 ghost use Rattle.std.specs.Io.KnownBytes.{Appends};
 ghost use Rattle.desk_model.specs.declared.refusal.Refusal.TheVariants.{ServerInternal};
 ghost use Rattle.desk_model.specs.declared.reply.Allow.TheVariants.{No};
-ghost use Rattle.requests.specs.Request.{refused_request};
-ghost use Rattle.http_replies.specs.Replies.{reply_bytes};
+ghost use Rattle.http_routes.specs.Request.{refused_reply, refused_request};
+ghost use Rattle.http_wire.specs.Replies.{reply_bytes};
 ghost use Rattle.desk_http.specs.Serving.{Tells};
 
 use desk_model::{Allow, Refusal};
-use http_replies::reply_text;
-use requests::refusal_reply;
+use http_routes::RequestRefusal;
+use http_wire::reply_text;
 use std::alloc::{AllocError, Global};
 use std::io::Write;
 use thiserror::Error;
@@ -56,9 +56,14 @@ fn inability_text(
     index: bool,
     head_only: bool,
 ) -> Result<Vec<u8>, AllocError>
-    ensures { IfOk result (λ text. text.items ≡ reply_bytes base.now (refused_request ServerInternal No index) head_only) }
+    ensures { IfOk result (λ text. text.items ≡ reply_bytes base.now (refused_reply (refused_request ServerInternal No index)) head_only) }
 {
-    let reply = refusal_reply(alloc, Refusal::ServerInternal, Allow::No, index);
+    let why = RequestRefusal {
+        refusal: Refusal::ServerInternal,
+        allow: Allow::No,
+        index,
+    };
+    let reply = why.reply(alloc);
     let text = reply_text(alloc, base, &reply, head_only);
     drop(reply);
     text

@@ -1,17 +1,18 @@
 //! One request from a reader, and its reply to a writer.
 ghost use Rattle.std.specs.Prelude.{◌≡◌, ◌+◌, ℕ, List, Option, IfOk, IfErr};
 ghost use Rattle.desk_model.specs.Limits.{longest_body, longest_head};
-ghost use Rattle.http_requests.specs.Head.{TakesAtMost};
-ghost use Rattle.desk_http.specs.Serving.{Breaks, IsHeardOf, Serves, index_for};
+ghost use Rattle.http_wire.specs.Head.{TakesAtMost};
+ghost use Rattle.desk_http.specs.Serving.{Breaks, IsParsedOf, Serves, index_for};
 
 use crate::saying::{Cause, say};
 use crate::sending::{IoFault, send, tell};
-use desk_calls::Desk;
-use desk_storage::Storage;
-use http_requests::{Heard, Manner, read_call_by};
-use requests::Routes;
+use crate::telling::Told;
+use desk::Desk;
+use http_routes::Routes;
+use http_wire::{ParsedRequest, ReplyForm, read_call_by};
 use std::alloc::Global;
 use std::io::{Read, Write};
+use store_api::Storage;
 
 /// How a request was served.
 #[derive(Clone, Copy, Debug, PartialEq, Eq)]
@@ -20,6 +21,8 @@ pub struct Served {
     pub cause: Option<Cause>,
     /// Whether anything was written.
     pub written: bool,
+    /// What its reply tells, where it had one.
+    pub told: Option<Told>,
 }
 
 /// Serves one request: reads it, has the desk answer its call, and writes the reply, or in its place that the desk could
@@ -75,7 +78,7 @@ pub fn serve_one_by<R: Read, W: Write, K: Storage + Drop>(
     ensures taken { TakesAtMost (R.remaining reader.old) (R.remaining reader.new) (longest_head + longest_body) }
 {
     match read_call_by(alloc, routes, reader) {
-        Ok(heard) => serve_heard(alloc, writer, desk, at, random, heard),
+        Ok(parsed) => serve_parsed(alloc, writer, desk, at, random, parsed),
         Err(_) => Err(IoFault::Read),
     }
 }
@@ -85,37 +88,39 @@ pub fn serve_one_by<R: Read, W: Write, K: Storage + Drop>(
 /// # Errors
 ///
 /// `Write` where the writer fails.
-pub fn serve_heard<W: Write, K: Storage + Drop>(
+pub fn serve_parsed<W: Write, K: Storage + Drop>(
     alloc: Global,
     writer: &mut W,
     desk: &mut Desk<K>,
     at: u64,
     random: &[u8],
-    heard: Heard,
+    parsed: ParsedRequest,
 ) -> Result<Served, IoFault>
     ensures policy { desk.new.policy ≡ desk.old.policy }
-    ensures served { (known : Option (List ℕ)) → IsHeardOf known heard → IfOk result (λ s.
+    ensures served { (known : Option (List ℕ)) → IsParsedOf known parsed → IfOk result (λ s.
         Serves K.Storage.sight K.Storage.causes at random.now desk.new.policy.base
         known (W.contents writer.old) (W.contents writer.new) desk.old desk.new s) }
-    ensures failed { (known : Option (List ℕ)) → IsHeardOf known heard → IfErr result (λ e.
+    ensures failed { (known : Option (List ℕ)) → IsParsedOf known parsed → IfErr result (λ e.
         Breaks K.Storage.sight K.Storage.causes at random.now
         known (W.contents writer.old) (W.contents writer.new) desk.old desk.new e) }
 {
-    let manner = heard.manner;
-    match say(alloc, desk, at, random, heard.request, manner.head_only) {
-        Ok(text) => match send(writer, text.as_slice()) {
+    let form = parsed.form;
+    match say(alloc, desk, at, random, parsed.request, form.head_only) {
+        Ok(said) => match send(writer, said.text.as_slice()) {
             Ok(()) => Ok(Served {
                 cause: None,
                 written: true,
+                told: Some(said.told),
             }),
             Err(fault) => Err(fault),
         },
         Err(cause) => {
-            let index = index_for(cause, manner);
-            match tell(alloc, writer, desk.base(), index, manner.head_only) {
+            let index = index_for(cause, form);
+            match tell(alloc, writer, desk.base(), index, form.head_only) {
                 Ok(written) => Ok(Served {
                     cause: Some(cause),
                     written,
+                    told: None,
                 }),
                 Err(fault) => Err(fault),
             }
@@ -124,11 +129,11 @@ pub fn serve_heard<W: Write, K: Storage + Drop>(
 }
 
 // Whether what is written in the place of a reply has the link to the directory.
-fn index_for(cause: Cause, manner: Manner) -> bool
-    ensures { result ≡ index_for cause manner }
+fn index_for(cause: Cause, form: ReplyForm) -> bool
+    ensures { result ≡ index_for cause form }
 {
     match cause {
         Cause::Reading => true,
-        _ => manner.index,
+        _ => form.index,
     }
 }

@@ -5,27 +5,27 @@ use Rattle.sqlite.specs.Effect.{Database}
 use Rattle.sqlite.specs.Held.{Held, state}
 use Rattle.sqlite.specs.State.{State}
 use Rattle.sqlite.specs.Store.{Ghosts}
-use Rattle.desk_columns.specs.Columns.{rows_columns}
-use Rattle.desk_columns.specs.Flat.{flat}
-use Rattle.desk_columns.specs.declared.columns.StoredRows.{StoredRows}
+use Rattle.store_columns.specs.Columns.{rows_columns}
+use Rattle.store_columns.specs.Flat.{flat}
+use Rattle.store_columns.specs.declared.columns.StoredRows.{StoredRows}
 use Rattle.desk_model.specs.Tables.{Tables}
-use Rattle.desk_reading.specs.Failures.{MayRead}
-use Rattle.desk_reading.specs.Shown.{AreColumnsOf, AreShown}
-use Rattle.desk_reading.proofs.Loading.{reordered}
-use Rattle.desk_reading.proofs.ShownRows.{shown_before}
-use Rattle.desk_schema.specs.Names.{has_all_indexes}
-use Rattle.desk_storage.specs.declared.fault.StorageFault.TheVariants.{Memory}
+use Rattle.sql_read.specs.Failures.{MayRead}
+use Rattle.sql_read.specs.Shown.{AreColumnsOf, AreShown}
+use Rattle.sql_read.proofs.Loading.{reordered}
+use Rattle.sql_read.proofs.ShownRows.{shown_before}
+use Rattle.sql_schema.specs.Names.{has_all_indexes}
+use Rattle.store_api.specs.declared.fault.StorageFault.TheVariants.{Memory}
 use Rattle.desk_store.specs.Desks.{HasDesk, IsDesk, PicturesAreDesks}
 use Rattle.desk_store.specs.Making.{IsOfStorage}
 use Rattle.desk_store.specs.Opening.{IsWhole, ShowsBook}
 use Rattle.desk_store.specs.declared.open_fault.OpenFault.{OpenFault}
 use Rattle.desk_store.specs.declared.open_fault.OpenFault.TheVariants.{NotADesk, Storage}
-use Rattle.desk_tables.specs.Holds.{Holds}
-use Rattle.desk_laws.specs.Ordered.{IsOrdered}
-use Rattle.stored_rows.specs.IsBook.{IsBook, IsBookOfStored}
-use Rattle.stored_laws.proofs.Columns as columns
-use Rattle.stored_laws.proofs.FlatTexts.{picture_is_stored_book}
-use Rattle.stored_laws.specs.Told.{AreReorderedColumns, IsOnlyBookOf}
+use Rattle.sql_tables.specs.Holds.{Holds}
+use Rattle.model_laws.specs.Ordered.{IsOrdered}
+use Rattle.store_book.specs.IsBook.{IsBook, IsBookOfStored}
+use Rattle.store_laws.proofs.Columns as columns
+use Rattle.store_laws.proofs.FlatTexts.{picture_is_stored_book}
+use Rattle.store_laws.specs.Told.{AreReorderedColumns, IsOnlyBookOf}
 
 -- the tables of a legal history are a desk's
 pub pictures_are_desks : PicturesAreDesks

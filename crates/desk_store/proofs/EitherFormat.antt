@@ -10,16 +10,16 @@ use Rattle.sqlite.specs.Store.{Ghosts}
 use Rattle.sqlite.specs.Tree.{Trees}
 use Rattle.sqlite_schema.specs.Names.{same_name}
 use Rattle.desk_model.specs.Tables.{Tables}
-use Rattle.desk_reading.proofs.BookChecks.{table_still}
-use Rattle.desk_reading.proofs.BookChecks.{first_still as fails_first}
-use Rattle.desk_reading.proofs.FirstLoading.{first_before}
-use Rattle.desk_reading.proofs.ShownRows.{shown_before}
-use Rattle.desk_saving.specs.Committing.{GoesBack}
-use Rattle.desk_schema.proofs.StaysLemmas.{stays_then, stays_unchanged}
-use Rattle.desk_schema.specs.Names.{has_all_indexes, uses_key_table}
-use Rattle.desk_schema.specs.Schema.{desk_schema, first_schema}
-use Rattle.desk_schema.specs.Stays.{Asks}
-use Rattle.desk_storage.specs.Sight.{Keeps}
+use Rattle.sql_read.proofs.BookChecks.{table_still}
+use Rattle.sql_read.proofs.BookChecks.{first_still as fails_first}
+use Rattle.sql_read.proofs.FirstLoading.{first_before}
+use Rattle.sql_read.proofs.ShownRows.{shown_before}
+use Rattle.sql_write.specs.Committing.{GoesBack}
+use Rattle.sql_schema.proofs.StaysLemmas.{stays_then, stays_unchanged}
+use Rattle.sql_schema.specs.Names.{has_all_indexes, uses_key_table}
+use Rattle.sql_schema.specs.Schema.{desk_schema, first_schema}
+use Rattle.sql_schema.specs.Stays.{Asks}
+use Rattle.store_api.specs.Sight.{Keeps}
 use Rattle.desk_store.specs.Desks.{IsDesk, store_sight}
 use Rattle.desk_store.specs.Known.{IsKnownOf}
 use Rattle.desk_store.specs.Making.{IsOfStorage}
@@ -29,8 +29,8 @@ use Rattle.desk_store.specs.declared.open_fault.OpenFault.TheVariants.{NewerForm
 use Rattle.desk_store.specs.declared.store.Store.{Store}
 use Rattle.desk_store.proofs.Standing.{failed}
 use Rattle.desk_store.proofs.Upgrading.{first_unchanged}
-use Rattle.desk_tables.specs.Holds.{Holds}
-use Rattle.desk_upgrading.specs.FirstDesks.{HasFirst, HasSecond}
+use Rattle.sql_tables.specs.Holds.{Holds}
+use Rattle.sql_upgrade.specs.FirstDesks.{HasFirst, HasSecond}
 
 -- ---- which format
 

@@ -5,17 +5,17 @@ use Rattle.sqlite.specs.Held.{Held, state}
 use Rattle.sqlite.specs.State.{State, HasCleanDisk, Survives}
 use Rattle.sqlite.specs.Store.{Ghosts}
 use Rattle.desk_model.specs.Tables.{Tables}
-use Rattle.desk_saving.specs.Committing.{IsBeforeCommit}
-use Rattle.desk_saving.specs.Refusals.{IsCause}
-use Rattle.desk_saving.specs.Statements.{Sql}
-use Rattle.desk_saving.specs.declared.fault.SaveFault.{SaveFault}
-use Rattle.desk_saving.proofs.Exits.{survives_both}
-use Rattle.desk_saving.proofs.Told.{cause_then}
-use Rattle.desk_schema.proofs.StaysLemmas.{asks_then}
-use Rattle.desk_schema.specs.Stays.{Asks}
-use Rattle.desk_upgrading.specs.FirstDesks.{HasFirst}
-use Rattle.desk_storage.specs.Sight.{Reads}
-use Rattle.desk_storage.specs.declared.fault.StorageFault.{StorageFault}
+use Rattle.sql_write.specs.Committing.{IsBeforeCommit}
+use Rattle.sql_write.specs.Refusals.{IsCause}
+use Rattle.sql_write.specs.Statements.{Sql}
+use Rattle.sql_write.specs.declared.fault.SaveFault.{SaveFault}
+use Rattle.sql_write.proofs.Exits.{survives_both}
+use Rattle.sql_write.proofs.Told.{cause_then}
+use Rattle.sql_schema.proofs.StaysLemmas.{asks_then}
+use Rattle.sql_schema.specs.Stays.{Asks}
+use Rattle.sql_upgrade.specs.FirstDesks.{HasFirst}
+use Rattle.store_api.specs.Sight.{Reads}
+use Rattle.store_api.specs.declared.fault.StorageFault.{StorageFault}
 use Rattle.desk_store.specs.Causes.{Failed, FailedToSave, IsMetFault, IsOfSave, LeavesNothing}
 use Rattle.desk_store.specs.Desks.{store_sight}
 use Rattle.desk_store.specs.Opening.{FailedToOpen, FailedToUpgrade}

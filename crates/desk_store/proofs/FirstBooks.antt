@@ -5,26 +5,26 @@ use Rattle.sqlite.specs.Effect.{Database}
 use Rattle.sqlite.specs.Held.{Held}
 use Rattle.sqlite.specs.State.{State}
 use Rattle.sqlite.specs.Store.{Ghosts}
-use Rattle.desk_columns.specs.Columns.{rows_columns}
-use Rattle.desk_columns.specs.Flat.{flat}
-use Rattle.desk_columns.specs.declared.columns.StoredRows.{StoredRows}
+use Rattle.store_columns.specs.Columns.{rows_columns}
+use Rattle.store_columns.specs.Flat.{flat}
+use Rattle.store_columns.specs.declared.columns.StoredRows.{StoredRows}
 use Rattle.desk_model.specs.Tables.{Tables}
-use Rattle.desk_reading.specs.Failures.{MayRead}
-use Rattle.desk_reading.specs.First.{AreFirstShown}
-use Rattle.desk_reading.specs.Shown.{AreColumnsOf}
-use Rattle.desk_reading.proofs.Loading.{reordered}
-use Rattle.desk_storage.specs.declared.fault.StorageFault.TheVariants.{Memory}
+use Rattle.sql_read.specs.Failures.{MayRead}
+use Rattle.sql_read.specs.First.{AreFirstShown}
+use Rattle.sql_read.specs.Shown.{AreColumnsOf}
+use Rattle.sql_read.proofs.Loading.{reordered}
+use Rattle.store_api.specs.declared.fault.StorageFault.TheVariants.{Memory}
 use Rattle.desk_store.specs.Making.{IsOfStorage}
 use Rattle.desk_store.specs.Opening.{ShowsFirstBook}
 use Rattle.desk_store.specs.declared.open_fault.OpenFault.{OpenFault}
 use Rattle.desk_store.specs.declared.open_fault.OpenFault.TheVariants.{NotADesk, Storage}
-use Rattle.desk_tables.specs.Holds.{HoldsFirst}
-use Rattle.desk_upgrading.specs.FirstDesks.{HasFirst, IsFirstDesk}
-use Rattle.stored_rows.specs.IsBook.{IsBookOfStored}
-use Rattle.stored_laws.proofs.BlankBooks.{blank_books}
-use Rattle.stored_laws.proofs.Columns as columns
-use Rattle.stored_laws.specs.Blank.{blank}
-use Rattle.stored_laws.specs.Told.{AreReorderedColumns, IsOnlyBookOf}
+use Rattle.sql_tables.specs.Holds.{HoldsFirst}
+use Rattle.sql_upgrade.specs.FirstDesks.{HasFirst, IsFirstDesk}
+use Rattle.store_book.specs.IsBook.{IsBookOfStored}
+use Rattle.store_laws.proofs.BlankBooks.{blank_books}
+use Rattle.store_laws.proofs.Columns as columns
+use Rattle.store_laws.specs.Blank.{blank}
+use Rattle.store_laws.specs.Told.{AreReorderedColumns, IsOnlyBookOf}
 
 -- a file that has their rows, with zeros in the place of the keys of answers, is their book without these keys, and no other
 pub only_blank : (db : Database) (T : Tables) → IsFirstDesk db T → (stored : StoredRows) → AreReorderedColumns stored (rows_columns (flat (blank T)))

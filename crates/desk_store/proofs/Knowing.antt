@@ -5,7 +5,7 @@ use Rattle.std.specs.Prelude.{◌==◌, ◌&&◌, IfSome, IsTrue, if◌then◌el
 use Rattle.std.proofs.lemmas.Bool.{eq-eqb, le-ltb}
 use Rattle.std.proofs.lemmas.Bool.Decides.{nat_tests}
 use Rattle.std.proofs.lemmas.List.{get_or-set_other}
-use Rattle.desk_laws.proofs.Basics.{each, each_both, each_of_map}
+use Rattle.model_laws.proofs.Basics.{each, each_both, each_of_map}
 use Rattle.desk_model.specs.Change.{applied, applied_one, put}
 use Rattle.desk_model.specs.Derived.{authz_code, order_code}
 use Rattle.desk_model.specs.Kept.{EachOf}
@@ -20,11 +20,11 @@ use Rattle.desk_model.specs.declared.status.AuthzStatus.{AuthzStatus}
 use Rattle.desk_model.specs.declared.status.AuthzStatus.TheVariants as authz
 use Rattle.desk_model.specs.declared.status.OrderStatus.{OrderStatus}
 use Rattle.desk_model.specs.declared.status.OrderStatus.TheVariants as order
-use Rattle.desk_laws.proofs.Keeps.{each-filter}
-use Rattle.desk_parts.specs.LookUps.{authorizations_past, nonces_before, orders_past}
-use Rattle.desk_tables.proofs.Keyed.{ranked}
-use Rattle.desk_tables.proofs.Sorting.{each_put}
-use Rattle.desk_reading.specs.Earliest.{IsEarliest, authorization_ends, issues, order_ends}
+use Rattle.model_laws.proofs.Keeps.{each-filter}
+use Rattle.model_lives.specs.LookUps.{authorizations_past, nonces_before, orders_past}
+use Rattle.sql_tables.proofs.Keyed.{ranked}
+use Rattle.sql_tables.proofs.Sorting.{each_put}
+use Rattle.sql_read.specs.Earliest.{IsEarliest, authorization_ends, issues, order_ends}
 use Rattle.desk_store.specs.Known.{EndFrom, IsKnownOf, bound_of, earlier, lowered, nothing}
 use Rattle.desk_store.specs.declared.known.Known.{Known}
 
@@ -230,7 +230,8 @@ noted_ends {X} code end ends place found xs earliest h =
           | inl less ↦ other (λ same. let l = less.low in omega (arith, same, l))
           | inr (inl tied) ↦
               let low = from (eq-eqb (code x) place tied.same) in
-              let at = subst (λ k. slice_index (slice_set ends place (bound_of found)) k ≤ bound_of found) (sym tied.same) (set_at ends place (bound_of found)) in
+              let at = subst (λ k. slice_index (slice_set ends place (bound_of found)) k ≤ bound_of found) (sym tied.same)
+              (set_at ends place (bound_of found)) in
               omega (arith, low, at)
           | inr (inr more) ↦ other (λ same. let h = more.high in omega (arith, same, h))
         ]

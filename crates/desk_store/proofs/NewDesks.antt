@@ -8,11 +8,11 @@ use Rattle.desk_model.specs.Legal.{Legal}
 use Rattle.desk_model.specs.Tables.{Tables, picture}
 use Rattle.desk_model.specs.History.{first_history}
 use Rattle.desk_model.specs.Terms.{Terms}
-use Rattle.desk_saving.specs.Committing.{HasCommitted, IsLeft}
-use Rattle.desk_saving.specs.Making.{MakesDesk, tables_of}
-use Rattle.desk_schema.specs.Schema.{no_schema}
-use Rattle.desk_tables.specs.Holds.{Holds}
-use Rattle.stored_laws.proofs.FlatTexts.{picture_is_stored_book}
+use Rattle.sql_write.specs.Committing.{HasCommitted, IsLeft}
+use Rattle.sql_write.specs.Making.{MakesDesk, tables_of}
+use Rattle.sql_schema.specs.Schema.{no_schema}
+use Rattle.sql_tables.specs.Holds.{Holds}
+use Rattle.store_laws.proofs.FlatTexts.{picture_is_stored_book}
 use Rattle.desk_store.specs.Desks.{IsDesk}
 use Rattle.desk_store.specs.Making.{IsNewDesk, Makes}
 

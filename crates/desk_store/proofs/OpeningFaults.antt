@@ -6,19 +6,19 @@ use Rattle.sqlite.specs.State.{State, IsUnchanged}
 use Rattle.sqlite.specs.Schema.{Schema}
 use Rattle.sqlite_schema.specs.Names.{same_name}
 use Rattle.desk_model.specs.Tables.{Tables}
-use Rattle.desk_schema.specs.Names.{uses_names}
+use Rattle.sql_schema.specs.Names.{uses_names}
 use Rattle.desk_store.specs.Desks.{HasDesk}
 use Rattle.desk_store.proofs.Standing.{desk_unchanged}
 use Rattle.sqlite.specs.declared.error.Error.{Error}
 use Rattle.sqlite.specs.declared.error.Error.TheVariants as error
 use Rattle.sqlite.specs.declared.error.ErrorCode.{ErrorCode}
 use Rattle.sqlite.specs.declared.error.ErrorCode.TheVariants as code
-use Rattle.desk_reading.specs.Failures.{IsMet, IsOutOfMemory, is_of_device}
-use Rattle.desk_reading.proofs.MetFaults.{met_on}
-use Rattle.desk_schema.specs.Stays.{Asks}
-use Rattle.desk_schema.specs.Failing.{IsFailure}
-use Rattle.desk_storage.specs.declared.fault.StorageFault.{StorageFault}
-use Rattle.desk_storage.specs.declared.fault.StorageFault.TheVariants as fault
+use Rattle.sql_read.specs.Failures.{IsMet, IsOutOfMemory, is_of_device}
+use Rattle.sql_read.proofs.MetFaults.{met_on}
+use Rattle.sql_schema.specs.Stays.{Asks}
+use Rattle.sql_schema.specs.Failing.{IsFailure}
+use Rattle.store_api.specs.declared.fault.StorageFault.{StorageFault}
+use Rattle.store_api.specs.declared.fault.StorageFault.TheVariants as fault
 use Rattle.desk_store.specs.Causes.{IsMetFault, IsOfOpening, cause_of}
 use Rattle.desk_store.specs.Making.{IsOfStorage}
 use Rattle.desk_store.specs.Opening.{RefusesReading}

@@ -9,30 +9,30 @@ use Rattle.sqlite.specs.State.{State, HasCleanDisk, IsUnchanged, Survives}
 use Rattle.sqlite.specs.Store.{Ghosts}
 use Rattle.sqlite.specs.Tree.{Trees}
 use Rattle.sqlite.proofs.StateLemmas.{survives_then}
-use Rattle.desk_laws.proofs.RowLists.{Above, ascends_above}
-use Rattle.desk_laws.specs.Ordered.{Ascends}
+use Rattle.model_laws.proofs.RowLists.{Above, ascends_above}
+use Rattle.model_laws.specs.Ordered.{Ascends}
 use Rattle.desk_model.specs.Change.{applied}
 use Rattle.desk_model.specs.Tables.{Tables}
 use Rattle.desk_model.specs.declared.rows.AccountRow.{AccountRow}
 use Rattle.desk_model.specs.declared.rows.AuthorizationRow.{AuthorizationRow}
 use Rattle.desk_model.specs.declared.rows.Change.{Change}
 use Rattle.desk_model.specs.declared.rows.OrderRow.{OrderRow}
-use Rattle.desk_saving.specs.Committing.{GoesBack, HasCommitted, IsBeforeCommit, IsLeft}
-use Rattle.desk_saving.specs.declared.fault.SaveFault.{SaveFault}
-use Rattle.desk_schema.specs.Stays.{Asks}
-use Rattle.desk_saving.specs.Fitting.{FitAfter, Saves as Puts}
-use Rattle.desk_saving.specs.Standing.{IsPartIn, Stand, StandsIn}
-use Rattle.desk_saving.proofs.Numbered.{find_none}
-use Rattle.desk_saving.proofs.OrderedFit.{ordered_fit}
-use Rattle.desk_storage.specs.Sight.{Sight}
-use Rattle.desk_storage.specs.Storing.{Fit, HasChanges, HasSaved, IsCutFrom, SavesOf}
-use Rattle.desk_storage.specs.declared.fault.StorageFault.{StorageFault}
-use Rattle.desk_storage.specs.declared.fault.StorageFault.TheVariants as fault
+use Rattle.sql_write.specs.Committing.{GoesBack, HasCommitted, IsBeforeCommit, IsLeft}
+use Rattle.sql_write.specs.declared.fault.SaveFault.{SaveFault}
+use Rattle.sql_schema.specs.Stays.{Asks}
+use Rattle.sql_write.specs.Fitting.{FitAfter, Saves as Puts}
+use Rattle.sql_write.specs.Standing.{IsPartIn, Stand, StandsIn}
+use Rattle.sql_write.proofs.Numbered.{find_none}
+use Rattle.sql_write.proofs.OrderedFit.{ordered_fit}
+use Rattle.store_api.specs.Sight.{Sight}
+use Rattle.store_api.specs.Storing.{Fit, HasChanges, HasSaved, IsCutFrom, SavesOf}
+use Rattle.store_api.specs.declared.fault.StorageFault.{StorageFault}
+use Rattle.store_api.specs.declared.fault.StorageFault.TheVariants as fault
 use Rattle.desk_store.proofs.Standing.{desk_back, desk_unchanged, failed, honest_by, stands_by}
 use Rattle.desk_store.specs.Desks.{IsDesk, store_sight}
 use Rattle.desk_store.specs.Known.{IsKnownOf}
 use Rattle.desk_store.specs.declared.store.Store.{Store}
-use Rattle.desk_tables.specs.Holds.{AreRising}
+use Rattle.sql_tables.specs.Holds.{AreRising}
 
 -- the changes may be saved
 may_save : (T : Tables) (changes : List Change) → Fit T changes → FitAfter T changes

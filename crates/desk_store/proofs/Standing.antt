@@ -6,15 +6,15 @@ use Rattle.sqlite.specs.State.{State, HasCleanDisk, IsUnchanged, Survives}
 use Rattle.sqlite.specs.Store.{Ghosts}
 use Rattle.sqlite.specs.Tree.{Trees}
 use Rattle.desk_model.specs.Tables.{Tables}
-use Rattle.desk_reading.specs.Held.{ForHeld}
-use Rattle.stored_rows.specs.IsBook.{IsStoredBook}
-use Rattle.desk_saving.specs.Committing.{GoesBack}
-use Rattle.desk_schema.specs.Stays.{Asks, Stays}
-use Rattle.desk_storage.specs.Sight.{Reads, Stands}
-use Rattle.desk_storage.specs.declared.fault.StorageFault.{StorageFault}
-use Rattle.desk_storage.specs.declared.fault.StorageFault.TheVariants as fault
-use Rattle.desk_schema.proofs.StaysLemmas.{asks_then}
-use Rattle.desk_loading.proofs.Readings.{stands_here}
+use Rattle.sql_read.specs.Held.{ForHeld}
+use Rattle.store_book.specs.IsBook.{IsStoredBook}
+use Rattle.sql_write.specs.Committing.{GoesBack}
+use Rattle.sql_schema.specs.Stays.{Asks, Stays}
+use Rattle.store_api.specs.Sight.{Reads, Stands}
+use Rattle.store_api.specs.declared.fault.StorageFault.{StorageFault}
+use Rattle.store_api.specs.declared.fault.StorageFault.TheVariants as fault
+use Rattle.sql_schema.proofs.StaysLemmas.{asks_then}
+use Rattle.store_api.proofs.Readings.{stands_here}
 use Rattle.desk_store.specs.Causes.{FailsToLookUp, IsSilent}
 use Rattle.desk_store.specs.Desks.{HasDesk, HasTables, IsDesk, store_sight}
 use Rattle.desk_store.specs.Known.{IsKnownOf}
@@ -127,7 +127,8 @@ module _ {S : Type 0} (g : Ghosts S) where
       → (HasCleanDisk (state g new.conn) → why ≡ fault.Memory → IsUnchanged (state g mid) (state g new.conn))
       → (HasCleanDisk (state g new.conn) → why ≡ fault.Reopen → IsSilent (state g mid) (state g new.conn)) → Reads (store_sight g) old new (failed R why)
   reads_err old new mid why known asked tested same silent =
-      reads_failed old new why known (asks_then (state g old.conn) (state g mid) (state g new.conn) asked tested) (λ clean memory. (same clean memory).0.is_open)
+      reads_failed old new why known (asks_then (state g old.conn) (state g mid) (state g new.conn) asked tested)
+      (λ clean memory. (same clean memory).0.is_open)
       (λ clean shut. record { from = mid; asked = asked; silent = silent clean shut })
 
   -- what a reading found is found by what hands it on

@@ -3,11 +3,11 @@ use Rattle.std.proofs.Common.{◌≡◌, ap, sym, subst, ◌∙◌}
 use Rattle.sqlite.specs.State.{State, IsUnchanged}
 use Rattle.sqlite.specs.Tree.{Trees}
 use Rattle.desk_model.specs.Tables.{Tables}
-use Rattle.desk_saving.specs.Committing.{IsLeft}
+use Rattle.sql_write.specs.Committing.{IsLeft}
 use Rattle.desk_store.specs.Desks.{AreOfDesk}
-use Rattle.desk_upgrading.specs.FirstDesks.{HasFirst, IsFirstDesk, UpgradesDesk}
-use Rattle.stored_laws.proofs.BlankBooks.{blank_books}
-use Rattle.stored_laws.specs.Blank.{blank}
+use Rattle.sql_upgrade.specs.FirstDesks.{HasFirst, IsFirstDesk, UpgradesDesk}
+use Rattle.store_laws.proofs.BlankBooks.{blank_books}
+use Rattle.store_laws.specs.Blank.{blank}
 
 -- a call that changed nothing leaves the desk in format 1
 pub first_unchanged : (old new : State) (T : Tables) → new.step_limit ≡ old.step_limit → IsUnchanged old new → HasFirst old T → HasFirst new T

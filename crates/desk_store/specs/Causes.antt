@@ -11,23 +11,23 @@ use Rattle.sqlite.specs.declared.error.ErrorCode.TheVariants as code
 use Rattle.desk_model.specs.Kept.{EachOf}
 use Rattle.desk_model.specs.Tables.{Tables}
 use Rattle.desk_model.specs.declared.rows.Change.{Change}
-use Rattle.desk_reading.specs.declared.fault.ReadFault.{ReadFault}
-use Rattle.desk_reading.specs.declared.fault.ReadFault.TheVariants.{Engine, NotARow}
-use Rattle.desk_saving.specs.Committing.{IsBeforeCommit}
-use Rattle.desk_schema.specs.Stays.{Asks}
-use Rattle.desk_saving.specs.Numbers.{FitsColumns}
-use Rattle.desk_saving.specs.Refusals.{IsCause}
-use Rattle.desk_saving.specs.Statements.{Sql, save_statements}
-use Rattle.desk_saving.specs.declared.fault.SaveFault.{SaveFault}
-use Rattle.desk_saving.specs.declared.fault.SaveFault.TheVariants.{Row, Statement, Commit}
-use Rattle.desk_storage.specs.Storing.{Saving}
-use Rattle.desk_storage.specs.declared.fault.StorageFault.{StorageFault}
-use Rattle.desk_storage.specs.declared.fault.StorageFault.TheVariants as fault
+use Rattle.sql_read.specs.declared.fault.ReadFault.{ReadFault}
+use Rattle.sql_read.specs.declared.fault.ReadFault.TheVariants.{Engine, NotARow}
+use Rattle.sql_write.specs.Committing.{IsBeforeCommit}
+use Rattle.sql_schema.specs.Stays.{Asks}
+use Rattle.sql_write.specs.Numbers.{FitsColumns}
+use Rattle.sql_write.specs.Refusals.{IsCause}
+use Rattle.sql_write.specs.Statements.{Sql, save_statements}
+use Rattle.sql_write.specs.declared.fault.SaveFault.{SaveFault}
+use Rattle.sql_write.specs.declared.fault.SaveFault.TheVariants.{Row, Statement, Commit}
+use Rattle.store_api.specs.Storing.{Saving}
+use Rattle.store_api.specs.declared.fault.StorageFault.{StorageFault}
+use Rattle.store_api.specs.declared.fault.StorageFault.TheVariants as fault
 use Rattle.desk_store.specs.declared.faults.Cause.{Cause}
 use Rattle.desk_store.specs.declared.faults.Cause.TheVariants as cause
 use Rattle.desk_store.specs.declared.open_fault.OpenFault.{OpenFault}
 use Rattle.desk_store.specs.declared.open_fault.OpenFault.TheVariants.{NotADesk, Storage}
-use Rattle.written_rows.specs.declared.fault.WriteFault.TheVariants as write
+use Rattle.sql_write.specs.declared.fault.WriteFault.TheVariants as write
 
 -- memory, the disk or a size, or anything else
 abbrev pub cause_of : Error → Cause

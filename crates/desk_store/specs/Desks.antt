@@ -8,12 +8,12 @@ use Rattle.sqlite.specs.Tree.{Trees}
 use Rattle.desk_model.specs.Entry.{History}
 use Rattle.desk_model.specs.Legal.{Legal}
 use Rattle.desk_model.specs.Tables.{Tables, picture}
-use Rattle.desk_storage.specs.Sight.{Sight}
+use Rattle.store_api.specs.Sight.{Sight}
 use Rattle.desk_store.specs.Causes.{FailsToLookUp}
 use Rattle.desk_store.specs.Known.{IsKnownOf}
 use Rattle.desk_store.specs.declared.store.Store.{Store}
-use Rattle.desk_tables.specs.Holds.{Holds}
-use Rattle.stored_rows.specs.IsBook.{IsStoredBook}
+use Rattle.sql_tables.specs.Holds.{Holds}
+use Rattle.store_book.specs.IsBook.{IsStoredBook}
 
 -- the database holds these tables, and they are a book that a file can hold, whatever statuses its rows store
 pub record IsDesk (db : Database) (T : Tables) : Type 0 where

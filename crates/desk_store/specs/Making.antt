@@ -8,14 +8,14 @@ use Rattle.desk_model.specs.History.{first_history}
 use Rattle.desk_model.specs.Terms.{Terms}
 use Rattle.desk_model.specs.Tables.{picture}
 use Rattle.desk_model.specs.declared.rows.Meta.{Meta}
-use Rattle.desk_saving.specs.Statements.{make_statements}
-use Rattle.desk_schema.specs.Schema.{no_schema}
-use Rattle.desk_storage.specs.declared.fault.StorageFault.{StorageFault}
+use Rattle.sql_write.specs.Statements.{make_statements}
+use Rattle.sql_schema.specs.Schema.{no_schema}
+use Rattle.store_api.specs.declared.fault.StorageFault.{StorageFault}
 use Rattle.desk_store.specs.Causes.{FailedToSave}
 use Rattle.desk_store.specs.Desks.{AreOfDesk, HasDesk}
 use Rattle.desk_store.specs.declared.open_fault.OpenFault.{OpenFault}
 use Rattle.desk_store.specs.declared.open_fault.OpenFault.TheVariants.{Storage}
-use Rattle.written_rows.specs.Fits.{FitsMeta}
+use Rattle.sql_write.specs.Fits.{FitsMeta}
 
 -- what a stop in the commit leaves, where there was nothing: the new desk
 abbrev pub IsNewDesk : Terms → ℕ → State → Trees → Type 0

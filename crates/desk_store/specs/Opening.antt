@@ -1,32 +1,31 @@
 -- What an opening finds, and what it leaves.
-use Rattle.std.specs.Prelude.{◌≡◌, ◌⊎◌, [], false, IsTrue}
+use Rattle.std.specs.Prelude.{◌≡◌, ◌⊎◌, false, IsTrue}
 use Rattle.sqlite.specs.Held.{Held, state}
-use Rattle.sqlite.specs.State.{State, FailsToQuery, HasCleanDisk}
+use Rattle.sqlite.specs.State.{State, HasCleanDisk}
 use Rattle.sqlite.specs.Store.{Ghosts}
 use Rattle.sqlite.specs.Tree.{Trees}
 use Rattle.sqlite.specs.declared.error.Error.{Error}
-use Rattle.desk_columns.specs.declared.columns.StoredRows.{StoredRows}
+use Rattle.store_columns.specs.declared.columns.StoredRows.{StoredRows}
 use Rattle.desk_model.specs.Tables.{Tables}
-use Rattle.desk_reading.specs.AllTables.{FailsAtFirst, FailsAtTable}
-use Rattle.desk_reading.specs.First.{AreFirstShown}
-use Rattle.desk_reading.specs.Failures.{MayRead}
-use Rattle.desk_reading.specs.Format.{IsNewer, IsOfLaterFormat, ShowsFormats}
-use Rattle.desk_reading.specs.Shown.{AreShown}
-use Rattle.desk_reading.specs.Texts.{select_format}
-use Rattle.desk_saving.specs.Numbers.{FitsUpgrade}
-use Rattle.desk_saving.specs.Statements.{upgrade_statements}
-use Rattle.desk_schema.specs.Names.{has_all_indexes, uses_key_table}
-use Rattle.desk_schema.specs.Stays.{Asks}
-use Rattle.desk_storage.specs.declared.fault.StorageFault.{StorageFault}
+use Rattle.sql_read.specs.AllTables.{FailsAtFirst, FailsAtTable}
+use Rattle.sql_read.specs.First.{AreFirstShown}
+use Rattle.sql_read.specs.Failures.{MayRead}
+use Rattle.sql_read.specs.Format.{FailsToShowFormat, IsNewer, IsOfLaterFormat, ShowsFormats}
+use Rattle.sql_read.specs.Shown.{AreShown}
+use Rattle.sql_write.specs.Numbers.{FitsUpgrade}
+use Rattle.sql_write.specs.Statements.{upgrade_statements}
+use Rattle.sql_schema.specs.Names.{has_all_indexes, uses_key_table}
+use Rattle.sql_schema.specs.Stays.{Asks}
+use Rattle.store_api.specs.declared.fault.StorageFault.{StorageFault}
 use Rattle.desk_store.specs.Causes.{FailedToRead, FailedToSave, LeavesNothing, cause_of}
 use Rattle.desk_store.specs.Desks.{AreOfDesk}
 use Rattle.desk_store.specs.declared.faults.Cause.TheVariants as cause
 use Rattle.desk_store.specs.declared.open_fault.OpenFault.{OpenFault}
 use Rattle.desk_store.specs.declared.open_fault.OpenFault.TheVariants.{NewerFormat, NotADesk, Storage}
-use Rattle.desk_upgrading.specs.FirstDesks.{HasFirst}
-use Rattle.desk_upgrading.specs.FirstKeys.{first_keys}
-use Rattle.stored_laws.specs.Blank.{blank}
-use Rattle.stored_rows.specs.IsBook.{IsBookOfStored}
+use Rattle.sql_upgrade.specs.FirstDesks.{HasFirst}
+use Rattle.sql_upgrade.specs.FirstKeys.{first_keys}
+use Rattle.store_laws.specs.Blank.{blank}
+use Rattle.store_book.specs.IsBook.{IsBookOfStored}
 
 -- a reading failed so, for what is neither memory nor the disk
 pub record RefusesReading (Fails : Error → Type 0) : Type 0 where
@@ -71,7 +70,7 @@ module _ {S : Type 0} (g : Ghosts S) where
   pub record RefusesFormat (conn : Held S) : Type 0 where
     pub after : Held S
     pub error : Error
-    pub refused : FailsToQuery select_format [] (state g conn) (state g after) error
+    pub refused : FailsToShowFormat (state g conn) (state g after) error
     pub other : cause_of error ≡ cause.Other
 
   -- the reading of a table was refused, or no book has the rows that the database showed

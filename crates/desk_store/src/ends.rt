@@ -1,15 +1,16 @@
 //! Whether rows of a store are past, by what it knows; it asks for the earliest of them where it knows too little.
 ghost use Rattle.std.specs.Prelude.{◌≡◌, [], IfOk, IsTrue};
-ghost use Rattle.desk_parts.specs.LookUps.{authorizations_past, nonces_before, orders_past};
-ghost use Rattle.desk_storage.specs.Sight.{ForTables, Reads};
+ghost use Rattle.model_lives.specs.LookUps.{authorizations_past, authorizations_where, nonces_before, nonces_where, orders_past, orders_where};
+ghost use Rattle.store_api.specs.Sight.{ForTables, Reads};
 ghost use Rattle.desk_store.specs.Desks.{store_sight};
 
 use crate::store::Store;
 use desk_model::{AuthzStatus, Meta, OrderStatus};
-use desk_reading as rows;
-use desk_storage::StorageFault;
+use model_lives::{AuthorizationsWhere, NoncesWhere, OrdersWhere};
+use sql_read as rows;
 use sqlite::Alter;
 use std::alloc::Global;
+use store_api::StorageFault;
 
 impl<S: Alter> Store<S> {
     /// The desk's own row, read and kept.
@@ -36,7 +37,7 @@ impl<S: Alter> Store<S> {
     /// # Errors
     ///
     /// As of a look-up.
-    pub(crate) fn has_no_nonce_before(&mut self, moment: u64) -> Result<bool, StorageFault>
+    fn has_no_nonce_before(&mut self, moment: u64) -> Result<bool, StorageFault>
         ensures reads { Reads (store_sight S.Store) self.old self.new result }
         ensures found { ForTables (store_sight S.Store) self.old self.new (λ T. IfOk result (λ none. IsTrue none → nonces_before T moment ≡ [])) }
     {
@@ -58,11 +59,7 @@ impl<S: Alter> Store<S> {
     /// # Errors
     ///
     /// As of a look-up.
-    pub(crate) fn has_no_order_past(
-        &mut self,
-        status: OrderStatus,
-        moment: u64,
-    ) -> Result<bool, StorageFault>
+    fn has_no_order_past(&mut self, status: OrderStatus, moment: u64) -> Result<bool, StorageFault>
         ensures reads { Reads (store_sight S.Store) self.old self.new result }
         ensures found { ForTables (store_sight S.Store) self.old self.new (λ T. IfOk result (λ none. IsTrue none → orders_past T status moment ≡ [])) }
     {
@@ -84,7 +81,7 @@ impl<S: Alter> Store<S> {
     /// # Errors
     ///
     /// As of a look-up.
-    pub(crate) fn has_no_authorization_past(
+    fn has_no_authorization_past(
         &mut self,
         status: AuthzStatus,
         moment: u64,
@@ -103,6 +100,56 @@ impl<S: Alter> Store<S> {
                 Ok(self.known.authorization_end(status) >= moment)
             }
             Err(fault) => Err(fault),
+        }
+    }
+
+    /// Whether a query has no nonces; where it answers `false`, it may have some.
+    ///
+    /// # Errors
+    ///
+    /// As of a look-up.
+    pub(crate) fn has_no_nonces(&mut self, which: NoncesWhere) -> Result<bool, StorageFault>
+        ensures reads { Reads (store_sight S.Store) self.old self.new result }
+        ensures found { ForTables (store_sight S.Store) self.old self.new (λ T. IfOk result (λ none. IsTrue none → nonces_where T which ≡ [])) }
+    {
+        match which {
+            NoncesWhere::IssuedBefore(moment) => self.has_no_nonce_before(moment),
+            _ => Ok(false),
+        }
+    }
+
+    /// Whether a query has no orders; where it answers `false`, it may have some.
+    ///
+    /// # Errors
+    ///
+    /// As of a look-up.
+    pub(crate) fn has_no_orders(&mut self, which: OrdersWhere) -> Result<bool, StorageFault>
+        ensures reads { Reads (store_sight S.Store) self.old self.new result }
+        ensures found { ForTables (store_sight S.Store) self.old self.new (λ T. IfOk result (λ none. IsTrue none → orders_where T which ≡ [])) }
+    {
+        match which {
+            OrdersWhere::Past(status, moment) => self.has_no_order_past(status, moment),
+            _ => Ok(false),
+        }
+    }
+
+    /// Whether a query has no authorizations; where it answers `false`, it may have some.
+    ///
+    /// # Errors
+    ///
+    /// As of a look-up.
+    pub(crate) fn has_no_authorizations(
+        &mut self,
+        which: AuthorizationsWhere<'_>,
+    ) -> Result<bool, StorageFault>
+        ensures reads { Reads (store_sight S.Store) self.old self.new result }
+        ensures found { ForTables (store_sight S.Store) self.old self.new (λ T. IfOk result (λ none. IsTrue none → authorizations_where T which.entry ≡ [])) }
+    {
+        match which {
+            AuthorizationsWhere::Past(status, moment) => {
+                self.has_no_authorization_past(status, moment)
+            }
+            _ => Ok(false),
         }
     }
 }

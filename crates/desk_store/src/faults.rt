@@ -2,17 +2,16 @@
 ghost use Rattle.std.specs.Prelude.{◌≡◌, false, IsTrue};
 ghost use Rattle.sqlite.specs.State.{HasCleanDisk, IsUnchanged};
 ghost use Rattle.sqlite.specs.Held.{state};
-ghost use Rattle.desk_saving.specs.Committing.{IsBeforeCommit};
-ghost use Rattle.desk_schema.specs.Stays.{Asks};
-ghost use Rattle.desk_storage.specs.declared.fault.StorageFault.TheVariants.{Memory as memory, Reopen as reopen};
+ghost use Rattle.sql_write.specs.Committing.{IsBeforeCommit};
+ghost use Rattle.sql_schema.specs.Stays.{Asks};
+ghost use Rattle.store_api.specs.declared.fault.StorageFault.TheVariants.{Memory as memory, Reopen as reopen};
 ghost use Rattle.desk_store.specs.Asked.{tells_open};
 ghost use Rattle.desk_store.specs.Causes.{IsOfMemory, IsOfReading, IsOfSave, IsOfStatement, IsSilent, cause_of, commit_fault};
 
-use desk_reading::ReadFault;
-use desk_saving::SaveFault;
-use desk_storage::StorageFault;
+use sql_read::ReadFault;
+use sql_write::{SaveFault, WriteFault};
 use sqlite::{Alter, Connection, Error, ErrorCode, Statement};
-use written_rows::WriteFault;
+use store_api::StorageFault;
 
 /// What an error of the engine comes from.
 #[derive(Clone, Copy)]

@@ -1,13 +1,11 @@
 //! The store as a source of rows: one statement a look-up, and one more for the children of each row; none for what it knows.
 use crate::store::Store;
-use desk_loading::LookUps;
-use desk_model::{
-    AccountRow, AuthorizationRow, AuthzStatus, Jwk, Meta, Nonce, OrderRow, OrderStatus,
-};
-use desk_reading as rows;
-use desk_storage::StorageFault;
+use desk_model::{AccountRow, AuthorizationRow, Meta, Nonce, OrderRow};
+use model_lives::{AccountsWhere, AuthorizationsWhere, NoncesWhere, OrdersWhere};
+use sql_read as rows;
 use sqlite::Alter;
 use std::alloc::Global;
+use store_api::{LookUps, StorageFault};
 
 impl<S: Alter> LookUps for Store<S> {
     ghost use Rattle.sqlite.specs.Tree.{Trees};
@@ -24,127 +22,48 @@ impl<S: Alter> LookUps for Store<S> {
         }
     }
 
-    fn all_nonces(&mut self, alloc: Global) -> Result<Vec<Nonce>, StorageFault> {
-        let read = rows::all_nonces(alloc, &mut self.conn);
-        self.told(read)
-    }
-
-    fn all_accounts(&mut self, alloc: Global) -> Result<Vec<AccountRow>, StorageFault> {
-        let read = rows::all_accounts(alloc, &mut self.conn);
-        self.told(read)
-    }
-
-    fn all_orders(&mut self, alloc: Global) -> Result<Vec<OrderRow>, StorageFault> {
-        let read = rows::all_orders(alloc, &mut self.conn);
-        self.told(read)
-    }
-
-    fn all_authorizations(&mut self, alloc: Global) -> Result<Vec<AuthorizationRow>, StorageFault> {
-        let read = rows::all_authorizations(alloc, &mut self.conn);
-        self.told(read)
-    }
-
-    fn nonces_numbered(&mut self, alloc: Global, serial: u64) -> Result<Vec<Nonce>, StorageFault> {
-        let read = rows::nonces_numbered(alloc, &mut self.conn, serial);
-        self.told(read)
-    }
-
-    fn nonces_before(&mut self, alloc: Global, moment: u64) -> Result<Vec<Nonce>, StorageFault> {
-        if self.has_no_nonce_before(moment)? {
-            return Ok(Vec::new(alloc));
-        }
-        let read = rows::nonces_before(alloc, &mut self.conn, moment);
-        self.told(read)
-    }
-
-    fn accounts_numbered(
+    fn find_nonces(
         &mut self,
         alloc: Global,
-        number: u64,
+        which: NoncesWhere,
+    ) -> Result<Vec<Nonce>, StorageFault> {
+        if self.has_no_nonces(which)? {
+            return Ok(Vec::new(alloc));
+        }
+        let read = rows::find_nonces(alloc, &mut self.conn, which);
+        self.told(read)
+    }
+
+    fn find_accounts(
+        &mut self,
+        alloc: Global,
+        which: AccountsWhere<'_>,
     ) -> Result<Vec<AccountRow>, StorageFault> {
-        let read = rows::accounts_numbered(alloc, &mut self.conn, number);
+        let read = rows::find_accounts(alloc, &mut self.conn, which);
         self.told(read)
     }
 
-    fn accounts_with_key(
+    fn find_orders(
         &mut self,
         alloc: Global,
-        key: &Jwk,
-    ) -> Result<Vec<AccountRow>, StorageFault> {
-        let read = rows::accounts_with_key(alloc, &mut self.conn, key);
-        self.told(read)
-    }
-
-    fn orders_numbered(
-        &mut self,
-        alloc: Global,
-        number: u64,
+        which: OrdersWhere,
     ) -> Result<Vec<OrderRow>, StorageFault> {
-        let read = rows::orders_numbered(alloc, &mut self.conn, number);
-        self.told(read)
-    }
-
-    fn orders_of(&mut self, alloc: Global, account: u64) -> Result<Vec<OrderRow>, StorageFault> {
-        let read = rows::orders_of(alloc, &mut self.conn, account);
-        self.told(read)
-    }
-
-    fn orders_past(
-        &mut self,
-        alloc: Global,
-        status: OrderStatus,
-        moment: u64,
-    ) -> Result<Vec<OrderRow>, StorageFault> {
-        if self.has_no_order_past(status, moment)? {
+        if self.has_no_orders(which)? {
             return Ok(Vec::new(alloc));
         }
-        let read = rows::orders_past(alloc, &mut self.conn, status, moment);
+        let read = rows::find_orders(alloc, &mut self.conn, which);
         self.told(read)
     }
 
-    fn orders_processing(&mut self, alloc: Global) -> Result<Vec<OrderRow>, StorageFault> {
-        let read = rows::orders_processing(alloc, &mut self.conn);
-        self.told(read)
-    }
-
-    fn authorizations_numbered(
+    fn find_authorizations(
         &mut self,
         alloc: Global,
-        number: u64,
+        which: AuthorizationsWhere<'_>,
     ) -> Result<Vec<AuthorizationRow>, StorageFault> {
-        let read = rows::authorizations_numbered(alloc, &mut self.conn, number);
-        self.told(read)
-    }
-
-    fn authorizations_of(
-        &mut self,
-        alloc: Global,
-        account: u64,
-    ) -> Result<Vec<AuthorizationRow>, StorageFault> {
-        let read = rows::authorizations_of(alloc, &mut self.conn, account);
-        self.told(read)
-    }
-
-    fn authorizations_named(
-        &mut self,
-        alloc: Global,
-        account: u64,
-        base: &str,
-    ) -> Result<Vec<AuthorizationRow>, StorageFault> {
-        let read = rows::authorizations_named(alloc, &mut self.conn, account, base);
-        self.told(read)
-    }
-
-    fn authorizations_past(
-        &mut self,
-        alloc: Global,
-        status: AuthzStatus,
-        moment: u64,
-    ) -> Result<Vec<AuthorizationRow>, StorageFault> {
-        if self.has_no_authorization_past(status, moment)? {
+        if self.has_no_authorizations(which)? {
             return Ok(Vec::new(alloc));
         }
-        let read = rows::authorizations_past(alloc, &mut self.conn, status, moment);
+        let read = rows::find_authorizations(alloc, &mut self.conn, which);
         self.told(read)
     }
 

@@ -4,17 +4,17 @@ ghost use Rattle.sqlite.specs.State.{HasCleanDisk, Survives};
 ghost use Rattle.sqlite.specs.Held.{state};
 ghost use Rattle.desk_model.specs.History.{first_history};
 ghost use Rattle.desk_model.specs.Tables.{picture};
-ghost use Rattle.desk_saving.specs.Committing.{GoesBack};
-ghost use Rattle.desk_storage.specs.declared.fault.StorageFault.TheVariants.{Memory as memory};
+ghost use Rattle.sql_write.specs.Committing.{GoesBack};
+ghost use Rattle.store_api.specs.declared.fault.StorageFault.TheVariants.{Memory as memory};
 ghost use Rattle.desk_store.specs.Making.{FailedToDefine, IsNewDesk, Makes};
 
 use crate::faults::saving_fault;
 use desk_book::Book;
 use desk_model::{Clock, Policy};
-use desk_saving::make_tables;
-use desk_storage::StorageFault;
+use sql_write::make_tables;
 use sqlite::{Alter, Connection};
 use std::alloc::Global;
+use store_api::StorageFault;
 
 /// Makes the tables of a desk, at a moment in seconds since 1970, in one transaction.
 ///
@@ -37,7 +37,7 @@ pub(crate) fn make_desk<S: Alter>(
     ensures left { Survives (state S.Store conn.old) (state S.Store conn.new) (IsNewDesk policy at (state S.Store conn.old)) }
 {
     let book = Book::new(alloc, policy, at);
-    let made = make_tables(alloc, conn, book.meta());
+    let made = make_tables(conn, book.meta());
     // Before the ways part, so that it is dropped in one place.
     drop(book);
     match made {

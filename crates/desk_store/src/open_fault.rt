@@ -1,7 +1,7 @@
 //! Why a desk is not made or opened.
-use desk_storage::StorageFault;
 use std::error::Error;
 use std::fmt;
+use store_api::StorageFault;
 
 /// Why a desk is not made or opened.
 #[derive(Clone, Copy, Debug)]

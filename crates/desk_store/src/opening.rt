@@ -3,11 +3,11 @@ ghost use Rattle.std.specs.Prelude.{◌≡◌, ◌≢◌, ◌⊎◌, Err, IfErr,
 ghost use Rattle.sqlite.specs.State.{HasCleanDisk, IsUnchanged, Survives};
 ghost use Rattle.sqlite.specs.Held.{state};
 ghost use Rattle.desk_model.specs.Tables.{Tables};
-ghost use Rattle.desk_reading.specs.Format.{IsNewer, ShowsFormats};
-ghost use Rattle.desk_saving.specs.Committing.{GoesBack, IsLeft};
-ghost use Rattle.desk_schema.specs.Names.{uses_key_table};
-ghost use Rattle.desk_schema.specs.Stays.{Asks};
-ghost use Rattle.desk_storage.specs.declared.fault.StorageFault.TheVariants.{Memory as memory, Reopen as reopen};
+ghost use Rattle.sql_read.specs.Format.{IsNewer, ShowsFormats};
+ghost use Rattle.sql_write.specs.Committing.{GoesBack, IsLeft};
+ghost use Rattle.sql_schema.specs.Names.{uses_key_table};
+ghost use Rattle.sql_schema.specs.Stays.{Asks};
+ghost use Rattle.store_api.specs.declared.fault.StorageFault.TheVariants.{Memory as memory, Reopen as reopen};
 ghost use Rattle.desk_store.specs.Causes.{IsMetFault, IsOfOpening, IsShut, IsSilent, cause_of};
 ghost use Rattle.desk_store.specs.Desks.{AreOfDesk, HasDesk};
 ghost use Rattle.desk_store.specs.Making.{IsOfStorage};
@@ -15,21 +15,21 @@ ghost use Rattle.desk_store.specs.Opening.{FailedToOpen, FailedToWiden, HasLater
 ghost use Rattle.desk_store.specs.Opening.{RefusesFormat, ShowsKnownFormat, ShowsNewerFormat};
 ghost use Rattle.desk_store.specs.Opening.{ShowsNoBook, ShowsNoDesk, ShowsNoFirstBook, ShowsNoLaterFormat};
 ghost use Rattle.desk_store.specs.declared.open_fault.OpenFault.TheVariants.{NewerFormat as newer_format, NotADesk as not_a_desk, Storage as of_storage};
-ghost use Rattle.desk_upgrading.specs.FirstDesks.{BringsDesk, HasFirst, HasSecond, UpgradesDesk};
-ghost use Rattle.stored_laws.specs.Blank.{blank};
-ghost use Rattle.stored_rows.specs.IsBook.{IsBookOfStored};
+ghost use Rattle.sql_upgrade.specs.FirstDesks.{BringsDesk, HasFirst, HasSecond, UpgradesDesk};
+ghost use Rattle.store_laws.specs.Blank.{blank};
+ghost use Rattle.store_book.specs.IsBook.{IsBookOfStored};
 
 use crate::faults::{Cause, cause_of, memory_fault, saving_fault};
 use crate::open_fault::OpenFault;
 use desk_book::Book;
-use desk_columns::StoredRows;
-use desk_reading::{has_book_rows, is_newer, load_first, load_stored};
-use desk_schema::{has_indexes, uses_key_table};
-use desk_storage::StorageFault;
-use desk_upgrading::upgrade;
+use sql_read::{has_book_rows, is_newer, load_first, load_stored};
+use sql_schema::{has_indexes, uses_key_table};
+use sql_upgrade::upgrade;
 use sqlite::{Alter, Connection, Error};
 use std::alloc::Global;
-use stored_rows::{RowsFault, from_rows};
+use store_api::StorageFault;
+use store_book::{RowsFault, from_rows};
+use store_columns::StoredRows;
 
 // The fault of a reading that failed in opening.
 fn opening_fault<S: Alter>(conn: &mut Connection<S>, error: Error) -> OpenFault

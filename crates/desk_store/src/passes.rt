@@ -1,13 +1,13 @@
 //! Passes through the rows of a store, one object at a time.
 ghost use Rattle.std.specs.Prelude.{◌≡◌, None};
 ghost use Rattle.desk_model.specs.Tables.{Tables};
-ghost use Rattle.desk_parts.specs.Above.{orders_above};
-ghost use Rattle.desk_passes.specs.Left.{faults_above, faults_of};
+ghost use Rattle.model_lives.specs.Above.{orders_above};
+ghost use Rattle.store_passes.specs.Left.{faults_above, faults_of};
 ghost use Rattle.desk_store.specs.Desks.{HasTables};
 
 use crate::store::Store;
-use desk_passes::{FaultKind, Orders, StatusFaults};
 use sqlite::Alter;
+use store_passes::{FaultKind, Orders, StatusFaults};
 
 impl<S: Alter> Store<S> {
     /// A pass through the orders of the desk, by number, which keeps one order's rows at most: `next` gives each, one after the
@@ -22,7 +22,7 @@ impl<S: Alter> Store<S> {
     }
 
     /// A pass through the status faults of one kind of object (RFC 8555, 7.1.6), by number, which keeps one object's rows at
-    /// most: those at a moment, in seconds since 1970, which is that of the desk's clock (`desk_passes::moment_of`).
+    /// most: those at a moment, in seconds since 1970, which is that of the desk's clock (`store_passes::moment_of`).
     pub fn faults(&mut self, kind: FaultKind, moment: u64) -> StatusFaults<'_, Store<S>>
         ensures same_store { result.source.ghost_name ≡ self.entry.ghost_name }
         ensures unread { result.source.now ≡ self.old }

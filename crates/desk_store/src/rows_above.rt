@@ -1,11 +1,10 @@
 //! The store as a source of rows one by one: one statement a row, and one more for its children.
 use crate::store::Store;
-use desk_loading::RowsAbove;
 use desk_model::{AccountRow, AuthorizationRow, ChallengeRow, OrderRow};
-use desk_reading as rows;
-use desk_storage::StorageFault;
+use sql_read as rows;
 use sqlite::Alter;
 use std::alloc::Global;
+use store_api::{RowsAbove, StorageFault};
 
 impl<S: Alter> RowsAbove for Store<S> {
     fn account_above(

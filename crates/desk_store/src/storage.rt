@@ -1,11 +1,10 @@
 //! The store, as a desk asks for it.
 use crate::store::Store;
 use desk_book::Book;
-use desk_loading::load_enough;
 use desk_model::{Call, Change, Policy};
-use desk_storage::{Storage, StorageFault};
 use sqlite::Alter;
 use std::alloc::Global;
+use store_api::{Storage, StorageFault, load_enough};
 
 impl<S: Alter> Storage for Store<S> {
     ghost use Rattle.sqlite.specs.Tree.{Trees};

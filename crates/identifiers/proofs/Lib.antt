@@ -1,1 +1,3 @@
 pub mod NameOf
+pub mod NamesKept
+pub mod NamesRead

@@ -7,7 +7,7 @@ ghost use Rattle.desk_model.specs.Payload.{key_text_in};
 ghost use Rattle.desk_model.specs.Keys.{Key, IsKeyOf, IsEc, IsRsa, IsOkp, IsCurve, number_member, canonical_text, ec, rsa, okp};
 
 use desk_model::{Jwk, is_number, is_same_text};
-use json_values::text_of;
+use json_texts::text_of;
 use serde_json::Value;
 use std::alloc::{AllocError, Global};
 use thiserror::Error;

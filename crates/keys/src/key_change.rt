@@ -5,7 +5,7 @@ ghost use Rattle.desk_model.specs.Payload.{key_change, key_change_in, key_text_i
 
 use crate::jwk::key_of;
 use desk_model::{Jwk, KeyChange, Text};
-use json_values::{text_of, value_of};
+use json_texts::{text_of, value_of};
 use serde_json::Value;
 use std::alloc::{AllocError, Global};
 

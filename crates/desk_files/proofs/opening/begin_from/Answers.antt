@@ -4,9 +4,9 @@ use Rattle.sqlite.specs.State.{HasCleanDisk}
 use Rattle.sqlite.specs.Tree.{Trees}
 use Rattle.sqlite.specs.WalFiles.{image_at}
 use Rattle.std.specs.Prelude.{IsTrue}
-use Rattle.desk_schema.specs.Names.{uses_names}
-use Rattle.desk_openings.specs.LeftFiles.{files_have}
-use Rattle.desk_openings.proofs.Finding.{in_todays, keeps_within}
+use Rattle.sql_schema.specs.Names.{uses_names}
+use Rattle.desk_files.specs.LeftFiles.{files_have}
+use Rattle.desk_files.proofs.Finding.{in_todays, keeps_within}
 use Rattle.desk_files.proofs.Opened.{files_found, is_free, new_desk_left, nothing_found, opening_left, taken_left}
 use Rattle.desk_files.proofs.Refused.{if_there}
 use Rattle.desk_files.specs.Opening.{Connects}

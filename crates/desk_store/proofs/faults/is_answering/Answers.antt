@@ -1,6 +1,6 @@
 use Rattle.std.proofs.Common.{sym, ◌∙◌}
 use Rattle.sqlite.specs.Held.{state}
-use Rattle.desk_schema.proofs.StaysLemmas.{stays_asked}
+use Rattle.sql_schema.proofs.StaysLemmas.{stays_asked}
 use Rattle.desk_store.proofs.Silence.{open_told, silent_told}
 use Rattle.desk_store.proofs.faults.is_answering.Goals as goal
 

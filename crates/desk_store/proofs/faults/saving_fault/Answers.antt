@@ -1,5 +1,5 @@
 use Rattle.sqlite.specs.Held.{state}
-use Rattle.desk_schema.proofs.StaysLemmas.{asks_nothing}
+use Rattle.sql_schema.proofs.StaysLemmas.{asks_nothing}
 use Rattle.desk_store.proofs.faults.saving_fault.Goals as goal
 
 pub returns-in-Row-TooLarge-clause-asks : goal.returns-in-Row-TooLarge-clause-asks

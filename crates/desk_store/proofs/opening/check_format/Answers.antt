@@ -1,7 +1,7 @@
 use Rattle.std.proofs.Common.{arith, inr}
 use Rattle.sqlite.specs.Held.{state}
 use Rattle.sqlite.specs.State.{HasCleanDisk}
-use Rattle.desk_schema.proofs.StaysLemmas.{asks_then}
+use Rattle.sql_schema.proofs.StaysLemmas.{asks_then}
 use Rattle.desk_store.proofs.Books.{may_read}
 use Rattle.desk_store.proofs.FirstBooks.{first_may_read}
 use Rattle.desk_store.proofs.OpeningFaults.{failure_is_storage, no_desk_is_other, opening_met, reading_is_known}

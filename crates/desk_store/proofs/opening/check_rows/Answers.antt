@@ -1,9 +1,9 @@
 use Rattle.std.proofs.Common.{arith, inl}
 use Rattle.sqlite.specs.Held.{state}
 use Rattle.sqlite.specs.State.{HasCleanDisk}
-use Rattle.desk_reading.specs.AllTables.{FailsAtTable}
-use Rattle.desk_reading.proofs.Results.{unchanged_after}
-use Rattle.desk_schema.proofs.StaysLemmas.{asks_then}
+use Rattle.sql_read.specs.AllTables.{FailsAtTable}
+use Rattle.sql_read.proofs.Results.{unchanged_after}
+use Rattle.sql_schema.proofs.StaysLemmas.{asks_then}
 use Rattle.desk_store.proofs.Books.{may_read, shows_still}
 use Rattle.desk_store.proofs.EitherFormat.{no_book_still}
 use Rattle.desk_store.proofs.OpeningFaults.{failure_is_storage, fails_later, fails_met, no_desk_is_other, opening_met, reading_is_known, refused_reading}

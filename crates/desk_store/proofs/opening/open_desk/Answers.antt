@@ -2,8 +2,8 @@ use Rattle.std.proofs.Common.{arith, inl, inr, ◌∙◌}
 use Rattle.sqlite.specs.Held.{state}
 use Rattle.sqlite.specs.State.{HasCleanDisk}
 use Rattle.sqlite.proofs.StateLemmas.{survives_then}
-use Rattle.desk_reading.proofs.Results.{unchanged_after}
-use Rattle.desk_schema.proofs.StaysLemmas.{asks_then}
+use Rattle.sql_read.proofs.Results.{unchanged_after}
+use Rattle.sql_schema.proofs.StaysLemmas.{asks_then}
 use Rattle.desk_store.proofs.Books.{always_ok, whole_still}
 use Rattle.desk_store.proofs.EitherFormat.{asks_behind, back_asked, back_behind, first_fails_later, first_still, keys_behind}
 use Rattle.desk_store.proofs.EitherFormat.{left_asked, no_desk_still, of_answer, of_failure, refused_so, settled_behind, upgraded_behind}

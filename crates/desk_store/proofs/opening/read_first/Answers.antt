@@ -1,13 +1,13 @@
 use Rattle.std.proofs.Common.{arith, inl, inr}
 use Rattle.sqlite.specs.Held.{state}
 use Rattle.sqlite.specs.State.{HasCleanDisk}
-use Rattle.desk_reading.specs.AllTables.{FailsAtFirst}
+use Rattle.sql_read.specs.AllTables.{FailsAtFirst}
 use Rattle.desk_store.proofs.FirstBooks.{first_fails, first_may_read, first_shown, first_told}
 use Rattle.desk_store.proofs.OpeningFaults.{book_is_known, book_met, failure_is_storage, no_desk_is_other, none_has, opening_met}
 use Rattle.desk_store.proofs.OpeningFaults.{reading_is_known, refused_reading}
 use Rattle.desk_store.proofs.Standing.{same_fault}
 use Rattle.desk_store.specs.Causes.{cause_of}
-use Rattle.stored_rows.specs.IsBook.{IsBookOfStored}
+use Rattle.store_book.specs.IsBook.{IsBookOfStored}
 use Rattle.desk_store.proofs.opening.read_first.Goals as goal
 
 pub returns-in-Ok-clause-book : goal.returns-in-Ok-clause-book

@@ -1,5 +1,5 @@
 use Rattle.std.proofs.Common.{sym}
-use Rattle.stored_rows.proofs.SliceLoops.{none-left, one-more}
+use Rattle.store_book.proofs.SliceLoops.{none-left, one-more}
 use Rattle.desk_store.proofs.Knowing.{followed_all, followed_one}
 use Rattle.desk_store.proofs.known.Known.follow.Goals as goal
 

@@ -1,8 +1,8 @@
 use Rattle.std.proofs.Common.{List, Some, subst}
 use Rattle.std.specs.Prelude.{IfErr, false, ◌≡◌}
 use Rattle.desk_model.specs.declared.rows.Change.{Change}
-use Rattle.desk_saving.specs.Standing.{IsPartIn}
-use Rattle.desk_storage.specs.Storing.{IsCutFrom, SavesOf}
+use Rattle.sql_write.specs.Standing.{IsPartIn}
+use Rattle.store_api.specs.Storing.{IsCutFrom, SavesOf}
 use Rattle.desk_store.specs.Causes.{FailedToChange}
 use Rattle.desk_store.specs.Desks.{store_sight}
 use Rattle.desk_store.proofs.SavedDesks.{part_stands, saves_of}

@@ -1,6 +1,6 @@
 use Rattle.std.proofs.Common.{Ok, refl, subst, sym}
 use Rattle.sqlite.specs.Held.{state}
-use Rattle.desk_reading.specs.Earliest.{IsEarliest, authorization_ends}
+use Rattle.sql_read.specs.Earliest.{IsEarliest, authorization_ends}
 use Rattle.desk_store.specs.Known.{IsKnownOf}
 use Rattle.desk_store.proofs.Knowing.{authorization_end_noted, no_authorizations_past, not_late}
 use Rattle.desk_store.proofs.Standing.{hands_on, reads_knowing}
@@ -8,11 +8,13 @@ use Rattle.desk_store.proofs.store.Store.has_no_authorization_past.Goals as goal
 
 pub returns-then-authorization_end-moment-clause-found : goal.returns-then-authorization_end-moment-clause-found
 returns-then-authorization_end-moment-clause-found g c clean T has _ =
-    no_authorizations_past c.args.self.now.known T c.args.status c.args.moment c.authorization_end.result has.known c.authorization_end.ensures c.if-authorization_end-moment.true
+    no_authorizations_past c.args.self.now.known T c.args.status c.args.moment c.authorization_end.result has.known c.authorization_end.ensures
+    c.if-authorization_end-moment.true
 
 pub returns-in-Ok-clause-reads : goal.returns-in-Ok-clause-reads
 returns-in-Ok-clause-reads g c =
-    reads_knowing g.S.Store c.args.self.now c.told.new.self (record { conn = c.told.new.self.conn; known = c.note_authorization_end.new.self }) c.in-Ok.earliest _ refl
+    reads_knowing g.S.Store c.args.self.now c.told.new.self (record { conn = c.told.new.self.conn; known = c.note_authorization_end.new.self })
+    c.in-Ok.earliest _ refl
     (c.in-Ok.ensures.reads c.args.self.now refl c.earliest_authorization_end-read.ensures.asks c.earliest_authorization_end-read.ensures.unchanged)
     (λ clean T has known.
     authorization_end_noted c.told.new.self.known c.note_authorization_end.new.self c.args.status c.in-Ok.earliest c.note_authorization_end.ensures T

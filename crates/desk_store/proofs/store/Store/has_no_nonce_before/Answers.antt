@@ -1,6 +1,6 @@
 use Rattle.std.proofs.Common.{Ok, refl, subst, sym}
 use Rattle.sqlite.specs.Held.{state}
-use Rattle.desk_reading.specs.Earliest.{IsEarliest, issues}
+use Rattle.sql_read.specs.Earliest.{IsEarliest, issues}
 use Rattle.desk_store.specs.Known.{IsKnownOf}
 use Rattle.desk_store.proofs.Knowing.{issue_noted, no_nonces_before, not_late}
 use Rattle.desk_store.proofs.Standing.{hands_on, reads_knowing}

@@ -1,6 +1,6 @@
 use Rattle.std.proofs.Common.{Ok, refl, subst, sym}
 use Rattle.sqlite.specs.Held.{state}
-use Rattle.desk_reading.specs.Earliest.{IsEarliest, order_ends}
+use Rattle.sql_read.specs.Earliest.{IsEarliest, order_ends}
 use Rattle.desk_store.specs.Known.{IsKnownOf}
 use Rattle.desk_store.proofs.Knowing.{no_orders_past, not_late, order_end_noted}
 use Rattle.desk_store.proofs.Standing.{hands_on, reads_knowing}

@@ -1,7 +1,7 @@
 use Rattle.std.proofs.Common.{◌≡◌, ap, refl, Ok}
 use Rattle.sqlite.specs.Held.{state}
 use Rattle.desk_model.specs.declared.rows.Meta.{Meta}
-use Rattle.desk_schema.proofs.StaysLemmas.{asks_then}
+use Rattle.sql_schema.proofs.StaysLemmas.{asks_then}
 use Rattle.desk_store.proofs.Failing.{read_failed}
 use Rattle.desk_store.proofs.Standing.{failed, hands_on}
 use Rattle.desk_store.proofs.store.Store.policy.Goals as goal

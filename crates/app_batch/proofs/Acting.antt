@@ -1,0 +1,43 @@
+-- What a line of a batch does to a desk: nothing, or what the desk's answer to its call does.
+use Rattle.std.proofs.Common.{ℕ, List, Result, Ok, Err, inl, inr}
+use Rattle.std.specs.Prelude.{MatchResult}
+use Rattle.desk_model.specs.declared.reply.Reply.{Reply}
+use Rattle.store_api.specs.Sight.{Sight}
+use Rattle.desk.specs.Meets.{ActsOnce}
+use Rattle.desk.specs.State.{DeskState}
+use Rattle.desk.specs.declared.fault.DeskFault.{DeskFault}
+use Rattle.http_routes.specs.declared.lines.Line.{Line}
+use Rattle.http_routes.specs.declared.request.Request.{Request}
+use Rattle.http_routes.specs.declared.request.Request.TheVariants as request
+use Rattle.app_batch.specs.LineRequests.{call_of}
+use Rattle.app_batch.specs.Said.{DeclinesTo, LacksMemory, RepliesTo, Says, SaysNothing}
+use Rattle.app_batch.specs.declared.lines.AnswerFault.{AnswerFault}
+use Rattle.app_batch.specs.declared.lines.AnswerFault.TheVariants as answerfault
+
+module _ {S C : Type 0} (v : Sight S C) where
+  -- what it asks was replied to
+  replies_act : (old new : DeskState S) (l : Line) (q : Request) (reply : Reply) → RepliesTo v old l q reply new → ActsOnce v old new
+  replies_act old new l (request.Asks what) reply is = inr (record { call = call_of l what; result = Ok reply; meets = is })
+  replies_act old new l (request.Refused refusal) reply is = inl (is.1)
+
+  -- the desk declined it
+  declines_act : (old new : DeskState S) (l : Line) (q : Request) (why : DeskFault) → DeclinesTo v old l q why new → ActsOnce v old new
+  declines_act old new l (request.Asks what) why is = inr (record { call = call_of l what; result = Err why; meets = is })
+  declines_act old new l (request.Refused refusal) why is = absurd is
+
+  -- memory was refused, before the desk answered or after
+  lacks_acts : (old new : DeskState S) (bytes : List ℕ) → LacksMemory v old bytes new → ActsOnce v old new
+  lacks_acts old new bytes (inl same) = inl same
+  lacks_acts old new bytes (inr is) = replies_act old new is.1.line is.1.request is.0 is.1.replies
+
+  -- nothing is said
+  silence_acts : (old new : DeskState S) (bytes : List ℕ) (why : AnswerFault) → SaysNothing v old bytes why new → ActsOnce v old new
+  silence_acts old new bytes answerfault.NotACall is = inl (is.1)
+  silence_acts old new bytes (answerfault.Desk why) is = declines_act old new is.line is.request why is.declines
+  silence_acts old new bytes answerfault.Memory is = lacks_acts old new bytes is
+
+  -- whatever becomes of it
+  pub line_acts : {V : Type 0} (items : V → List ℕ) (old new : DeskState S) (bytes : List ℕ) (result : Result V AnswerFault)
+      → MatchResult result (λ said. Says v old bytes (items said) new) (λ why. SaysNothing v old bytes why new) → ActsOnce v old new
+  line_acts items old new bytes (Ok said) is = replies_act old new is.1.line is.1.request is.0 is.1.replies
+  line_acts items old new bytes (Err why) is = silence_acts old new bytes why is

@@ -1,0 +1,56 @@
+-- What is said to a line of a batch, by a desk over any store.
+use Rattle.std.specs.Prelude.{◌≡◌, ◌⊎◌, ℕ, List, Ok, Err}
+use Rattle.desk_model.specs.declared.reply.Reply.{Reply}
+use Rattle.http_routes.specs.Lines.{Spells, line_text}
+use Rattle.http_routes.specs.Request.{refused_reply}
+use Rattle.http_routes.specs.declared.lines.Line.{Line}
+use Rattle.http_routes.specs.declared.request.Request.{Request}
+use Rattle.http_routes.specs.declared.request.Request.TheVariants as request
+use Rattle.app_batch.specs.LineRequests.{IsRequestOf, call_of}
+use Rattle.app_batch.specs.declared.lines.AnswerFault.{AnswerFault}
+use Rattle.app_batch.specs.declared.lines.AnswerFault.TheVariants as answerfault
+use Rattle.desk.specs.Meets.{Meets}
+use Rattle.desk.specs.State.{DeskState}
+use Rattle.desk.specs.declared.fault.DeskFault.{DeskFault}
+use Rattle.store_api.specs.Sight.{Sight}
+
+module _ {S C : Type 0} (v : Sight S C) where
+  -- the reply to a line with this request: the desk's to its call, or the refusal of a request that is none
+  abbrev pub RepliesTo : DeskState S → Line → Request → Reply → DeskState S → Type 0
+  RepliesTo old l (request.Asks what) reply new = Meets v (call_of l what) old new (Ok reply)
+  RepliesTo old l (request.Refused why) reply new = (reply ≡ refused_reply why) × (new ≡ old)
+
+  -- the desk has no reply to the call of a line
+  abbrev pub DeclinesTo : DeskState S → Line → Request → DeskFault → DeskState S → Type 0
+  DeclinesTo old l (request.Asks what) why new = Meets v (call_of l what) old new (Err why)
+  DeclinesTo old l (request.Refused refusal) why new = ⊥
+
+  -- the bytes spell a line, and what it asks is replied to so
+  pub record Replied (old : DeskState S) (bytes : List ℕ) (reply : Reply) (new : DeskState S) : Type 0 where
+    pub line : Line
+    pub spells : Spells bytes line
+    pub request : Request
+    pub asks : IsRequestOf line request
+    pub replies : RepliesTo old line request reply new
+
+  -- the line that is said in reply
+  abbrev pub Says : DeskState S → (bytes said : List ℕ) → DeskState S → Type 0
+  Says old bytes said new = (reply : Reply) × Replied old bytes reply new × (said ≡ line_text reply)
+
+  -- the bytes spell a line, and the desk declines what it asks
+  pub record Declined (old : DeskState S) (bytes : List ℕ) (why : DeskFault) (new : DeskState S) : Type 0 where
+    pub line : Line
+    pub spells : Spells bytes line
+    pub request : Request
+    pub asks : IsRequestOf line request
+    pub declines : DeclinesTo old line request why new
+
+  -- nothing is said, as memory was refused: before the desk answered or after
+  abbrev pub LacksMemory : DeskState S → List ℕ → DeskState S → Type 0
+  LacksMemory old bytes new = (new ≡ old) ⊎ ((reply : Reply) × Replied old bytes reply new)
+
+  -- why nothing is said: the line is no call, the desk declines the call, or memory was refused
+  abbrev pub SaysNothing : DeskState S → List ℕ → AnswerFault → DeskState S → Type 0
+  SaysNothing old bytes answerfault.NotACall new = ((l : Line) → Spells bytes l → ⊥) × (new ≡ old)
+  SaysNothing old bytes (answerfault.Desk why) new = Declined old bytes why new
+  SaysNothing old bytes answerfault.Memory new = LacksMemory old bytes new

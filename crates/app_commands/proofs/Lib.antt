@@ -1,0 +1,5 @@
+mod Done
+mod Bases
+mod Entries
+mod Commands
+mod Small

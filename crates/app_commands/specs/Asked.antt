@@ -1,0 +1,32 @@
+-- What the operator asks of a desk that is served, and how that ends.
+use Rattle.std.specs.Prelude.{◌≡◌, ◌⊎◌, ℕ, List, ◌++◌, Option, Result, Ok, Err, codes, decimal}
+use Rattle.std.specs.Io.KnownBytes.{Appends}
+use Rattle.app_words.specs.declared.command.Target.{Target}
+use Rattle.app_words.specs.declared.command.Target.TheVariants as target
+use Rattle.app_commands.specs.declared.fault.Fault.{Fault}
+use Rattle.app_commands.specs.declared.fault.Fault.TheVariants as fault
+use Rattle.desk.specs.declared.fault.DeskFault.TheVariants as deskfault
+use Rattle.desk_model.specs.declared.refusal.Refusal.{Refusal}
+
+-- the request for it, which has no body (RFC 9112, 3)
+abbrev pub request_of : Target → List ℕ
+request_of (target.Authorization number) =
+    codes "POST /office/revoke-authz/" ++ (decimal number ++ codes " HTTP/1.1\r\nHost: 127.0.0.1\r\nContent-Length: 0\r\n\r\n")
+request_of (target.Account number) =
+    codes "POST /office/revoke-account/" ++ (decimal number ++ codes " HTTP/1.1\r\nHost: 127.0.0.1\r\nContent-Length: 0\r\n\r\n")
+
+-- the line that says that it is revoked
+abbrev pub revoked_line : Target → List ℕ
+revoked_line (target.Authorization number) = codes "authz " ++ (decimal number ++ codes " revoked\n")
+revoked_line (target.Account number) = codes "account " ++ (decimal number ++ codes " revoked\n")
+
+-- the line is written, or standard output failed
+abbrev pub IsSaid : Target → Option (List ℕ) → Option (List ℕ) → Result ℕ Fault → Type 0
+IsSaid what was is how = ((how ≡ Ok 0) × Appends was is (revoked_line what)) ⊎ (how ≡ Err fault.Output)
+
+-- how a revocation ends that a desk which is served was asked for: no reply came, and nothing was written; or the desk refused, and nothing
+-- was written; or it says that it is done
+pub data RevokesServed (what : Target) (was is : Option (List ℕ)) (how : Result ℕ Fault) : Type 0 where
+  unheard : (how ≡ Err fault.Connection) ⊎ (how ≡ Err (fault.Desk deskfault.Memory)) → is ≡ was → RevokesServed what was is how
+  refused : (refusal : Refusal) → how ≡ Err (fault.Refused refusal) → is ≡ was → RevokesServed what was is how
+  revoked : IsSaid what was is how → RevokesServed what was is how

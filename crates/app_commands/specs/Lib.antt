@@ -1,0 +1,6 @@
+pub mod Asked
+pub mod CallLog
+pub mod Filters
+pub mod Deeds
+pub mod Faults
+pub mod Statuses

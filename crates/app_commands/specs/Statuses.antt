@@ -1,0 +1,167 @@
+-- How the orders of the command line end.
+use Rattle.std.specs.Prelude.{◌≡◌, ◌≢◌, ◌⊎◌, ℕ, Bool, List, codes, Option, Some, None, Result, Ok, Err, true, false}
+use Rattle.sqlite.specs.Recovery.{Image}
+use Rattle.sqlite_disk.specs.declared.Disk as disk
+use Rattle.app_words.specs.declared.command.AuthorizationListing.{AuthorizationListing}
+use Rattle.app_words.specs.declared.command.Listing.{Listing}
+use Rattle.app_words.specs.declared.command.Command.{Command}
+use Rattle.app_words.specs.declared.command.Command.TheVariants as command
+use Rattle.app_words.specs.declared.command.Syncs.{Syncs}
+use Rattle.app_words.specs.declared.command.Syncs.TheVariants as syncs
+use Rattle.app_words.specs.declared.command.Terms.{Terms as Words}
+use Rattle.app_commands.specs.Asked.{RevokesServed}
+use Rattle.app_commands.specs.Filters.{AreRight, AsksForAuthorizations, AsksForOrders, StandsForName}
+use Rattle.app_commands.specs.Deeds.{AnswersReader, ChecksStatuses, ListsRows, RevokesTarget, ServesCount, TellsAbout}
+use Rattle.app_commands.specs.Faults.{IsOfOpening, open_fault}
+use Rattle.app_commands.specs.declared.filters.Unasked.{Unasked}
+use Rattle.app_commands.specs.declared.filters.Unasked.TheVariants as unasked
+use Rattle.app_commands.specs.declared.fault.Fault.{Fault}
+use Rattle.app_commands.specs.declared.fault.Fault.TheVariants as fault
+use Rattle.app_commands.specs.declared.limits.Limit.{Limit}
+use Rattle.app_commands.specs.declared.limits.Limit.TheVariants as limit
+use Rattle.desk_model.specs.Terms.{Terms, are_terms, is_base, is_life}
+use Rattle.desk_store.specs.declared.open_fault.OpenFault.{OpenFault}
+use Rattle.desk.specs.declared.fault.DeskFault.{DeskFault}
+use Rattle.desk.specs.declared.fault.DeskFault.TheVariants as deskfault
+use Rattle.app_files.specs.Doing.{Deed}
+use Rattle.app_files.specs.Endings.{EndsInMemory, EndsMaking, EndsOver}
+use Rattle.app_files.specs.declared.copies.CopyFault.{CopyFault}
+use Rattle.app_files.specs.declared.copies.CopyFault.TheVariants as copyfault
+use Rattle.app_files.specs.declared.left.Left.{Left}
+use Rattle.app_files.specs.declared.left.Left.TheVariants as rest
+use Rattle.app_reports.specs.Listed.{accounts_roster, authorizations_roster, orders_roster}
+use Rattle.app_reports.specs.declared.authorizations.AuthorizationFilter.{AuthorizationFilter}
+use Rattle.app_reports.specs.declared.about.Beside.{Beside}
+use Rattle.app_reports.specs.declared.form.Form.{Form}
+use Rattle.app_reports.specs.declared.form.Form.TheVariants as form
+use Rattle.app_reports.specs.declared.orders.OrderFilter.{OrderFilter}
+
+-- the terms that the words give
+abbrev pub terms_of : Words → Terms
+terms_of w = record { base = w.base.now; nonce_life = w.nonce_life; order_life = w.order_life; authz_life = w.authz_life }
+
+-- those of a desk in memory
+abbrev pub terms_in_memory : Terms
+terms_in_memory = record { base = codes "https://ca.example"; nonce_life = 3600; order_life = 604800; authz_life = 2592000 }
+
+-- the terms keep this limit
+abbrev pub keeps : Terms → Limit → Bool
+keeps t limit.Base = is_base t.base
+keeps t limit.NonceLife = is_life t.nonce_life
+keeps t limit.OrderLife = is_life t.order_life
+keeps t limit.AuthzLife = is_life t.authz_life
+
+-- the form that is asked for
+abbrev pub form_of : Bool → Form
+form_of true = form.Json
+form_of false = form.Text
+
+-- how often a commit syncs that a command makes: as its word says, or twice
+abbrev pub syncs_of : Command → Syncs
+syncs_of (command.Serve file serving) = file.syncs
+syncs_of (command.Batch (Some file)) = file.syncs
+syncs_of _ = syncs.Twice
+
+-- whether that supposes of each byte which was written and not synced that it is the old or the new one
+abbrev pub supposes : Syncs → Bool
+supposes syncs.Once = true
+supposes syncs.Twice = false
+
+-- how a making is told: where a desk was made, what says so may still fail to be written
+abbrev pub IsToldMade : Result Unit OpenFault → Result ℕ Fault → Type 0
+IsToldMade (Ok made) how = (how ≡ Ok 0) ⊎ (how ≡ Err fault.Output)
+IsToldMade (Err cause) how = how ≡ Err (fault.Desk (open_fault cause))
+
+-- how a copy is told: it is made where a check of the desk ended by 0, and there alone; what says so may still fail to be written
+pub record IsToldCopied (checked how : Result ℕ Fault) : Type 0 where
+  pub copied : checked ≡ Ok 0 → (how ≡ Ok 0) ⊎ (((why : CopyFault) × (how ≡ Err (fault.Copy why))) ⊎ (how ≡ Err fault.Output))
+  pub otherwise : checked ≢ Ok 0 → how ≡ checked
+
+module _ {D : Type 0} {g : disk.Ghosts D} where
+  -- no file was opened, and nothing written
+  abbrev pub IsIdle : (was is : Option (List ℕ)) → Left D g → Type 0
+  IsIdle was is left = (is ≡ was) × (left ≡ rest.Untouched)
+
+module _ {D : Type 0} (g : disk.Ghosts D) (image : Image) where
+  -- a task over files with these bytes ends so, and leaves these
+  abbrev pub EndsOverFiles : Deed Fault → (was is : Option (List ℕ)) → Result ℕ Fault → Left D g → Type 0
+  EndsOverFiles deed was is how left = EndsOver IsOfOpening image deed was is how left
+
+  -- a desk of these terms was made in such files, or was not
+  pub record Makes (policy : Terms) (how : Result ℕ Fault) (left : Left D g) : Type 0 where
+    pub making : Result Unit OpenFault
+    pub ends : EndsMaking image policy making left
+    pub told : IsToldMade making how
+
+  -- how a making ends: by 2 where the terms break a limit, and there alone
+  abbrev pub EndsMake : Terms → (was is : Option (List ℕ)) → Result ℕ Fault → Left D g → Type 0
+  EndsMake policy was is how left =
+      ((are_terms policy ≡ false) × (how ≡ Ok 2) × IsIdle was is left)
+      ⊎ (((are_terms policy ≡ true) × Makes policy how left) ⊎ ((how ≡ Err (fault.Desk deskfault.Memory)) × IsIdle was is left))
+
+  -- the size of the log could not be told; or what is known of the desk was
+  abbrev pub EndsAbout : (was is : Option (List ℕ)) → Result ℕ Fault → Left D g → Type 0
+  EndsAbout was is how left =
+      ((why : DeskFault) × (how ≡ Err (fault.Desk why)) × IsIdle was is left) ⊎ ((b : Beside) × EndsOverFiles (TellsAbout b) was is how left)
+
+  -- how a list ends whose words ask for nothing: by 2, or since there was no memory for them
+  abbrev pub EndsUnasked : Unasked → (was is : Option (List ℕ)) → Result ℕ Fault → Left D g → Type 0
+  EndsUnasked (unasked.Wrong why) was is how left = (how ≡ Ok 2) × IsIdle was is left
+  EndsUnasked unasked.Memory was is how left = (how ≡ Err (fault.Desk deskfault.Memory)) × IsIdle was is left
+
+  -- the orders are listed that are asked for
+  pub record ListsOrders (listing : Listing) (was is : Option (List ℕ)) (how : Result ℕ Fault) (left : Left D g) : Type 0 where
+    pub filter : OrderFilter
+    pub asks : AsksForOrders listing filter
+    pub ends : EndsOverFiles (ListsRows (orders_roster filter (form_of listing.json))) was is how left
+
+  -- the authorizations are
+  pub record ListsAuthorizations (listing : AuthorizationListing) (was is : Option (List ℕ)) (how : Result ℕ Fault) (left : Left D g) : Type 0 where
+    pub filter : AuthorizationFilter
+    pub asks : AsksForAuthorizations listing filter
+    pub ends : EndsOverFiles (ListsRows (authorizations_roster filter (form_of listing.json))) was is how left
+
+  -- how a list ends: by 2 where its words are wrong, and there alone; or there is no memory for them
+  abbrev pub EndsList : (Right Lists : Type 0) → (was is : Option (List ℕ)) → Result ℕ Fault → Left D g → Type 0
+  EndsList Right Lists was is how left =
+      ((Right → ⊥) × (how ≡ Ok 2) × IsIdle was is left) ⊎ (Lists ⊎ ((how ≡ Err (fault.Desk deskfault.Memory)) × IsIdle was is left))
+
+  -- the desk of the files was checked, and its statuses listed; where that ended by 0 the files were closed, and copied while they were held
+  pub record CopiesChecked (was is : Option (List ℕ)) (how : Result ℕ Fault) (left : Left D g) : Type 0 where
+    pub checked : Result ℕ Fault
+    pub written : Option (List ℕ)
+    pub ends : EndsOverFiles (ChecksStatuses form.Text) was written checked left
+    pub told : IsToldCopied checked how
+    pub silent : checked ≢ Ok 0 → is ≡ written
+
+  -- something stood where the copy was to be made, and no file was opened; or the desk was checked first
+  abbrev pub EndsBackUp : (was is : Option (List ℕ)) → Result ℕ Fault → Left D g → Type 0
+  EndsBackUp was is how left = ((how ≡ Err (fault.Copy copyfault.Taken)) × IsIdle was is left) ⊎ CopiesChecked was is how left
+
+  -- how a command over files with these bytes ends, and what it leaves; its reader has these bytes, and its writer was given these and has
+  -- these in the end, where that is known
+  abbrev pub Ends : (bytes was is : Option (List ℕ)) → Command → Result ℕ Fault → Left D g → Type 0
+  Ends bytes was is (command.Make file terms) how left = EndsMake (terms_of terms) was is how left
+  Ends bytes was is (command.Serve file serving) how left = EndsOverFiles (ServesCount serving.count) was is how left
+  Ends bytes was is (command.About file) how left = EndsAbout was is how left
+  Ends bytes was is (command.Status file listing) how left = EndsList (AreRight listing) (ListsOrders listing was is how left) was is how left
+  Ends bytes was is (command.Accounts file json) how left = EndsOverFiles (ListsRows (accounts_roster (form_of json))) was is how left
+  Ends bytes was is (command.Authorizations file listing) how left =
+      EndsList (StandsForName listing.name) (ListsAuthorizations listing was is how left) was is how left
+  Ends bytes was is (command.Check file json) how left = EndsOverFiles (ChecksStatuses (form_of json)) was is how left
+  Ends bytes was is (command.BackUp file to) how left = EndsBackUp was is how left
+  Ends bytes was is (command.Revoke file target) how left = EndsOverFiles (RevokesTarget target) was is how left
+  Ends bytes was is (command.RevokeServed port target) how left = RevokesServed target was is how × (left ≡ rest.Untouched)
+  Ends bytes was is (command.Batch (Some file)) how left = EndsOverFiles (AnswersReader bytes) was is how left
+  Ends bytes was is (command.Batch None) how left =
+      EndsInMemory IsOfOpening terms_in_memory (AnswersReader bytes) was is how × (left ≡ rest.Untouched)
+
+-- the exit status, which after a fault is 1
+abbrev pub status_of : Result ℕ Fault → ℕ
+status_of (Ok status) = status
+status_of (Err why) = 1
+
+module _ {D : Type 0} (g : disk.Ghosts D) (image : Image) where
+  -- a command ends by this status
+  abbrev pub EndsBy : (bytes was is : Option (List ℕ)) → Command → ℕ → Left D g → Type 0
+  EndsBy bytes was is o status left = (how : Result ℕ Fault) × Ends g image bytes was is o how left × (status ≡ status_of how)

@@ -1,0 +1,110 @@
+//! Lines and connections, answered by a desk.
+ghost use Rattle.std.specs.Prelude.{unwrap_or};
+ghost use Rattle.app_commands.specs.Deeds.{Serves};
+
+use crate::desks::adopt;
+use crate::fault::Fault;
+use crate::overseeing::{FileOverseer, Identity};
+use app_batch::batch;
+use app_files::Task;
+use app_words::Serving;
+use desk::Desk;
+use desk_http::{ServeFault, bind, serve_all};
+use std::alloc::Global;
+use std::io::{Read, Write};
+use store_api::{RowsAbove, Storage};
+
+/// Answers the lines of a reader.
+#[derive(Drop)]
+pub(crate) struct AnswerLines<'r, 'e, R: Read, E: Write> {
+    pub(crate) alloc: Global,
+    pub(crate) reader: &'r mut R,
+    pub(crate) errors: &'e mut E,
+}
+
+impl<'r, 'e, R: Read, E: Write> Task for AnswerLines<'r, 'e, R, E> {
+    ghost use Rattle.app_commands.specs.Deeds.{AnswersReader};
+
+    type Fault = Fault;
+
+    ghost does = { λ task. AnswersReader (R.remaining task.reader.now) };
+
+    fn run<K: Storage + RowsAbove + Drop, W: Write>(
+        &mut self,
+        store: K,
+        out: &mut W,
+    ) -> (K, Result<u8, Fault>) {
+        let mut desk = match adopt(self.alloc, store) {
+            Ok(desk) => desk,
+            Err((store, fault)) => return (store, Err(fault)),
+        };
+        let status = batch(self.alloc, &mut *self.reader, out, self.errors, &mut desk);
+        (desk.into_store(), Ok(status))
+    }
+}
+
+/// Serves connections at a port.
+#[derive(Drop)]
+pub(crate) struct ServeConnections<'a, E: Write> {
+    pub(crate) rt: &'a HostRuntime,
+    pub(crate) path: &'a str,
+    pub(crate) serving: Serving,
+    pub(crate) errors: &'a mut E,
+}
+
+impl<'a, E: Write> ServeConnections<'a, E> {
+    // Takes the port, prints the address, and serves; gives the exit status.
+    fn serve<K: Storage + Drop, W: Write>(
+        &mut self,
+        desk: &mut Desk<K>,
+        out: &mut W,
+    ) -> Result<u8, Fault>
+        ensures { Serves K.Storage.sight K.Storage.causes (unwrap_or self.old.serving.count 18446744073709551615) desk.old desk.new result }
+    {
+        let Ok(identity) = Identity::of(self.rt, self.path) else {
+            return Err(Fault::Serve(ServeFault::Replaced));
+        };
+        let (listener, bound) = bind(self.rt, self.serving.port)?;
+        if writeln!(out, "listening on {bound}").is_err() || out.flush().is_err() {
+            return Err(Fault::Output);
+        }
+        let mut overseer = FileOverseer {
+            rt: self.rt,
+            path: self.path,
+            identity,
+            log: self.serving.log,
+            out,
+        };
+        serve_all(
+            self.rt.alloc(),
+            self.rt,
+            &listener,
+            desk,
+            self.serving.count,
+            &mut overseer,
+            self.errors,
+        )?;
+        Ok(0)
+    }
+}
+
+impl<'a, E: Write> Task for ServeConnections<'a, E> {
+    ghost use Rattle.app_commands.specs.Deeds.{ServesCount};
+
+    type Fault = Fault;
+
+    ghost does = { λ task. ServesCount task.serving.count };
+
+    fn run<K: Storage + RowsAbove + Drop, W: Write>(
+        &mut self,
+        store: K,
+        out: &mut W,
+    ) -> (K, Result<u8, Fault>) {
+        let mut desk = match adopt(self.rt.alloc(), store) {
+            Ok(desk) => desk,
+            Err((store, fault)) => return (store, Err(fault)),
+        };
+        let outcome = self.serve(&mut desk, out);
+        (desk.into_store(), outcome)
+    }
+}

@@ -1,0 +1,67 @@
+//! A desk that is checked, and copied.
+ghost use Rattle.std.specs.Prelude.{◌≡◌, ◌≢◌, Err, Ok};
+ghost use Rattle.sqlite.specs.WalFiles.{image_at};
+ghost use Rattle.app_commands.specs.Statuses.{EndsBackUp, IsToldCopied};
+
+use crate::fault::Fault;
+use crate::reporting::CheckStatuses;
+use app_files::{CopyFault, Left, copy_file, is_taken, run_over_file};
+use app_reports::Form;
+use desk_http::moment;
+use sqlite::{FileFrom, Start};
+use sqlite_disk::Disk;
+use std::io::Write;
+
+/// Checks the desk in a file, closes that, and copies it into a new one, while no other program has it.
+pub(crate) fn back_up<S: Start, W: Write, E: Write>(
+    rt: &HostRuntime,
+    file: &str,
+    to: &str,
+    start: S,
+    out: &mut W,
+    errors: &mut E,
+) -> (Result<u8, Fault>, Left<FileFrom<S>>)
+    ensures { EndsBackUp ⟦<FileFrom<S> as Disk>⟧ (image_at S.Start) (W.contents out.old) (W.contents out.new) result.0 result.1 }
+{
+    if is_taken(rt, to) {
+        return (Err(Fault::Copy(CopyFault::Taken)), Left::Untouched);
+    }
+    let task = CheckStatuses {
+        alloc: rt.alloc(),
+        form: Form::Text,
+        now: moment(rt).ok(),
+        errors,
+    };
+    let (checked, left) = run_over_file(rt, file, start, task, out);
+    (copied(rt, checked, file, to, out), left)
+}
+
+// Copies the file of a desk that is closed and has no wrong status, says so, and gives the exit status.
+fn copied<W: Write>(
+    rt: &HostRuntime,
+    checked: Result<u8, Fault>,
+    file: &str,
+    to: &str,
+    out: &mut W,
+) -> Result<u8, Fault>
+    ensures told { IsToldCopied checked result }
+    ensures silent { checked ≢ Ok 0 → W.contents out.new ≡ W.contents out.old }
+{
+    match checked {
+        Ok(0) => copy(rt, file, to, out),
+        checked => checked,
+    }
+}
+
+// Copies a file, and says so; gives the exit status.
+fn copy<W: Write>(rt: &HostRuntime, file: &str, to: &str, out: &mut W) -> Result<u8, Fault>
+    ensures { IsToldCopied (Ok 0) result }
+{
+    match copy_file(rt, file, to) {
+        Ok(()) => match writeln!(out, "copied") {
+            Ok(()) => Ok(0),
+            Err(_) => Err(Fault::Output),
+        },
+        Err(fault) => Err(Fault::Copy(fault)),
+    }
+}

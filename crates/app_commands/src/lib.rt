@@ -1,0 +1,20 @@
+//! The commands of the program `desk`: its words, done over a reader and writers.
+#![tactic(auto)]
+
+mod answering;
+mod asking;
+mod backing_up;
+mod call_log;
+mod desks;
+mod explaining;
+mod fault;
+mod filters;
+mod limits;
+mod overseeing;
+mod reporting;
+mod revoking;
+mod running;
+
+pub use fault::Fault;
+pub use limits::Limit;
+pub use running::{run_command, run_words, tell_no_memory};

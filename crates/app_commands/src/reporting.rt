@@ -1,0 +1,130 @@
+//! Reports on the rows of a store.
+ghost use Rattle.std.specs.Prelude.{◌≡◌};
+ghost use Rattle.app_commands.specs.Deeds.{how_checked, how_listed};
+ghost use Rattle.app_commands.specs.Statuses.{form_of};
+
+use crate::fault::Fault;
+use app_files::Task;
+use app_reports::{
+    Beside, Checked, Form, ReportFault, RowList, list_faults, list_rows, seconds_ahead, tell_about,
+};
+use std::alloc::Global;
+use std::io::Write;
+use store_api::{RowsAbove, Storage};
+
+// The exit status where a stored status is wrong.
+const FOUND: u8 = 3;
+
+/// The form that the words ask for.
+pub(crate) fn form(json: bool) -> Form
+    ensures { result ≡ form_of json }
+{
+    if json { Form::Json } else { Form::Text }
+}
+
+/// Lists the rows of a table.
+#[derive(Drop)]
+pub(crate) struct ListRows<L: RowList> {
+    pub(crate) alloc: Global,
+    pub(crate) form: Form,
+    pub(crate) list: L,
+}
+
+impl<L: RowList> Task for ListRows<L> {
+    ghost use Rattle.app_reports.specs.Listed.{roster};
+    ghost use Rattle.app_commands.specs.Deeds.{ListsRows};
+
+    type Fault = Fault;
+
+    ghost does = { λ task. ListsRows (roster L.Item.rows (L.keeps task.list) L.line L.noun task.form) };
+
+    fn run<K: Storage + RowsAbove + Drop, W: Write>(
+        &mut self,
+        store: K,
+        out: &mut W,
+    ) -> (K, Result<u8, Fault>) {
+        let mut store = store;
+        let listed = list_rows(self.alloc, &mut store, out, self.form, &self.list);
+        (store, told(listed))
+    }
+}
+
+/// Tells about a desk.
+#[derive(Drop)]
+pub(crate) struct TellAbout {
+    pub(crate) alloc: Global,
+    pub(crate) beside: Beside,
+}
+
+impl Task for TellAbout {
+    ghost use Rattle.app_commands.specs.Deeds.{TellsAbout};
+
+    type Fault = Fault;
+
+    ghost does = { λ task. TellsAbout task.beside };
+
+    fn run<K: Storage + RowsAbove + Drop, W: Write>(
+        &mut self,
+        store: K,
+        out: &mut W,
+    ) -> (K, Result<u8, Fault>) {
+        let mut store = store;
+        let about = tell_about(self.alloc, &mut store, out, self.beside);
+        (store, told(about))
+    }
+}
+
+/// Lists the stored statuses that are wrong, and tells where the desk's clock is ahead of the machine's.
+#[derive(Drop)]
+pub(crate) struct CheckStatuses<'a, E: Write> {
+    pub(crate) alloc: Global,
+    pub(crate) form: Form,
+    pub(crate) now: Option<u64>,
+    pub(crate) errors: &'a mut E,
+}
+
+impl<'a, E: Write> Task for CheckStatuses<'a, E> {
+    ghost use Rattle.app_commands.specs.Deeds.{ChecksStatuses};
+
+    type Fault = Fault;
+
+    ghost does = { λ task. ChecksStatuses task.form };
+
+    fn run<K: Storage + RowsAbove + Drop, W: Write>(
+        &mut self,
+        store: K,
+        out: &mut W,
+    ) -> (K, Result<u8, Fault>) {
+        let mut store = store;
+        let checked = list_faults(self.alloc, &mut store, out, self.form);
+        tell_ahead(self.errors, checked, self.now);
+        (store, found(checked))
+    }
+}
+
+// How a list of orders ends.
+fn told(listed: Result<(), ReportFault>) -> Result<u8, Fault>
+    ensures { result ≡ how_listed listed }
+{
+    listed?;
+    Ok(0)
+}
+
+// How a list of wrong statuses ends, by whether there is one.
+fn found(checked: Result<Checked, ReportFault>) -> Result<u8, Fault>
+    ensures { result ≡ how_checked checked }
+{
+    Ok(if checked?.found { FOUND } else { 0 })
+}
+
+// Says by how much the desk's clock is ahead of the machine's, if it is.
+fn tell_ahead<E: Write>(errors: &mut E, checked: Result<Checked, ReportFault>, now: Option<u64>) {
+    if let Ok(checked) = checked {
+        if let Some(seconds) = seconds_ahead(checked.clock, now) {
+            let _ = writeln!(
+                errors,
+                "desk: the desk's clock is {seconds} seconds ahead of the machine's"
+            );
+        }
+    }
+}

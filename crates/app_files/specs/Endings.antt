@@ -1,0 +1,141 @@
+-- How a task ends that is done with the desk of two files, or with a new one in memory.
+use Rattle.std.specs.Prelude.{◌≡◌, ◌≢◌, ◌⊎◌, ℕ, List, Option, None, Result, Ok, Err, IfErr, IfOk, IfSome, IsErrAnd}
+use Rattle.sqlite.specs.FileStore.{recovers}
+use Rattle.sqlite.specs.Files.{over_files}
+use Rattle.sqlite.specs.Recovery.{Image}
+use Rattle.sqlite.specs.Steps.{over_memory}
+use Rattle.sqlite.specs.Tree.{Trees}
+use Rattle.sqlite_disk.specs.declared.Disk as disk
+use Rattle.sqlite_disk.specs.declared.Files.{Files}
+use Rattle.sqlite_store.specs.declared.store.FileStore.{FileStore}
+use Rattle.sqlite_trees.specs.declared.memory.MemStore.{MemStore}
+use Rattle.desk_files.specs.Closing.{EndsAsStop, KeepsInFile, WasHonest}
+use Rattle.desk_files.specs.Opening.{FailsToMake, FoundNoName, LeavesAnOpening, LeavesAsFound, MakesFiles, OpensFiles}
+use Rattle.desk_files.specs.Opening.{RefusesName, RefusesNoDatabase, RefusesNoDesk}
+use Rattle.desk_files.specs.declared.opening.NotOpened.{NotOpened}
+use Rattle.desk_model.specs.History.{first_history}
+use Rattle.desk_model.specs.Tables.{picture}
+use Rattle.desk_model.specs.Terms.{Terms}
+use Rattle.store_api.specs.Sight.{Keeps}
+use Rattle.desk_store.specs.Desks.{store_sight}
+use Rattle.desk_store.specs.Making.{IsOfStorage}
+use Rattle.desk_store.specs.declared.open_fault.OpenFault.{OpenFault}
+use Rattle.desk_store.specs.declared.open_fault.OpenFault.TheVariants.{NotADesk}
+use Rattle.desk_store.specs.declared.store.Store.{Store}
+use Rattle.app_files.specs.Doing.{Deed, Doing, OverStore}
+use Rattle.app_files.specs.declared.left.Left.{Left}
+use Rattle.app_files.specs.declared.left.Left.TheVariants as rest
+
+-- no file was opened: there was one where none may be, or none with bytes; or the path could not be looked at
+abbrev pub IsUntouched : OpenFault → Type 0
+IsUntouched cause = (cause ≡ NotADesk) ⊎ IsOfStorage cause
+
+module _ {D : Type 0} {g : disk.Ghosts D} where
+  -- ---- what is left of the files of a desk
+
+  -- the desk that the store had is in the database file, and a stop leaves what it could leave of the store, whose disk was honest if it
+  -- was so to the end
+  pub record IsClosed (store : Store (FileStore D g)) (files : Files D) : Type 0 where
+    pub kept : KeepsInFile store files
+    pub ended : EndsAsStop store files
+    pub honest : WasHonest store files
+
+  -- the log could not be copied: a stop leaves no more than it could leave of the store
+  pub record IsUnclosed (store : Store (FileStore D g)) (cause : OpenFault) (last : FileStore D g) : Type 0 where
+    pub fault : IsOfStorage cause
+    pub left : (trees : Trees) → recovers last trees → recovers store.conn.store trees
+
+  -- no file was reached: none was opened, or the engine could open none
+  abbrev pub IsUnreached : Left D g → Type 0
+  IsUnreached rest.Untouched = Unit {0}
+  IsUnreached (rest.Unopened un) = (un.conn ≡ None) × (un.refused ≡ None)
+  IsUnreached (rest.Closed files) = ⊥
+  IsUnreached (rest.Unclosed last) = ⊥
+
+  -- the closing of a store's files ended so, and left these
+  abbrev pub IsLeft : Store (FileStore D g) → Result Unit OpenFault → Left D g → Type 0
+  IsLeft store (Ok done) (rest.Closed files) = IsClosed store files
+  IsLeft store (Err cause) (rest.Unclosed last) = IsUnclosed store cause last
+  IsLeft store _ _ = ⊥
+
+  -- the files were not reached; or the engine refused them, which held no database; or they hold no desk. A stop leaves what was there,
+  -- or its desk of format 1 in today's format
+  pub record FailsToOpen (bytes : Image) (cause : OpenFault) (un : NotOpened (FileStore D g) D g) : Type 0 where
+    pub unreached : un.conn ≡ None → un.refused ≡ None → IsOfStorage cause
+    pub refused : IfSome un.refused (RefusesNoDatabase bytes cause)
+    pub unopened : IfSome un.conn (RefusesNoDesk bytes cause)
+    pub left : IfSome un.conn (LeavesAnOpening bytes)
+    pub spared : IfSome un.conn (LeavesAsFound bytes cause)
+
+  -- no desk was opened in files with these bytes, for this cause, which left these
+  abbrev pub IsUnopened : Image → OpenFault → Left D g → Type 0
+  IsUnopened bytes cause rest.Untouched = IsUntouched cause
+  IsUnopened bytes cause (rest.Unopened un) = FailsToOpen bytes cause un
+  IsUnopened bytes cause _ = ⊥
+
+  -- ---- makings
+
+  -- the files were not reached; or the engine refused them; or none could be made in them, which leaves what was there, or the new desk;
+  -- or a name of the desk's was taken there
+  pub record FailsToBeMade (bytes : Image) (policy : Terms) (cause : OpenFault) (un : NotOpened (FileStore D g) D g) : Type 0 where
+    pub unreached : un.conn ≡ None → un.refused ≡ None → IsOfStorage cause
+    pub refused : IfSome un.refused (RefusesNoDatabase bytes cause)
+    pub unmade : IfSome un.conn (FailsToMake policy 0 bytes cause)
+    pub taken : IfSome un.conn (RefusesName bytes cause)
+
+  -- no desk was made
+  abbrev pub IsUnmade : Image → Terms → OpenFault → Left D g → Type 0
+  IsUnmade bytes policy cause rest.Untouched = IsUntouched cause
+  IsUnmade bytes policy cause (rest.Unopened un) = FailsToBeMade bytes policy cause un
+  IsUnmade bytes policy cause _ = ⊥
+
+  -- no desk was made in files with these bytes; or one was, where no name of the desk's was taken, and its files closed, or could not be
+  pub data EndsMaking (bytes : Image) (policy : Terms) (how : Result Unit OpenFault) (left : Left D g) : Type 0 where
+    unmade : (cause : OpenFault) → how ≡ Err cause → IsUnmade bytes policy cause left → EndsMaking bytes policy how left
+    made : (store : Store (FileStore D g)) → MakesFiles policy 0 bytes store → FoundNoName bytes store → IsLeft store how left
+        → EndsMaking bytes policy how left
+
+-- ---- tasks
+
+-- how a task ends whose end was this, by how the closing of its files ended, which is told where the task ended well
+pub record IsTold {F : Type 0} (Becomes : OpenFault → F → Type 0) (outcome : Result ℕ F) (closing : Result Unit OpenFault) (how : Result ℕ F) : Type 0 where
+  pub closed : outcome ≡ Ok 0 → IfOk closing (λ _. how ≡ Ok 0)
+  pub unclosed : outcome ≡ Ok 0 → IfErr closing (λ cause. IsErrAnd how (Becomes cause))
+  pub otherwise : outcome ≢ Ok 0 → how ≡ outcome
+
+module _ {D : Type 0} (g : disk.Ghosts D) where
+  -- the desk of files with these bytes was opened, and the task done with its store, which ended so
+  pub record IsDoneOver {F : Type 0} (bytes : Image) (does : Doing F) (how : Result ℕ F) : Type 0 where
+    pub opened : Store (FileStore D g)
+    pub ended : Store (FileStore D g)
+    pub opens : OpensFiles bytes opened
+    pub did : OverStore does (over_files {g = g}) opened ended how
+
+module _ {D : Type 0} {g : disk.Ghosts D} where
+  -- no desk was opened, and nothing written; or the task was done, and nothing with its store behind it but to close the files
+  pub data EndsOver {F : Type 0} (Becomes : OpenFault → F → Type 0) (bytes : Image) (deed : Deed F) (was is : Option (List ℕ)) (how : Result ℕ F)
+      (left : Left D g) : Type 0 where
+    unopened :
+        (cause : OpenFault) → IsErrAnd how (Becomes cause) → IsUnopened bytes cause left → is ≡ was → EndsOver Becomes bytes deed was is how left
+    done :
+        (outcome : Result ℕ F) (over : IsDoneOver g bytes (deed was is) outcome) (closing : Result Unit OpenFault) → IsLeft over.ended closing left
+        → IsTold Becomes outcome closing how → EndsOver Becomes bytes deed was is how left
+
+-- ---- tasks in memory
+
+-- a store in memory has a new desk of these terms
+abbrev pub IsNew : Terms → Store MemStore → Type 0
+IsNew policy store = (store_sight over_memory).is_honest store → Keeps (store_sight over_memory) store (picture (first_history policy 0))
+
+-- a desk was made in memory, and the task done with its store, which ended so
+pub record IsDoneInMemory {F : Type 0} (policy : Terms) (does : Doing F) (how : Result ℕ F) : Type 0 where
+  pub made : Store MemStore
+  pub ended : Store MemStore
+  pub new : IsNew policy made
+  pub did : OverStore does over_memory made ended how
+
+-- no desk was made, and nothing written; or the task ended so
+pub data EndsInMemory {F : Type 0} (Becomes : OpenFault → F → Type 0) (policy : Terms) (deed : Deed F) (was is : Option (List ℕ)) (how : Result ℕ F)
+    : Type 0 where
+  unmade_in_memory : (cause : OpenFault) → IsErrAnd how (Becomes cause) → is ≡ was → EndsInMemory Becomes policy deed was is how
+  done_in_memory : IsDoneInMemory policy (deed was is) how → EndsInMemory Becomes policy deed was is how

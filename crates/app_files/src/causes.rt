@@ -1,0 +1,151 @@
+//! Why a file is not opened, made or copied, as looking at it tells.
+
+use crate::beside::{beside, has_directory};
+use crate::locks::is_held;
+use std::fs::{self, OpenOptions};
+use std::io::{self, ErrorKind};
+use std::os::unix::fs::MetadataExt;
+use thiserror::Error;
+
+/// Why a file is not opened, made or copied; its text is said of the file.
+#[derive(Clone, Copy, Debug, Error)]
+pub enum Cause {
+    /// There is none.
+    #[error("there is no such file")]
+    Missing,
+    /// There is no directory for it.
+    #[error("its directory is missing")]
+    NoDirectory,
+    /// Links that lead round, or a name that is too long.
+    #[error("its path leads to no file")]
+    NoPath,
+    /// A directory or a device stands there.
+    #[error("it is no regular file")]
+    NotAFile,
+    /// It has no bytes.
+    #[error("it is empty")]
+    Empty,
+    /// It has bytes where a new one is wanted.
+    #[error("it is there already, and stays as it is")]
+    Taken,
+    /// Its bytes are not those of a desk.
+    #[error("it holds something else than a desk")]
+    NoDesk,
+    /// Another program has locked it.
+    #[error("another program has it: while desk serve runs, no other word works on it; --wait SECONDS tries again")]
+    Held,
+    /// Its mode or its user is not for this one.
+    #[error("this user may not read and write it")]
+    Denied,
+    /// Its file system takes no changes.
+    #[error("its file system is read-only")]
+    ReadOnly,
+    /// It has more than one name.
+    #[error("it has a second name, by a hard link")]
+    Linked,
+    /// SQLite left a transaction that was cut off.
+    #[error("SQLite's rollback journal stands beside it: open it by sqlite3 first")]
+    Journal,
+    /// Its log is not for this user, or has another name.
+    #[error("this user may not read and write its log, the file -wal beside it")]
+    LogDenied,
+    /// Neither it nor its log can be made where it stands.
+    #[error("no file can be made in its directory: this user may not, or that is read-only or full")]
+    NoRoom,
+    /// Its disk has no room.
+    #[error("its disk is full")]
+    Full,
+    /// Its disk failed in what it was asked.
+    #[error("its disk failed, or is full")]
+    Failed,
+}
+
+impl Cause {
+    /// The cause of an error of the system at a file.
+    pub(crate) fn of(error: io::Error) -> Cause {
+        match error.kind() {
+            ErrorKind::NotFound => Cause::NoDirectory,
+            ErrorKind::NotADirectory => Cause::NoDirectory,
+            ErrorKind::AlreadyExists => Cause::Taken,
+            ErrorKind::PermissionDenied => Cause::Denied,
+            ErrorKind::ReadOnlyFilesystem => Cause::ReadOnly,
+            ErrorKind::StorageFull => Cause::Full,
+            _ => Cause::Failed,
+        }
+    }
+
+    /// Why the file at a path was not reached: no program could open it, or make it, or its log.
+    pub fn unreached(rt: &HostRuntime, path: &str) -> Cause {
+        match fs::metadata(rt, path) {
+            Ok(found) if found.is_file() => of_file(rt, path),
+            Ok(_) => Cause::NotAFile,
+            Err(error) => match Cause::of(error) {
+                Cause::NoDirectory if has_directory(rt, path) => Cause::NoRoom,
+                Cause::Failed => Cause::NoPath,
+                cause => cause,
+            },
+        }
+    }
+
+    /// Why the file at a path holds no desk.
+    pub fn deskless(rt: &HostRuntime, path: &str) -> Cause {
+        match fs::metadata(rt, path) {
+            Ok(found) if found.len() == 0 => Cause::Empty,
+            Ok(_) => Cause::NoDesk,
+            Err(_) if has_directory(rt, path) => Cause::Missing,
+            Err(_) => Cause::NoDirectory,
+        }
+    }
+}
+
+// Why a regular file was not reached.
+fn of_file(rt: &HostRuntime, path: &str) -> Cause {
+    match OpenOptions::new().read(true).write(true).open(rt, path) {
+        Ok(file) => {
+            if is_linked(&file) {
+                Cause::Linked
+            } else if is_held(&file) {
+                Cause::Held
+            } else if has_journal(rt, path) {
+                Cause::Journal
+            } else {
+                of_log(rt, path)
+            }
+        }
+        Err(error) => Cause::of(error),
+    }
+}
+
+// Whether a file has another name.
+fn is_linked(file: &fs::File) -> bool {
+    file.metadata().is_ok_and(|found| found.nlink() != 1)
+}
+
+// Whether a journal of SQLite's stands beside the file at a path.
+fn has_journal(rt: &HostRuntime, path: &str) -> bool {
+    match beside(rt, path, "-journal") {
+        Ok(journal) => fs::symlink_metadata(rt, journal.as_str()).is_ok_and(|found| !found.is_file()
+            || found.len() > 0),
+        Err(_) => false,
+    }
+}
+
+// Why the file at a path was not reached, where nothing is the matter with itself.
+fn of_log(rt: &HostRuntime, path: &str) -> Cause {
+    let Ok(log) = beside(rt, path, "-wal") else {
+        return Cause::Failed;
+    };
+    match OpenOptions::new()
+        .read(true)
+        .write(true)
+        .open(rt, log.as_str())
+    {
+        Ok(file) if is_linked(&file) => Cause::LogDenied,
+        Ok(_) => Cause::Failed,
+        Err(error) => match error.kind() {
+            ErrorKind::NotFound => Cause::NoRoom,
+            ErrorKind::PermissionDenied => Cause::LogDenied,
+            _ => Cause::of(error),
+        },
+    }
+}

@@ -1,0 +1,138 @@
+//! The desk of the file at a path, and its log beside it.
+ghost use Rattle.std.specs.Prelude.{◌≡◌, IfErr, IfOk};
+ghost use Rattle.sqlite.specs.WalFiles.{image_at};
+ghost use Rattle.desk_files.specs.Opening.{OpensFiles};
+ghost use Rattle.desk_store.specs.Making.{IsOfStorage};
+ghost use Rattle.app_files.specs.Endings.{EndsMaking, IsLeft, IsUnopened, IsUntouched};
+
+use crate::beside::{missing_log, remove_empty_log};
+use crate::copies::make_new;
+use crate::left::Left;
+use desk_files::{close_from, make_from, open_from};
+use desk_model::{Clock, Policy};
+use desk_store::{OpenFault, Store};
+use sqlite::{FileFrom, FileStore, Start};
+use std::fs;
+use std::io::ErrorKind;
+use store_api::StorageFault;
+
+/// What the engine keeps of a file, by what it takes for granted of the bytes that it finds there.
+pub(crate) type DeskFile<S> = FileStore<FileFrom<S>>;
+
+// Whether there is a file with bytes at the path.
+fn holds_bytes(rt: &HostRuntime, path: &str) -> Result<bool, OpenFault>
+    ensures { IfErr result IsOfStorage }
+{
+    match fs::metadata(rt, path) {
+        Ok(found) => Ok(found.len() > 0),
+        Err(error) => match error.kind() {
+            ErrorKind::NotFound => Ok(false),
+            kind => Err(path_fault(kind)),
+        },
+    }
+}
+
+// Makes a file at the path, where there is none, which its user alone may read and write. An empty one stays as it is.
+fn make_empty(rt: &HostRuntime, path: &str) -> Result<(), OpenFault>
+    ensures { IfErr result IsUntouched }
+{
+    match holds_bytes(rt, path) {
+        Ok(false) => {}
+        Ok(true) => return Err(OpenFault::NotADesk),
+        Err(fault) => return Err(fault),
+    }
+    match make_new(rt, path) {
+        Ok(_) => Ok(()),
+        Err(error) => match error.kind() {
+            ErrorKind::AlreadyExists => Ok(()),
+            kind => Err(path_fault(kind)),
+        },
+    }
+}
+
+// The fault of a path that can't be looked at, or at which no file can be made.
+fn path_fault(kind: ErrorKind) -> OpenFault
+    ensures { IsOfStorage result }
+{
+    match kind {
+        ErrorKind::OutOfMemory => OpenFault::Storage(StorageFault::Memory),
+        _ => OpenFault::Storage(StorageFault::Device),
+    }
+}
+
+// Removes the log at this path, where it was made for files that are refused now, and holds no commit. The engine still has them.
+fn remove_log(rt: &HostRuntime, log: Option<String>, refused: OpenFault) {
+    if let (Some(log), OpenFault::NotADesk | OpenFault::NewerFormat) = (log, refused) {
+        remove_empty_log(rt, log.as_str());
+    }
+}
+
+/// Makes a desk with a policy, at moment 0, in a new file, closes it, and gives what is left of the files. The file is made so
+/// that its user alone may read and write it; one that stands empty keeps its mode. No clause ties the bytes that `S` stands
+/// for to the path.
+///
+/// # Errors
+///
+/// `NotADesk` where there is a file with bytes at the path, `Storage` where the file or its store failed.
+pub fn make_desk<S: Start>(
+    rt: &HostRuntime,
+    path: &str,
+    start: S,
+    policy: Policy,
+) -> (Result<(), OpenFault>, Left<FileFrom<S>>)
+    ensures { EndsMaking (image_at S.Start) policy result.0 result.1 }
+{
+    match make_empty(rt, path) {
+        Ok(()) => {}
+        Err(fault) => return (Err(fault), Left::Untouched),
+    }
+    match make_from(rt, path, start, policy, Clock::at(0)) {
+        Ok(store) => close(store),
+        Err(unmade) => (Err(unmade.fault), Left::Unopened(unmade)),
+    }
+}
+
+/// Opens the desk that a file holds. Where it is refused, no log is left that was not there before.
+///
+/// # Errors
+///
+/// `NotADesk` where the file is missing or empty, or holds no desk, `NewerFormat` where it holds one of a later format,
+/// `Storage` where the file or its store failed; with what is left of the files.
+pub(crate) fn open<S: Start>(
+    rt: &HostRuntime,
+    path: &str,
+    start: S,
+) -> Result<Store<DeskFile<S>>, (OpenFault, Left<FileFrom<S>>)>
+    ensures opened { IfOk result (OpensFiles (image_at S.Start)) }
+    ensures unopened { IfErr result (λ e. IsUnopened (image_at S.Start) e.0 e.1) }
+{
+    match holds_bytes(rt, path) {
+        Ok(true) => {}
+        Ok(false) => return Err((OpenFault::NotADesk, Left::Untouched)),
+        Err(fault) => return Err((fault, Left::Untouched)),
+    }
+    let log = missing_log(rt, path);
+    match open_from(rt, path, start) {
+        Ok(store) => Ok(store),
+        Err(unopened) => {
+            remove_log(rt, log, unopened.fault);
+            Err((unopened.fault, Left::Unopened(unopened)))
+        }
+    }
+}
+
+/// Closes the file, after its log was copied into it, and gives what is left of it.
+///
+/// # Errors
+///
+/// `Storage` where the copy failed: the log then stands beside the file, and the next opening reads both.
+pub(crate) fn close<S: Start>(
+    store: Store<DeskFile<S>>,
+) -> (Result<(), OpenFault>, Left<FileFrom<S>>)
+    ensures { IsLeft store result.0 result.1 }
+{
+    match close_from(store) {
+        Ok(files) => (Ok(()), Left::Closed(files)),
+        Err((fault, last)) => (Err(fault), Left::Unclosed(last)),
+    }
+}

@@ -1,0 +1,394 @@
+-- The words of the program as calls to a desk, and what they leave of its files.
+use Rattle.std.proofs.KnownBytes.{Appends-nil}
+use Rattle.std.specs.Prelude.{IfSome}
+use Rattle.std.proofs.Common.{◌≡◌, ◌∙◌, ◌⊎◌, ℕ, zero, suc, List, [], ◌∷◌, ◌++◌, false, Option, None, Some, Result, Ok, Err, inl, inr, refl, subst, sym, unwrap_or}
+use Rattle.sqlite.specs.Files.{over_files}
+use Rattle.sqlite.specs.Recovery.{Image}
+use Rattle.sqlite.specs.Tree.{Trees}
+use Rattle.sqlite_disk.specs.declared.Disk as disk
+use Rattle.sqlite_store.specs.declared.store.FileStore.{FileStore}
+use Rattle.app_batch.proofs.Acting.{line_acts}
+use Rattle.app_batch.specs.InTurn as batch
+use Rattle.app_batch.specs.LineRequests.{IsRequestOf, call_of}
+use Rattle.app_batch.specs.Said.{RepliesTo, Says}
+use Rattle.app_batch.specs.InTurn.{AnswersEach, AnswersFirst, AreLines, Stops, StopsBehind, not_one, one_more, silent, unread, unwritten}
+use Rattle.app_words.specs.declared.command.Target.{Target}
+use Rattle.app_commands.specs.Deeds.{Adopts, AnswersLines, AnswersReader, ByDesk, ChecksStatuses, FailsToAdopt, IsTold, ListsRows, Revokes, RevokesTarget, Serves, ServesCount, TellsAbout}
+use Rattle.app_commands.specs.Deeds.{adopted, ask_of, served, unadopted, unserved}
+use Rattle.app_commands.specs.declared.fault.Fault.{Fault}
+use Rattle.desk_http.specs.InTurn.{ServesAll, ServesClient, ServesMany}
+use Rattle.desk_http.specs.InTurn as turn
+use Rattle.desk_http.specs.declared.serve_fault.ServeFault.{ServeFault}
+use Rattle.desk_http.specs.declared.serve_fault.ServeFault.TheVariants as servefault
+use Rattle.desk.specs.Answers.{is_closed_after}
+use Rattle.desk.specs.Meets.{ActsOnce}
+use Rattle.desk.specs.Office.{AnswersOffice, office_call}
+use Rattle.desk.specs.Seen.{Told}
+use Rattle.desk.specs.State.{DeskState}
+use Rattle.desk.specs.declared.fault.DeskFault.{DeskFault}
+use Rattle.desk_http.proofs.Acting.{once_acts}
+use Rattle.desk_http.specs.declared.sending.IoFault.{IoFault}
+use Rattle.desk_http.specs.declared.serving.Served.{Served}
+use Rattle.desk_model.specs.Entry.{History}
+use Rattle.desk_model.specs.History.{terms}
+use Rattle.desk_model.specs.Legal.{Legal}
+use Rattle.desk_model.specs.Tables.{picture}
+use Rattle.desk_model.specs.declared.refusal.Refusal.{Refusal}
+use Rattle.desk_model.specs.declared.reply.Reply.{Reply}
+use Rattle.store_api.specs.Sight.{Keeps, Sight}
+use Rattle.store_api.specs.Storing.{Causes}
+use Rattle.desk_store.specs.Desks.{store_sight}
+use Rattle.desk_store.specs.declared.store.Store.{Store}
+use Rattle.app_files.specs.Doing.{Doing}
+use Rattle.app_files.specs.Endings.{IsDoneOver}
+use Rattle.app_lives.specs.Kept.{Answered, HasLife}
+use Rattle.app_lives.specs.Kept as kept
+use Rattle.app_reports.specs.declared.about.Beside.{Beside}
+use Rattle.app_reports.specs.declared.form.Form.{Form}
+use Rattle.app_reports.specs.Listed.{Roster, accounts_roster, authorizations_roster, orders_roster}
+use Rattle.http_routes.specs.Lines.{Spells, line_text}
+use Rattle.http_routes.specs.declared.lines.Line.{Line}
+use Rattle.http_routes.specs.declared.request.Request.{Request}
+use Rattle.http_routes.specs.declared.request.Request.TheVariants as request
+use Rattle.app_lives.specs.Left.{IsOver, LeavesAsIs, LeavesLife, LivesOn, WordsLeave}
+use Rattle.app_lives.specs.Told.{TellsAny, TellsBatch, TellsLines, TellsRevocation, asked, no_line, refused}
+use Rattle.app_lives.proofs.Copies.{copies_hold_desk}
+use Rattle.app_lives.proofs.Chains.{Any, AreCalls, OrOneMore, any_calls, honest_at_first, left_behind, no_call, once_more}
+
+-- no line was read
+none_read : (bytes : Option (List ℕ)) → IfSome bytes (λ xs. AreLines xs [] (unwrap_or bytes []))
+none_read None = tt
+none_read (Some xs) = batch.no_line
+
+module _ {S C : Type 0} (v : Sight S C) where
+  -- ---- lines
+
+  -- a line, whatever became of it
+  said_acts : (mid new : DeskState S) (line text : List ℕ) → Says v mid line text new → ActsOnce v mid new
+  said_acts mid new line text says = line_acts v (λ (t : List ℕ). t) mid new line (Ok text) says
+
+  -- a line that was answered
+  one_line : (old mid new : DeskState S) (lines : List (List ℕ)) (said line : List ℕ) (reply : Reply) (l : Line) (q : Request)
+      → Spells line l → IsRequestOf l q → RepliesTo v mid l q reply new → AreCalls v (TellsLines lines said) old mid
+      → AreCalls v (TellsLines (lines ++ line ∷ []) (said ++ (line_text reply ++ 10 ∷ []))) old new
+  one_line old mid new lines said line reply l (request.Asks what) spells asks replies before =
+      record {
+        told = record { call = call_of l what; reply = reply } ∷ before.told;
+        answered = kept.one_more (call_of l what) reply before.answered replies;
+        says = asked before.says line l what reply spells asks;
+      }
+  one_line old mid new lines said line reply l (request.Refused why) spells asks replies before =
+      record {
+        told = before.told;
+        answered = subst (Answered v old before.told) (sym replies.1) before.answered;
+        says = subst (λ r. TellsLines (lines ++ line ∷ []) (said ++ (line_text r ++ 10 ∷ [])) before.told) (sym replies.0)
+            (refused before.says line l why spells asks);
+      }
+
+  -- lines that were answered
+  lines_calls : (old new : DeskState S) (lines : List (List ℕ)) (said : List ℕ) → AnswersEach v old lines said new
+      → AreCalls v (TellsLines lines said) old new
+  lines_calls old new lines said not_one = no_call v (TellsLines [] []) no_line old old refl
+  lines_calls old new lines said (one_more {lines = first} {said = told} {line = line} {text = text} {mid = mid} before says) =
+      subst (λ t. AreCalls v (TellsLines (first ++ line ∷ []) (told ++ (t ++ 10 ∷ []))) old new) (sym says.2)
+      (one_line old mid new first told line says.0 says.1.line says.1.request says.1.spells says.1.asks says.1.replies
+      (lines_calls old mid first told before))
+
+  -- and one that was not
+  stop_calls : (P : List Told → Type 0) (was is : Option (List ℕ)) (old mid new : DeskState S) → AreCalls v P old mid → Stops v was is mid new
+      → AreCalls v (OrOneMore v P) old new
+  stop_calls P was is old mid new before (unread same kept) = once_more v P old mid new before (inl same)
+  stop_calls P was is old mid new before (silent line why says kept) =
+      once_more v P old mid new before (line_acts v (λ (t : List ℕ). t) mid new line (Err why) says)
+  stop_calls P was is old mid new before (unwritten line text says) = once_more v P old mid new before (said_acts mid new line text says)
+
+  -- all lines of a reader, or the first ones
+  all_lines : (bytes was is : Option (List ℕ)) (desk ended : DeskState S) (how : Result ℕ Fault) → AnswersFirst v bytes was [] is desk ended
+      → AreCalls v (TellsBatch bytes was is how) desk ended
+  all_lines bytes was is desk ended how first =
+      let are : AreCalls v (TellsLines first.lines first.said) desk ended = lines_calls desk ended first.lines first.said first.answered in
+      record {
+        told = are.told;
+        answered = are.answered;
+        says = record {
+          lines = first.lines;
+          unread = [];
+          read = first.read;
+          said = first.said;
+          written = is;
+          appended = first.written;
+          telling = are.told;
+          tells = are.says;
+          all = inl refl;
+          whole = λ _. (refl, refl);
+          ends = inl refl;
+        };
+      }
+
+  first_lines : (bytes was is : Option (List ℕ)) (desk ended : DeskState S) (how : Result ℕ Fault) → how ≡ Ok 1 → StopsBehind v bytes was is desk ended
+      → AreCalls v (TellsBatch bytes was is how) desk ended
+  first_lines bytes was is desk ended how one stops =
+      let first : AnswersFirst v bytes was stops.left stops.written desk stops.mid = stops.first in
+      let before : AreCalls v (TellsLines first.lines first.said) desk stops.mid = lines_calls desk stops.mid first.lines first.said first.answered in
+      let are : AreCalls v (OrOneMore v (TellsLines first.lines first.said)) desk ended =
+      stop_calls (TellsLines first.lines first.said) stops.written is desk stops.mid ended before stops.stops in
+      record {
+        told = are.told;
+        answered = are.answered;
+        says = record {
+          lines = first.lines;
+          unread = stops.left;
+          read = first.read;
+          said = first.said;
+          written = stops.written;
+          appended = first.written;
+          telling = are.says.0;
+          tells = are.says.1;
+          all = are.says.2;
+          whole = λ none. absurd (cc (one, none));
+          ends = inr one;
+        };
+      }
+
+  batch_calls : (bytes was is : Option (List ℕ)) (desk ended : DeskState S) (how : Result ℕ Fault) → AnswersLines v bytes was is desk ended how
+      → AreCalls v (TellsBatch bytes was is how) desk ended
+  batch_calls bytes was is desk ended how it =
+      elim it.answers [
+        | inl all ↦ all_lines bytes was is desk ended how all.1
+        | inr first ↦ first_lines bytes was is desk ended how first.0 first.1
+      ]
+
+  -- nothing was read
+  no_lines : (bytes was is : Option (List ℕ)) (why : Fault) → is ≡ was → TellsBatch bytes was is (Err why) []
+  no_lines bytes was is why same = record {
+    lines = [];
+    unread = unwrap_or bytes [];
+    read = none_read bytes;
+    said = [];
+    written = was;
+    appended = Appends-nil was;
+    telling = [];
+    tells = no_line;
+    all = inl refl;
+    whole = λ none. absurd (cc none);
+    ends = inl same;
+  }
+
+  -- ---- revocations
+
+  -- the desk's answer, where it was not told as done but without a refusal
+  not_refused : (answer : Result (Option Refusal) DeskFault) (refusal : Option Refusal) (how : Result ℕ Fault) → answer ≡ Ok refusal
+      → IsTold answer how → how ≡ Ok 0 → refusal ≡ None
+  not_refused (Ok None) refusal how is told well = cc is
+  not_refused (Ok (Some r)) refusal how is told well = absurd (cc (told, well))
+  not_refused (Err why) refusal how is told well = absurd (cc is)
+
+  -- what an office asked of an open desk
+  office_calls : (at : ℕ) (what : Target) (desk ended : DeskState S) (answer : Result (Option Refusal) DeskFault) (how : Result ℕ Fault)
+      → desk.is_closed ≡ false → AnswersOffice v at (ask_of what) desk.store ended.store answer → ended.is_closed ≡ is_closed_after answer
+      → ended.policy ≡ desk.policy → IsTold answer how → AreCalls v (TellsRevocation what how) desk ended
+  office_calls at what desk ended (Ok refusal) how running answers flag policy told =
+      record {
+        told = record { call = office_call at (ask_of what); reply = answers.0 } ∷ [];
+        answered = kept.one_more (office_call at (ask_of what)) answers.0 kept.not_one (record {
+          when_open = λ _. record { answers = answers.1; flag = flag };
+          when_closed = λ closed. absurd (cc (running, closed));
+          policy = policy;
+        });
+        says = inr (at, answers.0, refl, λ well. sym answers.2 ∙ not_refused (Ok refusal) refusal how refl told well);
+      }
+  office_calls at what desk ended (Err why) how running answers flag policy told =
+      record {
+        told = [];
+        answered = kept.one_declined (office_call at (ask_of what)) why kept.not_one (record {
+          when_open = λ _. record { answers = answers; flag = flag };
+          when_closed = λ closed. absurd (cc (running, closed));
+          policy = policy;
+        });
+        says = inl (refl, λ well. absurd (cc (told, well)));
+      }
+
+  revoke_calls : (what : Target) (desk ended : DeskState S) (how : Result ℕ Fault) → desk.is_closed ≡ false → Revokes v what desk ended how
+      → AreCalls v (TellsRevocation what how) desk ended
+  revoke_calls what desk ended how running (inl it) =
+      no_call v (TellsRevocation what how) (inl (refl, λ well. absurd (let e = it.1 in cc (e, well)))) desk ended it.0
+  revoke_calls what desk ended how running (inr it) =
+      office_calls it.at what desk ended it.answer how running it.answers it.flag it.policy it.told
+
+  -- ---- connections
+
+  -- calls, and one more or none
+  calls_on : (old mid new : DeskState S) → AreCalls v (Any v) old mid → ActsOnce v mid new → AreCalls v (Any v) old new
+  calls_on old mid new before acts = any_calls v (OrOneMore v (Any v)) old new (once_more v (Any v) old mid new before acts)
+
+  module _ (causes : Causes S) where
+    -- a connection does nothing to a desk, or what an answer to one call does
+    client_acts : (sent : Result Served IoFault) (old new : DeskState S) → ServesClient v causes None None None old new sent → ActsOnce v old new
+    client_acts sent old new (turn.unread same kept failed) = inl same
+    client_acts sent old new (turn.parsed s) = once_acts v causes s.at s.random new.policy.base old new sent s.does
+
+    -- so many of them
+    many_calls : (n : ℕ) (old new : DeskState S) → ServesMany v causes n old new → AreCalls v (Any v) old new
+    many_calls zero old new same = no_call v (Any v) tt old new same
+    many_calls (suc n) old new many =
+        calls_on old many.0 new (many_calls n old many.0 many.1) (client_acts many.2.0 many.0 new many.2.1)
+
+    -- all, or up to one that ended the serving
+    all_calls : (most : ℕ) (old new : DeskState S) (ended : Result Unit ServeFault) → ServesAll v causes most old new ended → AreCalls v (Any v) old new
+    all_calls most old new (Ok all) it = many_calls most old new it
+    all_calls most old new (Err (servefault.Desk why)) it =
+        calls_on old it.2 new (many_calls it.0 old it.2 it.3) (client_acts it.4.0 it.2 new it.4.1)
+    all_calls most old new (Err servefault.Bind) it = many_calls it.0 old new it.2
+    all_calls most old new (Err servefault.Accept) it = many_calls it.0 old new it.2
+    all_calls most old new (Err servefault.Clock) it = many_calls it.0 old new it.2
+    all_calls most old new (Err servefault.Random) it = many_calls it.0 old new it.2
+    all_calls most old new (Err servefault.Output) it = many_calls it.0 old new it.2
+    all_calls most old new (Err servefault.Replaced) it = many_calls it.0 old new it.2
+
+    serve_calls : (most : ℕ) (desk ended : DeskState S) (how : Result ℕ Fault) → Serves v causes most desk ended how → AreCalls v (Any v) desk ended
+    serve_calls most desk ended how (unserved same is) = no_call v (Any v) tt desk ended same
+    serve_calls most desk ended how (served by seen all is) = all_calls most desk ended by all
+
+  -- ---- what is left behind a desk
+
+  -- calls to a desk were replied to, of which this is so, and what is left has a life of them, and of one more at most
+  record IsLeft (P : List Told → Type 0) (F : History) (old new : S) : Type 0 where
+    pub told : List Told
+    pub desk : DeskState S
+    pub end : DeskState S
+    pub adopts : Adopts v old desk ⊎ ((why : Fault) × FailsToAdopt v old new why × (told ≡ []))
+    pub answered : Answered v desk told end
+    pub is : end.store ≡ new
+    pub left : (c : C) → v.leaves new c → HasLife v F told c
+    pub says : P told
+
+  -- so it is of what was done by a desk, if that was calls
+  record IsByDesk (P : List Told → Type 0) (F : History) (old new : S) : Type 0 where
+    pub honest : v.is_honest old
+    pub left : Keeps v old (picture F) → IsLeft P F old new
+
+  -- no desk was adopted
+  by_none : (P : List Told → Type 0) → P [] → (F : History) → Legal F → (old new : S) (why : Fault) → FailsToAdopt v old new why
+      → v.is_honest new → IsByDesk P F old new
+  by_none P none F legal old new why fails honest =
+      let d : DeskState S = record { store = new; policy = terms F; is_closed = false } in
+      record {
+        honest = fails.reads.honest honest;
+        left = λ keeps. record {
+          told = [];
+          desk = d;
+          end = d;
+          adopts = inr (why, fails, refl);
+          answered = kept.not_one;
+          is = refl;
+          left = λ c may.
+              record { life = []; lives = legal; replies = refl; kept = inl refl; tables = keeps.left c (fails.reads.left honest c may) };
+          says = none;
+        };
+      }
+
+  -- the desk that was adopted has what the store had
+  keeps_adopted : (F : History) (old : S) (desk : DeskState S) → Adopts v old desk → v.is_honest desk.store → Keeps v old (picture F)
+      → Keeps v desk.store (picture F)
+  keeps_adopted F old desk adopts honest keeps = record {
+    tables = adopts.stands.tables honest (picture F) keeps.tables;
+    left = λ c may. keeps.left c (adopts.stands.left honest c may);
+  }
+
+  by_desk : (P : Result ℕ Fault → List Told → Type 0) (was is : Option (List ℕ)) → ((why : Fault) → is ≡ was → P (Err why) [])
+      → (Does : DeskState S → DeskState S → Result ℕ Fault → Type 0)
+      → ((desk ended : DeskState S) (how : Result ℕ Fault) → desk.is_closed ≡ false → Does desk ended how → AreCalls v (P how) desk ended)
+      → (F : History) → Legal F → (old new : S) (how : Result ℕ Fault) → ByDesk v was is Does old new how → v.is_honest new → IsByDesk (P how) F old new
+  by_desk P was is none Does calls F legal old new how (unadopted why fails same) honest =
+      by_none (P (Err why)) (none why same) F legal old new why fails honest
+  by_desk P was is none Does calls F legal old new how (adopted outcome desk ended adopts does back) honest =
+      let ends : v.is_honest ended.store = subst v.is_honest back honest in
+      let are : AreCalls v (P outcome) desk ended = calls desk ended outcome adopts.opened does in
+      let starts : v.is_honest desk.store = honest_at_first v desk ended are.told are.answered ends in
+      record {
+        honest = adopts.stands.honest starts;
+        left = λ keeps. record {
+          told = are.told;
+          desk = desk;
+          end = ended;
+          adopts = inl adopts;
+          answered = are.answered;
+          is = sym back;
+          left = λ c may.
+              left_behind v F desk ended are.told are.answered ends adopts.opened legal (keeps_adopted F old desk adopts starts keeps) c
+              (subst (λ s. v.leaves s c) back may);
+          says = are.says;
+        };
+      }
+
+module _ {D : Type 0} (g : disk.Ghosts D) where
+  -- what may be said of a store over files
+  abbrev stored : Sight (Store (FileStore D g)) Trees
+  stored = store_sight (over_files {g = g})
+
+  -- the opened store has the desk of the files
+  keeps_opened : {bytes : Image} {does : Doing Fault} {how : Result ℕ Fault} (F : History) (done : IsDoneOver g bytes does how) → IsOver g F done
+      → stored.is_honest done.opened → Keeps stored done.opened (picture F)
+  keeps_opened F done over honest = (done.opens honest over.files over.opened (picture F) over.desk).tables
+
+  -- what is left of a store over files by a word that is done by a desk
+  left_over : {bytes : Image} {does : Doing Fault} {how : Result ℕ Fault} (P : List Told → Type 0) (F : History) (done : IsDoneOver g bytes does how)
+      → IsOver g F done → IsByDesk stored P F done.opened done.ended → LeavesLife g P F done.opened done.ended
+  left_over P F done over by =
+      let it : IsLeft stored P F done.opened done.ended = by.left (keeps_opened F done over by.honest) in
+      record {
+        told = it.told;
+        says = it.says;
+        desk = it.desk;
+        end = it.end;
+        adopts = it.adopts;
+        answered = it.answered;
+        is = it.is;
+        left = λ left may. it.left left.trees may;
+      }
+
+  -- each word
+  about_leaves : (b : Beside) (was is : Option (List ℕ)) → LeavesAsIs g (TellsAbout b was is)
+  about_leaves b was is bytes how done F over left may =
+      (keeps_opened F done over (done.did.reads.honest over.honest)).left left.trees (done.did.reads.left over.honest left.trees may)
+
+  list_leaves : {X : Type 0} (r : Roster X) (was is : Option (List ℕ)) → LeavesAsIs g (ListsRows r was is)
+  list_leaves r was is bytes how done F over left may =
+      (keeps_opened F done over (done.did.reads.honest over.honest)).left left.trees (done.did.reads.left over.honest left.trees may)
+
+  check_leaves : (f : Form) (was is : Option (List ℕ)) → LeavesAsIs g (ChecksStatuses f was is)
+  check_leaves f was is bytes how done F over left may =
+      (keeps_opened F done over (done.did.reads.honest over.honest)).left left.trees (done.did.reads.left over.honest left.trees may)
+
+  revoke_leaves : (what : Target) (was is : Option (List ℕ)) → LivesOn g (RevokesTarget what was is) (TellsRevocation what)
+  revoke_leaves what was is bytes how done F over =
+      left_over (TellsRevocation what how) F done over
+      (by_desk stored (TellsRevocation what) was is (λ why same. inl (refl, λ well. absurd (cc well))) (Revokes stored what) (revoke_calls stored what)
+      F over.legal done.opened done.ended how done.did over.honest)
+
+  batch_leaves : (bytes was is : Option (List ℕ)) → LivesOn g (AnswersReader bytes was is) (TellsBatch bytes was is)
+  batch_leaves given was is bytes how done F over =
+      left_over (TellsBatch given was is how) F done over
+      (by_desk stored (TellsBatch given was is) was is (no_lines stored given was is) (AnswersLines stored given was is)
+      (λ desk ended outcome running it. batch_calls stored given was is desk ended outcome it) F over.legal done.opened done.ended how done.did
+      over.honest)
+
+  serve_leaves : (count : Option ℕ) (was is : Option (List ℕ)) → LivesOn g (ServesCount count was is) TellsAny
+  serve_leaves count was is bytes how done F over =
+      let most : ℕ = unwrap_or count 18446744073709551615 in
+      left_over (TellsAny how) F done over
+      (by_desk stored TellsAny was is (λ why same. tt) (Serves stored _ most)
+      (λ desk ended outcome running it. serve_calls stored _ most desk ended outcome it) F over.legal done.opened done.ended how done.did over.honest)
+
+  pub words_leave : WordsLeave g
+  words_leave = record {
+    about = about_leaves;
+    status = λ filter f. list_leaves (orders_roster filter f);
+    accounts = λ f. list_leaves (accounts_roster f);
+    authorizations = λ filter f. list_leaves (authorizations_roster filter f);
+    check = check_leaves;
+    revoke = revoke_leaves;
+    batch = batch_leaves;
+    backup = copies_hold_desk g;
+    serve = serve_leaves;
+  }

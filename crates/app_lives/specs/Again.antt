@@ -1,0 +1,68 @@
+-- Words of the program, one after the other, over the files that the one before left.
+use Rattle.std.specs.Prelude.{◌≡◌, ℕ, List, [], ◌∷◌, ◌++◌, Option, Result}
+use Rattle.sqlite_disk.specs.declared.Disk as disk
+use Rattle.app_words.specs.declared.command.Target.{Target}
+use Rattle.app_commands.specs.Deeds.{AnswersReader, ChecksStatuses, ListsRows, RevokesTarget, ServesCount, TellsAbout}
+use Rattle.app_commands.specs.declared.fault.Fault.{Fault}
+use Rattle.desk.specs.Seen.{Told, replied}
+use Rattle.desk_model.specs.Entry.{History}
+use Rattle.desk_model.specs.Life.{Event, IsLife, history, kept_calls}
+use Rattle.desk_model.specs.Tables.{picture}
+use Rattle.desk_model.specs.declared.call.Call.{Call}
+use Rattle.desk_files.specs.LeftFiles.{LeftFiles, file_sight}
+use Rattle.desk_store.specs.Desks.{AreOfDesk}
+use Rattle.app_files.specs.Doing.{Doing}
+use Rattle.app_files.specs.Endings.{IsDoneOver}
+use Rattle.app_reports.specs.Listed.{accounts_roster, authorizations_roster, orders_roster}
+use Rattle.app_reports.specs.declared.authorizations.AuthorizationFilter.{AuthorizationFilter}
+use Rattle.app_reports.specs.declared.about.Beside.{Beside}
+use Rattle.app_reports.specs.declared.form.Form.{Form}
+use Rattle.app_reports.specs.declared.orders.OrderFilter.{OrderFilter}
+use Rattle.app_lives.specs.Kept.{AreKept, calls_of}
+use Rattle.app_lives.specs.Told.{TellsAny, TellsBatch, TellsRevocation}
+
+-- the replies of words, the latest first
+abbrev pub all_told : List (List Told) → List Told
+all_told [] = []
+all_told (told ∷ earlier) = told ++ all_told earlier
+
+-- of each word the calls that it replied to were kept, and one more at most
+abbrev pub AreKeptEach : List (List Told) → List Call → Type 0
+AreKeptEach [] kept = kept ≡ []
+AreKeptEach (told ∷ earlier) kept =
+    (later : List Call) × (before : List Call) × (kept ≡ later ++ before) × AreKept (calls_of told) later × AreKeptEach earlier before
+
+-- the files have, in today's format, the desk of one life from this history on, through all of these words
+pub record HasLives (F : History) (words : List (List Told)) (files : LeftFiles) : Type 0 where
+  pub life : List Event
+  pub lives : IsLife F life
+  pub replies : replied life ≡ all_told words
+  pub kept : AreKeptEach words (kept_calls life)
+  pub tables : AreOfDesk files.trees (picture (history F life))
+
+module _ {D : Type 0} (g : disk.Ghosts D) where
+  -- a word over files with such a life, on a disk that is honest to the end: whatever files it closes or a stop then leaves, they have the
+  -- same life, and so the same tables
+  abbrev pub StaysOn : Doing Fault → Type 0
+  StaysOn does =
+      (F : History) (words : List (List Told)) (files : LeftFiles) (h : HasLives F words files) (how : Result ℕ Fault)
+      (done : IsDoneOver g files.image does how) → (file_sight g).is_honest done.ended
+      → (left : LeftFiles) → (file_sight g).leaves done.ended left → (still : HasLives F words left) × (still.life ≡ h.life)
+
+  -- or the life goes on in them, with such replies
+  abbrev pub GoesOn : Doing Fault → (Result ℕ Fault → List Told → Type 0) → Type 0
+  GoesOn does Says =
+      (F : History) (words : List (List Told)) (files : LeftFiles) → HasLives F words files
+      → (how : Result ℕ Fault) (done : IsDoneOver g files.image does how) → (file_sight g).is_honest done.ended
+      → (told : List Told) × Says how told × ((left : LeftFiles) → (file_sight g).leaves done.ended left → HasLives F (told ∷ words) left)
+
+  -- so it is of each word
+  pub record WordsGoOn : Type 0 where
+    pub about : (b : Beside) (was is : Option (List ℕ)) → StaysOn (TellsAbout b was is)
+    pub status : (filter : OrderFilter) (f : Form) (was is : Option (List ℕ)) → StaysOn (ListsRows (orders_roster filter f) was is)
+    pub accounts : (f : Form) (was is : Option (List ℕ)) → StaysOn (ListsRows (accounts_roster f) was is)
+    pub authorizations : (filter : AuthorizationFilter) (f : Form) (was is : Option (List ℕ)) → StaysOn (ListsRows (authorizations_roster filter f) was is)
+    pub check : (f : Form) (was is : Option (List ℕ)) → StaysOn (ChecksStatuses f was is)
+    pub revoke : (what : Target) (was is : Option (List ℕ)) → GoesOn (RevokesTarget what was is) (TellsRevocation what)
+    pub batch : (bytes was is : Option (List ℕ)) → GoesOn (AnswersReader bytes was is) (TellsBatch bytes was is)
+    pub serve : (count : Option ℕ) (was is : Option (List ℕ)) → GoesOn (ServesCount count was is) TellsAny

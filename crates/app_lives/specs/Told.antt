@@ -1,0 +1,58 @@
+-- What is said to the lines of a batch, and the replies that it tells.
+use Rattle.std.specs.Prelude.{◌≡◌, ◌≢◌, ◌⊎◌, ℕ, List, [], ◌∷◌, ◌++◌, Option, None, IfSome, Result, Ok}
+use Rattle.std.specs.Io.KnownBytes.{Appends}
+use Rattle.app_batch.specs.InTurn.{AreLines}
+use Rattle.app_batch.specs.LineRequests.{IsRequestOf, call_of}
+use Rattle.app_words.specs.declared.command.Target.{Target}
+use Rattle.app_commands.specs.Deeds.{ask_of}
+use Rattle.app_commands.specs.declared.fault.Fault.{Fault}
+use Rattle.desk.specs.Office.{office_call, refusal_in}
+use Rattle.desk.specs.Seen.{Told}
+use Rattle.desk_model.specs.declared.call.Ask.{Ask}
+use Rattle.desk_model.specs.declared.reply.Reply.{Reply}
+use Rattle.http_routes.specs.Lines.{Spells, line_text}
+use Rattle.http_routes.specs.declared.lines.Line.{Line}
+use Rattle.http_routes.specs.Request.{refused_reply}
+use Rattle.http_routes.specs.declared.request.RequestRefusal.{RequestRefusal}
+use Rattle.http_routes.specs.declared.request.Request.TheVariants as request
+
+-- these texts were said to these lines, each with its end, and tell these replies, the latest first: to a line that asks something the
+-- text of its reply, to another one the refusal of its request, which is no reply of the desk's
+pub data TellsLines : (lines : List (List ℕ)) (said : List ℕ) (told : List Told) → Type 0 where
+  no_line : TellsLines [] [] []
+  asked :
+      {lines : List (List ℕ)} {said : List ℕ} {told : List Told} → TellsLines lines said told
+      → (bytes : List ℕ) (l : Line) (what : Ask) (reply : Reply) → Spells bytes l → IsRequestOf l (request.Asks what)
+      → TellsLines (lines ++ bytes ∷ []) (said ++ (line_text reply ++ 10 ∷ [])) (record { call = call_of l what; reply = reply } ∷ told)
+  refused :
+      {lines : List (List ℕ)} {said : List ℕ} {told : List Told} → TellsLines lines said told
+      → (bytes : List ℕ) (l : Line) (why : RequestRefusal) → Spells bytes l → IsRequestOf l (request.Refused why)
+      → TellsLines (lines ++ bytes ∷ []) (said ++ (line_text (refused_reply why) ++ 10 ∷ [])) told
+
+-- the lines were read of a reader with these bytes, where they are known, and what was said to them was written behind these; the replies
+-- of the desk are those, and one more at most, which was not said. With 0 every line was read, and each reply said, and nothing else was
+-- written; with 1 a text may be written in part
+pub record TellsBatch (bytes was is : Option (List ℕ)) (how : Result ℕ Fault) (told : List Told) : Type 0 where
+  pub lines : List (List ℕ)
+  pub unread : List ℕ
+  pub read : IfSome bytes (λ xs. AreLines xs lines unread)
+  pub said : List ℕ
+  pub written : Option (List ℕ)
+  pub appended : Appends was written said
+  pub telling : List Told
+  pub tells : TellsLines lines said telling
+  pub all : (told ≡ telling) ⊎ ((last : Told) × (told ≡ last ∷ telling))
+  pub whole : how ≡ Ok 0 → (unread ≡ []) × (told ≡ telling)
+  pub ends : (is ≡ written) ⊎ (how ≡ Ok 1)
+
+-- the desk replied to the revocation of this target at some moment, and refused nothing where that is told as done; or it did not reply,
+-- which is not told so
+abbrev pub TellsRevocation : Target → Result ℕ Fault → List Told → Type 0
+TellsRevocation what how told =
+    ((told ≡ []) × (how ≢ Ok 0))
+    ⊎ ((at : ℕ) × (reply : Reply) × (told ≡ record { call = office_call at (ask_of what); reply = reply } ∷ [])
+    × (how ≡ Ok 0 → refusal_in reply.body ≡ None))
+
+-- whatever it replied to
+abbrev pub TellsAny : Result ℕ Fault → List Told → Type 0
+TellsAny how told = Unit {0}

@@ -1,0 +1,8 @@
+//! The life of a desk over two files, and what the words of the program leave of it.
+#![tactic(auto)]
+
+mod files;
+mod words;
+
+pub use files::files_live;
+pub use words::words_live;

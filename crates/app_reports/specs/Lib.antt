@@ -1,0 +1,6 @@
+pub mod About
+pub mod Filter
+pub mod Listed
+pub mod Printed
+pub mod Reported
+pub mod Tallied

@@ -1,0 +1,202 @@
+//! How many rows of a table have each status.
+ghost use Rattle.std.specs.Prelude.{◌≡◌, ◌==◌, ◌<◌, ◌+◌, ◌-◌, ◌^◌, ℕ, IfOk, OnOk, cond, min, slice_index};
+ghost use Rattle.std.specs.Io.KnownBytes.{Appends};
+ghost use Rattle.store_api.specs.Sight.{ForTables, Reads};
+ghost use Rattle.app_reports.specs.Reported.{Reports};
+ghost use Rattle.app_reports.specs.Tallied.{IsTally, ended_said, tally_of, unended_said};
+
+use crate::fault::ReportFault;
+use desk_book::Row;
+use desk_model::{
+    AccountRow, AccountStatus, AuthorizationRow, AuthzStatus, ChallengeRow, ChallengeStatus,
+    OrderRow, OrderStatus,
+};
+use std::alloc::Global;
+use std::io::{self, Write};
+use store_api::{RowsAbove, StorageFault};
+use store_passes::{PassedRow, row_after};
+
+// The most statuses that an object may have.
+const MOST: usize = 6;
+
+/// A row with a status, of which there are six at most.
+pub(crate) trait Stated: PassedRow + Drop {
+    ghost use Rattle.std.specs.Prelude.{◌≡◌, ◌<◌, ℕ, List, OnOk, slice_index};
+    ghost use Rattle.std.specs.Io.KnownBytes.{Appends};
+
+    // The place of its stored status among those of its kind.
+    ghost place: { Self → ℕ };
+
+    // The line that says how many rows there are, by the place of their status.
+    ghost said: { (ℕ → ℕ) → List ℕ };
+
+    /// The place of its stored status among those of its kind.
+    fn place(&self) -> usize
+        ensures place { result ≡ place self.now }
+        ensures below { result < 6 };
+
+    /// Writes how many rows have each status.
+    fn write_counts<W: Write>(out: &mut W, counts: &[u64; MOST]) -> io::Result<()>
+        ensures { OnOk result (Appends (W.contents out.old) (W.contents out.new) (said (λ k. slice_index counts.now k))) };
+}
+
+impl Stated for AccountRow {
+    ghost use Rattle.app_reports.specs.Tallied.{account_place, accounts_said};
+
+    ghost place = { λ row. account_place row.status };
+
+    ghost said = { accounts_said };
+
+    fn place(&self) -> usize {
+        match self.status {
+            AccountStatus::Valid => 0,
+            AccountStatus::Deactivated => 1,
+            AccountStatus::Revoked => 2,
+        }
+    }
+
+    fn write_counts<W: Write>(out: &mut W, counts: &[u64; MOST]) -> io::Result<()> {
+        writeln!(
+            out,
+            "accounts: {} valid, {} deactivated, {} revoked",
+            counts[0], counts[1], counts[2]
+        )
+    }
+}
+
+impl Stated for AuthorizationRow {
+    ghost use Rattle.app_reports.specs.Tallied.{authorization_place, authorizations_said};
+
+    ghost place = { λ row. authorization_place row.status };
+
+    ghost said = { authorizations_said };
+
+    fn place(&self) -> usize {
+        match self.status {
+            AuthzStatus::Pending => 0,
+            AuthzStatus::Valid => 1,
+            AuthzStatus::Invalid => 2,
+            AuthzStatus::Deactivated => 3,
+            AuthzStatus::Expired => 4,
+            AuthzStatus::Revoked => 5,
+        }
+    }
+
+    fn write_counts<W: Write>(out: &mut W, counts: &[u64; MOST]) -> io::Result<()> {
+        write_unended(out, counts)?;
+        write_ended(out, counts)
+    }
+}
+
+// Writes how many authorizations have not ended, or are invalid.
+fn write_unended<W: Write>(out: &mut W, counts: &[u64; MOST]) -> io::Result<()>
+    ensures { OnOk result (Appends (W.contents out.old) (W.contents out.new) (unended_said (λ k. slice_index counts.now k))) }
+{
+    write!(
+        out,
+        "authorizations: {} pending, {} valid, {} invalid",
+        counts[0], counts[1], counts[2]
+    )
+}
+
+// Writes how many authorizations ended otherwise.
+fn write_ended<W: Write>(out: &mut W, counts: &[u64; MOST]) -> io::Result<()>
+    ensures { OnOk result (Appends (W.contents out.old) (W.contents out.new) (ended_said (λ k. slice_index counts.now k))) }
+{
+    writeln!(
+        out,
+        ", {} deactivated, {} expired, {} revoked",
+        counts[3], counts[4], counts[5]
+    )
+}
+
+impl Stated for ChallengeRow {
+    ghost use Rattle.app_reports.specs.Tallied.{challenge_place, challenges_said};
+
+    ghost place = { λ row. challenge_place row.status };
+
+    ghost said = { challenges_said };
+
+    fn place(&self) -> usize {
+        match self.status {
+            ChallengeStatus::Pending => 0,
+            ChallengeStatus::Processing => 1,
+            ChallengeStatus::Valid => 2,
+            ChallengeStatus::Invalid => 3,
+        }
+    }
+
+    fn write_counts<W: Write>(out: &mut W, counts: &[u64; MOST]) -> io::Result<()> {
+        writeln!(
+            out,
+            "challenges: {} pending, {} processing, {} valid, {} invalid",
+            counts[0], counts[1], counts[2], counts[3]
+        )
+    }
+}
+
+impl Stated for OrderRow {
+    ghost use Rattle.app_reports.specs.Tallied.{order_place, orders_said};
+
+    ghost place = { λ row. order_place row.status };
+
+    ghost said = { orders_said };
+
+    fn place(&self) -> usize {
+        match self.status {
+            OrderStatus::Pending => 0,
+            OrderStatus::Ready => 1,
+            OrderStatus::Processing => 2,
+            OrderStatus::Valid => 3,
+            OrderStatus::Invalid => 4,
+        }
+    }
+
+    fn write_counts<W: Write>(out: &mut W, counts: &[u64; MOST]) -> io::Result<()> {
+        writeln!(
+            out,
+            "orders: {} pending, {} ready, {} processing, {} valid, {} invalid",
+            counts[0], counts[1], counts[2], counts[3], counts[4]
+        )
+    }
+}
+
+// Counts one more at a place.
+fn raise(counts: &mut [u64; MOST], place: usize)
+    requires below { place < 6 }
+    ensures { (k : ℕ) → slice_index counts.new k ≡ cond (place == k) (min (slice_index counts.old k + 1) (2 ^ 64 - 1)) (slice_index counts.old k) }
+{
+    counts[place] = counts[place].saturating_add(1);
+}
+
+/// How many rows of a table have each status, by its place.
+pub(crate) fn tally<R: Stated, K: RowsAbove>(
+    alloc: Global,
+    source: &mut K,
+) -> Result<[u64; MOST], StorageFault>
+    ensures reads { Reads K.sight source.old source.new result }
+    ensures counted { ForTables K.sight source.old source.new (λ T. IfOk result (λ counts. IsTally R.place (R.rows T) counts)) }
+{
+    let mut counts = [0; MOST];
+    let mut above: u64 = 0;
+    while let Some(row) = row_after::<R, K>(alloc, source, above)? {
+        above = row.number();
+        raise(&mut counts, row.place());
+    }
+    Ok(counts)
+}
+
+/// Writes how many rows of a table have each status.
+pub(crate) fn write_tally<R: Stated, K: RowsAbove, W: Write>(
+    alloc: Global,
+    source: &mut K,
+    out: &mut W,
+) -> Result<(), ReportFault>
+    ensures reads { Reports K.sight source.old source.new result }
+    ensures printed { ForTables K.sight source.old source.new (λ T. OnOk result
+        (Appends (W.contents out.old) (W.contents out.new) (R.said (tally_of R.place (R.rows T))))) }
+{
+    let counts = tally::<R, K>(alloc, source)?;
+    R::write_counts(out, &counts)?;
+    Ok(())
+}

@@ -1,0 +1,210 @@
+//! What the words ask for.
+
+/// What the words ask for, and how.
+#[derive(Clone, Copy)]
+pub struct Asked<'a> {
+    /// What they ask for.
+    pub command: Command<'a>,
+    /// For how many seconds to try again while another program has the file.
+    pub wait: u64,
+    /// Whether the cause of a fault is said, too.
+    pub is_verbose: bool,
+}
+
+/// What the words ask for.
+#[derive(Clone, Copy)]
+pub enum Command<'a> {
+    /// To make a desk in a new file.
+    Make {
+        /// The path of the file.
+        file: &'a str,
+        /// The terms that the desk is made with.
+        terms: Terms<'a>,
+    },
+    /// To serve connections.
+    Serve {
+        /// The file that holds the desk.
+        file: SyncedFile<'a>,
+        /// How they are served.
+        serving: Serving,
+    },
+    /// To tell about a desk.
+    About {
+        /// The path of the file that holds the desk.
+        file: &'a str,
+    },
+    /// To list the orders.
+    Status {
+        /// The path of the file that holds the desk.
+        file: &'a str,
+        /// Which of them, and how.
+        listing: Listing<'a>,
+    },
+    /// To list the accounts.
+    Accounts {
+        /// The path of the file that holds the desk.
+        file: &'a str,
+        /// Whether as JSON.
+        json: bool,
+    },
+    /// To list the authorizations.
+    Authorizations {
+        /// The path of the file that holds the desk.
+        file: &'a str,
+        /// Which of them, and how.
+        listing: AuthorizationListing<'a>,
+    },
+    /// To list the stored statuses that are wrong.
+    Check {
+        /// The path of the file that holds the desk.
+        file: &'a str,
+        /// Whether as JSON.
+        json: bool,
+    },
+    /// To check the desk in a file, and to copy it into a new one.
+    BackUp {
+        /// The path of the file that holds the desk.
+        file: &'a str,
+        /// The path of the new file.
+        to: &'a str,
+    },
+    /// To revoke an authorization or an account.
+    Revoke {
+        /// The path of the file that holds the desk.
+        file: &'a str,
+        /// What is revoked.
+        target: Target,
+    },
+    /// To have a desk that is served revoke an authorization or an account.
+    RevokeServed {
+        /// The port of 127.0.0.1 at which it is served.
+        port: u16,
+        /// What is revoked.
+        target: Target,
+    },
+    /// To answer the lines of standard input.
+    Batch {
+        /// The file that holds the desk, or `None` for a new desk in memory.
+        file: Option<SyncedFile<'a>>,
+    },
+}
+
+impl<'a> Command<'a> {
+    /// The path of the file that holds the desk, or that will; `None` for a desk in memory, or one that is asked by its port.
+    pub fn file(self) -> Option<&'a str> {
+        match self {
+            Command::Make { file, .. } => Some(file),
+            Command::Serve { file, .. } => Some(file.path),
+            Command::Status { file, .. } => Some(file),
+            Command::About { file } => Some(file),
+            Command::Accounts { file, .. } => Some(file),
+            Command::Authorizations { file, .. } => Some(file),
+            Command::Check { file, .. } => Some(file),
+            Command::BackUp { file, .. } => Some(file),
+            Command::Revoke { file, .. } => Some(file),
+            Command::RevokeServed { .. } => None,
+            Command::Batch { file: Some(file) } => Some(file.path),
+            Command::Batch { file: None } => None,
+        }
+    }
+}
+
+/// How connections are served.
+#[derive(Clone, Copy)]
+pub struct Serving {
+    /// The port of 127.0.0.1, 0 for one that the machine chooses.
+    pub port: u16,
+    /// After how many connections to end, or `None` for 2^64 - 1.
+    pub count: Option<u64>,
+    /// How a line for each connection is written, or `None` for none.
+    pub log: Option<LogForm>,
+}
+
+/// How the lines of a log are written.
+#[derive(Clone, Copy)]
+pub enum LogForm {
+    /// As words.
+    Text,
+    /// One JSON document each.
+    Json,
+}
+
+impl LogForm {
+    /// The word for words.
+    pub(crate) const TEXT: &'static str = "text";
+
+    /// The word for JSON.
+    pub(crate) const JSON: &'static str = "json";
+}
+
+/// The file that holds a desk which records calls.
+#[derive(Clone, Copy)]
+pub struct SyncedFile<'a> {
+    /// Its path.
+    pub path: &'a str,
+    /// How often a commit syncs its log.
+    pub syncs: Syncs,
+}
+
+/// How often a commit syncs the log of a file.
+#[derive(Clone, Copy)]
+pub enum Syncs {
+    /// Most commits once: each byte that was written and not synced is supposed to be the old or the new one after a loss of power.
+    Once,
+    /// Twice: nothing is supposed of such bytes.
+    Twice,
+}
+
+impl Syncs {
+    /// The word for once.
+    pub(crate) const ONCE: &'static str = "once";
+
+    /// The word for twice.
+    pub(crate) const TWICE: &'static str = "twice";
+}
+
+/// What is revoked.
+#[derive(Clone, Copy)]
+pub enum Target {
+    /// The authorization of this number.
+    Authorization(u64),
+    /// The account of this number.
+    Account(u64),
+}
+
+/// The terms of a desk, as the words give them.
+#[derive(Clone, Copy)]
+pub struct Terms<'a> {
+    /// What each URL begins with.
+    pub base: &'a str,
+    /// How long a nonce is open, in seconds.
+    pub nonce_life: u64,
+    /// How long an order lives, in seconds.
+    pub order_life: u64,
+    /// How long an authorization lives, in seconds.
+    pub authz_life: u64,
+}
+
+/// Which orders are listed, and how.
+#[derive(Clone, Copy)]
+pub struct Listing<'a> {
+    /// The account whose orders they are, or `None` for all accounts.
+    pub account: Option<u64>,
+    /// The word of the status that they have (RFC 8555, 7.1.6), or `None` for every status.
+    pub status: Option<&'a str>,
+    /// The text of a name that they ask for (RFC 8555, 7.1.3), or `None` for every name.
+    pub name: Option<&'a str>,
+    /// Whether as JSON.
+    pub json: bool,
+}
+
+/// Which authorizations are listed, and how.
+#[derive(Clone, Copy)]
+pub struct AuthorizationListing<'a> {
+    /// The account whose authorizations they are, or `None` for all accounts.
+    pub account: Option<u64>,
+    /// The text of their name, or `None` for every name.
+    pub name: Option<&'a str>,
+    /// Whether as JSON.
+    pub json: bool,
+}

@@ -1,0 +1,102 @@
+//! The command that knows the words, made from their table.
+use crate::words::{Argument, LONGEST_WAIT, Word, words};
+use crate::{arguments, help};
+use clap::builder::ValueParser;
+use clap::{Arg, ArgAction, Command};
+use std::alloc::{AllocError, Global};
+
+// An argument that has to be there.
+fn positional<'a>(alloc: Global, id: &'a str, help: &'a str) -> Arg<'a> {
+    Arg::new(alloc, id)
+        .required(true)
+        .action(ArgAction::Set)
+        .help(help)
+}
+
+// An option that takes a value.
+fn option<'a>(alloc: Global, id: &'a str, value: &'a str, help: &'a str) -> Arg<'a> {
+    Arg::new(alloc, id)
+        .long(id)
+        .value_name(value)
+        .action(ArgAction::Set)
+        .help(help)
+}
+
+// An option that takes none.
+fn flag<'a>(alloc: Global, id: &'a str, help: &'a str) -> Arg<'a> {
+    Arg::new(alloc, id)
+        .long(id)
+        .action(ArgAction::SetTrue)
+        .help(help)
+}
+
+fn arg<'a>(alloc: Global, argument: Argument) -> Result<Arg<'a>, AllocError> {
+    Ok(match argument {
+        Argument::Positional { id, value, help } => {
+            positional(alloc, id, help).value_parser(value.parser())
+        }
+        Argument::Option {
+            id,
+            value_name,
+            value,
+            is_required,
+            help,
+        } => option(alloc, id, value_name, help)
+            .value_parser(value.parser())
+            .required(is_required),
+        Argument::Seconds { id, default, help } => option(alloc, id, "N", help)
+            .value_parser(clap::value_parser!(u64))
+            .default_value(default.text),
+        Argument::Wait { of } => option(alloc, arguments::WAIT, "SECONDS", help::WAITS)
+            .value_parser(ValueParser::unsigned(0, LONGEST_WAIT))
+            .requires_arg(of)?,
+        Argument::Choice {
+            id,
+            value,
+            default,
+            of,
+            help,
+        } => option(alloc, id, "WORD", help)
+            .value_parser(value.parser())
+            .default_value(default)
+            .requires_arg(of)?,
+        Argument::Optional {
+            id,
+            value,
+            missing,
+            help,
+        } => option(alloc, id, "WORD", help)
+            .value_parser(value.parser())
+            .num_args(0..=1)
+            .default_missing_value(missing),
+        Argument::Flag { id, help } => flag(alloc, id, help),
+    })
+}
+
+// The command of a word.
+fn command<'a>(alloc: Global, word: &'static Word) -> Result<Command<'a>, AllocError> {
+    let mut command = Command::new(alloc, word.name)
+        .about(word.about)
+        .after_help(word.after);
+    for &argument in word.arguments {
+        command = command.arg(arg(alloc, argument)?)?;
+    }
+    command.arg(flag(alloc, arguments::VERBOSE, help::VERBOSE))
+}
+
+/// The program's words, each with its arguments and its help.
+///
+/// # Errors
+///
+/// Where a growth was refused.
+pub(crate) fn desk<'a>(alloc: Global) -> Result<Command<'a>, AllocError> {
+    let mut desk = Command::new(alloc, "desk")
+        .about("The order desk of an ACME certificate authority (RFC 8555)")
+        .after_help(help::DESK)
+        .version(help::VERSION)
+        .subcommand_required(true);
+    for word in words() {
+        desk = desk.subcommand(command(alloc, word)?)?;
+    }
+    Ok(desk)
+}

@@ -1,0 +1,142 @@
+//! What help says below the options, and the version.
+
+/// The version of the program.
+pub(crate) const VERSION: &str = "0.1.0";
+
+// What stands below the options of a word: an example, and the exit statuses, which all words share; before these, where
+// there is more to say, what that is.
+macro_rules! after {
+    ($example:literal) => {
+        after!(Example: $example)
+    };
+    ($($before:literal,)* Example: $example:literal) => {
+        concat!(
+            $($before,)*
+            "Example:\n  ",
+            $example,
+            "\n\nExit statuses:\n",
+            "  0  done\n",
+            "  1  a fault or a refusal, with a line on standard error that begins with desk:\n",
+            "  2  wrong words, or a limit that is broken\n",
+            "  3  a stored status is wrong: check found it, or backup, which then copies nothing"
+        )
+    };
+}
+
+/// What help says of `--wait`.
+pub(crate) const WAITS: &str =
+    "for how many seconds to try again while another program has the file, as serve does while it runs, 0 to 86400; without it not at all";
+
+/// What help says of `--verbose`.
+pub(crate) const VERBOSE: &str =
+    "say the file of a fault and its cause on a second line of standard error";
+
+/// Below the words.
+pub(crate) const DESK: &str = after!(
+    "Files:\n",
+    "  One program at a time has a file: while serve runs, any other word on it ends with fault 21, at\n",
+    "  once or after its --wait, and changes nothing. The first word that opens a file of an earlier\n",
+    "  format brings it into today's, status and check too. There is no way back, and an older program\n",
+    "  refuses the file then: keep a copy.\n\n",
+    "Faults, of which --verbose says the file and the cause:\n",
+    "  20 memory        a growth of memory was refused\n",
+    "  21 device        another program has the file, as serve does while it runs; this user may not read\n",
+    "                   and write the file, its log or its directory; their file system is read-only; the\n",
+    "                   directory is missing; the file has a second name, by a hard link; a rollback\n",
+    "                   journal stands beside it; it was replaced, cut or removed while it was served; the\n",
+    "                   disk is full, or failed\n",
+    "  22 reopen        an earlier fault closed the desk, and the next start opens it\n",
+    "  23 not a desk    there is no file, an empty one, or one of something else; for make, one with bytes\n",
+    "  24 moment        a moment is past the last one that a desk knows\n",
+    "  25 short random  a line of a batch has too few random bytes\n",
+    "  26 full          a number would be past 2^62\n",
+    "  27 newer format  a newer program wrote the file\n\n",
+    Example: "desk status --help"
+);
+
+/// Below the options of `make`.
+pub(crate) const MAKE: &str = after!(
+    "Files:\n",
+    "  A file that is made is its user's alone, mode 600, as is its log. One that stands empty keeps its\n",
+    "  user and its mode.\n\n",
+    Example: "desk make /var/lib/desk/desk.db --base https://ca.example --nonce-life 600"
+);
+
+// What `--sync` supposes of the disk.
+macro_rules! synced {
+    ($example:literal) => {
+        synced!(Example: $example)
+    };
+    ($($before:literal,)* Example: $example:literal) => {
+        after!(
+            $($before,)*
+            "Syncs:\n",
+            "  A call's commit is on the disk before its reply is written. By twice nothing is supposed of what\n",
+            "  a loss of power leaves of bytes that were written and not synced. By once each of them is supposed\n",
+            "  to be the old or the new one then, as on a disk that finishes each sector it begins, and most\n",
+            "  commits sync once.\n\n",
+            Example: $example
+        )
+    };
+}
+
+/// Below the options of `serve`.
+pub(crate) const SERVE: &str = synced!(
+    "Log:\n",
+    "  By --log a line is written for each connection: moment, method, path, status, number of the\n",
+    "  refusal (1 to 17) or fault (20 to 26), number of the object, microseconds from the request read\n",
+    "  to the reply sent; - for what there is none of, and for the status of a connection that failed.\n\n",
+    "Files:\n",
+    "  While it serves, no other word works on the file: each ends with fault 21, at once or after its\n",
+    "  --wait. Do not replace, cut or remove the file meanwhile: serve ends with fault 21 at the next call.\n\n",
+    Example: "desk serve /var/lib/desk/desk.db --port 8555"
+);
+
+/// Below the options of `batch`.
+pub(crate) const BATCH: &str = synced!("desk batch --file /var/lib/desk/desk.db < calls.jsonl");
+
+/// Below the arguments of `about`.
+pub(crate) const ABOUT: &str = after!("desk about /var/lib/desk/desk.db");
+
+/// Below the arguments of `backup`.
+pub(crate) const BACKUP: &str = after!(
+    "Copies:\n",
+    "  The copy is the desk as it stands, in one file, which is its user's alone, and it is on the disk\n",
+    "  once copied is printed. A file that stands at TO is left as it is. A desk with a wrong stored status\n",
+    "  is listed, as check does, and not copied. To restore a copy, stop the desk, put the copy in the\n",
+    "  place of the file, and remove the old FILE-wal. A copy by hand takes a desk that no program has:\n",
+    "  while one does, some of the desk is in FILE-wal alone.\n\n",
+    Example: "desk backup /var/lib/desk/desk.db /var/backups/desk.db"
+);
+
+/// Below the options of `status`.
+pub(crate) const STATUS: &str = after!("desk status /var/lib/desk/desk.db --status pending");
+
+/// Below the options of `accounts`.
+pub(crate) const ACCOUNTS: &str = after!("desk accounts /var/lib/desk/desk.db");
+
+/// Below the options of `authorizations`.
+pub(crate) const AUTHORIZATIONS: &str = after!(
+    "desk authorizations /var/lib/desk/desk.db --name www.example.org"
+);
+
+/// Below the options of `check`.
+pub(crate) const CHECK: &str = after!("desk check /var/lib/desk/desk.db --json");
+
+// How a desk is asked that is served.
+macro_rules! revoked {
+    ($example:literal) => {
+        after!(
+            "While it is served:\n",
+            "  A desk that serve has is asked by --port. Where no reply comes within a minute, the word ends\n",
+            "  with desk: connection; the desk may then have revoked or not, and asking again is safe.\n\n",
+            Example: $example
+        )
+    };
+}
+
+/// Below the arguments of `revoke-authz`.
+pub(crate) const REVOKE_AUTHZ: &str = revoked!("desk revoke-authz /var/lib/desk/desk.db 7");
+
+/// Below the arguments of `revoke-account`.
+pub(crate) const REVOKE_ACCOUNT: &str = revoked!("desk revoke-account /var/lib/desk/desk.db 1");

@@ -1,0 +1,36 @@
+//! What the program does, a word each.
+use crate::words::word_named;
+
+/// What the program does, a word each.
+#[derive(Clone, Copy)]
+pub(crate) enum Task {
+    /// Makes a desk in a new file.
+    Make,
+    /// Serves connections.
+    Serve,
+    /// Answers the lines of standard input.
+    Batch,
+    /// Tells about a desk.
+    About,
+    /// Lists the orders.
+    Status,
+    /// Lists the accounts.
+    Accounts,
+    /// Lists the authorizations.
+    Authorizations,
+    /// Lists the stored statuses that are wrong.
+    Check,
+    /// Checks a desk and copies it.
+    BackUp,
+    /// Revokes an authorization.
+    RevokeAuthorization,
+    /// Revokes an account.
+    RevokeAccount,
+}
+
+impl Task {
+    /// The task that a word asks for.
+    pub(crate) fn named(name: &str) -> Option<Task> {
+        Some(word_named(name)?.task)
+    }
+}

@@ -1,5 +1,0 @@
-use Rattle.checked_rows.proofs.InOrder.{rows_are_books}
-use Rattle.checked_rows.proofs.laws.rows_in_order_are_books.Goals as goal
-
-pub returns : goal.returns
-returns c = rows_are_books

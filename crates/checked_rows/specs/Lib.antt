@@ -1,2 +1,0 @@
-pub mod BookRows
-pub mod Passing

@@ -1,3 +1,0 @@
-mod Done
-mod Orders
-mod Small

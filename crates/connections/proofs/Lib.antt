@@ -1,3 +1,0 @@
-mod Ending
-mod Seeing
-mod Turns

@@ -1,0 +1,229 @@
+-- The rows of a new order and of its authorizations.
+use Rattle.std.proofs.Common.{◌≡◌, ◌≤◌, ◌<◌, ℕ, ◌+◌, List, [], ◌∷◌, ◌++◌, map, Option, Some, None, true, false, Bool, cond, refl, ap, ◌∙◌, arith}
+use Rattle.std.specs.Prelude.{◌==◌, ◌&&◌, ◌||◌, find, is_some, nat_lt}
+use Rattle.std.specs.List.{list_all, list_any}
+use Rattle.std.specs.Option.{option_map}
+use Rattle.std.proofs.lemmas.Bool.{and_parts, le-ltb}
+use Rattle.desk_model.specs.Allowed.{may_want_on}
+use Rattle.desk_model.specs.Questions.{order_end, serves}
+use Rattle.desk_model.specs.Tables.{Tables, listed_from}
+use Rattle.desk_model.specs.Kept.{EachOf}
+use Rattle.desk_model.specs.Lookup.{holds}
+use Rattle.desk_model.specs.Authorization.{authorization_status_by, is_good, is_over, is_pending, is_valid, made_for}
+use Rattle.desk_model.specs.Derived.{and_status, authorization_numbered, derived_order, numbers_of, stored_statuses}
+use Rattle.desk_model.specs.Effect.{authorizations_after, fresh_challenge, moved_authorization, new_authorizations}
+use Rattle.desk_model.specs.Order.{listed_by, made_status, order_status_by}
+use Rattle.desk_model.specs.declared.entry.Entry.TheVariants.{Ordered as ordered}
+use Rattle.desk_model.specs.declared.entry.Wanted.{Wanted}
+use Rattle.desk_model.specs.declared.entry.Wanted.TheVariants.{New as new, Reused as reused}
+use Rattle.desk_model.specs.declared.objects.Authorization.{Authorization}
+use Rattle.desk_model.specs.declared.objects.Challenge.{Challenge}
+use Rattle.desk_model.specs.declared.rows.AuthorizationRow.{AuthorizationRow}
+use Rattle.desk_model.specs.declared.rows.OrderRow.{OrderRow}
+use Rattle.desk_model.specs.declared.status.AuthzStatus.{AuthzStatus}
+use Rattle.desk_model.specs.declared.status.AuthzStatus.TheVariants as authz
+use Rattle.model_laws.specs.Ordered.{Ascends, Below}
+use Rattle.model_laws.specs.Reused.{OfReused}
+use Rattle.model_laws.proofs.Basics.{each, each_both, each_of_map, find-append}
+use Rattle.model_laws.proofs.Finds.{found_moved}
+use Rattle.model_laws.proofs.RowLists.{ascends_above, ascends_found, ascends_map, none_below, numbered_ascends}
+use Rattle.model_laws.proofs.OrderFacts.{made_by_numbered, numbers_listed}
+use Rattle.model_laws.proofs.Local.{moved_number}
+use Rattle.core_changes.specs.Made.{AreStanding, made_row, made_rows}
+use Rattle.desk_book.proofs.SweptRows.{find-moved}
+
+-- the numbers of new rows go up
+pub made_ascends : (m account expires : ℕ) (wanted : List Wanted) (n c : ℕ)
+    → Ascends (λ r. r.number) n (made_rows m (made_for account m (m + expires) wanted n c))
+made_ascends m account life wanted n c =
+    ascends_map (λ a. a.number) (λ r. r.number) (made_row m) (λ a. refl) n (made_for account m (m + life) wanted n c)
+    (numbered_ascends (λ a. a.number) n (made_for account m (m + life) wanted n c) (made_by_numbered (ordered account wanted) m life n c))
+
+-- what is not found among some items is looked for among the others
+pub find-after : {X : Type 0} (p : X → Bool) (xs ys : List X) → find p xs ≡ None → find p (xs ++ ys) ≡ find p ys
+find-after p [] ys none = refl
+find-after {X} p (x ∷ xs) ys none = by (p x) none (find-after p xs ys)
+  where
+    by : (b : Bool) → cond b (Some x) (find p xs) ≡ None → (find p xs ≡ None → find p (xs ++ ys) ≡ find p ys) → cond b (Some x) (find p (xs ++ ys)) ≡ find p ys
+    by true e ih = cc
+    by false e ih = ih e
+
+-- the authorizations that stood have none of the new numbers
+pub stood_before : (T : Tables) (m account n : ℕ) (wanted : List Wanted)
+    → Below (λ a. a.number) (T.meta.counters.authorizations + 1) T.authorizations → T.meta.counters.authorizations + 1 ≤ n →
+    authorization_numbered n (map (moved_authorization (ordered account wanted) m T.accounts) T.authorizations) ≡ None
+stood_before T m account n wanted is le =
+    find-moved (λ a. a.number == n) (moved_authorization (ordered account wanted) m T.accounts) T.authorizations
+    (λ a. ap (λ k. k == n) (moved_number (ordered account wanted) m T.accounts a))
+    ∙ ap (option_map (moved_authorization (ordered account wanted) m T.accounts))
+    (none_below (λ a. a.number) (T.meta.counters.authorizations + 1) n T.authorizations le is)
+
+-- ---- what a new order finds of the authorizations that it lists
+
+-- the row of this number is pending
+abbrev Waits : List AuthorizationRow → ℕ → Type 0
+Waits rows n = holds (λ r. is_pending r.status) (authorization_numbered n rows) ≡ true
+
+-- it is valid
+abbrev Stands : List AuthorizationRow → ℕ → Type 0
+Stands rows n = holds (λ r. is_valid r.status) (authorization_numbered n rows) ≡ true
+
+-- new challenges are not reported
+none_reported : (cs : List Challenge) → list_any (λ c. holds (λ r. is_good r.outcome) c.reported) (map fresh_challenge cs) ≡ false
+none_reported [] = refl
+none_reported (c ∷ cs) = none_reported cs
+
+-- an authorization that is just made is pending
+made_waits : (m life : ℕ) (a : Authorization) → a.expires ≡ m + life → is_pending (made_row m a).status ≡ true
+made_waits m life a ends =
+    let now : nat_lt a.expires m ≡ false = le-ltb _ _ (omega (arith, ends)) in
+    λ i. is_pending (authorization_status_by None (now i) (none_reported a.challenges i))
+
+-- new authorizations end then
+made_ends : (account date expires : ℕ) (ws : List Wanted) (n c : ℕ) → EachOf (λ a. a.expires ≡ expires) (made_for account date expires ws n c)
+made_ends account date expires [] n c = tt
+made_ends account date expires (new name tokens ∷ ws) n c = (refl, made_ends account date expires ws (n + 1) _)
+made_ends account date expires (reused name k ∷ ws) n c = made_ends account date expires ws n c
+
+-- what is found behind rows that have no such number
+found_behind : (T : Tables) (m account : ℕ) (wanted : List Wanted) → Below (λ a. a.number) (T.meta.counters.authorizations + 1) T.authorizations →
+    (all rows : List AuthorizationRow) → EachOf (λ r. T.meta.counters.authorizations < r.number) rows →
+    EachOf (λ r. authorization_numbered r.number all ≡ Some r) rows →
+    EachOf (λ r. authorization_numbered r.number (map (moved_authorization (ordered account wanted) m T.accounts) T.authorizations ++ all) ≡ Some r) rows
+found_behind T m account wanted below all [] h k = tt
+found_behind T m account wanted below all (r ∷ rows) h k = (
+  find-after (λ a. a.number == r.number) (map (moved_authorization (ordered account wanted) m T.accounts) T.authorizations) all
+      (stood_before T m account r.number wanted below (let lt : T.meta.counters.authorizations < r.number = h.0 in omega arith)) ∙ k.0,
+  found_behind T m account wanted below all rows h.1 k.1,
+)
+
+-- each new row is found among those after the entry
+pub made_found : (T : Tables) (m account : ℕ) (wanted : List Wanted) → Below (λ a. a.number) (T.meta.counters.authorizations + 1) T.authorizations →
+    (let rows : List AuthorizationRow = made_rows m (new_authorizations T (ordered account wanted) m) in
+    EachOf (λ r. authorization_numbered r.number (authorizations_after T (ordered account wanted) m) ≡ Some r) rows)
+made_found T m account wanted below =
+    found_behind T m account wanted below rows rows
+    (ascends_above (λ r. r.number) T.meta.counters.authorizations (T.meta.counters.authorizations + 1) rows (omega arith) up)
+    (ascends_found (λ r. r.number) (T.meta.counters.authorizations + 1) rows up)
+  where
+    rows : List AuthorizationRow
+    rows = made_rows m (new_authorizations T (ordered account wanted) m)
+
+    up : Ascends (λ r. r.number) (T.meta.counters.authorizations + 1) (made_rows m (new_authorizations T (ordered account wanted) m))
+    up = made_ascends m account T.meta.policy.authz_life wanted (T.meta.counters.authorizations + 1) (T.meta.counters.challenges + 1)
+
+-- so it is pending there
+made_wait : (T : Tables) (m account : ℕ) (wanted : List Wanted) → Below (λ a. a.number) (T.meta.counters.authorizations + 1) T.authorizations →
+    EachOf (λ a. Waits (authorizations_after T (ordered account wanted) m) a.number) (new_authorizations T (ordered account wanted) m)
+made_wait T m account wanted below =
+    each _ _ made (λ a h. ap (holds (λ r. is_pending r.status)) h.0 ∙ made_waits m T.meta.policy.authz_life a h.1)
+    (each_both _ _ made (each_of_map _ (made_row m) made (made_found T m account wanted below))
+    (made_ends account m (m + T.meta.policy.authz_life) wanted (T.meta.counters.authorizations + 1) (T.meta.counters.challenges + 1)))
+  where
+    made : List Authorization
+    made = new_authorizations T (ordered account wanted) m
+
+-- a row that stood is found after the entry as it was
+pub stood_found : (T : Tables) (m account n : ℕ) (wanted : List Wanted) (row : AuthorizationRow) → authorization_numbered n T.authorizations ≡ Some row →
+    authorization_numbered n (authorizations_after T (ordered account wanted) m) ≡ Some row
+stood_found T m account n wanted row found =
+    find-append (λ a. a.number == n) (map (moved_authorization (ordered account wanted) m T.accounts) T.authorizations) _ row
+    (found_moved (λ a. a.number == n) (moved_authorization (ordered account wanted) m T.accounts) (λ a. refl) T.authorizations row found)
+
+-- so what was valid stands
+standing_after : (T : Tables) (m account : ℕ) (wanted : List Wanted) (ws : List Wanted) → AreStanding T.authorizations ws →
+    EachOf (OfReused (Stands (authorizations_after T (ordered account wanted) m))) ws
+standing_after T m account wanted [] h = tt
+standing_after T m account wanted (new name tokens ∷ ws) h = (tt, standing_after T m account wanted ws h.1)
+standing_after T m account wanted (reused name n ∷ ws) h =
+    (by (authorization_numbered n T.authorizations) refl h.0, standing_after T m account wanted ws h.1)
+  where
+    by : (o : Option AuthorizationRow) → authorization_numbered n T.authorizations ≡ o → holds (λ r. is_valid r.status) o ≡ true →
+        Stands (authorizations_after T (ordered account wanted) m) n
+    by None e k = cc
+    by (Some row) e k = ap (holds (λ r. is_valid r.status)) (stood_found T m account n wanted row e) ∙ k
+
+-- ---- its status
+
+-- a status that is pending or valid is not over
+waits_on : (o : Option AuthorizationRow) (rest : List AuthzStatus) → holds (λ r. is_pending r.status) o ≡ true →
+    (list_any is_over (and_status o rest) ≡ list_any is_over rest) × (list_all is_valid (and_status o rest) ≡ false)
+waits_on None rest h = cc
+waits_on (Some row) rest h = by row.status h
+  where
+    by : (s : AuthzStatus) → is_pending s ≡ true → ((is_over s || list_any is_over rest) ≡ list_any is_over rest)
+        × ((is_valid s && list_all is_valid rest) ≡ false)
+    by authz.Pending k = (refl, refl)
+    by authz.Valid k = cc
+    by authz.Invalid k = cc
+    by authz.Deactivated k = cc
+    by authz.Expired k = cc
+    by authz.Revoked k = cc
+
+stands_on : (o : Option AuthorizationRow) (rest : List AuthzStatus) → holds (λ r. is_valid r.status) o ≡ true →
+    (list_any is_over (and_status o rest) ≡ list_any is_over rest) × (list_all is_valid (and_status o rest) ≡ list_all is_valid rest)
+stands_on None rest h = cc
+stands_on (Some row) rest h = by row.status h
+  where
+    by : (s : AuthzStatus) → is_valid s ≡ true →
+        ((is_over s || list_any is_over rest) ≡ list_any is_over rest) × ((is_valid s && list_all is_valid rest) ≡ list_all is_valid rest)
+    by authz.Pending k = cc
+    by authz.Valid k = (refl, refl)
+    by authz.Invalid k = cc
+    by authz.Deactivated k = cc
+    by authz.Expired k = cc
+    by authz.Revoked k = cc
+
+-- none of its authorizations is over
+none_over : (rows : List AuthorizationRow) (account date expires : ℕ) (ws : List Wanted) (n c : ℕ) →
+    EachOf (λ a. Waits rows a.number) (made_for account date expires ws n c) → EachOf (OfReused (Stands rows)) ws →
+    list_any is_over (stored_statuses rows (listed_by ws n)) ≡ false
+none_over rows account date expires [] n c h k = refl
+none_over rows account date expires (new name tokens ∷ ws) n c h k =
+    (waits_on (authorization_numbered n rows) (stored_statuses rows (listed_by ws (n + 1))) h.0).0
+    ∙ none_over rows account date expires ws (n + 1) _ h.1 k.1
+none_over rows account date expires (reused name j ∷ ws) n c h k =
+    (stands_on (authorization_numbered j rows) (stored_statuses rows (listed_by ws n)) k.0).0 ∙ none_over rows account date expires ws n c h k.1
+
+-- and all are valid where all are used again
+status_made : (rows : List AuthorizationRow) (account date expires : ℕ) (ws : List Wanted) (n c : ℕ) →
+    EachOf (λ a. Waits rows a.number) (made_for account date expires ws n c) → EachOf (OfReused (Stands rows)) ws →
+    order_status_by false false false (list_all is_valid (stored_statuses rows (listed_by ws n))) ≡ made_status ws
+status_made rows account date expires [] n c h k = refl
+status_made rows account date expires (new name tokens ∷ ws) n c h k =
+    ap (order_status_by false false false) (waits_on (authorization_numbered n rows) (stored_statuses rows (listed_by ws (n + 1))) h.0).1
+status_made rows account date expires (reused name j ∷ ws) n c h k =
+    ap (order_status_by false false false) (stands_on (authorization_numbered j rows) (stored_statuses rows (listed_by ws n)) k.0).1
+    ∙ status_made rows account date expires ws n c h k.1
+
+-- so a new order has the status that its names give
+pub status_is_made : (T : Tables) (m account : ℕ) (wanted : List Wanted) (row : OrderRow) →
+    Below (λ a. a.number) (T.meta.counters.authorizations + 1) T.authorizations → AreStanding T.authorizations wanted →
+    row.listed ≡ listed_from 1 (listed_by wanted (T.meta.counters.authorizations + 1)) → row.expires ≡ m + T.meta.policy.order_life →
+    row.finalized ≡ None → row.certified ≡ None → row.failed ≡ None →
+    derived_order m (authorizations_after T (ordered account wanted) m) row ≡ made_status wanted
+status_is_made T m account wanted row below standing lists ends unfinalized uncertified unfailed =
+    let rows : List AuthorizationRow = authorizations_after T (ordered account wanted) m in
+    let first : ℕ = T.meta.counters.authorizations + 1 in
+    let ns : List ℕ = listed_by wanted first in
+    let waiting = made_wait T m account wanted below in
+    let again = standing_after T m account wanted wanted standing in
+    let now : nat_lt row.expires m ≡ false = le-ltb _ _ (omega (arith, ends)) in
+    let same : stored_statuses rows (numbers_of row.listed) ≡ stored_statuses rows ns = ap (stored_statuses rows) (ap numbers_of lists ∙ numbers_listed 1 ns) in
+    (λ i. order_status_by (is_some (uncertified i)) (is_some (unfailed i) || (now i || list_any is_over (same i))) (is_some (unfinalized i))
+    (list_all is_valid (same i)))
+    ∙ ap (λ b. order_status_by false b false (list_all is_valid (stored_statuses rows ns)))
+    (none_over rows account m (m + T.meta.policy.authz_life) wanted first (T.meta.counters.challenges + 1) waiting again)
+    ∙ status_made rows account m (m + T.meta.policy.authz_life) wanted first (T.meta.counters.challenges + 1) waiting again
+
+-- what an order may want is valid
+pub wanted_standing : (T : Tables) (account : ℕ) (ws : List Wanted) → list_all (may_want_on T account) ws ≡ true → AreStanding T.authorizations ws
+wanted_standing T account [] h = tt
+wanted_standing T account (new name tokens ∷ ws) h = (tt, wanted_standing T account ws h)
+wanted_standing T account (reused name n ∷ ws) h =
+    let p = and_parts (may_want_on T account (reused name n)) _ h in
+    (by (authorization_numbered n T.authorizations) p.0, wanted_standing T account ws p.1)
+  where
+    by : (o : Option AuthorizationRow) → holds (serves account name (order_end T)) o ≡ true → holds (λ r. is_valid r.status) o ≡ true
+    by None k = cc
+    by (Some row) k = (and_parts (is_valid row.status) _ k).0

@@ -1,0 +1,138 @@
+-- What is recorded, entry by entry.
+use Rattle.std.proofs.Common.{◌≡◌, ℕ, ◌+◌, List, [], ◌∷◌, ◌++◌, None, refl, sym, subst, ap, ◌∙◌, append-nil, append_assoc, Result, Ok, Err, IfOk, OnOk}
+use Rattle.std.specs.Result.{result_and}
+use Rattle.desk_model.specs.Tables.{Tables}
+use Rattle.desk_model.specs.Effect.{effect, effects, swept}
+use Rattle.desk_model.specs.Change.{changes, all_changes, recorded_changes, sweep_changes}
+use Rattle.desk_model.specs.Terms.{Terms}
+use Rattle.desk_model.specs.declared.rows.AccountRow.{AccountRow}
+use Rattle.desk_model.specs.declared.rows.Change.{Change}
+use Rattle.desk_model.specs.declared.rows.Change.TheVariants.{PutMeta, PutNonce, RemoveNonce, PutAccount}
+use Rattle.desk_model.specs.declared.rows.Counters.{Counters}
+use Rattle.desk_model.specs.declared.objects.Nonce.{Nonce}
+use Rattle.desk_model.specs.declared.status.AccountStatus.TheVariants as account
+use Rattle.desk_model.specs.declared.entry.Entry.{Entry}
+use Rattle.desk_model.specs.declared.entry.Entry.TheVariants.{Issued as issued, Spent as spent, Opened as opened}
+use Rattle.core_changes.specs.Recorded.{IsRecorded}
+use Rattle.core_changes.proofs.QuietEntries.{spent_counters, spent_changes, issued_counters, issued_changes, opened_counters, opened_changes}
+
+all_changes-last : (m : ℕ) (T : Tables) (es : List Entry) (e : Entry) → all_changes m T (es ++ e ∷ []) ≡ all_changes m T es ++ changes m (effects m T es) e
+all_changes-last m T [] e = append-nil (changes m T e)
+all_changes-last m T (d ∷ es) e =
+    ap (λ l. changes m T d ++ l) (all_changes-last m (effect m T d) es e)
+    ∙ sym (append_assoc (changes m T d) (all_changes m (effect m T d) es) (changes m (effects m (effect m T d) es) e))
+
+effects-last : (m : ℕ) (T : Tables) (es : List Entry) (e : Entry) → effects m T (es ++ e ∷ []) ≡ effect m (effects m T es) e
+effects-last m T [] e = refl
+effects-last m T (d ∷ es) e = effects-last m (effect m T d) es e
+
+clocked : (m : ℕ) (T : Tables) (es : List Entry) → T.meta.counters.clock ≡ m → (effects m T es).meta.counters.clock ≡ m
+clocked m T [] h = h
+clocked m T (e ∷ es) h = clocked m (effect m T e) es refl
+
+-- nothing is recorded but the passing of time
+pub begun : (m : ℕ) (B : Tables) (done : List Change) (counters : Counters) → done ≡ sweep_changes m B
+    → counters ≡ record B.meta.counters { clock = m } → IsRecorded m B [] done counters
+begun m B done counters c r = record { changes = c ∙ sym (append-nil (sweep_changes m B)); counted = r; policy = refl }
+
+-- one more entry is recorded, which leaves the policy
+pub one_more : (m : ℕ) (B : Tables) (es : List Entry) (e : Entry) (done more : List Change) (counters after : Counters) → IsRecorded m B es done counters →
+    more ≡ changes m (effects m (swept m B) es) e → after ≡ (effect m (effects m (swept m B) es) e).meta.counters →
+    (effect m (effects m (swept m B) es) e).meta.policy ≡ (effects m (swept m B) es).meta.policy → IsRecorded m B (es ++ e ∷ []) (done ++ more) after
+one_more m B es e done more counters after h c r p =
+    record {
+      changes =
+          ap (λ l. l ++ more) h.changes
+          ∙ ap (λ l. (sweep_changes m B ++ all_changes m (swept m B) es) ++ l) c
+          ∙ append_assoc (sweep_changes m B) (all_changes m (swept m B) es) (changes m (effects m (swept m B) es) e)
+          ∙ ap (λ l. sweep_changes m B ++ l) (sym (all_changes-last m (swept m B) es e));
+      counted = r ∙ ap (λ (T : Tables). T.meta.counters) (sym (effects-last m (swept m B) es e));
+      policy = ap (λ (T : Tables). T.meta.policy) (effects-last m (swept m B) es e) ∙ p ∙ h.policy;
+    }
+
+-- with the meta row at the end, all of it is
+pub finished : (m : ℕ) (B : Tables) (e : Entry) (es : List Entry) (done all : List Change) (counters : Counters) (policy : Terms) → B.meta.policy ≡ policy →
+    all ≡ done ++ PutMeta (record { policy = policy; counters = counters }) ∷ [] → IsRecorded m B (e ∷ es) done counters → all ≡ recorded_changes m B (e ∷ es)
+finished m B e es done all counters policy same put h =
+    put
+    ∙ (λ i. h.changes i ++ PutMeta (record { policy = sym (h.policy ∙ same) i; counters = h.counted i }) ∷ [])
+    ∙ append_assoc (sweep_changes m B) (all_changes m (swept m B) (e ∷ es)) (PutMeta (effects m (swept m B) (e ∷ es)).meta ∷ [])
+
+-- the clock of what is recorded
+pub clock_is : (m : ℕ) (B : Tables) (es : List Entry) (done : List Change) (counters : Counters) → IsRecorded m B es done counters → counters.clock ≡ m
+clock_is m B es done counters h = ap (λ (x : Counters). x.clock) h.counted ∙ clocked m (swept m B) es refl
+
+-- counters whose clock is at the moment
+pub same_clock : (m : ℕ) (x : Counters) → x.clock ≡ m → record x { clock = m } ≡ x
+same_clock m x e = λ i. record x { clock = sym e i }
+
+-- the counters of what is recorded, in terms of the tables
+pub counters_then : (m : ℕ) (B : Tables) (es : List Entry) (done : List Change) (counters : Counters) → IsRecorded m B es done counters →
+    counters ≡ record (effects m (swept m B) es).meta.counters { clock = m }
+counters_then m B es done counters h = sym (same_clock m counters (clock_is m B es done counters h)) ∙ ap (λ (x : Counters). record x { clock = m }) h.counted
+
+-- a nonce is spent
+pub and_spent : (m : ℕ) (B : Tables) (es : List Entry) (n : ℕ) (done : List Change) (counters : Counters) → IsRecorded m B es done counters →
+    IsRecorded m B (es ++ spent n ∷ []) (done ++ RemoveNonce n ∷ []) counters
+and_spent m B es n done counters h =
+    let T : Tables = effects m (swept m B) es in
+    one_more m B es (spent n) done (RemoveNonce n ∷ []) counters counters h (sym (spent_changes m T n))
+    (counters_then m B es done counters h ∙ sym (spent_counters m T n)) refl
+
+-- a nonce is issued
+pub and_issued : (m : ℕ) (B : Tables) (es : List Entry) (r : List ℕ) (done : List Change) (counters : Counters) → IsRecorded m B es done counters →
+    (let fresh : Nonce = record { serial = counters.nonces + 1; random = r; issued = counters.clock } in
+    IsRecorded m B (es ++ issued r ∷ []) (done ++ PutNonce fresh ∷ []) (record counters { nonces = counters.nonces + 1 }))
+and_issued m B es r done counters h =
+    let T : Tables = effects m (swept m B) es in
+    one_more m B es (issued r) done _ counters _ h
+    ((λ i. PutNonce (record { serial = (h.counted i).nonces + 1; random = r; issued = clock_is m B es done counters h i }) ∷ []) ∙ sym (issued_changes m T r))
+    (ap (λ (x : Counters). record x { nonces = x.nonces + 1 }) (counters_then m B es done counters h) ∙ sym (issued_counters m T r)) refl
+
+-- an account is opened
+pub and_opened : (m : ℕ) (B : Tables) (es : List Entry) (key : List ℕ) (contacts : List (List ℕ)) (done : List Change) (counters : Counters)
+    → IsRecorded m B es done counters →
+    (let fresh : AccountRow = record {
+      number = counters.accounts + 1;
+      key = key;
+      contacts = contacts;
+      opened = counters.clock;
+      ended = None;
+      status = account.Valid;
+    } in
+    IsRecorded m B (es ++ opened key contacts ∷ []) (done ++ PutAccount fresh ∷ []) (record counters { accounts = counters.accounts + 1 }))
+and_opened m B es key contacts done counters h =
+    let T : Tables = effects m (swept m B) es in
+    one_more m B es (opened key contacts) done _ counters _ h
+    ((λ i. PutAccount (record {
+      number = (h.counted i).accounts + 1;
+      key = key;
+      contacts = contacts;
+      opened = clock_is m B es done counters h i;
+      ended = None;
+      status = account.Valid;
+    }) ∷ [])
+    ∙ sym (opened_changes m T key contacts))
+    (ap (λ (x : Counters). record x { accounts = x.accounts + 1 }) (counters_then m B es done counters h) ∙ sym (opened_counters m T key contacts)) refl
+
+-- the same recording, by equal changes and equal counters
+pub recorded_as : (m : ℕ) (B : Tables) (es : List Entry) (done other : List Change) (counters others : Counters) → other ≡ done
+    → others ≡ counters → IsRecorded m B es done counters → IsRecorded m B es other others
+recorded_as m B es done other counters others c r h = record { changes = c ∙ h.changes; counted = r ∙ h.counted; policy = h.policy }
+
+-- what two clauses give on the way that went well
+pub both_ok : {T E : Type 0} {P Q S : Type 0} (r : Result T E) → OnOk r P → OnOk r Q → (P → Q → S) → OnOk r S
+both_ok (Ok x) p q k = k p q
+both_ok (Err e) p q k = tt
+
+-- a step, and then a value: what the step gives where it went well
+pub and_ok : {T U E : Type 0} {P : Type 0} (Q : Type 0) (r : Result T E) (x : U) (s : Result U E) → s ≡ result_and r (Ok x)
+    → OnOk r P → (P → Q) → OnOk s Q
+and_ok Q (Ok y) x s is p k = subst (λ t. OnOk t Q) (sym is) (k p)
+and_ok Q (Err e) x s is p k = subst (λ t. OnOk t Q) (sym is) tt
+
+-- and what is then so of the value
+pub and_gives : {T U E : Type 0} {P : Type 0} (F : U → Type 0) (r : Result T E) (x : U) (s : Result U E) → s ≡ result_and r (Ok x)
+    → OnOk r P → (P → F x) → IfOk s F
+and_gives F (Ok y) x s is p k = subst (λ t. IfOk t F) (sym is) (k p)
+and_gives F (Err e) x s is p k = subst (λ t. IfOk t F) (sym is) tt

@@ -1,0 +1,36 @@
+-- What is recorded of some entries: the passing of time first, then entry by entry.
+use Rattle.std.specs.Prelude.{ℕ, ◌≡◌, List, ◌++◌, map}
+use Rattle.desk_model.specs.Tables.{Tables}
+use Rattle.desk_model.specs.Effect.{effects, swept, swept_order, noted_account, touches_account, touches_authorization, touches_order}
+use Rattle.desk_model.specs.Change.{all_changes, sweep_changes, moved_rows, account_differs, authorization_differs, order_differs}
+use Rattle.desk_model.specs.declared.rows.Change.{Change}
+use Rattle.desk_model.specs.declared.rows.Change.TheVariants.{PutAccount, PutAuthorization, PutOrder}
+use Rattle.desk_model.specs.declared.rows.Counters.{Counters}
+use Rattle.desk_model.specs.declared.entry.Entry.{Entry}
+use Rattle.core_changes.specs.Moved.{standing_rows, stated_authorization, stated_order}
+
+-- these entries are recorded at m: the changes of rows so far, and the counters after them; the policy stays
+pub record IsRecorded (m : ℕ) (B : Tables) (es : List Entry) (done : List Change) (counters : Counters) : Type 0 where
+  pub changes : done ≡ sweep_changes m B ++ all_changes m (swept m B) es
+  pub counted : counters ≡ (effects m (swept m B) es).meta.counters
+  pub policy : (effects m (swept m B) es).meta.policy ≡ B.meta.policy
+
+-- the counters are those of a book at the moment, but for that of nonces
+abbrev pub IsAt : ℕ → Tables → Counters → Type 0
+IsAt m B C = C ≡ record B.meta.counters { clock = m; nonces = C.nonces }
+
+-- these entries left the counters, but for that of nonces, and each row but the nonces' as the passing of time left them
+pub record IsUntouched (m : ℕ) (B : Tables) (es : List Entry) : Type 0 where
+  pub counters : IsAt m B (effects m (swept m B) es).meta.counters
+  pub accounts : (effects m (swept m B) es).accounts ≡ B.accounts
+  pub authorizations : (effects m (swept m B) es).authorizations ≡ standing_rows m B.authorizations
+  pub orders : (effects m (swept m B) es).orders ≡ map (swept_order m B.authorizations) B.orders
+
+-- the rows of a book that the entry moves, as they stand at the moment
+abbrev pub book_moves : ℕ → Tables → Entry → List Change
+book_moves m B e =
+    map PutAccount (moved_rows (touches_account e) account_differs (noted_account e m) B.accounts)
+    ++ (map PutAuthorization (moved_rows (touches_authorization e) authorization_differs (stated_authorization e m B.accounts)
+    (standing_rows m B.authorizations))
+    ++ map PutOrder (moved_rows (touches_order e (standing_rows m B.authorizations)) order_differs (stated_order e m B.accounts B.authorizations)
+    (map (swept_order m B.authorizations) B.orders)))

@@ -1,0 +1,279 @@
+//! What a call records, change by change.
+ghost use Rattle.model_laws.specs.Ordered.{IsOrdered};
+ghost use Rattle.desk_model.specs.Change.{recorded_changes};
+ghost use Rattle.desk_model.specs.Effect.{swept};
+ghost use Rattle.desk_model.specs.Entry.{entry_of};
+ghost use Rattle.desk_model.specs.Limits.{last_moment, last_number};
+ghost use Rattle.desk_model.specs.Run.{count_new, count_tokens};
+ghost use Rattle.core_changes.specs.Made.{AreStanding, made_order, next_account, next_order, next_rows, ordered_counters};
+ghost use Rattle.std.specs.Prelude.{◌≡◌, ◌<◌, ◌≤◌, map, ◌+◌, ◌++◌, ◌∷◌, [], None, IfOk, OnOk, ℕ, List};
+ghost use Rattle.core_changes.specs.Moved.{AreMoved};
+ghost use Rattle.core_changes.specs.Recorded.{IsRecorded, IsUntouched, book_moves};
+ghost use Rattle.desk_model.specs.Tables.{Tables};
+ghost use Rattle.desk_model.specs.declared.entry.Entry.{Entry as EntryOf};
+ghost use Rattle.desk_model.specs.declared.entry.Entry.TheVariants.{Issued as issued, Spent as spent, Opened as opened, Ordered as ordered};
+ghost use Rattle.desk_model.specs.declared.rows.Change.TheVariants.{PutMeta, PutNonce, RemoveNonce, PutAccount, PutAuthorization, PutOrder};
+ghost use Rattle.desk_model.specs.declared.status.AccountStatus.TheVariants as account;
+
+use crate::making::{Making, made_status, push_authorizations, push_places};
+use crate::moved::{MovedRows, push_change, record_rows};
+use desk_book::{Book, sweep_changes};
+use desk_model::{
+    AccountRow, AccountStatus, AuthorizationRow, Change, Clock, Counters, Jwk, Meta, Move, Nonce,
+    OrderRow, Policy, Sequence, Text, Wanted,
+};
+use std::alloc::{AllocError, Global};
+
+/// The changes of rows that a call makes so far, and the counters after them.
+#[derive(Drop)]
+pub struct Recording {
+    /// In their order: the sweep's, then those of each entry.
+    pub changes: Vec<Change>,
+    /// The clock is the moment of the call, the counts are those after the entries so far.
+    pub counters: Counters,
+}
+
+impl Recording {
+    /// Begins with the passing of time up to a moment.
+    ///
+    /// # Errors
+    ///
+    /// Where there is no memory for the changes of the sweep.
+    pub fn begin(alloc: Global, book: &Book, moment: u64) -> Result<Recording, AllocError>
+        requires { moment ≤ last_moment }
+        ensures recorded { IfOk result (λ r. IsRecorded moment book.now [] r.changes.items r.counters) }
+        ensures counters { IfOk result (λ r. r.counters ≡ record book.now.meta.counters { clock = moment }) }
+    {
+        let changes = sweep_changes(alloc, book, moment)?;
+        let mut counters = book.meta().counters;
+        counters.clock = Clock::at(moment);
+        Ok(Recording { changes, counters })
+    }
+
+    /// All changes of the call: at the end the meta row, with the counters after the entries.
+    ///
+    /// # Errors
+    ///
+    /// Where there is no memory for the meta row.
+    pub fn finish(self, policy: &Policy) -> Result<Vec<Change>, AllocError>
+        ensures changes { IfOk result (λ v. v.items ≡ self.changes.items ++ PutMeta (record { policy = policy.now; counters = self.counters }) ∷ []) }
+        ensures recorded { IfOk result (λ v. (m : ℕ) (B : Tables) (e : EntryOf) (es : List EntryOf) → B.meta.policy ≡ policy.now
+            → IsRecorded m B (e ∷ es) self.changes.items self.counters → v.items ≡ recorded_changes m B (e ∷ es)) }
+    {
+        let Recording {
+            mut changes,
+            counters,
+        } = self;
+        let policy = policy.clone()?;
+        push_change(&mut changes, Change::PutMeta(Meta { policy, counters })).and(Ok(changes))
+    }
+
+    // Records a change.
+    fn push(&mut self, change: Change) -> Result<(), AllocError>
+        ensures changes { OnOk result (self.new.changes.items ≡ self.old.changes.items ++ change ∷ []) }
+        ensures counters { OnOk result (self.new.counters ≡ self.old.counters) }
+    {
+        push_change(&mut self.changes, change)
+    }
+
+    /// Spends the nonce of a serial.
+    ///
+    /// # Errors
+    ///
+    /// Where there is no memory for the change; what was recorded is then of no use.
+    pub fn spend(&mut self, serial: u64) -> Result<(), AllocError>
+        ensures changes { OnOk result (self.new.changes.items ≡ self.old.changes.items ++ RemoveNonce serial ∷ []) }
+        ensures counters { OnOk result (self.new.counters ≡ self.old.counters) }
+        ensures recorded { OnOk result ((m : ℕ) (B : Tables) (es : List EntryOf)
+            → IsRecorded m B es self.old.changes.items self.old.counters
+            → IsRecorded m B (es ++ spent serial ∷ []) self.new.changes.items self.new.counters) }
+    {
+        self.push(Change::RemoveNonce(serial))
+    }
+
+    /// Issues the next nonce with these random bytes.
+    ///
+    /// # Errors
+    ///
+    /// Where there is no memory for the change; what was recorded is then of no use.
+    pub fn issue(&mut self, random: [u8; 16]) -> Result<(), AllocError>
+        requires { self.old.counters.nonces < last_number }
+        ensures changes { OnOk result (self.new.changes.items ≡ self.old.changes.items
+            ++ PutNonce (record { serial = self.old.counters.nonces + 1; random = random; issued = self.old.counters.clock }) ∷ []) }
+        ensures counters { OnOk result (self.new.counters ≡ record self.old.counters { nonces = self.old.counters.nonces + 1 }) }
+        ensures recorded { OnOk result ((m : ℕ) (B : Tables) (es : List EntryOf)
+            → IsRecorded m B es self.old.changes.items self.old.counters
+            → IsRecorded m B (es ++ issued random ∷ []) self.new.changes.items self.new.counters) }
+    {
+        self.counters.nonces += 1;
+        let nonce = Nonce {
+            serial: self.counters.nonces,
+            random,
+            issued: self.counters.clock.moment(),
+        };
+        self.push(Change::PutNonce(nonce))
+    }
+
+    /// Opens the next account, and gives its row.
+    ///
+    /// # Errors
+    ///
+    /// Where there is no memory for the change; what was recorded is then of no use.
+    pub fn open(&mut self, key: Jwk, contacts: Sequence<Text>) -> Result<AccountRow, AllocError>
+        requires { self.old.counters.accounts < last_number }
+        ensures account { IfOk result (λ r. r ≡ next_account self.old.counters key contacts) }
+        ensures recorded { OnOk result ((m : ℕ) (B : Tables) (es : List EntryOf)
+            → IsRecorded m B es self.old.changes.items self.old.counters
+            → IsRecorded m B (es ++ opened key contacts ∷ []) self.new.changes.items self.new.counters) }
+    {
+        self.counters.accounts += 1;
+        let row = AccountRow {
+            number: self.counters.accounts,
+            key,
+            contacts,
+            opened: self.counters.clock.moment(),
+            ended: None,
+            status: AccountStatus::Valid,
+        };
+        self.push(Change::PutAccount(row.clone()?)).and(Ok(row))
+    }
+
+    /// Records a move of rows of a book, as they stand at the moment, and gives the rows that it touches, as it leaves them.
+    ///
+    /// # Errors
+    ///
+    /// Where there is no memory for the rows that it moves; what was recorded is then of no use.
+    pub fn shift(
+        &mut self,
+        alloc: Global,
+        book: &Book,
+        moved: &Move,
+    ) -> Result<MovedRows, AllocError>
+        ensures changes { OnOk result (self.new.changes.items ≡ self.old.changes.items ++ book_moves self.old.counters.clock book.now (entry_of moved.now)) }
+        ensures counters { OnOk result (self.new.counters ≡ self.old.counters) }
+        ensures rows { IfOk result (λ r. AreMoved self.old.counters.clock book.now (entry_of moved.now) r.accounts.items
+            r.authorizations.items r.orders.items) }
+        ensures recorded { OnOk result ((m : ℕ) (es : List EntryOf) → IsUntouched m book.now es
+            → IsRecorded m book.now es self.old.changes.items self.old.counters
+            → IsRecorded m book.now (es ++ entry_of moved.now ∷ []) self.new.changes.items self.new.counters) }
+    {
+        let moment = self.counters.clock.moment();
+        let mut rows = MovedRows {
+            accounts: Vec::new(alloc),
+            authorizations: Vec::new(alloc),
+            orders: Vec::new(alloc),
+        };
+        record_rows(&mut self.changes, alloc, &mut rows, book, moved, moment).and(Ok(rows))
+    }
+
+    /// Makes the next order of an account, with an authorization for each of these names that gets a new one, and gives its row.
+    ///
+    /// # Errors
+    ///
+    /// Where there is no memory for its rows; what was recorded is then of no use.
+    pub fn order(
+        &mut self,
+        alloc: Global,
+        policy: &Policy,
+        account: u64,
+        wanted: &[Wanted],
+    ) -> Result<OrderRow, AllocError>
+        requires orders { self.old.counters.orders < last_number }
+        requires authorizations { self.old.counters.authorizations + count_new wanted.now ≤ last_number }
+        requires challenges { self.old.counters.challenges + count_tokens wanted.now ≤ last_number }
+        ensures changes { OnOk result (self.new.changes.items ≡ self.old.changes.items
+            ++ (map PutAuthorization (next_rows policy.now self.old.counters account wanted.now)
+            ++ PutOrder (next_order policy.now self.old.counters account wanted.now) ∷ [])) }
+        ensures counters { OnOk result (self.new.counters ≡ ordered_counters policy.now self.old.counters account wanted.now) }
+        ensures order { IfOk result (λ o. o ≡ next_order policy.now self.old.counters account wanted.now) }
+        ensures recorded { OnOk result ((m : ℕ) (B : Tables) (es : List EntryOf) → B.meta.policy ≡ policy.now → IsOrdered B → IsUntouched m B es
+            → AreStanding (swept m B).authorizations wanted.now
+            → IsRecorded m B es self.old.changes.items self.old.counters
+            → IsRecorded m B (es ++ ordered account wanted.now ∷ []) self.new.changes.items self.new.counters) }
+    {
+        let first = self.counters.authorizations + 1;
+        let rows = self.make_rows(alloc, policy, account, wanted)?;
+        let order = self.made_order(alloc, policy, account, wanted, first)?;
+        self.counters.orders += 1;
+        record_made(&mut self.changes, rows, &order).and(Ok(order))
+    }
+
+    // The authorizations of the next order, which are counted.
+    fn make_rows(
+        &mut self,
+        alloc: Global,
+        policy: &Policy,
+        account: u64,
+        wanted: &[Wanted],
+    ) -> Result<Vec<AuthorizationRow>, AllocError>
+        requires authorizations { self.old.counters.authorizations + count_new wanted.now ≤ last_number }
+        requires challenges { self.old.counters.challenges + count_tokens wanted.now ≤ last_number }
+        ensures rows { IfOk result (λ v. v.items ≡ next_rows policy.now self.old.counters account wanted.now) }
+        ensures counters { OnOk result (self.new.counters
+            ≡ record (ordered_counters policy.now self.old.counters account wanted.now) { orders = self.old.counters.orders }) }
+        ensures changes { OnOk result (self.new.changes.items ≡ self.old.changes.items) }
+    {
+        let mut rows = Vec::new(alloc);
+        let making = self.next_making(policy, account);
+        let number = self.counters.authorizations + 1;
+        let challenge = self.counters.challenges + 1;
+        let next = push_authorizations(alloc, &mut rows, making, wanted, number, challenge)?;
+        self.counters.authorizations += rows.len() as u64;
+        self.counters.challenges = next - 1;
+        Ok(rows)
+    }
+
+    // What the authorizations of the next order have in common.
+    fn next_making(&self, policy: &Policy, account: u64) -> Making
+        ensures { result ≡ record { account = account; date = self.now.counters.clock; expires = self.now.counters.clock + policy.now.authz_life } }
+    {
+        Making {
+            account,
+            date: self.counters.clock.moment(),
+            expires: self.counters.clock.moment() + policy.authz_life(),
+        }
+    }
+
+    // The row of the next order; the authorizations that are made with it are numbered from the first.
+    fn made_order(
+        &self,
+        alloc: Global,
+        policy: &Policy,
+        account: u64,
+        wanted: &[Wanted],
+        first: u64,
+    ) -> Result<OrderRow, AllocError>
+        requires orders { self.now.counters.orders < last_number }
+        requires numbers { first + count_new wanted.now ≤ last_number + 1 }
+        ensures { IfOk result (λ o. o ≡ made_order policy.now self.now.counters account wanted.now first) }
+    {
+        let moment = self.counters.clock.moment();
+        let mut listed = Vec::new(alloc);
+        push_places(&mut listed, wanted, 1, first)?;
+        Ok(OrderRow {
+            number: self.counters.orders + 1,
+            account,
+            made: moment,
+            expires: moment + policy.order_life(),
+            listed: Sequence::new(listed),
+            finalized: None,
+            certified: None,
+            failed: None,
+            status: made_status(wanted),
+        })
+    }
+}
+
+// Puts the authorizations of a new order, and the order.
+fn record_made(
+    changes: &mut Vec<Change>,
+    rows: Vec<AuthorizationRow>,
+    order: &OrderRow,
+) -> Result<(), AllocError>
+    ensures { OnOk result (changes.new.items ≡ changes.old.items ++ (map PutAuthorization rows.items ++ PutOrder order.now ∷ [])) }
+{
+    for row in rows {
+        push_change(changes, Change::PutAuthorization(row))?;
+    }
+    push_change(changes, Change::PutOrder(order.clone()?))
+}

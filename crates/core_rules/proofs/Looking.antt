@@ -1,0 +1,69 @@
+-- Rows that are looked up by number among some of the rows.
+use Rattle.std.proofs.Common.{◌≡◌, ℕ, ◌+◌, ◌≤◌, ◌<◌, Bool, true, false, cond, List, [], ◌∷◌, filter, Option, Some, None, refl, sym, ap, ◌∙◌, arith}
+use Rattle.std.specs.Prelude.{◌==◌, nat_lt, find}
+use Rattle.std.proofs.lemmas.Bool.{eqb-true}
+use Rattle.std.proofs.lemmas.Bool.Decides.{nat_tests}
+use Rattle.desk_model.specs.Change.{put}
+use Rattle.model_laws.specs.Ordered.{Ascends}
+use Rattle.model_laws.proofs.Basics.{more_differs}
+use Rattle.core_rules.specs.Lists.{only}
+
+-- no later row has this number
+none_later : {X : Type 0} (number : X → ℕ) (p : X → Bool) (n k : ℕ) (xs : List X) → Ascends number n xs → k < n → find (λ y. number y == k) (filter p xs) ≡ None
+none_later number p n k [] h lt = refl
+none_later {X} number p n k (x ∷ xs) h lt = by (p x) (none_later number p (number x + 1) k xs h.1 (let le : n ≤ number x = h.0 in omega arith))
+  where
+    by : (b : Bool) → find (λ y. number y == k) (filter p xs) ≡ None → find (λ y. number y == k) (cond b (x ∷ filter p xs) (filter p xs)) ≡ None
+    by true ih = ap (λ c. cond c (Some x) (find (λ y. number y == k) (filter p xs)))
+        (more_differs (number x) k (let le : n ≤ number x = h.0 in omega arith)) ∙ ih
+    by false ih = ih
+
+-- a row by its number among those that pass
+pub find-only : {X : Type 0} (number : X → ℕ) (p : X → Bool) (n k : ℕ) (xs : List X) → Ascends number n xs →
+    find (λ y. number y == k) (filter p xs) ≡ only p (find (λ y. number y == k) xs)
+find-only number p n k [] h = refl
+find-only {X} number p n k (x ∷ xs) h = by (number x == k) (p x) refl refl (find-only number p (number x + 1) k xs h.1)
+  where
+    here : (number x == k) ≡ true → k < number x + 1
+    here e = let same : number x ≡ k = eqb-true (number x) k e in omega arith
+
+    by : (b c : Bool) → (number x == k) ≡ b → p x ≡ c → find (λ y. number y == k) (filter p xs) ≡ only p (find (λ y. number y == k) xs) →
+        find (λ y. number y == k) (cond c (x ∷ filter p xs) (filter p xs)) ≡ only p (cond b (Some x) (find (λ y. number y == k) xs))
+    by true true e q ih =
+        ap (λ d. cond d (Some x) (find (λ y. number y == k) (filter p xs))) e ∙ sym (ap (λ d. cond d (Some x) None) q)
+    by true false e q ih = none_later number p (number x + 1) k xs h.1 (here e) ∙ sym (ap (λ d. cond d (Some x) None) q)
+    by false true e q ih = ap (λ d. cond d (Some x) (find (λ y. number y == k) (filter p xs))) e ∙ ih
+    by false false e q ih = ih
+
+same_number : (a b k : ℕ) → (a == b) ≡ true → (b == k) ≡ (a == k)
+same_number a b k e = ap (λ n. n == k) (sym (eqb-true a b e))
+
+-- a row that was put is found by its number, and the others as before
+pub find-put : {X : Type 0} (number : X → ℕ) (k : ℕ) (x : X) (rows : List X) →
+    find (λ y. number y == k) (put number x rows) ≡ cond (number x == k) (Some x) (find (λ y. number y == k) rows)
+find-put number k x [] = refl
+find-put {X} number k x (y ∷ ys) = by (number x == number y) refl (nat_lt (number x) (number y)) (number x == k) refl (find-put number k x ys)
+  where
+    swapped : (b : Bool) → (number x == number y) ≡ false → (number x == k) ≡ b → (o : Option X) →
+        cond (number y == k) (Some y) (cond b (Some x) o) ≡ cond b (Some x) (cond (number y == k) (Some y) o)
+    swapped true apart e o = ap (λ c. cond c (Some y) (Some x)) other
+      where
+        other : (number y == k) ≡ false
+        other = ap (λ n. number y == n) (sym (eqb-true (number x) k e)) ∙ flipped
+          where
+            flipped : (number y == number x) ≡ false
+            flipped = grind (arith, nat_tests)
+    swapped false apart e o = refl
+
+    by : (b : Bool) → (number x == number y) ≡ b → (c d : Bool) → (number x == k) ≡ d →
+        find (λ y. number y == k) (put number x ys) ≡ cond (number x == k) (Some x) (find (λ y. number y == k) ys) →
+        find (λ z. number z == k) (cond b (x ∷ ys) (cond c (x ∷ y ∷ ys) (y ∷ put number x ys)))
+        ≡ cond d (Some x) (cond (number y == k) (Some y) (find (λ z. number z == k) ys))
+    by true e c true f ih = ap (λ t. cond t (Some x) (find (λ z. number z == k) ys)) f
+    by true e c false f ih =
+        ap (λ t. cond t (Some x) (find (λ z. number z == k) ys)) f
+        ∙ sym (ap (λ t. cond t (Some y) (find (λ z. number z == k) ys)) (same_number (number x) (number y) k e ∙ f))
+    by false e true d f ih = ap (λ t. cond t (Some x) (cond (number y == k) (Some y) (find (λ z. number z == k) ys))) f
+    by false e false d f ih =
+        ap (λ o. cond (number y == k) (Some y) o) (ih ∙ ap (λ t. cond t (Some x) (find (λ z. number z == k) ys)) f)
+        ∙ swapped d e f (find (λ z. number z == k) ys)

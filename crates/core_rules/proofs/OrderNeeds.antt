@@ -1,0 +1,80 @@
+-- What a new order needs, by its names.
+use Rattle.std.proofs.Common.{◌≡◌, ℕ, ◌+◌, ◌*◌, ◌<◌, ◌≤◌, List, length, drop, sym, ap, subst, ◌∙◌, arith, length-drop}
+use Rattle.std.specs.Prelude.{◌⊎◌, sum_by}
+use Rattle.desk_model.specs.Limits.{last_number}
+use Rattle.desk_model.specs.Name.{Name}
+use Rattle.desk_model.specs.Rules.{wanted}
+use Rattle.desk_model.specs.Run.{count_new, count_tokens}
+use Rattle.desk_model.specs.Tables.{Tables}
+use Rattle.desk_model.specs.declared.verdict.Verdict.TheVariants.{Orders as orders}
+use Rattle.desk_model.specs.declared.verdict.Verdict.{Verdict}
+use Rattle.desk_model.specs.declared.rows.Counters.{Counters}
+use Rattle.desk_model.specs.declared.entry.Wanted.{Wanted}
+use Rattle.core_rules.specs.Needs.{NumbersLeft, BytesLeft, IsNeedFault}
+use Rattle.core_rules.specs.declared.fault.CoreFault.{CoreFault}
+use Rattle.core_rules.specs.declared.fault.CoreFault.TheVariants as fault
+use Rattle.core_rules.specs.Making.{drawn_for, made_for}
+use Rattle.core_rules.proofs.NamesWanted.{count_new-wanted, count_tokens-wanted}
+
+-- an order for these names
+abbrev pub order_for : Tables → ℕ → List Name → List ℕ → Verdict
+order_for T account ns random = orders account (wanted T account ns (drop 16 random))
+
+-- there is no number for one of its objects
+pub order_full : (T : Tables) (C : Counters) (random : List ℕ) (account : ℕ) (ns : List Name) (count tokens : ℕ) (e : CoreFault) →
+    count ≡ sum_by (made_for T account) ns → tokens ≡ sum_by (drawn_for T account) ns → e ≡ fault.Full →
+    (last_number ≤ C.orders) ⊎ ((last_number < C.authorizations + count) ⊎ (last_number < C.challenges + tokens)) →
+    IsNeedFault C random (order_for T account ns random) e
+order_full T C random account ns count tokens e many as_many is h =
+    subst (λ d. IsNeedFault C random (order_for T account ns random) d) (sym is)
+    (subst (λ t. (last_number ≤ C.orders)
+    ⊎ ((last_number < C.authorizations + count_new (wanted T account ns (drop 16 random))) ⊎ (last_number < C.challenges + t)))
+    (as_many ∙ sym (count_tokens-wanted T account ns (drop 16 random)))
+    (subst (λ n. (last_number ≤ C.orders) ⊎ ((last_number < C.authorizations + n) ⊎ (last_number < C.challenges + tokens)))
+    (many ∙ sym (count_new-wanted T account ns (drop 16 random))) h))
+
+-- its numbers can be given
+pub order_numbered : (T : Tables) (C : Counters) (random : List ℕ) (account : ℕ) (ns : List Name) (count tokens : ℕ) →
+    count ≡ sum_by (made_for T account) ns → tokens ≡ sum_by (drawn_for T account) ns →
+    (C.orders < last_number) × (C.authorizations + count ≤ last_number) × (C.challenges + tokens ≤ last_number) →
+    NumbersLeft C (order_for T account ns random)
+order_numbered T C random account ns count tokens many as_many h =
+    let authorizations : C.authorizations + count ≤ last_number = h.1 in
+    let challenges : C.challenges + tokens ≤ last_number = h.2 in
+    (h.0, omega (arith, count_new-wanted T account ns (drop 16 random)), omega (arith, count_tokens-wanted T account ns (drop 16 random)))
+
+-- there are random bytes for its tokens
+pub order_random : (T : Tables) (random : List ℕ) (account : ℕ) (ns : List Name) (tokens : ℕ) →
+    tokens ≡ sum_by (drawn_for T account) ns → 16 * (1 + tokens) ≤ length random →
+    BytesLeft random (order_for T account ns random)
+order_random T random account ns tokens as_many h = omega (arith, count_tokens-wanted T account ns (drop 16 random))
+
+-- there are too few
+pub order_short : (T : Tables) (C : Counters) (random : List ℕ) (account : ℕ) (ns : List Name) (tokens : ℕ) (e : CoreFault) →
+    tokens ≡ sum_by (drawn_for T account) ns → e ≡ fault.ShortRandom → length random < 16 * (1 + tokens) →
+    NumbersLeft C (order_for T account ns random) → IsNeedFault C random (order_for T account ns random) e
+order_short T C random account ns tokens e as_many is h numbers =
+    subst (λ d. IsNeedFault C random (order_for T account ns random) d) (sym is)
+    (numbers, omega (arith, count_tokens-wanted T account ns (drop 16 random)))
+
+-- the bytes behind the first 16 are enough for its tokens
+pub order_fits : (T : Tables) (account : ℕ) (random rest : List ℕ) (ns : List Name) (tokens : ℕ) → tokens ≡ sum_by (drawn_for T account) ns
+    → 16 * (1 + tokens) ≤ length random → rest ≡ drop 16 random →
+    16 * count_tokens (wanted T account ns rest) ≤ length rest
+order_fits T account random rest ns tokens as_many h is =
+    subst (λ r. 16 * count_tokens (wanted T account ns r) ≤ length r) (sym is)
+    (omega (arith, count_tokens-wanted T account ns (drop 16 random), length-drop 16 random))
+
+-- an order that was made
+pub order_made : (T : Tables) (C N : Counters) (random rest : List ℕ) (account : ℕ) (ns : List Name) (asked : List Wanted) (count tokens : ℕ) →
+    asked ≡ wanted T account ns rest → rest ≡ drop 16 random → N ≡ C →
+    count ≡ sum_by (made_for T account) ns → tokens ≡ sum_by (drawn_for T account) ns →
+    (N.orders < last_number) × (N.authorizations + count ≤ last_number) × (N.challenges + tokens ≤ last_number) → 16 * (1 + tokens) ≤ length random →
+    (orders account asked ≡ order_for T account ns random) × NumbersLeft C (orders account asked) × BytesLeft random (orders account asked)
+order_made T C N random rest account ns asked count tokens by behind same many as_many numbers bytes =
+    let made : orders account asked ≡ order_for T account ns random = ap (orders account) (by ∙ ap (wanted T account ns) behind) in (
+      made,
+      subst (NumbersLeft C) (sym made)
+          (subst (λ m. NumbersLeft m (order_for T account ns random)) same (order_numbered T N random account ns count tokens many as_many numbers)),
+      subst (BytesLeft random) (sym made) (order_random T random account ns tokens as_many bytes),
+    )

@@ -1,0 +1,121 @@
+-- Verdicts that need no numbers and no random bytes.
+use Rattle.std.proofs.Common.{◌≡◌, ℕ, List, Bool, true, false, Option, Some, None, Result, Ok, Err, MatchResult, drop, sym, ap, subst, ◌∙◌}
+use Rattle.desk_model.specs.declared.refusal.Refusal.{Refusal}
+use Rattle.desk_model.specs.Questions.{account_with_key}
+use Rattle.desk_model.specs.Rules.{key_change_verdict, rekey_verdict}
+use Rattle.desk_model.specs.Rules.{account_verdict, authorization_verdict, certificate_verdict, challenge_verdict, finalize_verdict, target_verdict}
+use Rattle.desk_model.specs.Tables.{Tables}
+use Rattle.desk_model.specs.declared.rows.AuthorizationRow.{AuthorizationRow}
+use Rattle.desk_model.specs.declared.rows.OrderRow.{OrderRow}
+use Rattle.desk_model.specs.Verdict.{check, given, unless_fault, choose}
+use Rattle.desk_model.specs.declared.call.Target.{Target}
+use Rattle.desk_model.specs.declared.call.Target.TheVariants as to
+use Rattle.desk_model.specs.declared.payload.AccountChange.{AccountChange}
+use Rattle.desk_model.specs.declared.payload.AccountChange.TheVariants as account
+use Rattle.desk_model.specs.declared.payload.AuthorizationChange.{AuthorizationChange}
+use Rattle.desk_model.specs.declared.payload.AuthorizationChange.TheVariants as authz
+use Rattle.desk_model.specs.declared.payload.KeyChange.{KeyChange}
+use Rattle.desk_model.specs.declared.rows.AccountRow.{AccountRow}
+use Rattle.desk_model.specs.declared.payload.ChallengeChange.{ChallengeChange}
+use Rattle.desk_model.specs.declared.payload.ChallengeChange.TheVariants as chall
+use Rattle.desk_model.specs.declared.rows.Counters.{Counters}
+use Rattle.desk_model.specs.declared.verdict.Verdict.{Verdict}
+use Rattle.core_rules.specs.Needs.{NumbersLeft, BytesLeft, IsNeedFault}
+use Rattle.core_rules.specs.declared.fault.CoreFault.{CoreFault}
+use Rattle.core_rules.specs.declared.fault.CoreFault.TheVariants as fault
+use Rattle.core_rules.proofs.KeyVerdicts.{IsJudged}
+
+-- whatever numbers were given, and whatever random bytes there are
+abbrev pub Spares : Verdict → Type 0
+Spares v = (C : Counters) (random : List ℕ) → NumbersLeft C v × BytesLeft random v
+
+check-spares : (b : Bool) (number : Refusal) (v : Verdict) → Spares v → Spares (check b number v)
+unfolding check
+check-spares true number v h = h
+check-spares false number v h = λ C random. (tt, tt)
+
+given-spares : {X : Type 0} (o : Option X) (number : Refusal) (v : X → Verdict) → ((x : X) → Spares (v x)) → Spares (given o number v)
+unfolding given
+given-spares None number v h = λ C random. (tt, tt)
+given-spares (Some x) number v h = h x
+
+unless_fault-spares : (o : Option Refusal) (v : Verdict) → Spares v → Spares (unless_fault o v)
+unfolding unless_fault
+unless_fault-spares None v h = h
+unless_fault-spares (Some number) v h = λ C random. (tt, tt)
+
+choose-spares : (b : Bool) (v w : Verdict) → Spares v → Spares w → Spares (choose b v w)
+unfolding choose
+choose-spares true v w h k = h
+choose-spares false v w h k = k
+
+account-spares : (n : ℕ) (change : AccountChange) → Spares (account_verdict n change)
+account-spares n account.Read = λ C random. (tt, tt)
+account-spares n account.Deactivate = λ C random. (tt, tt)
+account-spares n (account.Update None) = λ C random. (tt, tt)
+account-spares n (account.Update (Some contacts)) = unless_fault-spares _ _ (λ C random. (tt, tt))
+
+authorization-spares : (n : ℕ) (a : AuthorizationRow) (change : AuthorizationChange) → Spares (authorization_verdict n a change)
+authorization-spares n a authz.Read = λ C random. (tt, tt)
+authorization-spares n a authz.Deactivate = choose-spares _ _ _ (λ C random. (tt, tt)) (λ C random. (tt, tt))
+
+challenge-spares : (n : ℕ) (a : AuthorizationRow) (change : ChallengeChange) → Spares (challenge_verdict n a change)
+challenge-spares n a chall.Read = λ C random. (tt, tt)
+challenge-spares n a chall.Answer = choose-spares _ _ _ (λ C random. (tt, tt)) (λ C random. (tt, tt))
+
+finalize-spares : (n : ℕ) (o : OrderRow) (text : List ℕ) → Spares (finalize_verdict n o text)
+finalize-spares n o text = check-spares _ _ _ (given-spares _ _ _ (λ csr C random. (tt, tt)))
+
+certificate-spares : (n : ℕ) (o : OrderRow) → Spares (certificate_verdict n o)
+certificate-spares n o = given-spares _ _ _ (λ k C random. (tt, tt))
+
+rekey-spares : (n : ℕ) (key : List ℕ) (o : Option AccountRow) → Spares (rekey_verdict n key o)
+rekey-spares n key None = λ C random. (tt, tt)
+rekey-spares n key (Some holder) = λ C random. (tt, tt)
+
+key_change-spares : (T : Tables) (n : ℕ) (c : KeyChange) → Spares (key_change_verdict T n c)
+key_change-spares T n c = check-spares _ _ _ (given-spares _ _ _ (λ key. rekey-spares n key (account_with_key T key)))
+
+-- ---- by target, for account n
+
+pub key_change_target-spares : (T : Tables) (r : List ℕ) (n : ℕ) (p : List ℕ) → Spares (target_verdict T r n p to.KeyChange)
+key_change_target-spares T r n p = given-spares _ _ _ (key_change-spares T n)
+
+pub new_account_target-spares : (T : Tables) (r : List ℕ) (n : ℕ) (p : List ℕ) → Spares (target_verdict T r n p to.NewAccount)
+new_account_target-spares T r n p = given-spares _ _ _ (λ asked C random. (tt, tt))
+
+pub account_target-spares : (T : Tables) (r : List ℕ) (n : ℕ) (p : List ℕ) (k : ℕ) → Spares (target_verdict T r n p (to.Account k))
+account_target-spares T r n p k = check-spares _ _ _ (given-spares _ _ _ (account-spares n))
+
+pub orders_target-spares : (T : Tables) (r : List ℕ) (n : ℕ) (p : List ℕ) (k : ℕ) → Spares (target_verdict T r n p (to.Orders k))
+orders_target-spares T r n p k = check-spares _ _ _ (check-spares _ _ _ (λ C random. (tt, tt)))
+
+pub order_target-spares : (T : Tables) (r : List ℕ) (n : ℕ) (p : List ℕ) (k : ℕ) → Spares (target_verdict T r n p (to.Order k))
+order_target-spares T r n p k = given-spares _ _ _ (λ o. check-spares _ _ _ (λ C random. (tt, tt)))
+
+pub finalize_target-spares : (T : Tables) (r : List ℕ) (n : ℕ) (p : List ℕ) (k : ℕ) → Spares (target_verdict T r n p (to.Finalize k))
+finalize_target-spares T r n p k = given-spares _ _ _ (λ o. given-spares _ _ _ (finalize-spares k o))
+
+pub certificate_target-spares : (T : Tables) (r : List ℕ) (n : ℕ) (p : List ℕ) (k : ℕ) → Spares (target_verdict T r n p (to.Cert k))
+certificate_target-spares T r n p k = given-spares _ _ _ (λ o. check-spares _ _ _ (certificate-spares k o))
+
+pub authorization_target-spares : (T : Tables) (r : List ℕ) (n : ℕ) (p : List ℕ) (k : ℕ) → Spares (target_verdict T r n p (to.Authz k))
+authorization_target-spares T r n p k = given-spares _ _ _ (λ a. given-spares _ _ _ (authorization-spares k a))
+
+pub challenge_target-spares : (T : Tables) (r : List ℕ) (n : ℕ) (p : List ℕ) (k : ℕ) → Spares (target_verdict T r n p (to.Chall k))
+challenge_target-spares T r n p k = given-spares _ _ _ (λ a. given-spares _ _ _ (challenge-spares k a))
+
+-- the verdict of a target that is one of these
+pub target-spared : (C : Counters) (T : Tables) (random : List ℕ) (n : ℕ) (p : List ℕ) (target reading : Target) (v : Verdict) →
+    target ≡ reading → v ≡ target_verdict T (drop 16 random) n p reading → Spares (target_verdict T (drop 16 random) n p reading) →
+    (v ≡ target_verdict T (drop 16 random) n p target) × NumbersLeft C v × BytesLeft random v
+target-spared C T random n p target reading v is e h =
+    let left = subst Spares (sym e) h C random in
+    (e ∙ ap (target_verdict T (drop 16 random) n p) (sym is), left.0, left.1)
+
+-- and its judgement, where memory alone may lack
+pub target-made : (C : Counters) (T : Tables) (random : List ℕ) (n : ℕ) (p : List ℕ) (target reading : Target) (r : Result Verdict CoreFault) →
+    target ≡ reading → MatchResult r (λ v. v ≡ target_verdict T (drop 16 random) n p reading) (λ e. e ≡ fault.Memory)
+    → Spares (target_verdict T (drop 16 random) n p reading) → IsJudged C random r (target_verdict T (drop 16 random) n p target)
+target-made C T random n p target reading (Ok v) is e h = target-spared C T random n p target reading v is e h
+target-made C T random n p target reading (Err f) is e h = subst (IsNeedFault C random (target_verdict T (drop 16 random) n p target)) (sym e) tt

@@ -1,0 +1,26 @@
+//! The faults of a call.
+use std::alloc::AllocError;
+
+/// Why a call is not made; the book stays as it was.
+#[derive(Clone, Copy)]
+pub enum CoreFault {
+    /// A growth was refused (fault 20).
+    Memory,
+    /// The call's moment is above the last one (fault 24).
+    Moment,
+    /// The call needs more random bytes than it has (fault 25).
+    ShortRandom,
+    /// A number above the greatest would be needed (fault 26).
+    Full,
+}
+
+impl From<AllocError> for CoreFault {
+    ghost use Rattle.core_rules.specs.declared.fault.CoreFault.TheVariants.{Memory};
+    ghost use Rattle.std.specs.Prelude.{◌≡◌};
+
+    ghost from_gives = { λ _ e. e ≡ Memory };
+
+    fn from(_refused: AllocError) -> CoreFault {
+        CoreFault::Memory
+    }
+}

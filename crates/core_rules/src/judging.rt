@@ -1,0 +1,121 @@
+//! Verdicts on signed requests (RFC 8555, 6).
+ghost use Rattle.std.specs.Prelude.{◌≡◌, drop, MatchResult, option_map};
+ghost use Rattle.serde_json.specs.View.{view};
+ghost use Rattle.core_rules.specs.Needs.{NumbersLeft, BytesLeft, IsNeedFault};
+ghost use Rattle.desk_model.specs.Payload.{new_order, object_in};
+ghost use Rattle.desk_model.specs.Questions.{account_with_key};
+ghost use Rattle.desk_model.specs.Rules.{key_verdict, new_order_verdict, signed_verdict, target_verdict};
+ghost use Rattle.desk_model.specs.Verdict.{given};
+
+use crate::accounts::unknown_key_verdict;
+use crate::fault::CoreFault;
+use crate::new_orders::new_order_verdict;
+use crate::payload::{Payload, new_order};
+use crate::targets::{
+    account_target, authorization_target, certificate_target, challenge_target, finalize_target,
+    key_change_target, new_account_target, order_target, orders_target,
+};
+use crate::verdicts::refused;
+use desk_book::At;
+use desk_model::{Jwk, Refusal, Signed, Target, Verdict};
+use json_texts::value_of;
+use std::alloc::Global;
+
+// A request for a new order (RFC 8555, 7.4).
+#[tactic(auto, unfolding(desk_model::specs::Verdict::given))]
+fn new_order_target(
+    alloc: Global,
+    at: &At,
+    random: &[u8],
+    sender: u64,
+    payload: Payload,
+) -> Result<Verdict, CoreFault>
+    requires { option_map (λ v. view v.now) payload.object ≡ object_in payload.text.now }
+    ensures { let asked = given (new_order payload.entry.text.now) Refusal.Malformed (new_order_verdict at.now (drop 16 random.now) sender) in
+        MatchResult result (λ v. (v ≡ asked) × NumbersLeft at.now.meta.counters v × BytesLeft random.now v)
+        (λ e. IsNeedFault at.now.meta.counters random.now asked e) }
+{
+    match new_order(alloc, payload)? {
+        Some(identifiers) => {
+            new_order_verdict(alloc, at, random, sender, identifiers.as_slice())
+        }
+        None => Ok(refused(alloc, Refusal::Malformed)),
+    }
+}
+
+// A request of the holder of a valid account, by its target (RFC 8555, 7.3 to 7.5).
+fn target_verdict(
+    alloc: Global,
+    at: &At,
+    random: &[u8],
+    sender: u64,
+    payload: Payload,
+    target: Target,
+) -> Result<Verdict, CoreFault>
+    requires { option_map (λ v. view v.now) payload.object ≡ object_in payload.text.now }
+    ensures { let asked = target_verdict at.now (drop 16 random.now) sender payload.entry.text.now target in
+        MatchResult result (λ v. (v ≡ asked) × NumbersLeft at.now.meta.counters v × BytesLeft random.now v)
+        (λ e. IsNeedFault at.now.meta.counters random.now asked e) }
+{
+    match target {
+        Target::NewAccount => new_account_target(alloc, sender, payload),
+        Target::KeyChange => key_change_target(alloc, at, sender, payload),
+        Target::NewOrder => new_order_target(alloc, at, random, sender, payload),
+        Target::Account(number) => account_target(alloc, sender, number, payload),
+        Target::Orders(number) => Ok(orders_target(alloc, sender, number, payload.text)),
+        Target::Order(number) => Ok(order_target(alloc, at, sender, number, payload.text)),
+        Target::Finalize(number) => finalize_target(alloc, at, sender, number, payload),
+        Target::Cert(number) => Ok(certificate_target(alloc, at, sender, number, payload.text)),
+        Target::Authz(number) => Ok(authorization_target(alloc, at, sender, number, payload)),
+        Target::Chall(number) => Ok(challenge_target(alloc, at, sender, number, payload)),
+    }
+}
+
+// A request that is signed with an accepted key, by the account that has it, which has to be valid (RFC 8555, 6.2).
+fn key_verdict(
+    alloc: Global,
+    at: &At,
+    random: &[u8],
+    key: &Jwk,
+    payload: Payload,
+    target: Target,
+) -> Result<Verdict, CoreFault>
+    requires { option_map (λ v. view v.now) payload.object ≡ object_in payload.text.now }
+    ensures { let asked = key_verdict at.now (drop 16 random.now) key.now payload.entry.text.now target (account_with_key at.now key.now) in
+        MatchResult result (λ v. (v ≡ asked) × NumbersLeft at.now.meta.counters v × BytesLeft random.now v)
+        (λ e. IsNeedFault at.now.meta.counters random.now asked e) }
+{
+    let Some(row) = at.account_with_key(key.canonical()) else {
+        return unknown_key_verdict(alloc, at, key, payload, target);
+    };
+    if !row.status.is_valid() {
+        return Ok(refused(alloc, Refusal::Unauthorized));
+    }
+    target_verdict(alloc, at, random, row.number, payload, target)
+}
+
+/// The verdict on a signed request that has passed the test of its nonce, by the tables of a book at a moment. The
+/// first 16 random bytes are the fresh nonce's.
+///
+/// # Errors
+///
+/// `Full` where a number above 2^62 would be needed, `ShortRandom` where the random bytes are too few for the tokens of
+/// a new order, `Memory` where a growth was refused.
+pub fn judge_signed(
+    alloc: Global,
+    at: &At,
+    random: &[u8],
+    signed: &Signed,
+) -> Result<Verdict, CoreFault>
+    ensures { let asked = signed_verdict at.now (drop 16 random.now) signed.now in
+        MatchResult result (λ v. (v ≡ asked) × NumbersLeft at.now.meta.counters v × BytesLeft random.now v)
+        (λ e. IsNeedFault at.now.meta.counters random.now asked e) }
+{
+    let Ok(key) = &signed.key else {
+        return Ok(refused(alloc, Refusal::BadPublicKey));
+    };
+    let text = signed.payload.as_str();
+    let value = value_of(alloc, text)?;
+    let payload = Payload::new(text, &value);
+    key_verdict(alloc, at, random, key, payload, signed.target)
+}

@@ -1,0 +1,163 @@
+//! The rules on new orders (RFC 8555, 7.4).
+ghost use Rattle.std.specs.Prelude.{◌≡◌, ◌+◌, ◌*◌, ◌<◌, ◌≤◌, ◌⊎◌, length, drop, sum_by, IfOk, MatchResult};
+ghost use Rattle.core_rules.specs.Needs.{NumbersLeft, BytesLeft, IsNeedFault};
+ghost use Rattle.desk_model.specs.Authorization.{kinds_of};
+ghost use Rattle.core_rules.specs.Making.{drawn_for, made_for};
+ghost use Rattle.desk_model.specs.Limits.{last_number};
+ghost use Rattle.desk_model.specs.Rules.{new_order_verdict, pieces, wanted};
+ghost use Rattle.desk_model.specs.Run.{count_tokens};
+ghost use Rattle.desk_model.specs.declared.verdict.Verdict.TheVariants.{Orders as orders};
+
+use crate::fault::CoreFault;
+use crate::limits::{first_piece, has_room, has_room_for, has_tokens, later_random};
+use crate::verdicts::refused;
+use desk_book::At;
+use desk_model::{Counters, DnsName, Identifier, MOST_NAMES, Refusal, Sequence, Verdict, Wanted};
+use identifiers::{Identified, identify};
+use std::alloc::{AllocError, Global};
+
+// How many authorizations an order of the account makes for a name.
+fn made_for(at: &At, account: u64, name: &DnsName) -> usize
+    ensures { result ≡ made_for at.now account name.now }
+{
+    match at.serving(account, name) {
+        Some(_) => 0,
+        None => 1,
+    }
+}
+
+// How many challenges they have, each with a token.
+fn drawn_for(at: &At, account: u64, name: &DnsName) -> usize
+    ensures { result ≡ drawn_for at.now account name.now }
+{
+    match at.serving(account, name) {
+        Some(_) => 0,
+        None => name.kinds().len(),
+    }
+}
+
+// How many authorizations an order of the account makes for some names.
+fn count_new(at: &At, account: u64, names: &[DnsName]) -> usize
+    ensures { result ≡ sum_by (made_for at.now account) names.now }
+{
+    let mut count = 0;
+    for name in names {
+        count += made_for(at, account, name);
+    }
+    count
+}
+
+// How many tokens it takes for them.
+fn count_tokens(at: &At, account: u64, names: &[DnsName]) -> usize
+    ensures { result ≡ sum_by (drawn_for at.now account) names.now }
+{
+    let mut count = 0;
+    for name in names {
+        count += drawn_for(at, account, name);
+    }
+    count
+}
+
+// The tokens of a name, one for each of its challenges, taken from the front of the random bytes.
+fn tokens_of(alloc: Global, name: &DnsName, random: &[u8]) -> Result<Vec<[u8; 16]>, AllocError>
+    requires { 16 * length (kinds_of name.now) ≤ length random.now }
+    ensures { IfOk result (λ v. v.items ≡ pieces (length (kinds_of name.now)) random.now) }
+{
+    let mut tokens = Vec::new(alloc);
+    for place in 0..name.kinds().len() {
+        tokens.push(first_piece(later_random(random, place)))?;
+    }
+    Ok(tokens)
+}
+
+// Each name with the authorization that it gets in an order of the account, the tokens taken in turn.
+fn wanted(
+    alloc: Global,
+    at: &At,
+    account: u64,
+    names: Vec<DnsName>,
+    random: &[u8],
+) -> Result<Vec<Wanted>, AllocError>
+    requires { 16 * count_tokens (wanted at.now account names.items random.now) ≤ length random.now }
+    ensures { IfOk result (λ v. v.items ≡ wanted at.now account names.items random.now) }
+{
+    let mut found = Vec::new(alloc);
+    let mut rest = random;
+    for name in names {
+        if let Some(authorization) = at.serving(account, &name) {
+            found.push(Wanted::Reused {
+                name,
+                authorization,
+            })?;
+            continue;
+        }
+        let count = name.kinds().len();
+        let tokens = Sequence::new(tokens_of(alloc, &name, rest)?);
+        rest = later_random(rest, count);
+        found.push(Wanted::New { name, tokens })?;
+    }
+    Ok(found)
+}
+
+// Whether an order may be made with this many authorizations and challenges.
+fn has_numbers(
+    counters: Counters,
+    authorizations: usize,
+    challenges: usize,
+) -> Result<(), CoreFault>
+    ensures { MatchResult result
+        (λ _. (counters.orders < last_number) × (counters.authorizations + authorizations ≤ last_number) × (counters.challenges + challenges ≤ last_number))
+        (λ e. (e ≡ CoreFault.Full) × ((last_number ≤ counters.orders)
+        ⊎ ((last_number < counters.authorizations + authorizations) ⊎ (last_number < counters.challenges + challenges)))) }
+{
+    has_room(counters.orders)?;
+    has_room_for(counters.authorizations, authorizations)?;
+    has_room_for(counters.challenges, challenges)
+}
+
+// An order for these names, each with the authorization that serves, or a new one.
+fn order_for(
+    alloc: Global,
+    at: &At,
+    random: &[u8],
+    account: u64,
+    names: Vec<DnsName>,
+) -> Result<Verdict, CoreFault>
+    ensures { let asked = orders account (wanted at.now account names.items (drop 16 random.now)) in
+        MatchResult result (λ v. (v ≡ asked) × NumbersLeft at.now.meta.counters v × BytesLeft random.now v)
+        (λ e. IsNeedFault at.now.meta.counters random.now asked e) }
+{
+    let counters = at.counters();
+    let made = count_new(at, account, names.as_slice());
+    let drawn = count_tokens(at, account, names.as_slice());
+    has_numbers(counters, made, drawn)?;
+    has_tokens(random, drawn)?;
+    let wanted = wanted(alloc, at, account, names, later_random(random, 1))?;
+    Ok(Verdict::Orders(account, Sequence::new(wanted)))
+}
+
+/// A newOrder request of a valid account: refused by the first faulty identifier, with all of them listed.
+#[tactic(auto, unfolding(desk_model::specs::Verdict::check))]
+pub(crate) fn new_order_verdict(
+    alloc: Global,
+    at: &At,
+    random: &[u8],
+    account: u64,
+    identifiers: &[Identifier],
+) -> Result<Verdict, CoreFault>
+    ensures { let asked = new_order_verdict at.now (drop 16 random.now) account identifiers.now in
+        MatchResult result (λ v. (v ≡ asked) × NumbersLeft at.now.meta.counters v × BytesLeft random.now v)
+        (λ e. IsNeedFault at.now.meta.counters random.now asked e) }
+{
+    if identifiers.is_empty() || identifiers.len() > MOST_NAMES {
+        return Ok(refused(alloc, Refusal::Malformed));
+    }
+    let Identified { names, faulty } = identify(alloc, identifiers)?;
+    if let Some(first) = faulty.first() {
+        return Ok(Verdict::Refused {
+            refusal: first.refusal,
+            subproblems: Sequence::new(faulty),
+        });
+    }
+    order_for(alloc, at, random, account, names)
+}

@@ -1,0 +1,250 @@
+-- The exits of a call over an open store.
+use Rattle.std.proofs.Common.{◌≡◌, List, [], ◌∷◌, Option, refl, sym, ap, subst, ◌∙◌, Result, Ok, Err, inl, inr, arith, true, false}
+use Rattle.std.proofs.lemmas.Bool.{eqb-true}
+use Rattle.std.specs.Prelude.{nat_eq, length, IfErr, IsErrAnd}
+use Rattle.desk_model.specs.Entry.{History}
+use Rattle.desk_model.specs.Legal.{Legal}
+use Rattle.desk_model.specs.Tables.{Tables, picture}
+use Rattle.desk_model.specs.Change.{applied}
+use Rattle.desk_model.specs.Decide.{after}
+use Rattle.desk_model.specs.Run.{IsFormedCall}
+use Rattle.desk_model.specs.declared.call.Call.{Call}
+use Rattle.desk_model.specs.declared.reply.Reply.{Reply}
+use Rattle.desk_model.specs.declared.rows.Change.{Change}
+use Rattle.model_lives.specs.IsEnough.{IsEnoughFor}
+use Rattle.store_book.specs.IsBook.{IsStoredBook}
+use Rattle.store_laws.proofs.FlatTexts.{picture_is_stored_book}
+use Rattle.desk_core.specs.Decided.{IsDecision, IsFaultOf}
+use Rattle.core_rules.specs.declared.fault.CoreFault.{CoreFault}
+use Rattle.core_rules.specs.declared.fault.CoreFault.TheVariants as core
+use Rattle.store_api.specs.Sight.{Sight, Keeps, Stands}
+use Rattle.store_api.specs.Storing.{Causes, Fit, IsCutFrom, Loads, Saving, SavesFrom}
+use Rattle.store_api.specs.declared.fault.StorageFault.{StorageFault}
+use Rattle.store_api.specs.declared.fault.StorageFault.TheVariants as storagefault
+use Rattle.desk.specs.Causes.{IsCaused}
+use Rattle.desk.specs.Faults.{closes, core_fault, storage_fault}
+use Rattle.desk.specs.Answers.{Answers, ExitsBy, IsAnswered, IsBroken}
+use Rattle.desk.specs.declared.fault.DeskFault.{DeskFault}
+use Rattle.desk.specs.declared.fault.DeskFault.TheVariants as deskfault
+
+-- ---- faults
+
+-- it is no late moment
+storage_in_time : (cause : StorageFault) → deskfault.Moment ≡ storage_fault cause → ⊥
+storage_in_time storagefault.Memory is = cc is
+storage_in_time storagefault.Device is = cc is
+storage_in_time storagefault.Reopen is = cc is
+
+-- ---- results
+
+-- a result that is this fault
+abbrev pub Faults : Result Reply DeskFault → DeskFault → Type 0
+Faults result why = IsErrAnd result (λ w. w ≡ why)
+
+-- it is no late moment
+pub storage_result_in_time : (cause : StorageFault) (result : Result Reply DeskFault) → Faults result (storage_fault cause) →
+    result ≡ Err deskfault.Moment → ⊥
+storage_result_in_time cause result is late = storage_in_time cause (subst (λ r. Faults r (storage_fault cause)) late is)
+
+-- a call of the store that failed
+abbrev pub failed : (R : Type 0) → StorageFault → Result R StorageFault
+failed R why = Err why
+
+-- no changes
+pub nothing : (changes : List Change) → nat_eq (length changes) 0 ≡ true → changes ≡ []
+nothing [] is = refl
+nothing (c ∷ changes) is = let e : length (c ∷ changes) ≡ 0 = eqb-true (length (c ∷ changes)) 0 is in absurd (omega arith)
+
+-- the changes of a decision fit the picture that it was made on
+fits : (F : History) (call : Call) (changes : List Change) (reply : Reply) → IsDecision F call changes reply → Fit (picture F) changes
+fits F call changes reply d =
+    record {
+      kept = d.kept;
+      book = subst IsStoredBook (sym d.makes) (picture_is_stored_book (after F call) d.stays_legal);
+    }
+
+module _ {S C : Type 0} (v : Sight S C) where
+  -- ---- stores that stand
+
+  -- what stands through one call and the next stands through both
+  stands_then : (old mid new : S) → Stands v old mid → Stands v mid new → Stands v old new
+  stands_then old mid new one next =
+      record {
+        honest = λ h. one.honest (next.honest h);
+        left = λ h c l. one.left (next.honest h) c (next.left h c l);
+        tables = λ h T held. next.tables h T (one.tables (next.honest h) T held);
+      }
+
+  -- what stands keeps its tables
+  keeps_on : (old new : S) (T : Tables) → v.is_honest new → Stands v old new → Keeps v old T → Keeps v new T
+  keeps_on old new T h stands keeps = record { tables = stands.tables h T keeps.tables; left = λ c l. keeps.left c (stands.left h c l) }
+
+  -- what was not touched stands
+  pub stands_here : (here : S) → Stands v here here
+  stands_here here = record { honest = λ h. h; left = λ h c l. l; tables = λ h T held. held }
+
+  -- after a load
+  pub loaded : (call : Call) (old new : S) (book : Tables) → Loads v call old new (Ok book) → Stands v old new
+  loaded call old new book l = record { honest = l.reads.honest; left = l.reads.left; tables = l.reads.tables }
+
+  -- changes that were not saved, out of memory
+  unwritten : (R : Type 0) (old new : S) (part : Tables) (changes : List Change) (cause : StorageFault) → SavesFrom v part changes old new (failed R cause) →
+      closes (storage_fault cause) ≡ false → Stands v old new
+  unwritten R old new part changes storagefault.Memory s going = s.without_memory refl
+  unwritten R old new part changes storagefault.Device s going = absurd (cc going)
+  unwritten R old new part changes storagefault.Reopen s going = absurd (cc going)
+
+  -- ---- exits, by a history
+
+  -- the call is declined
+  declines : (F : History) (call : Call) (new : S) (e : CoreFault) → IsFaultOf F call e → Keeps v new (picture F) → ExitsBy v F call (core_fault e) new
+  declines F call new core.Memory is keeps = record { cause = tt; keeps = keeps }
+  declines F call new core.Moment is keeps = record { cause = is; keeps = keeps }
+  declines F call new core.ShortRandom is keeps = record { cause = is; keeps = keeps }
+  declines F call new core.Full is keeps = record { cause = is; keeps = keeps }
+
+  -- the call changes nothing
+  answers_alone : (F : History) (call : Call) (new : S) (changes : List Change) (reply : Reply) → changes ≡ [] → IsDecision F call changes reply →
+      Keeps v new (picture F) → IsAnswered v F call reply new
+  answers_alone F call new changes reply none d keeps =
+      record {
+        faultless = d.faultless;
+        decided = d.replies;
+        stays_legal = d.stays_legal;
+        keeps = subst (Keeps v new) (sym (ap (λ cs. applied cs (picture F)) none) ∙ d.makes) keeps;
+      }
+
+  -- the changes are saved
+  answers_saved : {R : Type 0} (F : History) (call : Call) (old new : S) (part : Tables) (changes : List Change) (reply : Reply) (done : R) → v.is_honest new →
+      IsCutFrom part (picture F) → IsDecision F call changes reply → Keeps v old (picture F) → SavesFrom v part changes old new (Ok done) →
+      IsAnswered v F call reply new
+  answers_saved F call old new part changes reply done h cut d keeps s =
+      record {
+        faultless = d.faultless;
+        decided = d.replies;
+        stays_legal = d.stays_legal;
+        keeps = subst (Keeps v new) d.makes (s.saved h (picture F) cut (fits F call changes reply d) keeps.tables);
+      }
+
+  -- a stop leaves all of them or none
+  either : {R : Type 0} (F : History) (call : Call) (old new : S) (part : Tables) (changes : List Change) (reply : Reply) (result : Result R StorageFault) →
+      v.is_honest new → IsCutFrom part (picture F) → IsDecision F call changes reply → Keeps v old (picture F) → SavesFrom v part changes old new result →
+      IsBroken v F call new
+  either F call old new part changes reply result h cut d keeps s =
+      λ c left. elim (s.left h c left) [
+        | inl was ↦ inl (keeps.left c was)
+        | inr has ↦ inr (d.faultless, subst (v.has c) d.makes (has (picture F) cut (fits F call changes reply d) keeps.tables))
+      ]
+
+  -- they are not saved
+  save_fails : (R : Type 0) (F : History) (call : Call) (old new : S) (part : Tables) (changes : List Change) (reply : Reply) (cause : StorageFault) →
+      v.is_honest new → IsCutFrom part (picture F) → IsDecision F call changes reply → Keeps v old (picture F) → SavesFrom v part changes old new
+      (failed R cause) →
+      ExitsBy v F call (storage_fault cause) new
+  save_fails R F call old new part changes reply storagefault.Memory h cut d keeps s =
+      record { cause = tt; keeps = keeps_on old new (picture F) h (unwritten R old new part changes storagefault.Memory s refl) keeps }
+  save_fails R F call old new part changes reply storagefault.Device h cut d keeps s =
+      either F call old new part changes reply (failed R storagefault.Device) h cut d keeps s
+  save_fails R F call old new part changes reply storagefault.Reopen h cut d keeps s =
+      either F call old new part changes reply (failed R storagefault.Reopen) h cut d keeps s
+
+  -- ---- the exits of the whole call
+
+  -- what a decision by the book says
+  abbrev pub Decides : Call → Tables → List Change → Reply → Type 0
+  Decides call book changes reply = (F : History) → Legal F → IsEnoughFor call (picture F) book → IsDecision F call changes reply
+
+  -- what a refusal by the book says
+  abbrev pub Refuses : Call → Tables → CoreFault → Type 0
+  Refuses call book e = (F : History) → Legal F → IsEnoughFor call (picture F) book → IsFaultOf F call e
+
+  -- the decision is a fault
+  pub refused : (call : Call) (old new : S) (book : Tables) (e : CoreFault) (result : Result Reply DeskFault) → IsFormedCall call →
+      Loads v call old new (Ok book) → Refuses call book e → Faults result (core_fault e) → Answers v call old new result
+  refused call old new book e (Ok reply) formed l refuses is = absurd is
+  refused call old new book e (Err why) formed l refuses is =
+      record {
+        formed = formed;
+        honest = l.reads.honest;
+        unchanged = λ going. loaded call old new book l;
+        exit =
+            λ h F legal keeps. subst (λ w. ExitsBy v F call w new) (sym is)
+            (declines F call new e (refuses F legal (l.part h F legal keeps.tables)) (keeps_on old new (picture F) h (loaded call old new book l) keeps));
+      }
+
+  -- the decision changes nothing
+  pub answered_alone : (call : Call) (old new : S) (book : Tables) (changes : List Change) (reply : Reply) → IsFormedCall call →
+      Loads v call old new (Ok book) → Decides call book changes reply → changes ≡ [] → Answers v call old new (Ok reply)
+  answered_alone call old new book changes reply formed l decides none =
+      record {
+        formed = formed;
+        honest = l.reads.honest;
+        unchanged = tt;
+        exit =
+            λ h F legal keeps. answers_alone F call new changes reply none (decides F legal (l.part h F legal keeps.tables))
+            (keeps_on old new (picture F) h (loaded call old new book l) keeps);
+      }
+
+  -- its changes are saved
+  pub saved : {R : Type 0} (call : Call) (old mid new : S) (book : Tables) (changes : List Change) (reply : Reply) (done : R) → IsFormedCall call →
+      Loads v call old mid (Ok book) → Decides call book changes reply → SavesFrom v book changes mid new (Ok done) → Answers v call old new (Ok reply)
+  saved {R} call old mid new book changes reply done formed l decides s =
+      record {
+        formed = formed;
+        honest = λ h. l.reads.honest (s.honest h);
+        unchanged = tt;
+        exit =
+            λ h F legal keeps.
+            let enough = l.part (s.honest h) F legal keeps.tables in
+            answers_saved F call mid new book changes reply done h (enough.kept, enough.cut) (decides F legal enough)
+            (keeps_on old mid (picture F) (s.honest h) (loaded call old mid book l) keeps) s;
+      }
+
+  -- they are not
+  pub unsaved : (R : Type 0) (call : Call) (old mid new : S) (book : Tables) (changes : List Change) (reply : Reply) (cause : StorageFault)
+      (result : Result Reply DeskFault) → IsFormedCall call → Loads v call old mid (Ok book) → Decides call book changes reply →
+      SavesFrom v book changes mid new (failed R cause) → Faults result (storage_fault cause) → Answers v call old new result
+  unsaved R call old mid new book changes reply cause (Ok r) formed l decides s is = absurd is
+  unsaved R call old mid new book changes reply cause (Err why) formed l decides s is =
+      record {
+        formed = formed;
+        honest = λ h. l.reads.honest (s.honest h);
+        unchanged =
+            subst (λ w. closes w ≡ false → Stands v old new) (sym is)
+            (λ going. stands_then old mid new (loaded call old mid book l) (unwritten R mid new book changes cause s going));
+        exit =
+            λ h F legal keeps.
+            let enough = l.part (s.honest h) F legal keeps.tables in
+            subst (λ w. ExitsBy v F call w new) (sym is)
+            (save_fails R F call mid new book changes reply cause h (enough.kept, enough.cut) (decides F legal enough)
+            (keeps_on old mid (picture F) (s.honest h) (loaded call old mid book l) keeps) s);
+      }
+
+  -- ---- what faults come from
+
+  module _ (causes : Causes S) where
+    -- a fault of a decision comes of no store
+    core_caused : (old new : S) (e : CoreFault) → IsCaused v causes old new (core_fault e)
+    core_caused old new core.Memory = tt
+    core_caused old new core.Moment = tt
+    core_caused old new core.ShortRandom = tt
+    core_caused old new core.Full = tt
+
+    -- a fault of the store comes of it
+    storage_caused : (old mid new : S) (saving : Option Saving) (cause : StorageFault) → Stands v old mid → causes saving mid new cause
+        → IsCaused v causes old new (storage_fault cause)
+    storage_caused old mid new saving storagefault.Memory stood is = tt
+    storage_caused old mid new saving storagefault.Device stood is = record { from = mid; stood = stood; saving = saving; cause = is }
+    storage_caused old mid new saving storagefault.Reopen stood is = record { from = mid; stood = stood; saving = saving; cause = is }
+
+    -- and so of results
+    pub core_result_caused : (old new : S) (e : CoreFault) (result : Result Reply DeskFault) → Faults result (core_fault e) →
+        IfErr result (IsCaused v causes old new)
+    core_result_caused old new e (Ok reply) is = absurd is
+    core_result_caused old new e (Err why) is = subst (IsCaused v causes old new) (sym is) (core_caused old new e)
+
+    pub storage_result_caused : (old mid new : S) (saving : Option Saving) (cause : StorageFault) (result : Result Reply DeskFault)
+        → Stands v old mid → causes saving mid new cause → Faults result (storage_fault cause) → IfErr result (IsCaused v causes old new)
+    storage_result_caused old mid new saving cause (Ok reply) stood caused is = absurd is
+    storage_result_caused old mid new saving cause (Err why) stood caused is =
+        subst (IsCaused v causes old new) (sym is) (storage_caused old mid new saving cause stood caused)

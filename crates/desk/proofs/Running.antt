@@ -1,0 +1,191 @@
+-- Calls that are answered one after the other.
+use Rattle.std.proofs.Common.{◌≡◌, ℕ, ◌+◌, ◌<◌, ◌≤◌, List, [], ◌∷◌, ◌++◌, length, take, drop, get_or, subst, refl, sym, ◌∙◌, ap, add-one}
+use Rattle.std.proofs.Common.{◌⊎◌, inl, inr, None, Some, Option, Result, Ok, Err}
+use Rattle.std.specs.Prelude.{◌↔◌}
+use Rattle.std.proofs.Math.Seq.{drop-cons, take-suc}
+use Rattle.std.proofs.lemmas.List.{drop_all}
+use Rattle.desk_model.specs.Entry.{History}
+use Rattle.desk_model.specs.Legal.{Legal}
+use Rattle.desk_model.specs.Limits.{last_moment}
+use Rattle.desk_model.specs.Tables.{picture}
+use Rattle.desk_model.specs.Decide.{decide, after}
+use Rattle.desk_model.specs.Run.{IsFormedCall, fault, run, and_reply}
+use Rattle.desk_model.specs.declared.call.Call.{Call}
+use Rattle.desk_model.specs.declared.reply.Reply.{Reply}
+use Rattle.store_api.specs.Sight.{Sight, Keeps}
+use Rattle.store_api.specs.Storing.{Causes}
+use Rattle.desk.specs.Answers.{Answers, ExitsBy}
+use Rattle.desk.specs.Causes.{IsCaused}
+use Rattle.desk.specs.Runs.{AnswersAll, EndsBy, EndsCaused, IsLate, RunsAs, ExitsRun, IsOfModel, IsRun, Runs, TellsLate}
+use Rattle.desk.specs.declared.fault.DeskFault.{DeskFault}
+use Rattle.desk.specs.declared.fault.DeskFault.TheVariants as deskfault
+
+-- the first items and one more
+pub take_one_more : {A : Type 0} (l : List A) (i : ℕ) (x : A) → i < length l → x ≡ get_or l i x → take (i + 1) l ≡ take i l ++ x ∷ []
+take_one_more l i x lt is = rw add-one (take-suc l i x lt ∙ ap (λ y. take i l ++ y ∷ []) (sym is))
+
+-- ---- the model's run
+
+-- from a call that has no fault
+ran_on : (F : History) (call : Call) (calls : List Call) → fault F call ≡ None →
+    run F (call ∷ calls) ≡ and_reply (decide F call).reply (run (after F call) calls)
+ran_on F call calls none = rw none refl
+
+-- and from one that has
+ran_out : (F : History) (call : Call) (calls : List Call) (n : ℕ) → fault F call ≡ Some n →
+    run F (call ∷ calls) ≡ record { replies = []; history = F }
+ran_out F call calls n some = rw some refl
+
+-- ---- calls that are too late
+
+-- a result has one fault
+same_error : (result : Result Reply DeskFault) (a b : DeskFault) → result ≡ Err a → result ≡ Err b → a ≡ b
+same_error result a b one other = cc
+
+-- the next call ended the run as it was answered
+pub tells_late : (call : Call) (rest : List Call) (why : DeskFault) (result : Result Reply DeskFault) → result ≡ Err why
+    → ((result ≡ Err deskfault.Moment) ↔ (last_moment < call.at)) → TellsLate (call ∷ rest) why
+tells_late call rest why result is told = record {
+  late = λ moment. told.0 (is ∙ ap (λ f. Err f) moment);
+  told = λ past. inl (same_error result why deskfault.Moment is (told.1 past));
+}
+
+-- memory was refused before it
+pub tells_memory : (rest : List Call) → TellsLate rest deskfault.Memory
+tells_memory rest = record { late = λ is. absurd (let e = is in cc); told = λ past. inr refl }
+
+-- a list of calls that begins with it
+late_cons : (calls rest : List Call) (first call : Call) (why : DeskFault) → calls ≡ first ∷ rest → call ≡ first
+    → ((more : List Call) → TellsLate (call ∷ more) why) → TellsLate calls why
+late_cons calls rest first call why are is tells =
+    subst (λ l. TellsLate l why) (sym are) (subst (λ c. TellsLate (c ∷ rest) why) is (tells rest))
+
+-- as the next call of all
+pub late_at : (calls : List Call) (n i : ℕ) (call : Call) (why : DeskFault) → n ≡ i → i < length calls → call ≡ get_or calls i call
+    → ((rest : List Call) → TellsLate (call ∷ rest) why) → TellsLate (drop n calls) why
+late_at calls n i call why counted lt is tells =
+    subst (λ k. TellsLate (drop k calls) why) (sym counted) (late_cons (drop i calls) _ _ call why (drop-cons calls i call lt) is tells)
+
+module _ {S C : Type 0} (v : Sight S C) where
+  -- ---- the chain
+
+  -- what a fault comes from, behind the calls that were answered
+  pub caused_at : (causes : Causes S) (old mid new : S) (calls : List Call) (replies : List Reply) (i : ℕ) (why : DeskFault) → length replies ≡ i
+      → AnswersAll v old (take i calls) replies mid → IsCaused v causes mid new why → EndsCaused v causes old new calls replies why
+  caused_at causes old mid new calls replies i why counted all caused = record {
+    from = mid;
+    answered = subst (λ n. AnswersAll v old (take n calls) replies mid) (sym counted) all;
+    cause = caused;
+  }
+
+  -- one more call is answered
+  pub answers_more : (old now new : S) (calls : List Call) (replies : List Reply) (call : Call) (reply : Reply) → AnswersAll v old calls replies now →
+      Answers v call now new (Ok reply) → AnswersAll v old (calls ++ call ∷ []) (replies ++ reply ∷ []) new
+  answers_more old now new [] [] call reply all one = (new, subst (λ s. Answers v call s new (Ok reply)) all one, refl)
+  answers_more old now new [] (r ∷ replies) call reply all one = absurd all
+  answers_more old now new (c ∷ calls) [] call reply all one = absurd all
+  answers_more old now new (c ∷ calls) (r ∷ replies) call reply all one =
+      (all.0, all.1, answers_more all.0 now new calls replies call reply all.2 one)
+
+  -- memory that is refused before a call is made leaves the store as it is
+  pub declines : (call : Call) (here : S) → IsFormedCall call → Answers v call here here (Err deskfault.Memory)
+  declines call here formed = record {
+    formed = formed;
+    honest = λ h. h;
+    unchanged = λ opened. record { honest = λ h. h; left = λ honest c may. may; tables = λ honest T held. held };
+    exit = λ h F legal keeps. record { cause = tt; keeps = keeps };
+  }
+
+  -- the first calls were answered, and the next one ends the run
+  pub ends_at : (old mid new : S) (calls : List Call) (replies : List Reply) (i : ℕ) (call : Call) (why : DeskFault) → length replies ≡ i →
+      i < length calls → call ≡ get_or calls i call → AnswersAll v old (take i calls) replies mid → Answers v call mid new (Err why) →
+      RunsAs v old calls replies (Some why) new
+  ends_at old mid new calls replies i call why counted lt is all ended = (
+    mid,
+    subst (λ n. AnswersAll v old (take n calls) replies mid) (sym counted) all,
+    subst (λ n. EndsBy v mid (drop n calls) (Some why) new) (sym counted)
+        (subst (λ l. EndsBy v mid l (Some why) new) (sym (drop-cons calls i call lt))
+        (subst (λ c. Answers v c mid new (Err why)) is ended)),
+  )
+
+  -- all calls were answered
+  pub ends_with_all : (old new : S) (calls : List Call) (replies : List Reply) (i : ℕ) → length replies ≡ i → length calls ≤ i →
+      AnswersAll v old (take i calls) replies new → RunsAs v old calls replies None new
+  ends_with_all old new calls replies i counted end all = (
+    new,
+    subst (λ n. AnswersAll v old (take n calls) replies new) (sym counted) all,
+    (ap (λ n. drop n calls) counted ∙ drop_all i calls end, refl),
+  )
+
+  -- ---- honesty to the end
+
+  -- through the answers
+  pub honest_all : (old mid : S) (calls : List Call) (replies : List Reply) → AnswersAll v old calls replies mid → v.is_honest mid → v.is_honest old
+  honest_all old mid [] [] all h = subst v.is_honest all h
+  honest_all old mid [] (r ∷ replies) all h = absurd all
+  honest_all old mid (c ∷ calls) [] all h = absurd all
+  honest_all old mid (c ∷ calls) (r ∷ replies) all h = all.1.honest (honest_all all.0 mid calls replies all.2 h)
+
+  -- and through the last exit
+  pub honest_end : (mid new : S) (rest : List Call) (why : Option DeskFault) → EndsBy v mid rest why new → v.is_honest new → v.is_honest mid
+  honest_end mid new rest None ends h = subst v.is_honest ends.1 h
+  honest_end mid new [] (Some why) ends h = absurd ends
+  honest_end mid new (call ∷ rest) (Some why) ends h = ends.honest h
+
+  -- ---- the end of a run
+
+  -- the exit of the run, at the history of the calls that were answered
+  exits_run : (F : History) → Legal F → (mid new : S) (rest : List Call) (why : Option DeskFault) → Keeps v mid (picture F) → v.is_honest new →
+      EndsBy v mid rest why new → ExitsRun v F rest why new
+  exits_run F legal mid new rest None keeps h ends = (ends.0, subst (λ s. Keeps v s (picture F)) (sym ends.1) keeps)
+  exits_run F legal mid new [] (Some why) keeps h ends = absurd ends
+  exits_run F legal mid new (call ∷ rest) (Some why) keeps h ends = ends.exit h F legal keeps
+
+  -- the model stops where the desk does
+  stops : (F : History) (call : Call) (calls : List Call) (why : DeskFault) (new : S) → ExitsBy v F call why new → IsOfModel (Some why) →
+      run F [] ≡ run F (call ∷ calls)
+  stops F call calls deskfault.Memory new e is = absurd is
+  stops F call calls deskfault.Device new e is = absurd is
+  stops F call calls deskfault.Reopen new e is = absurd is
+  stops F call calls deskfault.Moment new e is = sym (ran_out F call calls 24 e.cause)
+  stops F call calls deskfault.ShortRandom new e is = sym (ran_out F call calls 25 e.cause)
+  stops F call calls deskfault.Full new e is = sym (ran_out F call calls 26 e.cause)
+  stops F call calls deskfault.NotADesk new e is = absurd e.cause
+  stops F call calls deskfault.NewerFormat new e is = absurd e.cause
+
+  -- a run that ends here is the model's
+  whole : (F : History) (rest : List Call) (why : Option DeskFault) (new : S) → ExitsRun v F rest why new → IsOfModel why → run F [] ≡ run F rest
+  whole F rest None new e is = ap (run F) (sym e.0)
+  whole F [] (Some why) new e is = absurd e
+  whole F (call ∷ rest) (Some why) new e is = stops F call rest why new e is
+
+  -- ---- the whole run
+
+  -- by a history, from the chain
+  is_run : (F : History) → Legal F → (old mid new : S) (calls : List Call) (replies : List Reply) (why : Option DeskFault) → Keeps v old (picture F) →
+      v.is_honest mid → v.is_honest new → AnswersAll v old (take (length replies) calls) replies mid →
+      EndsBy v mid (drop (length replies) calls) why new → IsRun v F calls replies why new
+  is_run F legal old mid new calls [] why keeps hm h all ends =
+      let exit = exits_run F legal mid new calls why (subst (λ s. Keeps v s (picture F)) (sym all) keeps) h ends in
+      record { answered = refl; legal = legal; exit = exit; whole = whole F calls why new exit }
+  is_run F legal old mid new [] (r ∷ replies) why keeps hm h all ends = absurd all
+  is_run F legal old mid new (call ∷ calls) (r ∷ replies) why keeps hm h all ends =
+      let hb = honest_all all.0 mid (take (length replies) calls) replies all.2 hm in
+      let a = all.1.exit hb F legal keeps in
+      let next = is_run (after F call) a.stays_legal all.0 mid new calls replies why a.keeps hm h all.2 ends in
+      let on = ran_on F call (take (length replies) calls) a.faultless in
+      record {
+        answered = ap (λ x. x ∷ replies) a.decided ∙ ap (λ l. (decide F call).reply ∷ l) next.answered ∙ sym (ap (λ q. q.replies) on);
+        legal = subst (λ q. Legal q.history) (sym on) next.legal;
+        exit = subst (λ q. ExitsRun v q.history (drop (length replies) calls) why new) (sym on) next.exit;
+        whole = λ is. on ∙ ap (λ q. and_reply (decide F call).reply q) (next.whole is) ∙ sym (ran_on F call calls a.faultless);
+      }
+
+  -- and so it is by every one
+  pub runs : (calls : List Call) (old new : S) (replies : List Reply) (why : Option DeskFault) → RunsAs v old calls replies why new →
+      Runs v calls old new replies why
+  runs calls old new replies why r =
+      record {
+        honest = λ h. honest_all old r.0 (take (length replies) calls) replies r.1 (honest_end r.0 new (drop (length replies) calls) why r.2 h);
+        exit = λ h F legal keeps. is_run F legal old r.0 new calls replies why keeps (honest_end r.0 new (drop (length replies) calls) why r.2 h) h r.1 r.2;
+      }

@@ -1,0 +1,16 @@
+use Rattle.std.proofs.Common.{None}
+use Rattle.desk.proofs.Exiting.{loaded, stands_here, storage_result_caused}
+use Rattle.desk.proofs.desk.attempt.Goals as goal
+
+pub returns-in_err-part-clause-caused : goal.returns-in_err-part-clause-caused
+returns-in_err-part-clause-caused g c =
+    storage_result_caused g.K.Storage.sight g.K.Storage.causes c.args.store.now c.args.store.now c.load_part.new.self None c.in_err-part.field-0.0 _
+    (stands_here g.K.Storage.sight c.args.store.now) c.in_err-part.ensures.caused c.from_residual.ensures.1
+
+pub returns-clause-caused : goal.returns-clause-caused
+returns-clause-caused g c =
+    c.attempt_by-attempted.ensures.caused c.args.store.now
+    (loaded g.K.Storage.sight c.args.call.now c.args.store.now c.load_part.new.self c.in_ok-part.part c.in_ok-part.ensures.loads)
+
+pub returns-clause-exit : goal.returns-clause-exit
+returns-clause-exit g c = c.attempt_by-attempted.ensures.exit c.args.store.now c.in_ok-part.ensures.loads

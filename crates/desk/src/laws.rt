@@ -1,0 +1,15 @@
+//! The law of stores over time.
+ghost use Rattle.desk.specs.SeenRuns.{RunsAreSeen};
+ghost use Rattle.desk.specs.Seen.{EndedSeenStays, NoncesSeenOnce, RepliesAreKept, SeenIsLived, SeenIsOfCalls};
+
+use store_api::Storage;
+
+/// What is seen of a desk over any store is a life, and a run of calls is so seen.
+pub fn stores_live<K: Storage>()
+    ensures lived { SeenIsLived K.Storage.sight }
+    ensures of_calls { SeenIsOfCalls K.Storage.sight }
+    ensures kept { RepliesAreKept K.Storage.sight }
+    ensures nonces { NoncesSeenOnce K.Storage.sight }
+    ensures ended { EndedSeenStays K.Storage.sight }
+    ensures runs { RunsAreSeen K.Storage.sight }
+{}

@@ -1,0 +1,25 @@
+//! The program `desk`.
+#![tactic(auto)]
+
+use app_commands::{run_words, tell_no_memory};
+use std::io;
+use std::process::ExitCode;
+
+fn main(rt: HostRuntime) -> ExitCode {
+    let status = match words_given(&rt) {
+        Ok(words) => run_words(
+            &rt,
+            words.as_slice(),
+            rt.reader(),
+            &mut io::writer(&rt),
+            &mut rt.stderr(),
+        ),
+        Err(_) => tell_no_memory(&mut rt.stderr()),
+    };
+    ExitCode::from(status)
+}
+
+// The words of the command line, the program's name first.
+fn words_given(rt: &HostRuntime) -> io::Result<Vec<String>> {
+    Ok(std::env::args(rt)?.collect(rt.alloc())?)
+}

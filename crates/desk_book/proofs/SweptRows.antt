@@ -1,0 +1,125 @@
+-- Rows that are looked up at a moment: those that stand, with their statuses then.
+use Rattle.std.proofs.Common.{◌≡◌, ℕ, ◌+◌, Option, None, Bool, true, false, cond, List, [], ◌∷◌, map, Some, refl, sym, ap, ◌∙◌}
+use Rattle.std.specs.Prelude.{◌==◌, ◌||◌, find, is_some}
+use Rattle.std.specs.List.{list_any}
+use Rattle.std.specs.Option.{option_map}
+use Rattle.desk_model.specs.Tables.{Tables}
+use Rattle.desk_model.specs.Effect.{has_row, is_overdue, falls, swept, swept_authorization, swept_order}
+use Rattle.desk_model.specs.Name.{Name}
+use Rattle.desk_model.specs.Questions.{authorization_on, challenge_of, order_on, owner_on, serves, serving_on}
+use Rattle.model_laws.proofs.Basics.{find-map}
+use Rattle.desk_model.specs.declared.rows.AuthorizationRow.{AuthorizationRow}
+use Rattle.desk_model.specs.declared.rows.ChallengeRow.{ChallengeRow}
+use Rattle.desk_model.specs.declared.rows.OrderRow.{OrderRow}
+use Rattle.desk_model.specs.declared.status.AuthzStatus.{AuthzStatus}
+use Rattle.desk_model.specs.declared.status.AuthzStatus.TheVariants as authz
+use Rattle.desk_model.specs.declared.status.OrderStatus.{OrderStatus}
+use Rattle.desk_model.specs.declared.status.OrderStatus.TheVariants as order
+
+-- only the status of an authorization moves by the passing of time
+pub swept_authorization-status : (m : ℕ) (row : AuthorizationRow) → record row { status = (swept_authorization m row).status } ≡ swept_authorization m row
+swept_authorization-status m row = by (is_overdue m row)
+  where
+    by : (b : Bool) →
+        (let moved : AuthorizationRow = cond b (record row { status = authz.Expired }) row in
+        record row { status = moved.status } ≡ moved)
+    by true = refl
+    by false = refl
+
+-- and only that of an order
+pub swept_order-status : (m : ℕ) (rows : List AuthorizationRow) (row : OrderRow)
+    → record row { status = (swept_order m rows row).status } ≡ swept_order m rows row
+swept_order-status m rows row = by (falls m rows row)
+  where
+    by : (b : Bool) →
+        (let moved : OrderRow = cond b (record row { status = order.Invalid }) row in
+        record row { status = moved.status } ≡ moved)
+    by true = refl
+    by false = refl
+
+-- a test that a move leaves passes the moved rows that it passed
+pub find-moved : {X : Type 0} (test : X → Bool) (move : X → X) (xs : List X) → ((x : X) → test (move x) ≡ test x)
+    → find test (map move xs) ≡ option_map move (find test xs)
+find-moved test move [] same = refl
+find-moved {X} test move (x ∷ xs) same =
+    ap (λ b. cond b (Some (move x)) (find test (map move xs))) (same x)
+    ∙ by (test x) (find-moved test move xs same)
+  where
+    by : (b : Bool) → find test (map move xs) ≡ option_map move (find test xs) →
+        cond b (Some (move x)) (find test (map move xs)) ≡ option_map move (cond b (Some x) (find test xs))
+    by true ih = refl
+    by false ih = ih
+
+-- the authorization of a number, and the one that a challenge is of
+pub swept_authorization_on : (m : ℕ) (T : Tables) (n : ℕ) → authorization_on (swept m T) n ≡ option_map (swept_authorization m) (authorization_on T n)
+swept_authorization_on m T n =
+    find-moved (λ a. a.number == n) (swept_authorization m) T.authorizations (λ a. ap (λ k. k == n) (number a))
+  where
+    number : (a : AuthorizationRow) → (swept_authorization m a).number ≡ a.number
+    number a = sym (ap (λ (r : AuthorizationRow). r.number) (swept_authorization-status m a))
+
+pub swept_owner_on : (m : ℕ) (T : Tables) (n : ℕ) → owner_on (swept m T) n ≡ option_map (swept_authorization m) (owner_on T n)
+swept_owner_on m T n =
+    find-moved (has_row n) (swept_authorization m) T.authorizations (λ a. sym (ap (has_row n) (swept_authorization-status m a)))
+
+-- the order of a number
+pub swept_order_on : (m : ℕ) (T : Tables) (n : ℕ) → order_on (swept m T) n ≡ option_map (swept_order m T.authorizations) (order_on T n)
+swept_order_on m T n =
+    find-moved (λ o. o.number == n) (swept_order m T.authorizations) T.orders (λ o. ap (λ k. k == n) (number o))
+  where
+    number : (o : OrderRow) → (swept_order m T.authorizations o).number ≡ o.number
+    number o = sym (ap (λ (r : OrderRow). r.number) (swept_order-status m T.authorizations o))
+
+-- a row that is found, with its status at the moment
+pub authorization-found : (m : ℕ) (T : Tables) (n : ℕ) (row : AuthorizationRow) (s : AuthzStatus) → Some row ≡ authorization_on T n
+    → s ≡ (swept_authorization m row).status →
+    Some (record row { status = s }) ≡ authorization_on (swept m T) n
+authorization-found m T n row s found is =
+    ap (λ x. Some (record row { status = x })) is
+    ∙ ap (λ r. Some r) (swept_authorization-status m row)
+    ∙ ap (option_map (swept_authorization m)) found
+    ∙ sym (swept_authorization_on m T n)
+
+pub owner-found : (m : ℕ) (T : Tables) (n : ℕ) (row : AuthorizationRow) (s : AuthzStatus) → Some row ≡ owner_on T n → s ≡ (swept_authorization m row).status →
+    Some (record row { status = s }) ≡ owner_on (swept m T) n
+owner-found m T n row s found is =
+    ap (λ x. Some (record row { status = x })) is
+    ∙ ap (λ r. Some r) (swept_authorization-status m row)
+    ∙ ap (option_map (swept_authorization m)) found
+    ∙ sym (swept_owner_on m T n)
+
+pub order-found : (m : ℕ) (T : Tables) (n : ℕ) (row : OrderRow) (s : OrderStatus) → Some row ≡ order_on T n → s ≡ (swept_order m T.authorizations row).status →
+    Some (record row { status = s }) ≡ order_on (swept m T) n
+order-found m T n row s found is =
+    ap (λ x. Some (record row { status = x })) is
+    ∙ ap (λ r. Some r) (swept_order-status m T.authorizations row)
+    ∙ ap (option_map (swept_order m T.authorizations)) found
+    ∙ sym (swept_order_on m T n)
+
+-- an authorization that has a challenge of a number has one to be found
+pub challenge_there : (n : ℕ) (a : AuthorizationRow) → is_some (challenge_of n a) ≡ has_row n a
+challenge_there n a = by a.challenges
+  where
+    by : (cs : List ChallengeRow) → is_some (find (λ c. n == c.number) cs) ≡ list_any (λ c. n == c.number) cs
+    by [] = refl
+    by (c ∷ cs) = one (n == c.number) (by cs)
+      where
+        one : (b : Bool) → is_some (find (λ c. n == c.number) cs) ≡ list_any (λ c. n == c.number) cs →
+            is_some (cond b (Some c) (find (λ c. n == c.number) cs)) ≡ (b || list_any (λ c. n == c.number) cs)
+        one true ih = refl
+        one false ih = ih
+
+-- the authorization that serves, among the rows that stand
+pub swept_serving_on : (m : ℕ) (T : Tables) (account : ℕ) (name : Name) →
+    option_map (λ (r : AuthorizationRow). r.number)
+    (find (λ r. serves account name (m + T.meta.policy.order_life) (swept_authorization m r)) T.authorizations)
+    ≡ option_map (λ (r : AuthorizationRow). r.number) (serving_on (swept m T) account name)
+swept_serving_on m T account name =
+    number (find (λ r. serves account name (m + T.meta.policy.order_life) (swept_authorization m r)) T.authorizations)
+    ∙ sym (ap (option_map (λ (r : AuthorizationRow). r.number))
+    (find-map (serves account name (m + T.meta.policy.order_life)) (swept_authorization m) T.authorizations))
+  where
+    number : (o : Option AuthorizationRow) →
+        option_map (λ (r : AuthorizationRow). r.number) o ≡ option_map (λ (r : AuthorizationRow). r.number) (option_map (swept_authorization m) o)
+    number None = refl
+    number (Some row) = ap (λ n. Some n) (ap (λ (r : AuthorizationRow). r.number) (swept_authorization-status m row))

@@ -1,0 +1,10 @@
+use Rattle.std.proofs.Common.{◌≡◌, ◌++◌, map, filter, not}
+use Rattle.desk_model.specs.Change.{nonces_gone}
+use Rattle.desk_model.specs.Effect.{lasts}
+use Rattle.desk_model.specs.declared.rows.Change.TheVariants.{RemoveNonce}
+use Rattle.desk_book.proofs.sweep.remove_gone.Given as goal
+
+abbrev pub invariant-loop-nonce : goal.invariant-loop-nonce
+invariant-loop-nonce l =
+    l.changes.items ++ map RemoveNonce (map (λ n. n.serial) (filter (λ n. not (lasts l.book.meta.policy l.moment n)) l.nonce-iterator))
+    ≡ l.fn.changes.items ++ map RemoveNonce (nonces_gone l.moment l.book)

@@ -1,7 +1,0 @@
-use Rattle.std.proofs.Common.{sym, ◌∙◌}
-use Rattle.desk_model.specs.Entry.{entry_of}
-use Rattle.desk_laws.proofs.SweptParts.{touches_swept}
-use Rattle.desk_changes.proofs.moved.AuthorizationRowMovable.is_touched.Goals as goal
-
-pub returns : goal.returns
-returns c = λ m. c.touches_authorization.ensures ∙ sym (touches_swept (entry_of c.args.moved.now) m c.args.self.now)

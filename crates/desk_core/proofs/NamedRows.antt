@@ -1,0 +1,217 @@
+-- What a verdict shows or moves is there: it was looked up.
+use Rattle.std.proofs.Common.{◌≡◌, ℕ, List, [], ◌∷◌, Bool, true, false, cond, Option, Some, None, Result, Ok, Err, refl, ap, sym, subst}
+use Rattle.std.specs.Prelude.{◌==◌, ◌&&◌, find, is_some, IfOk, IsSome, IsSomeAnd}
+use Rattle.desk_model.specs.Account.{is_valid as is_valid_account}
+use Rattle.desk_model.specs.Authorization.{is_live, is_pending}
+use Rattle.desk_model.specs.Contact.{contacts_fault}
+use Rattle.desk_model.specs.Legal.{has_length, is_pending_challenge, is_problem, is_processing_challenge}
+use Rattle.desk_model.specs.Limits.{most_names}
+use Rattle.desk_model.specs.Order.{is_processing, is_ready}
+use Rattle.desk_model.specs.Questions.{account_on, account_with_key, authorization_on, order_on, owner_on}
+use Rattle.desk_model.specs.Rules.{account_verdict, authorization_verdict, certificate_verdict, certify_verdict}
+use Rattle.desk_model.specs.Rules.{challenge_verdict, csr_in, fail_verdict, finalize_verdict, key_verdict}
+use Rattle.model_laws.proofs.Serving.{all_may_be_wanted}
+use Rattle.desk_model.specs.Rules.{kept, names_in, new_order_verdict, office_verdict, open_account, order_of, own}
+use Rattle.desk_model.specs.Rules.{report_verdict, revoke_account, revoke_authorization, signed_verdict, stands_open, subproblems}
+use Rattle.desk_model.specs.Rules.{target_verdict}
+use Rattle.desk_model.specs.Tables.{Tables}
+use Rattle.desk_model.specs.Verdict.{check, choose, given}
+use Rattle.desk_model.specs.declared.call.BadKey.{BadKey}
+use Rattle.desk_model.specs.declared.call.Finding.{Finding}
+use Rattle.desk_model.specs.declared.call.OfficeAsk.{OfficeAsk}
+use Rattle.desk_model.specs.declared.call.OfficeAsk.TheVariants as office
+use Rattle.desk_model.specs.declared.call.OrderProblem.{OrderProblem}
+use Rattle.desk_model.specs.declared.call.Signed.{Signed}
+use Rattle.desk_model.specs.declared.call.Target.{Target}
+use Rattle.desk_model.specs.declared.call.Target.TheVariants as to
+use Rattle.desk_model.specs.declared.payload.AccountChange.{AccountChange}
+use Rattle.desk_model.specs.declared.payload.AccountChange.TheVariants as change
+use Rattle.desk_model.specs.declared.payload.AuthorizationChange.{AuthorizationChange}
+use Rattle.desk_model.specs.declared.payload.AuthorizationChange.TheVariants as authz_change
+use Rattle.desk_model.specs.Rules.{key_change_verdict, rekey_verdict}
+use Rattle.desk_model.specs.declared.payload.KeyChange.{KeyChange}
+use Rattle.desk_model.specs.declared.payload.ChallengeChange.{ChallengeChange}
+use Rattle.desk_model.specs.declared.payload.ChallengeChange.TheVariants as chall_change
+use Rattle.desk_model.specs.declared.payload.Identifier.{Identifier}
+use Rattle.desk_model.specs.declared.payload.NewAccount.{NewAccount}
+use Rattle.desk_model.specs.declared.refusal.Refusal.{Refusal}
+use Rattle.desk_model.specs.declared.refusal.Refusal.TheVariants as refusal
+use Rattle.desk_model.specs.declared.reply.Subproblem.{Subproblem}
+use Rattle.desk_model.specs.declared.rows.AccountRow.{AccountRow}
+use Rattle.desk_model.specs.declared.rows.AuthorizationRow.{AuthorizationRow}
+use Rattle.desk_model.specs.declared.rows.Counters.{Counters}
+use Rattle.desk_model.specs.declared.rows.OrderRow.{OrderRow}
+use Rattle.desk_model.specs.declared.verdict.Verdict.{Verdict}
+use Rattle.desk_model.specs.declared.verdict.Verdict.TheVariants.{Refused as refused}
+use Rattle.model_lives.proofs.Sound.{own_found}
+use Rattle.model_lives.proofs.Steps as step
+use Rattle.model_lives.proofs.Lists.{same_number}
+use Rattle.core_rules.specs.declared.fault.CoreFault.{CoreFault}
+use Rattle.core_rules.proofs.KeyVerdicts.{IsJudged}
+use Rattle.desk_core.specs.There.{NamesRows}
+
+-- ---- steps of verdicts
+
+-- a value that is there
+given_there : {X : Type 0} (T : Tables) (o : Option X) (n : Refusal) (f : X → Verdict) → ((x : X) → o ≡ Some x → NamesRows T (f x)) → NamesRows T (given o n f)
+given_there T o n f h = step.given_keeps (NamesRows T) o n f tt h
+
+-- a test
+check_there : (T : Tables) (b : Bool) (n : Refusal) (v : Verdict) → NamesRows T v → NamesRows T (check b n v)
+check_there T b n v h = step.check_keeps (NamesRows T) b n v tt (λ _. h)
+
+-- one of two
+choose_there : (T : Tables) (b : Bool) (v w : Verdict) → NamesRows T v → NamesRows T w → NamesRows T (choose b v w)
+choose_there T b v w h g = step.choose_keeps (NamesRows T) b v w (λ _. h) g
+
+-- ---- rows that were found
+
+-- one that is there is found
+there : {X : Type 0} (o : Option X) (x : X) → o ≡ Some x → IsSome o
+there o x is = ap is_some is
+
+-- one that is found by a test is found by each that it passes
+found_by : {X : Type 0} (p q : X → Bool) (xs : List X) (x : X) → q x ≡ true → find p xs ≡ Some x → IsSome (find q xs)
+found_by p q [] x h is = cc
+found_by {X} p q (y ∷ ys) x h is = by (p y) (q y) refl is (found_by p q ys x h)
+  where
+    by : (b c : Bool) → q y ≡ c → cond b (Some y) (find p ys) ≡ Some x → (find p ys ≡ Some x → IsSome (find q ys)) → IsSome (cond c (Some y) (find q ys))
+    by b true e is ih = refl
+    by true false e is ih = cc
+    by false false e is ih = ih is
+
+-- the account of a key has its number
+by_number : (T : Tables) (key : List ℕ) (a : AccountRow) → account_with_key T key ≡ Some a → IsSome (account_on T a.number)
+by_number T key a is = found_by _ (λ x. x.number == a.number) T.accounts a (same_number a.number) is
+
+-- ---- signed requests
+
+-- an account is opened
+open_there : (T : Tables) (key : List ℕ) (p : NewAccount) → NamesRows T (open_account key p)
+open_there T key p = check_there T _ refusal.AccountDoesNotExist _ (step.fault_keeps (NamesRows T) (contacts_fault p.contacts) _ (λ _. tt) (λ _. tt))
+
+-- a change of an account
+account_there : (T : Tables) (n : ℕ) (p : AccountChange) → IsSome (account_on T n) → NamesRows T (account_verdict n p)
+account_there T n change.Read h = h
+account_there T n change.Deactivate h = h
+account_there T n (change.Update None) h = h
+account_there T n (change.Update (Some contacts)) h = step.fault_keeps (NamesRows T) (contacts_fault contacts) _ (λ _. tt) (λ _. h)
+
+-- a key is changed
+rekey_there : (T : Tables) (n : ℕ) (key : List ℕ) (o : Option AccountRow) → IsSome (account_on T n) → NamesRows T (rekey_verdict n key o)
+rekey_there T n key None h = h
+rekey_there T n key (Some holder) h = tt
+
+key_change_there : (T : Tables) (n : ℕ) (c : KeyChange) → IsSome (account_on T n) → NamesRows T (key_change_verdict T n c)
+key_change_there T n c h = check_there T _ refusal.Malformed _
+    (given_there T c.new_key refusal.BadPublicKey _ (λ key _. rekey_there T n key (account_with_key T key) h))
+
+-- an order is made
+order_there : (T : Tables) (r : List ℕ) (n : ℕ) (ids : List Identifier) (ss : List Subproblem) → NamesRows T (order_of T r n ids ss)
+order_there T r n ids (s ∷ ss) = tt
+order_there T r n ids [] = all_may_be_wanted T n (kept (names_in ids)) r
+
+-- newOrder
+new_order_there : (T : Tables) (r : List ℕ) (n : ℕ) (ids : List Identifier) → NamesRows T (new_order_verdict T r n ids)
+new_order_there T r n ids = check_there T (has_length 1 most_names ids) refusal.Malformed _ (order_there T r n ids (subproblems ids))
+
+-- an order is finalized
+finalize_there : (T : Tables) (n : ℕ) (o : OrderRow) (text : List ℕ) → IsSome (order_on T n) → NamesRows T (finalize_verdict n o text)
+finalize_there T n o text h = check_there T (is_ready o.status) refusal.OrderNotReady _ (given_there T (csr_in text) refusal.BadCsr _ (λ _ _. h))
+
+-- the certificate of an order
+certificate_there : (T : Tables) (n : ℕ) (o : OrderRow) → order_on T n ≡ Some o → NamesRows T (certificate_verdict n o)
+certificate_there T n o is =
+    given_there T o.certified refusal.NotFound _ (λ k has. subst (λ x. IsSomeAnd x (λ y. IsSome y.certified)) (sym is) (there o.certified k has))
+
+-- an authorization is ended
+authorization_there : (T : Tables) (n : ℕ) (a : AuthorizationRow) (p : AuthorizationChange) → IsSome (authorization_on T n)
+    → NamesRows T (authorization_verdict n a p)
+authorization_there T n a authz_change.Read h = h
+authorization_there T n a authz_change.Deactivate h = choose_there T (is_live a.status) _ _ h h
+
+-- a challenge is answered
+challenge_there : (T : Tables) (n : ℕ) (a : AuthorizationRow) (p : ChallengeChange) → IsSome (owner_on T n) → NamesRows T (challenge_verdict n a p)
+challenge_there T n a chall_change.Read h = h
+challenge_there T n a chall_change.Answer h = choose_there T (stands_open (λ c. is_pending_challenge c.status) a n) _ _ h h
+
+-- the account's own object is there
+own_there : {X : Type 0} (account : X → ℕ) (n : ℕ) (o : Option X) (x : X) → own account n o ≡ Some x → IsSome o
+own_there account n o x is = there o x (own_found account n o x is)
+
+-- a request of an account
+target_there : (T : Tables) (r : List ℕ) (n : ℕ) (p : List ℕ) (t : Target) → IsSome (account_on T n) → NamesRows T (target_verdict T r n p t)
+target_there T r n p to.NewAccount h = given_there T _ refusal.Malformed _ (λ _ _. h)
+target_there T r n p to.KeyChange h = given_there T _ refusal.Malformed _ (λ c _. key_change_there T n c h)
+target_there T r n p to.NewOrder h = given_there T _ refusal.Malformed _ (λ ids _. new_order_there T r n ids)
+target_there T r n p (to.Account k) h = check_there T _ refusal.NotFound _ (given_there T _ refusal.Malformed _ (λ x _. account_there T n x h))
+target_there T r n p (to.Orders k) h = check_there T _ refusal.NotFound _ (check_there T _ refusal.Malformed _ tt)
+target_there T r n p (to.Order k) h = given_there T _ refusal.NotFound _ (λ o is. check_there T _ refusal.Malformed _ (own_there _ n _ o is))
+target_there T r n p (to.Finalize k) h =
+    given_there T _ refusal.NotFound _ (λ o is. given_there T _ refusal.Malformed _ (λ text _. finalize_there T k o text (own_there _ n _ o is)))
+target_there T r n p (to.Cert k) h =
+    given_there T _ refusal.NotFound _ (λ o is. check_there T _ refusal.Malformed _ (certificate_there T k o (own_found _ n _ o is)))
+target_there T r n p (to.Authz k) h =
+    given_there T _ refusal.NotFound _ (λ a is. given_there T _ refusal.Malformed _ (λ x _. authorization_there T k a x (own_there _ n _ a is)))
+target_there T r n p (to.Chall k) h =
+    given_there T _ refusal.NotFound _ (λ a is. given_there T _ refusal.Malformed _ (λ x _. challenge_there T k a x (own_there _ n _ a is)))
+
+-- a request of a key, by its account
+key_there : (T : Tables) (r key p : List ℕ) (t : Target) (o : Option AccountRow) → account_with_key T key ≡ o → NamesRows T (key_verdict T r key p t o)
+key_there T r key p t (Some a) is = check_there T _ refusal.Unauthorized _ (target_there T r a.number p t (by_number T key a is))
+key_there T r key p to.NewAccount None is = given_there T _ refusal.Malformed _ (λ x _. open_there T key x)
+key_there T r key p t None is = tt
+
+-- a signed request
+pub signed_there : (T : Tables) (r : List ℕ) (s : Signed) → NamesRows T (signed_verdict T r s)
+signed_there T r s = by s.key
+  where
+    by : (k : Result (List ℕ) BadKey) →
+        NamesRows T (elim k [ Err e ↦ refused refusal.BadPublicKey [] | Ok key ↦ key_verdict T r key s.payload s.target (account_with_key T key) ])
+    by (Err e) = tt
+    by (Ok key) = key_there T r key s.payload s.target (account_with_key T key) refl
+
+-- so it is of what is judged so
+pub judged_there : (T : Tables) (asked : Verdict) (C : Counters) (random : List ℕ) (r : Result Verdict CoreFault) → NamesRows T asked
+    → IsJudged C random r asked → IfOk r (NamesRows T)
+judged_there T asked C random (Ok v) h is = subst (NamesRows T) (sym is.0) h
+judged_there T asked C random (Err e) h is = tt
+
+-- ---- what carries no nonce
+
+-- a report
+report_there : (T : Tables) (n : ℕ) (finding : Finding) → NamesRows T (report_verdict T n finding)
+report_there T n finding =
+    given_there T (owner_on T n) refusal.NotFound _ (λ a is. given_there T _ refusal.NotFound _ (λ c _. given_there T _ refusal.Malformed _ (λ outcome _.
+    choose_there T _ _ _ (there _ a is) (check_there T (is_pending a.status && is_processing_challenge c.status) refusal.Conflict _ (there _ a is)))))
+
+-- a certificate
+certify_there : (T : Tables) (n : ℕ) (bytes : List ℕ) (o : OrderRow) → IsSome (order_on T n) → NamesRows T (certify_verdict n bytes o)
+certify_there T n bytes o h =
+    check_there T _ refusal.Malformed _ (check_there T _ refusal.TooLarge _
+    (choose_there T _ _ _ h (check_there T (is_processing o.status) refusal.Conflict _ h)))
+
+-- a failure
+fail_there : (T : Tables) (n : ℕ) (problem : OrderProblem) (o : OrderRow) → IsSome (order_on T n) → NamesRows T (fail_verdict n problem o)
+fail_there T n problem o h = check_there T (is_problem problem) refusal.Malformed _
+    (choose_there T _ _ _ h (check_there T (is_processing o.status) refusal.Conflict _ h))
+
+-- the operator takes back an authorization
+revoke_authorization_there : (T : Tables) (n : ℕ) (a : AuthorizationRow) → IsSome (authorization_on T n) → NamesRows T (revoke_authorization n a)
+revoke_authorization_there T n a h = choose_there T _ _ _ h (check_there T (is_live a.status) refusal.Conflict _ h)
+
+-- the operator ends an account
+revoke_account_there : (T : Tables) (n : ℕ) (a : AccountRow) → IsSome (account_on T n) → NamesRows T (revoke_account n a)
+revoke_account_there T n a h = choose_there T _ _ _ h (check_there T (is_valid_account a.status) refusal.Conflict _ h)
+
+-- each of them
+pub office_there : (T : Tables) (a : OfficeAsk) → NamesRows T (office_verdict T a)
+office_there T office.Directory = tt
+office_there T (office.Report n finding) = report_there T n finding
+office_there T (office.Certify n bytes) = given_there T (order_on T n) refusal.NotFound _ (λ o is. certify_there T n bytes o (there _ o is))
+office_there T (office.FailOrder n problem) = given_there T (order_on T n) refusal.NotFound _ (λ o is. fail_there T n problem o (there _ o is))
+office_there T (office.RevokeAuthz n) = given_there T (authorization_on T n) refusal.NotFound _ (λ a is. revoke_authorization_there T n a (there _ a is))
+office_there T (office.RevokeAccount n) = given_there T (account_on T n) refusal.NotFound _ (λ a is. revoke_account_there T n a (there _ a is))
+office_there T office.ChallengeWork = tt
+office_there T office.OrderWork = tt
+office_there T (office.KeyOf n) = given_there T (account_on T n) refusal.NotFound _ (λ a is. there _ a is)

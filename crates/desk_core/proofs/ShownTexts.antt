@@ -1,0 +1,68 @@
+-- The moments of rows that are found have texts.
+use Rattle.std.proofs.Common.{◌≡◌, ℕ, ◌≤◌, List, Option, Some, None, IfSome, Result, Ok, Err, IfOk, OnOk, ◌∙◌, ap, refl, subst, sym}
+use Rattle.std.specs.Prelude.{◌==◌, find, is_some, Bool}
+use Rattle.std.specs.Option.{option_map}
+use Rattle.std.specs.Result.{result_and}
+use Rattle.model_laws.proofs.Finds.{each_found}
+use Rattle.desk_model.specs.Kept.{EachOf}
+use Rattle.desk_model.specs.Limits.{last_end}
+use Rattle.desk_model.specs.Effect.{has_row}
+use Rattle.desk_model.specs.Questions.{authorization_on, order_on, owner_on}
+use Rattle.desk_model.specs.Shown.{shown}
+use Rattle.desk_model.specs.Tables.{Tables}
+use Rattle.desk_model.specs.declared.reply.Reply.{Reply}
+use Rattle.core_replies.specs.Shown.{HasMoments}
+use Rattle.desk_core.specs.HasTexts.{HasTexts}
+
+-- what holds of each item holds of the one that is found
+found_has : {X : Type 0} (P : X → Type 0) (test : X → Bool) (xs : List X) → EachOf P xs → IfSome (find test xs) P
+found_has {X} P test xs h = by (find test xs) refl
+  where
+    by : (o : Option X) → find test xs ≡ o → IfSome o P
+    by None is = tt
+    by (Some x) is = each_found P test xs x h is
+
+-- so the order that is found ends at a moment with a text
+pub order_ends : (T : Tables) (n : ℕ) → HasTexts T → IfSome (order_on T n) (λ o. o.expires ≤ last_end)
+order_ends T n texts = found_has (λ o. o.expires ≤ last_end) (λ o. o.number == n) T.orders texts.orders
+
+-- and the authorization that is found has such moments
+pub authorization_moments : (T : Tables) (n : ℕ) → HasTexts T → IfSome (authorization_on T n) HasMoments
+authorization_moments T n texts = found_has HasMoments (λ a. a.number == n) T.authorizations texts.authorizations
+
+-- and the one that a challenge is of
+pub owner_moments : (T : Tables) (n : ℕ) → HasTexts T → IfSome (owner_on T n) HasMoments
+owner_moments T n texts = found_has HasMoments (has_row n) T.authorizations texts.authorizations
+
+-- what holds of a result holds of the value that it is
+pub ok_if : {X E : Type 0} (P : X → Type 0) (r : Result X E) (x : X) → r ≡ Ok x → IfOk r P → P x
+ok_if P r x is h = subst (λ r. IfOk r P) is h
+
+-- and so does what holds where there is one
+pub ok_on : {X E P : Type 0} (r : Result X E) (x : X) → r ≡ Ok x → OnOk r P → P
+ok_on {X} {E} {P} r x is h = subst (λ r. OnOk r P) is h
+
+-- where the second of two steps ended well, what holds of the first holds
+pub and_first : {T X E P : Type 0} (a : Result T E) (b r : Result X E) (x : X) → r ≡ result_and a b → r ≡ Ok x → OnOk a P → P
+and_first (Ok t) b r x is so h = h
+and_first (Err e) b r x is so h = cc (is, so)
+
+-- and the second is the result
+pub and_second : {T X E : Type 0} (a : Result T E) (b r : Result X E) (x : X) → r ≡ result_and a b → r ≡ Ok x → b ≡ Ok x
+and_second (Ok t) b r x is so = sym is ∙ so
+and_second (Err e) b r x is so = cc (is, so)
+
+-- what follows of two things that hold of a value
+pub ok_both : {X E : Type 0} {P Q S : X → Type 0} (r : Result X E) → ((x : X) → P x → Q x → S x) → IfOk r P → IfOk r Q → IfOk r S
+ok_both (Ok x) f p q = f x p q
+ok_both (Err e) f p q = tt
+
+-- what is shown of one that is found is shown of what was looked for
+pub shown_found : {X : Type 0} (f : X → Reply) (P : X → Type 0) (found on : Option X) (r : Reply) → found ≡ on → IfSome on P
+    → (IfSome found P → r ≡ shown f found) → r ≡ shown f on
+shown_found f P found on r is h said = said (subst (λ o. IfSome o P) (sym is) h) ∙ ap (shown f) is
+
+-- a copy is there where the value is
+pub mapped_some : {X Y : Type 0} (f : X → Y) (o : Option X) → is_some (option_map f o) ≡ is_some o
+mapped_some f None = refl
+mapped_some f (Some x) = refl

@@ -1,0 +1,18 @@
+use Rattle.std.proofs.Common.{◌∙◌, ap, sym, Some}
+use Rattle.desk_model.specs.Effect.{effect, swept}
+use Rattle.desk_model.specs.Shown.{located_account, shown}
+use Rattle.desk_model.specs.Tables.{Tables}
+use Rattle.desk_model.specs.declared.entry.Entry.TheVariants.{Opened as opened}
+use Rattle.desk_model.specs.declared.rows.Meta.{Meta}
+use Rattle.desk_core.proofs.ActingRows.{opened_found}
+use Rattle.core_replies.proofs.Results.{ok_so}
+use Rattle.desk_core.proofs.acts.act_on_account.Goals as goal
+
+pub returns-clause-reply : goal.returns-clause-reply
+returns-clause-reply c =
+    ok_so c.located_account.result (λ r said m at ordered.
+    let T : Tables = effect m (swept m c.args.book.now) (opened c.args.key c.args.contacts) in
+    said T (sym (ap (λ (x : Meta). x.policy) c.meta.ensures))
+    ∙ ap (shown (located_account 201 T)) (ap (λ r. Some r) c.in_ok-row.ensures.account
+    ∙ sym (opened_found m c.args.book.now c.args.recording.now.counters c.args.key c.args.contacts at ordered)))
+    c.located_account.ensures

@@ -1,0 +1,44 @@
+use Rattle.std.proofs.Common.{◌≡◌, ◌≤◌, ◌∙◌, ap, subst, sym, map, Some}
+use Rattle.desk_model.specs.Limits.{last_end}
+use Rattle.desk_model.specs.Document.{listed_rows}
+use Rattle.desk_model.specs.Effect.{effect, swept}
+use Rattle.desk_model.specs.Shown.{located_order, shown}
+use Rattle.desk_model.specs.Tables.{Tables}
+use Rattle.desk_model.specs.Terms.{Terms}
+use Rattle.desk_model.specs.declared.entry.Entry.TheVariants.{Ordered as ordered}
+use Rattle.desk_model.specs.declared.rows.Meta.{Meta}
+use Rattle.desk_model.specs.declared.rows.OrderRow.{OrderRow}
+use Rattle.core_changes.specs.Made.{next_order}
+use Rattle.core_changes.proofs.MadeRows.{wanted_standing}
+use Rattle.core_changes.proofs.Recordings.{clock_is}
+use Rattle.desk_core.proofs.Acting.{clock_at, where_answered}
+use Rattle.desk_core.proofs.ActingRows.{may_be_wanted, ordered_found, ordered_names, ordered_text}
+use Rattle.core_replies.proofs.Results.{ok_so}
+use Rattle.desk_core.proofs.acts.act_on_order.Goals as goal
+
+pub returns-clause-recorded : goal.returns-clause-recorded
+returns-clause-recorded c =
+    where_answered c.made_order_reply.result
+    (λ m es is untouched h. c.in_ok-row.ensures.recorded m c.args.book.now es (ap (λ (x : Meta). x.policy) (sym c.meta.ensures)) is untouched
+    (wanted_standing (swept m c.args.book.now) c.args.account c.args.wanted.now
+    (may_be_wanted m _ c.args.book.now c.args.account c.args.wanted.now
+    (clock_is m c.args.book.now es c.args.recording.now.changes.items c.args.recording.now.counters h) is c.requires.there)) h)
+
+pub returns-clause-reply : goal.returns-clause-reply
+returns-clause-reply c =
+    ok_so c.made_order_reply.result (λ r said m at is texts.
+    let policy : c.args.book.now.meta.policy ≡ c.meta.result.now.policy = ap (λ (x : Meta). x.policy) (sym c.meta.ensures) in
+    let T : Tables = effect m (swept m c.args.book.now) (ordered c.args.account c.args.wanted.now) in
+    let row : c.in_ok-row.row ≡ next_order c.args.book.now.meta.policy c.args.recording.now.counters c.args.account c.args.wanted.now =
+    c.in_ok-row.ensures.order ∙ ap (λ (p : Terms). next_order p c.args.recording.now.counters c.args.account c.args.wanted.now) (sym policy) in
+    let may = may_be_wanted m _ c.args.book.now c.args.account c.args.wanted.now (clock_at m c.args.book.now c.args.recording.now.counters at) is
+    c.requires.there in
+    let standing = wanted_standing (swept m c.args.book.now) c.args.account c.args.wanted.now may in
+    said T policy
+    (ap (λ r. map (λ a. a.name) (listed_rows T r)) row
+    ∙ ordered_names m c.args.book.now c.args.recording.now.counters c.args.account c.args.wanted.now at is may)
+    (subst (λ (r : OrderRow). r.expires ≤ last_end) (sym row)
+    (ordered_text m c.args.book.now c.args.recording.now.counters c.args.account c.args.wanted.now at is standing texts))
+    ∙ ap (shown (located_order 201 T)) (ap (λ r. Some r) row
+    ∙ sym (ordered_found m c.args.book.now c.args.recording.now.counters c.args.account c.args.wanted.now at is standing)))
+    c.made_order_reply.ensures

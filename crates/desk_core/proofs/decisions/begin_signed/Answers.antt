@@ -1,0 +1,14 @@
+use Rattle.std.proofs.Common.{◌+◌, ◌∷◌, [], ap, ◌∙◌}
+use Rattle.desk_model.specs.declared.entry.Entry.TheVariants.{Spent as spent}
+use Rattle.desk_model.specs.declared.rows.Counters.{Counters}
+use Rattle.desk_core.proofs.decisions.begin_signed.Goals as goal
+
+pub returns-clause-recorded : goal.returns-clause-recorded
+returns-clause-recorded c =
+    c.in_ok-issue.ensures.recorded c.args.moment c.args.book.now (spent c.args.serial ∷ [])
+    (c.in_ok-spend.ensures.recorded c.args.moment c.args.book.now [] c.in_ok-recording.ensures.recorded)
+
+pub returns-clause-counters : goal.returns-clause-counters
+returns-clause-counters c =
+    c.in_ok-issue.ensures.counters
+    ∙ ap (λ (x : Counters). record x { nonces = x.nonces + 1 }) (c.in_ok-spend.ensures.counters ∙ c.in_ok-recording.ensures.counters)

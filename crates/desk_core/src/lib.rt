@@ -1,0 +1,9 @@
+//! What a call does to a book, and what is answered.
+#![tactic(auto)]
+
+mod acts;
+mod decisions;
+mod showing;
+
+pub use core_rules::CoreFault;
+pub use decisions::{Outcome, decide};

@@ -1,0 +1,72 @@
+-- A desk is closed after a connection exactly where a fault that closes it is found.
+use Rattle.std.proofs.Common.{◌≡◌, ℕ, Bool, true, false, List, Option, None, Some, Result, Ok, Err, refl, sym, ap, ◌∙◌}
+use Rattle.std.specs.Prelude.{IfErr, IfOk, MatchResult}
+use Rattle.desk_model.specs.declared.reply.Reply.{Reply}
+use Rattle.store_api.specs.Sight.{Sight}
+use Rattle.store_api.specs.Storing.{Causes}
+use Rattle.desk.specs.Answers.{is_closed_after}
+use Rattle.desk.specs.Faults.{closes}
+use Rattle.desk.specs.State.{DeskState}
+use Rattle.desk.specs.declared.fault.DeskFault.{DeskFault}
+use Rattle.desk.specs.declared.fault.DeskFault.TheVariants as deskfault
+use Rattle.http_routes.specs.declared.request.Request.{Request}
+use Rattle.http_routes.specs.declared.request.Request.TheVariants as request
+use Rattle.http_wire.specs.declared.call.ReplyForm.{ReplyForm}
+use Rattle.desk_http.specs.Serving.{HasAnswer, Responds, ServesBy}
+use Rattle.desk_http.specs.declared.saying.Cause.{Cause}
+use Rattle.desk_http.specs.declared.saying.Cause.TheVariants as cause
+use Rattle.desk_http.specs.declared.sending.IoFault.{IoFault}
+use Rattle.desk_http.specs.declared.serving.Served.{Served}
+use Rattle.desk_http.specs.declared.telling.Told.{Told}
+use Rattle.desk_http.specs.InTurn.{Ends, IsClosedBy, ServesClient, ended_by, fault_after, fault_of, parsed, if_closes, unread}
+
+-- the desk is closed by this fault, or, where there is none, it is open
+abbrev pub EndsBy : {S : Type 0} → Option DeskFault → DeskState S → Type 0
+EndsBy None desk = desk.is_closed ≡ false
+EndsBy (Some why) desk = IsClosedBy why desk
+
+-- by a fault that closes it, if it does
+ends_if : {S : Type 0} (why : DeskFault) (is : Bool) (desk : DeskState S) → closes why ≡ is → desk.is_closed ≡ is → EndsBy (if_closes why is) desk
+ends_if why true desk closes closed = record { closes = closes; closed = closed }
+ends_if why false desk closes closed = closed
+
+-- that it is to be opened again, where it is closed
+reopens_if : {S : Type 0} (is : Bool) (desk : DeskState S) → desk.is_closed ≡ is → EndsBy (if_closes deskfault.Reopen is) desk
+reopens_if true desk closed = record { closes = refl; closed = closed }
+reopens_if false desk closed = closed
+
+-- what is so of each outcome is so of the result
+pub match_of : {T E : Type 0} (P : T → Type 0) (Q : E → Type 0) (result : Result T E) → IfOk result P → IfErr result Q → MatchResult result P Q
+match_of P Q (Ok done) ok err = ok
+match_of P Q (Err why) ok err = err
+
+module _ {S C : Type 0} (v : Sight S C) (causes : Causes S) (at : ℕ) (random : List ℕ) (old new : DeskState S) (opened : old.is_closed ≡ false) where
+  -- an open desk is closed by what it answers
+  responds_ends : (q : Request) (result : Result Reply DeskFault) → Responds v causes at random old q result new → new.is_closed ≡ is_closed_after result
+  responds_ends (request.Asks what) result r = r.flag opened
+  responds_ends (request.Refused reply) result r = ap (λ (desk : DeskState S). desk.is_closed) (r.1) ∙ opened ∙ ap is_closed_after (sym (r.0))
+
+  answer_ends : (result : Result Reply DeskFault) → HasAnswer v causes at random None old new result → new.is_closed ≡ is_closed_after result
+  answer_ends result a = responds_ends a.request result a.responds
+
+  -- by a connection that was served
+  served_ends : (base : List ℕ) (form : ReplyForm) (why : Option Cause) (written : Bool) (told : Option Told)
+      → ServesBy v causes at random base None None None old new form why written told → EndsBy (fault_of why) new
+  served_ends base form None written told s = answer_ends (Ok s.0) s.1
+  served_ends base form (Some (cause.Desk why)) written told s = ends_if why (closes why) new refl (answer_ends (Err why) s.0)
+  served_ends base form (Some cause.Reading) written told s = ap (λ (desk : DeskState S). desk.is_closed) s.0 ∙ opened
+  served_ends base form (Some cause.Text) written told s = answer_ends (Ok s.0.0) s.0.1
+
+-- by a connection, whatever became of it
+pub client_ends : {S C : Type 0} (v : Sight S C) (causes : Causes S) (served : Result Served IoFault) (old new : DeskState S) → old.is_closed ≡ false
+    → ServesClient v causes None None None old new served → EndsBy (fault_after served new.is_closed) new
+client_ends v causes (Ok served) old new opened (unread same kept failed) = absurd (cc failed)
+client_ends v causes (Ok served) old new opened (parsed s) =
+    let does = s.does in served_ends v causes s.at s.random old new opened new.policy.base does.0 served.cause served.written served.told does.2
+client_ends v causes (Err why) old new opened s = reopens_if new.is_closed new refl
+
+-- and so by how the serving of it ends
+pub ends_next : {S : Type 0} (why : Option DeskFault) (kept : Bool) (desk : DeskState S) → EndsBy why desk → Ends (ended_by why kept) desk
+ends_next (Some why) kept desk by = by
+ends_next None true desk by = by
+ends_next None false desk by = by

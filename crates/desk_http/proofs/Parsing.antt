@@ -1,0 +1,54 @@
+-- From what was read to what is served.
+use Rattle.std.proofs.Common.{◌≡◌, ℕ, List, Option, Some, None, Result, Ok, Err, inl, inr}
+use Rattle.std.specs.Prelude.{IfSome}
+use Rattle.std.specs.declared.alloc.AllocError.{AllocError}
+use Rattle.desk_model.specs.declared.reply.Reply.{Reply}
+use Rattle.store_api.specs.Sight.{Sight}
+use Rattle.store_api.specs.Storing.{Causes}
+use Rattle.desk.specs.State.{DeskState}
+use Rattle.desk.specs.declared.fault.DeskFault.{DeskFault}
+use Rattle.http_routes.specs.declared.request.Request.{Request}
+use Rattle.http_wire.specs.Spelled.{IsReplyForm, Spells}
+use Rattle.http_wire.specs.declared.call.ParsedRequest.{ParsedRequest}
+use Rattle.desk_http.specs.Serving.{Fails, HasAnswer, IsParsedOf, IsLeft, LacksReply, LacksText, ReadAnswer}
+use Rattle.desk_http.specs.declared.saying.Cause.{Cause}
+use Rattle.desk_http.specs.declared.saying.Cause.TheVariants as cause
+
+-- the request that was read is the input's
+spelled : (known : Option (List ℕ)) (h : ParsedRequest) (q : Request) → IsParsedOf known h → h.request ≡ Ok q
+    → IfSome known (λ input. Spells input q)
+spelled None h q is e = tt
+spelled (Some input) h q is e = rw e at is.request
+
+-- and so is how its reply is written
+pub form_parsed : (known : Option (List ℕ)) (h : ParsedRequest) → IsParsedOf known h → IfSome known (λ input. IsReplyForm input h.form)
+form_parsed None h is = tt
+form_parsed (Some input) h is = is.form
+
+-- why a request that was read has no reply is why it has no text
+pub no_text : {S C : Type 0} (v : Sight S C) (causes : Causes S) (at : ℕ) (random : List ℕ) (read : Result Request AllocError)
+    (q : Request) (old new : DeskState S) (why : Cause) → read ≡ Ok q → LacksReply v causes at random q why old new
+    → LacksText v causes at random read why old new
+no_text v causes at random read q old new (cause.Desk fault) e l = record { request = q; is_read = e; responds = l }
+no_text v causes at random read q old new cause.Reading e l = l
+no_text v causes at random read q old new cause.Text e l = absurd l
+
+module _ {S C : Type 0} (v : Sight S C) (causes : Causes S) (at : ℕ) (random : List ℕ) (known : Option (List ℕ)) (h : ParsedRequest) where
+  -- the answer to what was read is the answer to the input
+  pub answered : (old new : DeskState S) (result : Result Reply DeskFault) → IsParsedOf known h
+      → ReadAnswer v causes at random h.request old new result → HasAnswer v causes at random known old new result
+  answered old new result is a = record { request = a.request; spelled = spelled known h a.request is a.is_read; responds = a.responds }
+
+  -- why what was read did not have its reply is why the input did not
+  pub fails : (old new : DeskState S) (why : Cause) → IsParsedOf known h
+      → LacksText v causes at random h.request why old new → Fails v causes at random known old new why
+  fails old new (cause.Desk fault) is l = answered old new _ is l
+  fails old new cause.Reading is l = l
+  fails old new cause.Text is l = (l.0, answered old new _ is l.1)
+
+  -- and then the desk is as it was, or as the answer to the input left it
+  pub leaves : (old new : DeskState S) (why : Cause) → IsParsedOf known h
+      → LacksText v causes at random h.request why old new → IsLeft v causes at random known old new
+  leaves old new (cause.Desk fault) is l = inr (Err fault, answered old new (Err fault) is l)
+  leaves old new cause.Reading is l = inl l
+  leaves old new cause.Text is l = inr (Ok l.0, answered old new (Ok l.0) is l.1)

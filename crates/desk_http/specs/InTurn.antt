@@ -1,0 +1,121 @@
+-- What serving connections one after the other does to a desk.
+use Rattle.std.specs.Prelude.{◌≡◌, ◌⊎◌, ◌<◌, ◌≤◌, ℕ, length, List, zero, suc, Bool, true, false, Option, Some, None, Result, Ok, Err, MatchResult}
+use Rattle.std.specs.Io.KnownBytes.{Keeps}
+use Rattle.store_api.specs.Sight.{Sight}
+use Rattle.store_api.specs.Storing.{Causes}
+use Rattle.desk.specs.Faults.{closes}
+use Rattle.desk.specs.State.{DeskState}
+use Rattle.desk.specs.declared.fault.DeskFault.{DeskFault}
+use Rattle.desk.specs.declared.fault.DeskFault.TheVariants as deskfault
+use Rattle.std.specs.declared.alloc.AllocError.{AllocError}
+use Rattle.desk_model.specs.declared.call.Ask.{Ask}
+use Rattle.desk_model.specs.declared.call.Ask.TheVariants as ask
+use Rattle.desk_model.specs.declared.call.Target.{Target}
+use Rattle.desk_model.specs.declared.call.Target.TheVariants as to
+use Rattle.http_routes.specs.declared.request.Request.{Request}
+use Rattle.http_routes.specs.declared.request.Request.TheVariants as request
+use Rattle.http_wire.specs.declared.call.ParsedRequest.{ParsedRequest}
+use Rattle.desk_http.specs.Serving.{Breaks, IsParsedOf, Serves}
+use Rattle.desk_http.specs.declared.saying.Cause.{Cause}
+use Rattle.desk_http.specs.declared.saying.Cause.TheVariants as cause
+use Rattle.desk_http.specs.declared.sending.IoFault.{IoFault}
+use Rattle.desk_http.specs.declared.sending.IoFault.TheVariants as iofault
+use Rattle.desk_http.specs.declared.serving.Served.{Served}
+use Rattle.desk_http.specs.declared.serve_fault.ServeFault.{ServeFault}
+use Rattle.desk_http.specs.declared.serve_fault.ServeFault.TheVariants as servefault
+
+-- the fault, if it closes a desk
+abbrev pub if_closes : DeskFault → Bool → Option DeskFault
+if_closes why true = Some why
+if_closes why false = None
+
+-- the fault by which a request closed the desk, where the connection did not fail
+abbrev pub fault_of : Option Cause → Option DeskFault
+fault_of (Some (cause.Desk why)) = if_closes why (closes why)
+fault_of _ = None
+
+-- and where it did: that a desk that is closed is to be opened again
+abbrev pub fault_after : Result Served IoFault → Bool → Option DeskFault
+fault_after (Ok served) is_closed = fault_of served.cause
+fault_after (Err why) is_closed = if_closes deskfault.Reopen is_closed
+
+-- how the serving of a connection ends, by the fault that closed the desk and whether its note is kept
+abbrev pub ended_by : Option DeskFault → Bool → Result Unit ServeFault
+ended_by (Some why) kept = Err (servefault.Desk why)
+ended_by None true = Ok tt
+ended_by None false = Err servefault.Output
+
+-- ---- random bytes
+
+-- how many a request with this target may take: those of a fresh nonce, and for a new order two tokens' for each of a hundred names
+abbrev pub random_for_target : Target → ℕ
+random_for_target to.NewOrder = 1616
+random_for_target _ = 16
+
+abbrev pub random_for_ask : Ask → ℕ
+random_for_ask (ask.NewNonce head) = 16
+random_for_ask (ask.Signed s) = random_for_target s.target
+random_for_ask (ask.Office a) = 0
+
+-- and what was read of it; a refusal takes none
+abbrev pub random_for : Result Request AllocError → ℕ
+random_for (Ok (request.Asks what)) = random_for_ask what
+random_for _ = 0
+
+module _ {S C : Type 0} (v : Sight S C) (causes : Causes S) where
+  -- how the request of a client was served that sends these bytes, and what was written behind these earlier ones, where they are known;
+  -- or that its connection failed. Its call had some moment, and the random bytes that it may take
+  pub record ServesParsed (known before after : Option (List ℕ)) (old new : DeskState S) (served : Result Served IoFault) : Type 0 where
+    pub parsed : ParsedRequest
+    pub is_heard : IsParsedOf known parsed
+    pub at : ℕ
+    pub random : List ℕ
+    pub enough : length random ≡ random_for parsed.request
+    pub does :
+        MatchResult served (Serves v causes at random new.policy.base known before after old new) (Breaks v causes at random known before after old new)
+
+  -- a client whose request could not be read, and then nothing was done, or was served
+  pub data ServesClient (known before after : Option (List ℕ)) (old new : DeskState S) (served : Result Served IoFault) : Type 0 where
+    unread : new ≡ old → Keeps before after → served ≡ Err iofault.Read → ServesClient known before after old new served
+    parsed : ServesParsed known before after old new served → ServesClient known before after old new served
+
+  -- one connection, and the fault by which the desk is closed after it, if it is. A socket tells neither what its client sends nor what it
+  -- was given
+  abbrev pub ServesOne : Option DeskFault → DeskState S → DeskState S → Type 0
+  ServesOne why old new =
+      (served : Result Served IoFault) × ServesClient None None None old new served × (fault_after served new.is_closed ≡ why)
+
+  -- so many connections, one after the other, none of which closed the desk
+  abbrev pub ServesMany : ℕ → DeskState S → DeskState S → Type 0
+  ServesMany zero old new = new ≡ old
+  ServesMany (suc n) old new = (mid : DeskState S) × ServesMany n old mid × ServesOne None mid new
+
+  -- all connections; or fewer, and then the one by whose fault the desk is closed, or a failure of the machine; or up to one of which no
+  -- note is kept
+  abbrev pub ServesAll : ℕ → DeskState S → DeskState S → Result Unit ServeFault → Type 0
+  ServesAll most old new (Ok done) = ServesMany most old new
+  ServesAll most old new (Err (servefault.Desk why)) =
+      (n : ℕ) × (n < most) × (mid : DeskState S) × ServesMany n old mid × ServesOne (Some why) mid new
+  ServesAll most old new (Err servefault.Output) = (n : ℕ) × (n ≤ most) × ServesMany n old new
+  ServesAll most old new (Err machine) = (n : ℕ) × (n < most) × ServesMany n old new
+
+  -- one connection of them
+  abbrev pub ServesNext : DeskState S → DeskState S → Result Unit ServeFault → Type 0
+  ServesNext old new (Ok done) = ServesOne None old new
+  ServesNext old new (Err (servefault.Desk why)) = ServesOne (Some why) old new
+  ServesNext old new (Err servefault.Output) = ServesOne None old new
+  ServesNext old new (Err machine) = new ≡ old
+
+-- the desk is closed by a fault that closes
+pub record IsClosedBy {S : Type 0} (why : DeskFault) (desk : DeskState S) : Type 0 where
+  pub closes : closes why ≡ true
+  pub closed : desk.is_closed ≡ true
+
+-- the machine failed before a request was answered: its clock, its source of random bytes, or the place of the desk
+abbrev pub IsOfMachine : ServeFault → Type 0
+IsOfMachine e = (e ≡ servefault.Clock) ⊎ ((e ≡ servefault.Random) ⊎ (e ≡ servefault.Replaced))
+
+-- a desk that was open is closed exactly where a fault of it is told
+abbrev pub Ends : {S : Type 0} → Result Unit ServeFault → DeskState S → Type 0
+Ends (Err (servefault.Desk why)) desk = IsClosedBy why desk
+Ends _ desk = desk.is_closed ≡ false

@@ -1,0 +1,88 @@
+//! The stream of one client, which is not waited for without end.
+use desk_model::LONGEST_BODY;
+use std::io::{self, ErrorKind, Read, Write};
+use std::net::{Shutdown, TcpStream};
+use std::time::{Clock, Duration, Instant};
+
+/// How long a client may take to send its request, in seconds; as long again to take the reply, and for what it sends
+/// after that.
+pub(crate) const PATIENCE: u64 = 10;
+
+// How many bytes are read away after the reply, at most: two times the largest body.
+const READ_AWAY: usize = 2 * LONGEST_BODY;
+
+// How many bytes are read away at once.
+const PIECE: usize = 4096;
+
+/// A client's stream, whose reads and writes have their time in all, from the first of them on.
+#[derive(Drop)]
+pub(crate) struct Patient<'a, C: Clock> {
+    stream: &'a TcpStream,
+    clock: &'a C,
+    seconds: u64,
+    until: Option<Instant>,
+}
+
+impl<'a, C: Clock> Patient<'a, C> {
+    /// The stream, before its first read or write, with so many seconds for all of them.
+    pub(crate) fn new(stream: &'a TcpStream, clock: &'a C, seconds: u64) -> Patient<'a, C> {
+        Patient {
+            stream,
+            clock,
+            seconds,
+            until: None,
+        }
+    }
+
+    // The time that is left. Where there is none it is an error: a limit of 0 would be no limit.
+    fn left(&mut self) -> io::Result<Duration> {
+        let now = Instant::now(self.clock)?;
+        let until = self
+            .until
+            .or(now.checked_add(Duration::from_secs(self.seconds)));
+        self.until = until;
+        match until {
+            Some(until) if now < until => Ok(until.saturating_duration_since(now)),
+            _ => Err(io::Error::from(ErrorKind::TimedOut)),
+        }
+    }
+}
+
+impl<'a, C: Clock> Read for Patient<'a, C> {
+    fn read(&mut self, buf: &mut [u8]) -> io::Result<usize> {
+        let left = self.left()?;
+        self.stream.set_read_timeout(Some(left))?;
+        let mut stream = self.stream;
+        stream.read(buf)
+    }
+}
+
+impl<'a, C: Clock> Write for Patient<'a, C> {
+    fn write(&mut self, buf: &[u8]) -> io::Result<usize> {
+        let left = self.left()?;
+        self.stream.set_write_timeout(Some(left))?;
+        let mut stream = self.stream;
+        stream.write(buf)
+    }
+
+    fn flush(&mut self) -> io::Result<()> {
+        let mut stream = self.stream;
+        stream.flush()
+    }
+}
+
+/// Ends the reply, and reads away what the client still sends, within limits: a connection that is closed over bytes
+/// that nobody read could take the reply with it (RFC 9112, 9.6). What fails here is not told: the reply was given.
+pub(crate) fn end<C: Clock>(stream: &TcpStream, clock: &C) {
+    if stream.shutdown(Shutdown::Write).is_err() {
+        return;
+    }
+    let mut reader = Patient::new(stream, clock, PATIENCE);
+    let mut piece = [0u8; PIECE];
+    for _ in 0..READ_AWAY / PIECE {
+        match reader.read(&mut piece) {
+            Ok(0) | Err(_) => return,
+            Ok(_) => {}
+        }
+    }
+}

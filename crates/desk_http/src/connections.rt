@@ -1,0 +1,362 @@
+//! Clients, one after the other.
+ghost use Rattle.std.specs.Prelude.{◌≡◌, ℕ, List, None, Option, false, IfErr, IfOk, unwrap_or};
+ghost use Rattle.desk_http.specs.declared.serve_fault.ServeFault.TheVariants as fault;
+ghost use Rattle.desk_http.specs.InTurn.{Ends, IsOfMachine, ServesAll, ServesClient, ServesParsed, ServesNext, ended_by, fault_after, random_for};
+ghost use Rattle.desk_http.specs.Noted.{first_of, object_asked, object_of};
+ghost use Rattle.desk_http.specs.Serving.{IsParsedOf};
+ghost use Rattle.desk.specs.SeenDesks.{IsSeenOn};
+
+use crate::clients::{PATIENCE, Patient, end};
+use crate::noting::Noting;
+use crate::overseeing::{Entry, Overseer, number_of_ask, outcome_number, outcome_status};
+use crate::saying::Cause;
+use crate::sending::IoFault;
+use crate::serve_fault::ServeFault;
+use crate::serving::{Served, serve_parsed};
+use crate::{ParsedRequest, Request, Routes, read_call_by};
+use desk::{Desk, DeskFault};
+use desk_model::{Ask, MOST_NAMES, Target};
+use rand::TryRng;
+use rand::rngs::SysRng;
+use std::alloc::Global;
+use std::io::{Read, Write};
+use std::net::{Ipv4Addr, Net, SocketAddr, TcpListener, TcpStream};
+use std::random::RandomSource;
+use std::time::{Clock, Instant, SystemTime, UNIX_EPOCH};
+use store_api::Storage;
+
+// The random bytes of a nonce.
+const NONCE_RANDOM: usize = 16;
+
+// Those of a call with the most names: a nonce's, and two tokens' for each name.
+const MOST_RANDOM: usize = NONCE_RANDOM * (1 + 2 * MOST_NAMES);
+
+/// Takes a port of 127.0.0.1, 0 for one that the machine chooses, and tells the address.
+///
+/// # Errors
+///
+/// `Bind` where the port could not be taken.
+pub fn bind<N: Net<Stream = TcpStream, Listener = TcpListener>>(
+    net: &N,
+    port: u16,
+) -> Result<(TcpListener, SocketAddr), ServeFault>
+    ensures failed { IfErr result (λ e. e ≡ fault.Bind) }
+{
+    let Ok(listener) = net.bind(SocketAddr::from((Ipv4Addr::LOCALHOST, port))) else {
+        return Err(ServeFault::Bind);
+    };
+    match listener.local_addr() {
+        Ok(bound) => Ok((listener, bound)),
+        Err(_) => Err(ServeFault::Bind),
+    }
+}
+
+/// Serves so many connections, or 2^64 - 1 without a count, one request of each (RFC 9112, 9.6). A connection that
+/// fails is told on `errors`, and the next is taken. The overseer is asked before each call, and gets a note of each connection
+/// that was served.
+///
+/// # Errors
+///
+/// `Accept`, `Clock` or `Random` where the machine failed; `Replaced` where the desk is not in its place, `Output` where a note
+/// is not kept; `Desk` where the desk is closed, and only there.
+pub fn serve_all<M: Clock + RandomSource, K: Storage + Drop, O: Overseer, E: Write>(
+    alloc: Global,
+    machine: &M,
+    listener: &TcpListener,
+    desk: &mut Desk<K>,
+    count: Option<u64>,
+    overseer: &mut O,
+    errors: &mut E,
+) -> Result<(), ServeFault>
+    ensures policy { desk.new.policy ≡ desk.old.policy }
+    ensures served { ServesAll K.Storage.sight K.Storage.causes (unwrap_or count 18446744073709551615) desk.old desk.new result }
+    ensures seen { IsSeenOn K.Storage.sight desk.old desk.new }
+    ensures ends { desk.old.is_closed ≡ false → Ends result desk.new }
+{
+    let most = count.unwrap_or(u64::MAX);
+    let mut routes = Routes::new();
+    for served in 0..most {
+        let Ok((stream, _)) = listener.accept() else {
+            return Err(ServeFault::Accept);
+        };
+        match serve_stream(alloc, machine, &mut routes, &stream, desk, overseer, errors) {
+            Ok(()) => {}
+            Err(fault) => return Err(fault),
+        }
+    }
+    Ok(())
+}
+
+// Serves the client at the other end of a stream, and tells on `errors` where its connection failed.
+fn serve_stream<M: Clock + RandomSource, K: Storage + Drop, O: Overseer, E: Write>(
+    alloc: Global,
+    machine: &M,
+    routes: &mut Routes,
+    stream: &TcpStream,
+    desk: &mut Desk<K>,
+    overseer: &mut O,
+    errors: &mut E,
+) -> Result<(), ServeFault>
+    ensures policy { desk.new.policy ≡ desk.old.policy }
+    ensures served { ServesNext K.Storage.sight K.Storage.causes desk.old desk.new result }
+    ensures ends { desk.old.is_closed ≡ false → Ends result desk.new }
+{
+    let mut reader = Noting::new(Patient::new(stream, machine, PATIENCE));
+    let mut writer = Patient::new(stream, machine, PATIENCE);
+    let (served, call) = serve_client(
+        alloc,
+        machine,
+        routes,
+        overseer,
+        &mut reader,
+        &mut writer,
+        desk,
+    )?;
+    let is_kept = overseer.note(entry_of(machine, &reader, call, served));
+    match served {
+        Ok(_) => end(stream, machine),
+        Err(_) => {
+            let _ = writeln!(errors, "desk: connection");
+        }
+    }
+    let closed_by = closing_fault(desk, served);
+    ended_by(closed_by, is_kept)
+}
+
+// How the serving of a connection ends, by the fault that closed the desk and whether its note is kept.
+fn ended_by(closed_by: Option<DeskFault>, is_kept: bool) -> Result<(), ServeFault>
+    ensures { result ≡ ended_by closed_by is_kept }
+{
+    match closed_by {
+        Some(fault) => Err(ServeFault::Desk(fault)),
+        None if is_kept => Ok(()),
+        None => Err(ServeFault::Output),
+    }
+}
+
+// What is noted of a call that was read.
+#[derive(Clone, Copy)]
+struct CallNote {
+    // The moment at which it acts.
+    at: u64,
+    // The number of the object that it asks about, where there is one.
+    object: Option<u64>,
+    // When it was read, where the clock did not fail and it was.
+    read: Option<Instant>,
+}
+
+// What is noted of a connection that was served, behind its reply.
+fn entry_of<'e, M: Clock, R: Read + Drop>(
+    machine: &M,
+    reader: &'e Noting<R>,
+    call: CallNote,
+    served: Result<Served, IoFault>,
+) -> Entry<'e> {
+    Entry {
+        at: call.at,
+        method: reader.method(),
+        path: reader.path(),
+        status: outcome_status(served),
+        number: outcome_number(served),
+        object: object_of(call, served),
+        micros: micros_since(machine, call.read),
+    }
+}
+
+// The number of the object that was made, or of the one that was asked about.
+fn object_of(call: CallNote, served: Result<Served, IoFault>) -> Option<u64>
+    ensures { result ≡ object_of call.object served }
+{
+    match served {
+        Ok(served) => match served.told {
+            Some(told) => first_of(told.located, call.object),
+            None => call.object,
+        },
+        Err(_) => call.object,
+    }
+}
+
+// The first number, where there is one, else the other.
+fn first_of(number: Option<u64>, other: Option<u64>) -> Option<u64>
+    ensures { result ≡ first_of number other }
+{
+    match number {
+        Some(number) => Some(number),
+        None => other,
+    }
+}
+
+// How many microseconds have gone by since then.
+fn micros_since<M: Clock>(machine: &M, begun: Option<Instant>) -> Option<u64> {
+    let Ok(now) = Instant::now(machine) else {
+        return None;
+    };
+    let took = now.saturating_duration_since(begun?);
+    let micros = took.subsec_micros() as u64;
+    Some(
+        took.as_secs()
+            .saturating_mul(1_000_000)
+            .saturating_add(micros),
+    )
+}
+
+// Serves a client: at the machine's moment it reads one request, and writes the reply, if the desk is in its place.
+fn serve_client<M: Clock + RandomSource, O: Overseer, R: Read, W: Write, K: Storage + Drop>(
+    alloc: Global,
+    machine: &M,
+    routes: &mut Routes,
+    overseer: &O,
+    reader: &mut R,
+    writer: &mut W,
+    desk: &mut Desk<K>,
+) -> Result<(Result<Served, IoFault>, CallNote), ServeFault>
+    ensures policy { desk.new.policy ≡ desk.old.policy }
+    ensures served { IfOk result (λ r. ServesClient K.Storage.sight K.Storage.causes
+        (R.remaining reader.old) (W.contents writer.old) (W.contents writer.new) desk.old desk.new r.0) }
+    ensures failed { IfErr result (λ e. IsOfMachine e × (desk.new ≡ desk.old)) }
+{
+    let at = moment(machine)?;
+    match read_call_by(alloc, routes, reader) {
+        Ok(parsed) => serve_in_place(alloc, machine, overseer, writer, desk, at, parsed),
+        Err(_) => Ok((Err(IoFault::Read), nothing_read(at))),
+    }
+}
+
+// Serves a request that was read, if the desk is in its place.
+fn serve_in_place<M: Clock + RandomSource, O: Overseer, W: Write, K: Storage + Drop>(
+    alloc: Global,
+    machine: &M,
+    overseer: &O,
+    writer: &mut W,
+    desk: &mut Desk<K>,
+    at: u64,
+    parsed: ParsedRequest,
+) -> Result<(Result<Served, IoFault>, CallNote), ServeFault>
+    ensures policy { desk.new.policy ≡ desk.old.policy }
+    ensures served { (known : Option (List ℕ)) → IsParsedOf known parsed → IfOk result (λ r. ServesParsed K.Storage.sight K.Storage.causes
+        known (W.contents writer.old) (W.contents writer.new) desk.old desk.new r.0) }
+    ensures failed { IfErr result (λ e. IsOfMachine e × (desk.new ≡ desk.old)) }
+{
+    if !overseer.is_in_place() {
+        return Err(ServeFault::Replaced);
+    }
+    let call = note_of(machine, at, &parsed);
+    match serve_read(alloc, machine, writer, desk, at, parsed) {
+        Ok(served) => Ok((served, call)),
+        Err(fault) => Err(fault),
+    }
+}
+
+// What is noted where no call was read.
+fn nothing_read(at: u64) -> CallNote
+    ensures { result.object ≡ None }
+{
+    CallNote {
+        at,
+        object: None,
+        read: None,
+    }
+}
+
+// What is noted of a call that was just read.
+fn note_of<M: Clock>(machine: &M, at: u64, parsed: &ParsedRequest) -> CallNote
+    ensures { result.object ≡ object_asked parsed.now.request }
+{
+    CallNote {
+        at,
+        object: object_asked(parsed),
+        read: match Instant::now(machine) {
+            Ok(now) => Some(now),
+            Err(_) => None,
+        },
+    }
+}
+
+// The number of the object that a request asks about.
+fn object_asked(parsed: &ParsedRequest) -> Option<u64>
+    ensures { result ≡ object_asked parsed.now.request }
+{
+    match &parsed.request {
+        Ok(Request::Asks(ask)) => number_of_ask(ask),
+        _ => None,
+    }
+}
+
+// Serves a request that was read, with as many random bytes as its call may take.
+fn serve_read<M: RandomSource, W: Write, K: Storage + Drop>(
+    alloc: Global,
+    machine: &M,
+    writer: &mut W,
+    desk: &mut Desk<K>,
+    at: u64,
+    parsed: ParsedRequest,
+) -> Result<Result<Served, IoFault>, ServeFault>
+    ensures policy { desk.new.policy ≡ desk.old.policy }
+    ensures served { (known : Option (List ℕ)) → IsParsedOf known parsed → IfOk result (ServesParsed K.Storage.sight K.Storage.causes
+        known (W.contents writer.old) (W.contents writer.new) desk.old desk.new) }
+    ensures failed { IfErr result (λ e. (e ≡ fault.Random) × (desk.new ≡ desk.old)) }
+{
+    let mut random = [0u8; MOST_RANDOM];
+    let random = &mut random[..random_for(&parsed)];
+    draw(machine, random)?;
+    Ok(serve_parsed(alloc, writer, desk, at, random, parsed))
+}
+
+// How many random bytes the call of a request may take: a nonce's, and for a new order as many tokens as one may need.
+fn random_for(parsed: &ParsedRequest) -> usize
+    ensures { result ≡ random_for parsed.now.request }
+{
+    match &parsed.request {
+        Ok(Request::Asks(Ask::NewNonce { .. })) => NONCE_RANDOM,
+        Ok(Request::Asks(Ask::Signed(request))) => match request.target {
+            Target::NewOrder => MOST_RANDOM,
+            _ => NONCE_RANDOM,
+        },
+        _ => 0,
+    }
+}
+
+// The fault that closed the desk in serving a request, if it is closed. Where the connection failed that fault is not
+// known, and it is that the desk is to be opened again.
+fn closing_fault<K: Storage + Drop>(
+    desk: &Desk<K>,
+    served: Result<Served, IoFault>,
+) -> Option<DeskFault>
+    ensures { result ≡ fault_after served desk.now.is_closed }
+{
+    match served {
+        Ok(served) => match served.cause {
+            Some(Cause::Desk(fault)) if fault.closes() => Some(fault),
+            _ => None,
+        },
+        Err(_) if desk.is_closed() => Some(DeskFault::Reopen),
+        Err(_) => None,
+    }
+}
+
+/// The machine's moment, in whole seconds since 1970-01-01T00:00:00Z.
+///
+/// # Errors
+///
+/// `Clock` where the clock failed, or stands before 1970.
+pub fn moment<C: Clock>(clock: &C) -> Result<u64, ServeFault>
+    ensures failed { IfErr result (λ e. e ≡ fault.Clock) }
+{
+    let Ok(now) = SystemTime::now(clock) else {
+        return Err(ServeFault::Clock);
+    };
+    match now.duration_since(UNIX_EPOCH) {
+        Ok(since) => Ok(since.as_secs()),
+        Err(_) => Err(ServeFault::Clock),
+    }
+}
+
+// Fills the bytes from the machine's random source.
+fn draw<S: RandomSource>(source: &S, bytes: &mut [u8]) -> Result<(), ServeFault>
+    ensures failed { IfErr result (λ e. e ≡ fault.Random) }
+{
+    match SysRng::new(source).try_fill_bytes(bytes) {
+        Ok(()) => Ok(()),
+        Err(_) => Err(ServeFault::Random),
+    }
+}

@@ -1,5 +1,0 @@
-use Rattle.desk_laws.proofs.Faults.{no_faults}
-use Rattle.desk_laws.proofs.pictures_have_no_faults.Goals as goal
-
-pub returns : goal.returns
-returns c = no_faults

@@ -1,9 +1,0 @@
-pub mod Above
-pub mod AnswersAs
-pub mod Few
-pub mod FewLoaded
-pub mod IsEnough
-pub mod IsPart
-pub mod Laws
-pub mod Loaded
-pub mod LookUps

@@ -1,6 +1,0 @@
-use Rattle.desk_reading.proofs.BookOfShown.{book_shown}
-use Rattle.desk_reading.proofs.Results.{read_then}
-use Rattle.desk_reading.proofs.checked.has_book_rows.Goals as goal
-
-pub returns-clause-book : goal.returns-clause-book
-returns-clause-book g c clean = read_then c.check_meta.result (c.check_meta.ensures.known clean) (λ known so is. book_shown g.S.Store c.args.conn.now (so is))

@@ -1,3 +1,0 @@
-pub mod InMemory
-pub mod Sight
-pub mod Storing

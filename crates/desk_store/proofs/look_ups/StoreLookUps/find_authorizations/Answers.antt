@@ -1,0 +1,18 @@
+use Rattle.std.proofs.Common.{refl}
+use Rattle.sqlite.specs.Held.{state}
+use Rattle.store_api.proofs.Readings.{reads_then, stands_read}
+use Rattle.desk_store.proofs.Standing.{hands_on}
+use Rattle.desk_store.proofs.look_ups.StoreLookUps.find_authorizations.Goals as goal
+
+pub returns-clause-reads : goal.returns-clause-reads
+returns-clause-reads g c =
+    reads_then c.told.result (stands_read c.in_ok-has_no_authorizations.ensures.reads)
+    (c.told.ensures.reads c.has_no_authorizations.new.self refl c.find_authorizations-read.ensures.asks c.find_authorizations-read.ensures.unchanged)
+
+pub returns-clause-found : goal.returns-clause-found
+returns-clause-found g c clean T has =
+    let read = c.find_authorizations-read.ensures in
+    let before = (c.told.ensures.reads c.has_no_authorizations.new.self refl read.asks read.unchanged).honest clean in
+    hands_on g.S.Store _ c.has_no_authorizations.new.self (state g.S.Store c.find_authorizations-read.new.conn)
+    (state g.S.Store c.told.new.self.conn) _ c.told.result
+    read.found c.told.ensures.found c.told.ensures.honest clean T (c.in_ok-has_no_authorizations.ensures.reads.tables before T has)

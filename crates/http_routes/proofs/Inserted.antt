@@ -1,0 +1,23 @@
+-- What an insertion into the router leaves.
+use Rattle.std.proofs.Common.{◌≡◌, inl, inr, List, ℕ, subst}
+use Rattle.std.specs.Prelude.{Result, Ok, Err}
+use Rattle.matchit.specs.Rows.{RowsOf}
+use Rattle.matchit.specs.Router.{RouteOf, InsertsRead}
+use Rattle.matchit.specs.Route.{Scan, parse_route}
+use Rattle.matchit.specs.declared.error.InsertError.{InsertError}
+use Rattle.http_routes.specs.declared.routes.Route.{Route}
+use Rattle.http_routes.specs.Router.{on_scan, add_route}
+use Rattle.http_routes.specs.Routes.{text_of}
+
+-- what an insertion leaves of a route's text that was read
+on_scan_inserted : (scan : Result Scan InsertError) (v : Route) (old new : RowsOf (RouteOf Route)) (u : Unit {0})
+    → InsertsRead scan v old new (Ok u) → new ≡ on_scan scan v old
+on_scan_inserted (Ok s) v old new u h = h.1
+on_scan_inserted (Err e) v old new u h = elim h.1 [ inl q ↦ cc | inr q ↦ cc ]
+
+-- a route that was inserted by its text is in its place
+pub inserted : (text : List ℕ) (v : Route) (old new : RowsOf (RouteOf Route)) (u : Unit {0}) → text ≡ text_of v
+    → InsertsRead (parse_route text) v old new (Ok u) → new ≡ add_route old v
+unfolding add_route
+inserted text v old new u is h =
+    on_scan_inserted (parse_route (text_of v)) v old new u (subst (λ (t : List ℕ). InsertsRead (parse_route t) v old new (Ok u)) is h)

@@ -1,0 +1,21 @@
+//! Trials of requests over HTTP: worked replies byte for byte, streams that fail, a desk of a thousand orders.
+#![tactic(auto)]
+
+#[cfg(test)]
+mod asking;
+#[cfg(test)]
+mod failing_streams;
+#[cfg(test)]
+mod loopback;
+#[cfg(test)]
+mod tests;
+#[cfg(test)]
+mod thousand_orders;
+#[cfg(test)]
+mod worked_key_changes;
+#[cfg(test)]
+mod worked_replies;
+#[cfg(test)]
+mod worked_reports;
+#[cfg(test)]
+mod worked_run;

@@ -1,0 +1,194 @@
+use crate::failing_streams::{FailingReader, FailingWriter};
+use crate::worked_key_changes::KEY_CHANGES;
+use crate::worked_replies::{ASKS_NONCE, FIRST_NONCE, WORKED, new_desk, serve};
+use crate::worked_reports::REPORTS;
+use desk::{Desk, DeskFault, Memory};
+use desk_http::{IoFault, Served, ask};
+use std::alloc::Global;
+use std::process::Abort;
+use std::test::Fail;
+
+// A request with a body.
+const POSTED: &[u8] = b"POST /new-account HTTP/1.1\r\nContent-Length: 2\r\n\r\n{}";
+
+// Whether a request had its reply.
+fn is_whole(served: Result<Served, IoFault>) -> bool {
+    match served {
+        Ok(served) => served.cause == None && served.written,
+        Err(_) => false,
+    }
+}
+
+// The reply where there is nothing at a path of the offices.
+const NOTHING_HERE: &[u8] =
+    b"HTTP/1.1 404 Not Found\r\nConnection: close\r\nContent-Length: 93\r\nContent-Type: application/problem+json\r\n\r\n{\"detail\":\"there is nothing here\",\"status\":404,\"type\":\"urn:ietf:params:acme:error:malformed\"}";
+
+// A request for the end of an authorization.
+const REVOKES: &[u8] =
+    b"POST /office/revoke-authz/1 HTTP/1.1\r\nHost: 127.0.0.1\r\nContent-Length: 0\r\n\r\n";
+
+// What is told of this reply to it: none, or the number of its refusal.
+fn told_of(alloc: Global, reply: &[u8]) -> Result<Option<u8>, IoFault> {
+    let mut reader = reply;
+    let mut sent = Vec::new(alloc);
+    match ask(&mut reader, &mut sent, REVOKES) {
+        Ok(Some(refusal)) => Ok(Some(refusal.number())),
+        Ok(None) => Ok(None),
+        Err(fault) => Err(fault),
+    }
+}
+
+// Whether the desk, which has nothing yet, says so to the request that is sent, and this is parsed.
+fn revokes_nothing(alloc: Global, desk: &mut Desk<Memory>) -> bool {
+    let mut reader = NOTHING_HERE;
+    let mut sent = Vec::new(alloc);
+    let told = ask(&mut reader, &mut sent, REVOKES);
+    told.is_ok() && gives(alloc, desk, sent.as_slice(), NOTHING_HERE)
+}
+
+// Whether a new desk does.
+fn new_desk_revokes_nothing(rt: &impl Abort, alloc: Global) -> Result<bool, Fail> {
+    let mut desk = new_desk(rt, alloc)?;
+    let revokes = revokes_nothing(alloc, &mut desk);
+    drop(desk);
+    Ok(revokes)
+}
+
+// Whether the desk gives this reply.
+fn gives(alloc: Global, desk: &mut Desk<Memory>, asked: &[u8], reply: &[u8]) -> bool {
+    let mut input = asked;
+    let mut output = Vec::new(alloc);
+    let served = serve(alloc, &mut input, &mut output, desk);
+    is_whole(served) && output.as_slice() == reply
+}
+
+// Whether the desk gives these worked replies, one after the other.
+fn gives_all(alloc: Global, desk: &mut Desk<Memory>, worked: &[(&[u8], &[u8])]) -> bool {
+    for &(asked, reply) in worked {
+        if !gives(alloc, desk, asked, reply) {
+            return false;
+        }
+    }
+    true
+}
+
+// Whether a reader that fails behind these bytes is told, and nothing is written.
+fn fails_to_read(alloc: Global, desk: &mut Desk<Memory>, bytes: &[u8]) -> bool {
+    let mut reader = FailingReader { bytes };
+    let mut output = Vec::new(alloc);
+    let served = serve(alloc, &mut reader, &mut output, desk);
+    served == Err(IoFault::Read) && output.len() == 0
+}
+
+// Whether this is so behind each beginning of a request.
+fn fails_to_read_all(alloc: Global, desk: &mut Desk<Memory>) -> bool {
+    for at in 0..POSTED.len() {
+        if !fails_to_read(alloc, desk, &POSTED[..at]) {
+            return false;
+        }
+    }
+    true
+}
+
+// Whether a new desk gives the worked replies after readers that fail.
+fn new_desk_gives_worked(rt: &impl Abort, alloc: Global) -> Result<bool, Fail> {
+    let mut desk = new_desk(rt, alloc)?;
+    let gives = gives_worked_after_failures(alloc, &mut desk);
+    drop(desk);
+    Ok(gives)
+}
+
+// Whether a desk gives the worked replies after readers that fail.
+fn gives_worked_after_failures(alloc: Global, desk: &mut Desk<Memory>) -> bool {
+    fails_to_read_all(alloc, desk) && gives_all(alloc, desk, &WORKED)
+}
+
+// Whether a new desk gives these worked replies, one after the other.
+fn new_desk_gives_all(
+    rt: &impl Abort,
+    alloc: Global,
+    worked: &[(&[u8], &[u8])],
+) -> Result<bool, Fail> {
+    let mut desk = new_desk(rt, alloc)?;
+    let gives = gives_all(alloc, &mut desk, worked);
+    drop(desk);
+    Ok(gives)
+}
+
+// Whether a writer that fails behind so many bytes is told, and a new desk gives the nonce all the same.
+fn new_desk_fails_to_write(rt: &impl Abort, alloc: Global, room: usize) -> Result<bool, Fail> {
+    let mut desk = new_desk(rt, alloc)?;
+    let fails = fails_to_write(alloc, &mut desk, room);
+    drop(desk);
+    Ok(fails)
+}
+
+// Whether a writer that fails behind so many bytes is told, and the desk gives the nonce all the same.
+fn fails_to_write(alloc: Global, desk: &mut Desk<Memory>, room: usize) -> bool {
+    let mut input = ASKS_NONCE;
+    let mut writer = FailingWriter { room };
+    let served = serve(alloc, &mut input, &mut writer, desk);
+    served == Err(IoFault::Write) && !gives(alloc, desk, ASKS_NONCE, FIRST_NONCE)
+}
+
+// Whether a fault has this text.
+fn has_text(alloc: Global, fault: DeskFault, wanted: &str) -> Result<bool, Fail> {
+    let text = fault.to_string(alloc)?;
+    Ok(text.as_str() == wanted)
+}
+
+#[test]
+fn worked_replies_are_given_after_readers_that_fail(rt: HostRuntime) -> Result<(), Fail> {
+    assert!(rt; new_desk_gives_worked(&rt, rt.alloc())?);
+    Ok(())
+}
+
+#[test]
+fn key_changes_are_answered(rt: HostRuntime) -> Result<(), Fail> {
+    assert!(rt; new_desk_gives_all(&rt, rt.alloc(), &KEY_CHANGES)?);
+    assert!(rt; new_desk_gives_all(&rt, rt.alloc(), &REPORTS)?);
+    Ok(())
+}
+
+#[test]
+fn what_is_asked_is_answered(rt: HostRuntime) -> Result<(), Fail> {
+    assert!(rt; new_desk_revokes_nothing(&rt, rt.alloc())?);
+    for (reply, told) in [
+        (b"HTTP/1.1 200 OK\r\n".as_slice(), Ok(None)),
+        (NOTHING_HERE, Ok(Some(2))),
+        (b"HTTP/1.1 409 Conflict\r\n", Ok(Some(14))),
+        (b"HTTP/1.1 500 Internal Server Error\r\n", Ok(Some(15))),
+        (b"HTTP/1.1 405 Method Not Allowed\r\n", Err(IoFault::Read)),
+        (b"HTTP/1.0 200 OK\r\n", Err(IoFault::Read)),
+        (b"HTTP/1.1 200", Err(IoFault::Read)),
+        (b"", Err(IoFault::Read)),
+    ] {
+        assert!(rt; told_of(rt.alloc(), reply) == told);
+    }
+    Ok(())
+}
+
+#[test]
+fn a_writer_that_fails_is_told(rt: HostRuntime) -> Result<(), Fail> {
+    for room in 0..FIRST_NONCE.len() + 1 {
+        assert!(rt; new_desk_fails_to_write(&rt, rt.alloc(), room)?);
+    }
+    Ok(())
+}
+
+#[test]
+fn faults_have_numbers_and_texts(rt: HostRuntime) -> Result<(), Fail> {
+    for (fault, wanted) in [
+        (DeskFault::Memory, "fault 20 memory"),
+        (DeskFault::Device, "fault 21 device"),
+        (DeskFault::Reopen, "fault 22 reopen"),
+        (DeskFault::NotADesk, "fault 23 not a desk"),
+        (DeskFault::Moment, "fault 24 moment"),
+        (DeskFault::ShortRandom, "fault 25 short random"),
+        (DeskFault::Full, "fault 26 full"),
+        (DeskFault::NewerFormat, "fault 27 newer format"),
+    ] {
+        assert!(rt; has_text(rt.alloc(), fault, wanted)?, "{wanted}");
+    }
+    Ok(())
+}

@@ -1,0 +1,55 @@
+-- From a plan and a body to the request.
+use Rattle.std.proofs.Common.{◌≡◌, ℕ, List, ◌++◌, Option, Some, None, Result, Ok, Err, sym, subst}
+use Rattle.std.specs.Prelude.{IfOk, IfSome, MatchResult, option_map}
+use Rattle.http_routes.specs.Request.{IsAskIn, IsServed}
+use Rattle.http_routes.specs.Routes.{has_index}
+use Rattle.http_routes.specs.declared.request.Request.{Request}
+use Rattle.http_routes.specs.declared.request.Request.TheVariants as request
+use Rattle.http_routes.specs.declared.routes.Resource.{Resource}
+use Rattle.http_wire.specs.Framing.{framing_for}
+use Rattle.http_wire.specs.ParsedRequest.{IsAnswerTo, IsBody}
+use Rattle.http_wire.specs.Spelled.{IsRequestWith, cut_short, unread, asked}
+use Rattle.http_wire.specs.declared.call.ParsedRequest.{ParsedRequest}
+use Rattle.http_wire.specs.declared.framing.Framing.TheVariants as frame
+
+-- what a served request asks by its body
+pub request_by_body : (method path : List ℕ) (fields : List (List ℕ × List ℕ)) (rest : List ℕ) (r : Resource) (n : ℕ) (body : Option (List ℕ)) (q : Request)
+    → IsServed method path r → framing_for r fields ≡ frame.Takes n → IsBody rest n body → IsAnswerTo r method (has_index path) body q
+    → IsRequestWith method path fields rest q
+request_by_body method path fields rest r n None q s e b a =
+    let P : Request → Type 0 = λ x. IsRequestWith method path fields rest x in
+    subst P (sym a) (cut_short r n s e b)
+request_by_body method path fields rest r n (Some body) (request.Asks what) s e b a =
+    asked r n what s e b.0 (subst (λ (x : List ℕ). IsAskIn r method x (Some what)) b.1 a)
+request_by_body method path fields rest r n (Some body) (request.Refused reply) s e b a =
+    rw (a.1) (unread r n s e b.0 (subst (λ (x : List ℕ). IsAskIn r method x None) b.1 a.0))
+
+-- the same of what the reader has left, where memory was found for the body and for what it asks
+pub request_behind : {V E : Type 0} (items : V → List ℕ) (known : Option (List ℕ)) (method path : List ℕ) (fields : List (List ℕ × List ℕ))
+    (begun : List ℕ) (r : Resource) (n : ℕ) (body : Result (Option V) E) (res : Result Request E)
+    → IsServed method path r → framing_for r fields ≡ frame.Takes n
+    → IfOk body (λ b. IfSome known (λ left. IsBody (begun ++ left) n (option_map items b)))
+    → IfOk res (λ q. MatchResult body (λ b. IsAnswerTo r method (has_index path) (option_map items b) q) (λ _. ⊥))
+    → IfOk res (λ q. IfSome known (λ left. IsRequestWith method path fields (begun ++ left) q))
+request_behind items known method path fields begun r n body (Err x) s e b a = tt
+request_behind items known method path fields begun r n (Err x) (Ok q) s e b a = absurd a
+request_behind items None method path fields begun r n (Ok body) (Ok q) s e b a = tt
+request_behind items (Some left) method path fields begun r n (Ok body) (Ok q) s e b a =
+    request_by_body method path fields (begun ++ left) r n (option_map items body) q s e b a
+
+-- what is so whatever follows is so of what the reader has left
+pub whatever_is_left : (known : Option (List ℕ)) (begun : List ℕ) (P : List ℕ → Type 0) → ((rest : List ℕ) → P rest) → IfSome known (λ left. P (begun ++ left))
+whatever_is_left None begun P h = tt
+whatever_is_left (Some left) begun P h = h (begun ++ left)
+
+-- what was read is the request of this method, path and fields, with these bytes behind its head
+abbrev pub IsReadWith : {E : Type 0} → Result ParsedRequest E → Option (List ℕ) → (method path : List ℕ) → List (List ℕ × List ℕ) → List ℕ → Type 0
+IsReadWith read known method path fields begun =
+    IfOk read (λ parsed. IfOk parsed.request (λ q. IfSome known (λ left. IsRequestWith method path fields (begun ++ left) q)))
+
+-- the same of the same method, path, fields and bytes
+pub read_same : {E : Type 0} (read : Result ParsedRequest E) (known : Option (List ℕ)) (m n p t : List ℕ) (f g : List (List ℕ × List ℕ)) (b e : List ℕ)
+    → m ≡ n → p ≡ t → f ≡ g → b ≡ e → IsReadWith read known m p f b → IsReadWith read known n t g e
+read_same read known m n p t f g b e same_method same_path same_fields same_bytes h =
+    subst (λ x. IsReadWith read known x t g e) same_method (subst (λ x. IsReadWith read known m x g e) same_path
+    (subst (λ x. IsReadWith read known m p x e) same_fields (subst (IsReadWith read known m p f) same_bytes h)))

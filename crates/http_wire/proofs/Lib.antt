@@ -1,0 +1,10 @@
+pub mod Asked
+pub mod AtPaths
+pub mod Bodies
+pub mod Bytes
+pub mod Fields
+pub mod Parsing
+pub mod Lengths
+pub mod Limits
+pub mod Members
+pub mod Phrases

@@ -1,0 +1,226 @@
+//! A request, from the bytes of its reader to what it asks.
+ghost use Rattle.std.specs.Prelude.{◌≡◌, ◌≤◌, ◌+◌, ◌++◌, ℕ, List, IfOk, IfSome, IsUtf8, length, take, drop, true, false};
+ghost use Rattle.httparse.specs.Grammar.{IsToken};
+ghost use Rattle.httparse.specs.Spans.{IsRequestWithin, span_bytes};
+ghost use Rattle.http_routes.specs.Request.{refused_request};
+ghost use Rattle.http_routes.specs.Routes.{has_index};
+ghost use Rattle.http_wire.specs.Spelled.{IsRequestWith, form_by};
+ghost use Rattle.http_wire.specs.Head.{TakesAtMost};
+ghost use Rattle.http_wire.specs.ParsedRequest.{Parses, IsPlan, IsRequestAt};
+ghost use Rattle.desk_model.specs.Limits.{longest_body, longest_head};
+
+use crate::body::{answer_to, read_body};
+use crate::filling::ReadFailed;
+use crate::head::{HeadRead, MOST_FIELDS, read_head};
+use crate::plan::{Plan, plan_for};
+use desk_model::{Allow, LONGEST_HEAD, Refusal};
+use http_routes::{Request, RequestRefusal, Routes, has_index};
+use httparse::spans::{EMPTY_HEADER_SPAN, HeaderSpan, RequestSpans};
+use std::alloc::{AllocError, Global};
+use std::io::Read;
+
+/// How the reply to a request is written.
+#[derive(Clone, Copy)]
+pub struct ReplyForm {
+    /// Without its body.
+    pub head_only: bool,
+    /// With the link to the directory, where it is a refusal.
+    pub index: bool,
+}
+
+/// What was read of a request.
+#[derive(Drop)]
+pub struct ParsedRequest {
+    /// How its reply is written.
+    pub form: ReplyForm,
+    /// What it asks, or its refusal; an error where memory for it was refused.
+    pub request: Result<Request, AllocError>,
+}
+
+/// Reads a request: its head, of 16384 bytes and 64 fields at most, and as much of what follows as the head says
+/// (RFC 9112, 2 to 6). That is 131072 bytes at most. Each read takes one byte at least but the last, and one that a signal
+/// broke is made again.
+///
+/// # Errors
+///
+/// Where the reader fails.
+pub fn read_call<R: Read>(alloc: Global, reader: &mut R) -> Result<ParsedRequest, ReadFailed>
+    ensures parsed { IfOk result (λ parsed. IfSome (R.remaining reader.old) (λ input. Parses input parsed)) }
+    ensures taken { TakesAtMost (R.remaining reader.old) (R.remaining reader.new) (longest_head + longest_body) }
+{
+    let mut routes = Routes::new();
+    read_call_by(alloc, &mut routes, reader)
+}
+
+/// Reads a request as `read_call` does, by routes that are lent for one request after the other.
+///
+/// # Errors
+///
+/// Where the reader fails.
+pub fn read_call_by<R: Read>(
+    alloc: Global,
+    routes: &mut Routes,
+    reader: &mut R,
+) -> Result<ParsedRequest, ReadFailed>
+    ensures parsed { IfOk result (λ parsed. IfSome (R.remaining reader.old) (λ input. Parses input parsed)) }
+    ensures taken { TakesAtMost (R.remaining reader.old) (R.remaining reader.new) (longest_head + longest_body) }
+{
+    let mut buffer = [0u8; LONGEST_HEAD];
+    let mut headers = [EMPTY_HEADER_SPAN; MOST_FIELDS];
+    let (head, filled) = read_head(reader, &mut buffer, &mut headers)?;
+    let bytes = &buffer[..filled];
+    match head {
+        HeadRead::Malformed => Ok(unread(Refusal::Malformed)),
+        HeadRead::TooLarge => Ok(unread(Refusal::TooLarge)),
+        HeadRead::Complete(spans) => read_headed(alloc, routes, reader, bytes, &headers, spans),
+    }
+}
+
+// The request whose head lies at these spans of the bytes that were read.
+fn read_headed<R: Read>(
+    alloc: Global,
+    routes: &mut Routes,
+    reader: &mut R,
+    bytes: &[u8],
+    headers: &[HeaderSpan],
+    spans: RequestSpans,
+) -> Result<ParsedRequest, ReadFailed>
+    requires within { IsRequestWithin bytes.now headers.now spans }
+    requires method { IsToken (span_bytes bytes.now spans.method) }
+    requires path { IsUtf8 (span_bytes bytes.now spans.path) }
+    ensures form { IfOk result (λ parsed. parsed.form ≡ form_by (span_bytes bytes.now spans.method) (span_bytes bytes.now spans.path)) }
+    ensures request { IfOk result (λ parsed. IfOk parsed.request
+        (λ q. IfSome (R.remaining reader.old) (λ left. IsRequestAt bytes.now headers.now spans left q))) }
+    ensures taken { TakesAtMost (R.remaining reader.old) (R.remaining reader.new) longest_body }
+{
+    let method = text_of(spans.method.of(bytes));
+    let path = text_of(spans.path.of(bytes));
+    let fields = first(headers, spans.headers);
+    let begun = behind(bytes, spans.len);
+    let plan = plan_for(alloc, routes, method, path, bytes, fields);
+    read_as(alloc, reader, plan, method, path, begun)
+}
+
+// The request of this method and path by what its head says, and how its reply is written.
+fn read_as<R: Read>(
+    alloc: Global,
+    reader: &mut R,
+    plan: Result<Plan, AllocError>,
+    method: &str,
+    path: &str,
+    begun: &[u8],
+) -> Result<ParsedRequest, ReadFailed>
+    ensures form { IfOk result (λ parsed. parsed.form ≡ form_by method.now path.now) }
+    ensures request { (fields : List (List ℕ × List ℕ)) → IfOk plan (IsPlan method.now path.now fields)
+        → IfOk result (λ parsed. IfOk parsed.request
+        (λ q. IfSome (R.remaining reader.old) (λ left. IsRequestWith method.now path.now fields (begun.now ++ left) q))) }
+    ensures taken { (fields : List (List ℕ × List ℕ)) → IfOk plan (IsPlan method.now path.now fields)
+        → TakesAtMost (R.remaining reader.old) (R.remaining reader.new) longest_body }
+{
+    let request = read_with(alloc, reader, plan, method, path, begun)?;
+    Ok(ParsedRequest {
+        form: form_by(method, path),
+        request,
+    })
+}
+
+// The text of these bytes.
+fn text_of(bytes: &[u8]) -> &str
+    requires { IsUtf8 bytes.now }
+    ensures { result.now ≡ bytes.now }
+{
+    match str::from_utf8(bytes) {
+        Ok(text) => text,
+        Err(_) => unreachable!(),
+    }
+}
+
+// How the reply to a request of this method and path is written.
+fn form_by(method: &str, path: &str) -> ReplyForm
+    ensures { result ≡ form_by method.now path.now }
+{
+    ReplyForm {
+        head_only: method == "HEAD",
+        index: has_index(path),
+    }
+}
+
+// The refusal of a request without a head.
+fn unread(refusal: Refusal) -> ParsedRequest
+    ensures form { result.form ≡ record { head_only = false; index = true } }
+    ensures request { result.request ≡ Ok (Request.Refused (refused_request refusal Allow.No true)) }
+{
+    ParsedRequest {
+        form: ReplyForm {
+            head_only: false,
+            index: true,
+        },
+        request: Ok(Request::Refused(RequestRefusal {
+            refusal,
+            allow: Allow::No,
+            index: true,
+        })),
+    }
+}
+
+// The first spans.
+fn first(headers: &[HeaderSpan], count: usize) -> &[HeaderSpan]
+    requires { count ≤ length headers.now }
+    ensures { result.now ≡ take count headers.now }
+{
+    &headers[..count]
+}
+
+// What stands behind so many bytes.
+fn behind(bytes: &[u8], len: usize) -> &[u8]
+    requires { len ≤ length bytes.now }
+    ensures { result.now ≡ drop len bytes.now }
+{
+    &bytes[len..]
+}
+
+// The request of this method and path by what its head says, with what was begun behind it; an inner error where memory was
+// refused.
+fn read_with<R: Read>(
+    alloc: Global,
+    reader: &mut R,
+    plan: Result<Plan, AllocError>,
+    method: &str,
+    path: &str,
+    begun: &[u8],
+) -> Result<Result<Request, AllocError>, ReadFailed>
+    ensures request { (fields : List (List ℕ × List ℕ)) → IfOk plan (IsPlan method.now path.now fields)
+        → IfOk result (λ r. IfOk r
+        (λ q. IfSome (R.remaining reader.old) (λ left. IsRequestWith method.now path.now fields (begun.now ++ left) q))) }
+    ensures taken { (fields : List (List ℕ × List ℕ)) → IfOk plan (IsPlan method.now path.now fields)
+        → TakesAtMost (R.remaining reader.old) (R.remaining reader.new) longest_body }
+{
+    match plan {
+        Ok(plan) => read_planned(alloc, reader, plan, method, path, begun),
+        Err(error) => Ok(Err(error)),
+    }
+}
+
+// The request of this method and path by a plan for it.
+fn read_planned<R: Read>(
+    alloc: Global,
+    reader: &mut R,
+    plan: Plan,
+    method: &str,
+    path: &str,
+    begun: &[u8],
+) -> Result<Result<Request, AllocError>, ReadFailed>
+    ensures request { (fields : List (List ℕ × List ℕ)) → IsPlan method.now path.now fields plan
+        → IfOk result (λ r. IfOk r
+        (λ q. IfSome (R.remaining reader.old) (λ left. IsRequestWith method.now path.now fields (begun.now ++ left) q))) }
+    ensures taken { (fields : List (List ℕ × List ℕ)) → IsPlan method.now path.now fields plan
+        → TakesAtMost (R.remaining reader.old) (R.remaining reader.new) longest_body }
+{
+    match plan {
+        Plan::Refused(why) => Ok(Ok(Request::Refused(why))),
+        Plan::Takes(resource, count) => {
+            let body = read_body(alloc, reader, begun, count)?;
+            Ok(answer_to(alloc, resource, method, has_index(path), body))
+        }
+    }
+}

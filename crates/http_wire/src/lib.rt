@@ -1,0 +1,18 @@
+//! Requests read from the bytes of HTTP/1.1 messages, replies as such bytes, and the URLs that they show (RFC 9112; RFC 8555, 6.2, 6.5, 6.7, 7.1).
+#![tactic(auto)]
+
+mod body;
+mod call;
+mod filling;
+mod framing;
+mod head;
+mod plan;
+mod replies;
+mod reply_bodies;
+mod reply_parts;
+mod served;
+
+pub use call::{ParsedRequest, ReplyForm, read_call, read_call_by};
+pub use filling::{ReadFailed, fill_from};
+pub use replies::reply_text;
+pub use served::shown_urls_are_served;

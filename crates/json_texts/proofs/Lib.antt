@@ -1,0 +1,5 @@
+pub mod EachIn
+pub mod Plain
+pub mod PlainLists
+mod PlainTexts
+mod ShortTexts

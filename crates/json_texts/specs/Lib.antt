@@ -1,0 +1,3 @@
+pub mod Problems
+pub mod RefusalReplies
+pub mod Refused

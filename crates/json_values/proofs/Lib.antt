@@ -1,4 +1,0 @@
-pub mod EachIn
-pub mod PlainLists
-mod PlainTexts
-mod ShortTexts

@@ -1,0 +1,143 @@
+-- The end of an account, and of what it has (RFC 8555, 7.1.6, 7.3.6).
+use Rattle.std.specs.Prelude.{◌≡◌, ℕ, List, [], ◌∷◌, map, false, codes}
+use Rattle.desk_model.specs.Tables.{picture}
+use Rattle.desk_model.specs.declared.status.OrderStatus.{OrderStatus}
+use Rattle.desk_model.specs.declared.status.OrderStatus.TheVariants as order
+use Rattle.desk_model.specs.declared.status.AuthzStatus.{AuthzStatus}
+use Rattle.desk_model.specs.declared.status.AuthzStatus.TheVariants as authz
+use Rattle.desk_model.specs.declared.call.Ask.TheVariants as ask
+use Rattle.desk_model.specs.declared.call.OfficeAsk.TheVariants as office
+use Rattle.desk_model.specs.declared.call.Target.TheVariants as to
+use Rattle.model_examples.specs.Computed.{Gives, refuses, plain, renewed, shows, Json, Problem}
+use Rattle.model_examples.specs.Entries.{Entry, issued, spent, account_ended, ordered, answered, reported, good}
+use Rattle.model_examples.specs.Entries.{incorrect_response, authorization_ended, finalized, certified, deactivated, revoked}
+use Rattle.model_examples.specs.Entries.{History}
+use Rattle.model_examples.specs.Calls.{on, zeros, account_desk, asked, request, nonce_two, wants}
+use Rattle.model_examples.specs.Texts.{unauthorized, unfit_report, nothing_here}
+
+-- an order of this name
+abbrev pub order_of : List ℕ → Entry
+order_of base = ordered 1 (wants base ∷ [])
+
+-- five orders: pending, ready, invalid after a bad report, processing and valid
+abbrev pub busy_desk : History
+busy_desk =
+    on 0 (certified 5 (codes "chain")) ∷ on 0 (finalized 5 (1 ∷ [])) ∷ on 0 (finalized 4 (1 ∷ []))
+    ∷ on 0 (reported 9 good) ∷ on 0 (answered 9) ∷ on 0 (reported 7 good) ∷ on 0 (answered 7)
+    ∷ on 0 (reported 5 incorrect_response) ∷ on 0 (answered 5) ∷ on 0 (reported 3 good) ∷ on 0 (answered 3)
+    ∷ on 0 (order_of (codes "e.example")) ∷ on 0 (order_of (codes "d.example")) ∷ on 0 (order_of (codes "c.example"))
+    ∷ on 0 (order_of (codes "b.example")) ∷ on 0 (order_of (codes "a.example")) ∷ account_desk
+
+-- the statuses of the orders at the clock, by number
+abbrev pub order_statuses : History → List OrderStatus
+order_statuses F = map (λ o. o.status) (picture F).orders
+
+-- those of the authorizations
+abbrev pub authorization_statuses : History → List AuthzStatus
+authorization_statuses F = map (λ a. a.status) (picture F).authorizations
+
+-- the statuses of the orders while the account is valid
+abbrev pub OrdersBefore : Type 0
+OrdersBefore = order_statuses busy_desk ≡ order.Pending ∷ order.Ready ∷ order.Invalid ∷ order.Processing ∷ order.Valid ∷ []
+
+-- and of their authorizations
+abbrev pub AuthorizationsBefore : Type 0
+AuthorizationsBefore = authorization_statuses busy_desk ≡ authz.Pending ∷ authz.Valid ∷ authz.Invalid ∷ authz.Valid ∷ authz.Valid ∷ []
+
+-- the orders of an account, by number, without those that are invalid (7.1.2.1)
+abbrev pub OrdersListed : Type 0
+OrdersListed =
+    Gives busy_desk (request (to.Orders 1) [])
+    (renewed nonce_two
+    (plain 200
+    (Json (codes
+    "{\"orders\":[\"https://ca.example/order/1\",\"https://ca.example/order/2\",\"https://ca.example/order/4\",\"https://ca.example/order/5\"]}"))))
+    (spent 1 ∷ issued (zeros 16) ∷ [])
+
+-- the account is deactivated by its client
+abbrev pub AccountDeactivated : Type 0
+AccountDeactivated =
+    Gives busy_desk (request (to.Account 1) (codes "{\"contact\":1,\"status\":\"deactivated\"}"))
+    (renewed nonce_two (plain 200 (Json (codes "{\"contact\":[],\"orders\":\"https://ca.example/account/1/orders\",\"status\":\"deactivated\"}"))))
+    (spent 1 ∷ issued (zeros 16) ∷ account_ended 1 deactivated ∷ [])
+
+-- the desk after it
+abbrev pub deactivated_desk : History
+deactivated_desk = on 0 (account_ended 1 deactivated) ∷ busy_desk
+
+-- then no order of it goes on, and the valid one stays
+abbrev pub OrdersAfter : Type 0
+OrdersAfter = order_statuses deactivated_desk ≡ order.Invalid ∷ order.Invalid ∷ order.Invalid ∷ order.Invalid ∷ order.Valid ∷ []
+
+-- its pending and valid authorizations are deactivated
+abbrev pub AuthorizationsAfter : Type 0
+AuthorizationsAfter = authorization_statuses deactivated_desk ≡ authz.Deactivated ∷ authz.Deactivated ∷ authz.Invalid ∷ authz.Deactivated
+    ∷ authz.Deactivated ∷ []
+
+-- its next request is refused
+abbrev pub NextRequest : Type 0
+NextRequest = Gives deactivated_desk (request (to.Order 5) []) (refuses 401 unauthorized nonce_two) (spent 1 ∷ issued (zeros 16) ∷ [])
+
+-- newAccount too
+abbrev pub NextNewAccount : Type 0
+NextNewAccount = Gives deactivated_desk (request to.NewAccount (codes "{}")) (refuses 401 unauthorized nonce_two) (spent 1 ∷ issued (zeros 16) ∷ [])
+
+-- ---- the operator
+
+-- the operator revokes an account
+abbrev pub AccountRevoked : Type 0
+AccountRevoked =
+    Gives busy_desk (asked 0 0 (ask.Office (office.RevokeAccount 1)))
+    (shows (codes "{\"contact\":[],\"orders\":\"https://ca.example/account/1/orders\",\"status\":\"revoked\"}"))
+    (account_ended 1 revoked ∷ [])
+
+-- the desk after it
+abbrev pub revoked_desk : History
+revoked_desk = on 0 (account_ended 1 revoked) ∷ busy_desk
+
+-- its authorizations take that end
+abbrev pub AuthorizationsOfRevoked : Type 0
+AuthorizationsOfRevoked = authorization_statuses revoked_desk ≡ authz.Revoked ∷ authz.Revoked ∷ authz.Invalid ∷ authz.Revoked ∷ authz.Revoked ∷ []
+
+-- again: nothing changes
+abbrev pub AccountRevokedAgain : Type 0
+AccountRevokedAgain =
+    Gives revoked_desk (asked 0 0 (ask.Office (office.RevokeAccount 1)))
+    (shows (codes "{\"contact\":[],\"orders\":\"https://ca.example/account/1/orders\",\"status\":\"revoked\"}"))
+    []
+
+-- an account that its client ended is not revoked
+abbrev pub DeactivatedIsNotRevoked : Type 0
+DeactivatedIsNotRevoked = Gives deactivated_desk (asked 0 0 (ask.Office (office.RevokeAccount 1))) (plain 409 (Problem false unfit_report)) []
+
+-- an account that was never opened
+abbrev pub UnknownAccountRevoked : Type 0
+UnknownAccountRevoked = Gives busy_desk (asked 0 0 (ask.Office (office.RevokeAccount 2))) (plain 404 (Problem false nothing_here)) []
+
+-- the operator revokes an authorization
+abbrev pub AuthorizationRevoked : Type 0
+AuthorizationRevoked =
+    Gives busy_desk (asked 0 0 (ask.Office (office.RevokeAuthz 2)))
+    (shows (codes
+    "{\"challenges\":[{\"status\":\"valid\",\"token\":\"AAAAAAAAAAAAAAAAAAAAAA\",\"type\":\"http-01\",\"url\":\"https://ca.example/chall/3\",\"validated\":\"1970-01-01T00:00:00Z\"}],\"expires\":\"1970-01-31T00:00:00Z\",\"identifier\":{\"type\":\"dns\",\"value\":\"b.example\"},\"status\":\"revoked\"}"))
+    (authorization_ended 2 revoked ∷ [])
+
+-- again: nothing changes
+abbrev pub AuthorizationRevokedAgain : Type 0
+AuthorizationRevokedAgain =
+    Gives (on 0 (authorization_ended 2 revoked) ∷ busy_desk) (asked 0 0 (ask.Office (office.RevokeAuthz 2)))
+    (shows (codes
+    "{\"challenges\":[{\"status\":\"valid\",\"token\":\"AAAAAAAAAAAAAAAAAAAAAA\",\"type\":\"http-01\",\"url\":\"https://ca.example/chall/3\",\"validated\":\"1970-01-01T00:00:00Z\"}],\"expires\":\"1970-01-31T00:00:00Z\",\"identifier\":{\"type\":\"dns\",\"value\":\"b.example\"},\"status\":\"revoked\"}"))
+    []
+
+-- one that ended otherwise is not revoked
+abbrev pub InvalidIsNotRevoked : Type 0
+InvalidIsNotRevoked = Gives busy_desk (asked 0 0 (ask.Office (office.RevokeAuthz 3))) (plain 409 (Problem false unfit_report)) []
+
+-- nor one past its moment
+abbrev pub ExpiredIsNotRevoked : Type 0
+ExpiredIsNotRevoked = Gives busy_desk (asked 2592001 0 (ask.Office (office.RevokeAuthz 1))) (plain 409 (Problem false unfit_report)) []
+
+-- an authorization that was never made
+abbrev pub UnknownAuthorizationRevoked : Type 0
+UnknownAuthorizationRevoked = Gives busy_desk (asked 0 0 (ask.Office (office.RevokeAuthz 6))) (plain 404 (Problem false nothing_here)) []

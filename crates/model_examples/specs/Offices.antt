@@ -1,0 +1,273 @@
+-- The validator and the signing office: what waits for them, and what they hand in (RFC 8555, 7.4, 8).
+use Rattle.std.specs.Prelude.{ℕ, List, [], ◌∷◌, ◌++◌, replicate, false, codes}
+use Rattle.desk_model.specs.declared.call.Call.{Call}
+use Rattle.desk_model.specs.declared.call.Ask.TheVariants as ask
+use Rattle.desk_model.specs.declared.call.OfficeAsk.{OfficeAsk}
+use Rattle.desk_model.specs.declared.call.OfficeAsk.TheVariants as office
+use Rattle.desk_model.specs.declared.call.Finding.{Finding}
+use Rattle.desk_model.specs.declared.call.Finding.TheVariants as found
+use Rattle.desk_model.specs.declared.call.FetchError.TheVariants as fetch
+use Rattle.desk_model.specs.declared.call.OrderProblem.{OrderProblem}
+use Rattle.model_examples.specs.Computed.{Gives, plain, shows, Problem}
+use Rattle.model_examples.specs.Entries.{opened, ordered, answered, reported, good, incorrect_response, connection, dns, finalized, certified, failed, History}
+use Rattle.model_examples.specs.Calls.{on, new_desk, asked, wants, second_key}
+use Rattle.model_examples.specs.Keys.{rsa_key}
+use Rattle.model_examples.specs.Texts.{malformed, nothing_here, unfit_report}
+
+-- an order of example.org, by an account with the key of RFC 7638, 3.1
+abbrev pub waiting_desk : History
+waiting_desk = on 0 (ordered 1 (wants (codes "example.org") ∷ [])) ∷ on 0 (opened rsa_key []) ∷ new_desk
+
+-- its http-01 challenge was answered
+abbrev pub http_desk : History
+http_desk = on 0 (answered 1) ∷ waiting_desk
+
+-- what an office hands in or asks for, at 0
+abbrev pub handed : OfficeAsk → Call
+handed what = asked 0 0 (ask.Office what)
+
+-- refused, with nothing recorded
+abbrev pub Turns : History → OfficeAsk → ℕ → List ℕ → Type 0
+Turns F what status text = Gives F (handed what) (plain status (Problem false text)) []
+
+-- answered with this document, with nothing recorded
+abbrev pub Repeats : History → OfficeAsk → List ℕ → Type 0
+Repeats F what text = Gives F (handed what) (shows text) []
+
+-- ---- what waits for the validator
+
+-- no challenge was answered
+abbrev pub NoChallengeWork : Type 0
+NoChallengeWork = Repeats waiting_desk office.ChallengeWork (codes "{\"challenges\":[]}")
+
+-- an http-01 challenge wants the key authorization
+abbrev pub HttpWork : Type 0
+HttpWork =
+    Repeats http_desk office.ChallengeWork
+    (codes "{\"challenges\":[{\"challenge\":1,\"expected\":\"AAAAAAAAAAAAAAAAAAAAAA.NzbLsXh8uDCcd-6MNwXF4W_7noWXFZAfHkxZsRGC9Xs\",\"name\":\"example.org\",\"token\":\"AAAAAAAAAAAAAAAAAAAAAA\",\"type\":\"http-01\"}]}")
+
+-- a dns-01 challenge wants its digest
+abbrev pub BothWork : Type 0
+BothWork =
+    Repeats (on 0 (answered 2) ∷ http_desk) office.ChallengeWork
+    (codes "{\"challenges\":[{\"challenge\":1,\"expected\":\"AAAAAAAAAAAAAAAAAAAAAA.NzbLsXh8uDCcd-6MNwXF4W_7noWXFZAfHkxZsRGC9Xs\",\"name\":\"example.org\",\"token\":\"AAAAAAAAAAAAAAAAAAAAAA\",\"type\":\"http-01\"},{\"challenge\":2,\"expected\":\"6H4FhzYmR97XkCWAT_eXR2sP0qjpSQae4RcMSVuj2EU\",\"name\":\"example.org\",\"token\":\"AAAAAAAAAAAAAAAAAAAAAA\",\"type\":\"dns-01\"}]}")
+
+-- what is past its moment waits no longer
+abbrev pub NoExpiredWork : Type 0
+NoExpiredWork = Gives http_desk (asked 2592001 0 (ask.Office office.ChallengeWork)) (shows (codes "{\"challenges\":[]}")) []
+
+-- ---- reports
+
+-- a report on the first challenge
+abbrev pub report : Finding → OfficeAsk
+report finding = office.Report 1 finding
+
+-- another body than the one expected
+abbrev pub WrongBody : Type 0
+WrongBody =
+    Gives http_desk (handed (report (found.Body [])))
+    (shows (codes
+    "{\"error\":{\"detail\":\"the response did not match\",\"status\":403,\"type\":\"urn:ietf:params:acme:error:incorrectResponse\"},\"status\":\"invalid\",\"token\":\"AAAAAAAAAAAAAAAAAAAAAA\",\"type\":\"http-01\",\"url\":\"https://ca.example/chall/1\"}"))
+    (reported 1 incorrect_response ∷ [])
+
+-- the right one, with a line end
+abbrev pub RightBody : Type 0
+RightBody =
+    Gives http_desk (handed (report (found.Body (codes "AAAAAAAAAAAAAAAAAAAAAA.NzbLsXh8uDCcd-6MNwXF4W_7noWXFZAfHkxZsRGC9Xs" ++ 10 ∷ []))))
+    (shows (codes
+    "{\"status\":\"valid\",\"token\":\"AAAAAAAAAAAAAAAAAAAAAA\",\"type\":\"http-01\",\"url\":\"https://ca.example/chall/1\",\"validated\":\"1970-01-01T00:00:00Z\"}"))
+    (reported 1 good ∷ [])
+
+-- the right record among others
+abbrev pub RightRecord : Type 0
+RightRecord =
+    Gives (on 0 (answered 2) ∷ waiting_desk) (handed (office.Report 2 (found.Records (codes "x" ∷ codes "6H4FhzYmR97XkCWAT_eXR2sP0qjpSQae4RcMSVuj2EU" ∷ []))))
+    (shows (codes
+    "{\"status\":\"valid\",\"token\":\"AAAAAAAAAAAAAAAAAAAAAA\",\"type\":\"dns-01\",\"url\":\"https://ca.example/chall/2\",\"validated\":\"1970-01-01T00:00:00Z\"}"))
+    (reported 2 good ∷ [])
+
+-- no connection
+abbrev pub NoConnection : Type 0
+NoConnection =
+    Gives http_desk (handed (report (found.Error fetch.Connection)))
+    (shows (codes
+    "{\"error\":{\"detail\":\"the validator could not connect\",\"status\":400,\"type\":\"urn:ietf:params:acme:error:connection\"},\"status\":\"invalid\",\"token\":\"AAAAAAAAAAAAAAAAAAAAAA\",\"type\":\"http-01\",\"url\":\"https://ca.example/chall/1\"}"))
+    (reported 1 connection ∷ [])
+
+-- no records
+abbrev pub NoRecordsFound : Type 0
+NoRecordsFound =
+    Gives http_desk (handed (report (found.Error fetch.Dns)))
+    (shows (codes
+    "{\"error\":{\"detail\":\"the validator found no records\",\"status\":400,\"type\":\"urn:ietf:params:acme:error:dns\"},\"status\":\"invalid\",\"token\":\"AAAAAAAAAAAAAAAAAAAAAA\",\"type\":\"http-01\",\"url\":\"https://ca.example/chall/1\"}"))
+    (reported 1 dns ∷ [])
+
+-- the challenge failed
+abbrev pub reported_desk : History
+reported_desk = on 0 (reported 1 incorrect_response) ∷ http_desk
+
+-- another wrong body is the same outcome: nothing is recorded
+abbrev pub WrongBodyAgain : Type 0
+WrongBodyAgain =
+    Repeats reported_desk (report (found.Body (codes "x")))
+    (codes "{\"error\":{\"detail\":\"the response did not match\",\"status\":403,\"type\":\"urn:ietf:params:acme:error:incorrectResponse\"},\"status\":\"invalid\",\"token\":\"AAAAAAAAAAAAAAAAAAAAAA\",\"type\":\"http-01\",\"url\":\"https://ca.example/chall/1\"}")
+
+-- another outcome contradicts it
+abbrev pub OtherOutcome : Type 0
+OtherOutcome = Turns reported_desk (report (found.Error fetch.Connection)) 409 unfit_report
+
+-- records for an http-01 challenge, whatever stands of it
+abbrev pub RecordsForHttp : Type 0
+RecordsForHttp = Turns reported_desk (report (found.Records [])) 400 malformed
+
+-- a body for a dns-01 challenge
+abbrev pub BodyForDns : Type 0
+BodyForDns = Turns http_desk (office.Report 2 (found.Body [])) 400 malformed
+
+-- a challenge that was never made
+abbrev pub UnknownChallenge : Type 0
+UnknownChallenge = Turns http_desk (office.Report 99 (found.Body [])) 404 nothing_here
+
+-- ---- the signing office
+
+-- no order is processing
+abbrev pub NoOrderWork : Type 0
+NoOrderWork = Repeats http_desk office.OrderWork (codes "{\"orders\":[]}")
+
+-- the order is processing
+abbrev pub processing_desk : History
+processing_desk = on 0 (finalized 1 (1 ∷ 2 ∷ 3 ∷ [])) ∷ on 0 (reported 1 good) ∷ http_desk
+
+-- for certificates, whose bytes no document shows
+abbrev pub certify : List ℕ → OfficeAsk
+certify bytes = office.Certify 1 bytes
+
+-- the document of the order with its certificate
+abbrev pub valid_order : List ℕ
+valid_order =
+    codes "{\"authorizations\":[\"https://ca.example/authz/1\"],\"certificate\":\"https://ca.example/cert/1\",\"expires\":\"1970-01-08T00:00:00Z\",\"finalize\":\"https://ca.example/order/1/finalize\",\"identifiers\":[{\"type\":\"dns\",\"value\":\"example.org\"}],\"status\":\"valid\"}"
+
+-- a certificate makes the order valid
+abbrev pub Certifies : Type 0
+Certifies = Gives processing_desk (handed (certify (codes "chain"))) (shows valid_order) (certified 1 (codes "chain") ∷ [])
+
+-- of no bytes
+abbrev pub EmptyCertificate : Type 0
+EmptyCertificate = Turns processing_desk (certify []) 400 malformed
+
+-- the form is tested before the status, and behind the number
+abbrev pub EmptyForUnknown : Type 0
+EmptyForUnknown = Turns processing_desk (office.Certify 2 []) 404 nothing_here
+
+-- the order has its certificate
+abbrev pub certified_desk : History
+certified_desk = on 0 (certified 1 (codes "chain")) ∷ processing_desk
+
+-- the same bytes again
+abbrev pub SameCertificate : Type 0
+SameCertificate = Repeats certified_desk (certify (codes "chain")) valid_order
+
+-- other bytes
+abbrev pub OtherCertificate : Type 0
+OtherCertificate = Turns certified_desk (certify (codes "other")) 409 unfit_report
+
+-- an order that is not processing
+abbrev pub UnreadyCertificate : Type 0
+UnreadyCertificate = Turns http_desk (certify (codes "chain")) 409 unfit_report
+
+-- the office fails the order
+abbrev pub fails : (kind detail : List ℕ) → OfficeAsk
+fails kind detail = office.FailOrder 1 (record { kind = kind; detail = detail })
+
+-- a problem with the CSR
+abbrev pub short_key : OrderProblem
+short_key = record { kind = codes "badCSR"; detail = codes "key too short" }
+
+-- the document of the order with that problem
+abbrev pub failed_order : List ℕ
+failed_order =
+    codes "{\"authorizations\":[\"https://ca.example/authz/1\"],\"error\":{\"detail\":\"key too short\",\"status\":400,\"type\":\"urn:ietf:params:acme:error:badCSR\"},\"expires\":\"1970-01-08T00:00:00Z\",\"finalize\":\"https://ca.example/order/1/finalize\",\"identifiers\":[{\"type\":\"dns\",\"value\":\"example.org\"}],\"status\":\"invalid\"}"
+
+-- the office says why it makes no certificate
+abbrev pub Fails : Type 0
+Fails = Gives processing_desk (handed (fails (codes "badCSR") (codes "key too short"))) (shows failed_order) (failed 1 short_key ∷ [])
+
+-- a failure of its own
+abbrev pub FailsInside : Type 0
+FailsInside =
+    Gives processing_desk (handed (fails (codes "serverInternal") (codes "no signer")))
+    (shows (codes
+    "{\"authorizations\":[\"https://ca.example/authz/1\"],\"error\":{\"detail\":\"no signer\",\"status\":500,\"type\":\"urn:ietf:params:acme:error:serverInternal\"},\"expires\":\"1970-01-08T00:00:00Z\",\"finalize\":\"https://ca.example/order/1/finalize\",\"identifiers\":[{\"type\":\"dns\",\"value\":\"example.org\"}],\"status\":\"invalid\"}"))
+    (failed 1 (record { kind = codes "serverInternal"; detail = codes "no signer" }) ∷ [])
+
+-- the order failed by it
+abbrev pub failed_desk : History
+failed_desk = on 0 (failed 1 short_key) ∷ processing_desk
+
+-- the same again
+abbrev pub FailsAgain : Type 0
+FailsAgain = Repeats failed_desk (fails (codes "badCSR") (codes "key too short")) failed_order
+
+-- another detail
+abbrev pub FailsOtherwise : Type 0
+FailsOtherwise = Turns failed_desk (fails (codes "badCSR") (codes "key too long")) 409 unfit_report
+
+-- an error type that is not the office's
+abbrev pub FailsByDns : Type 0
+FailsByDns = Turns processing_desk (fails (codes "dns") (codes "key too short")) 400 malformed
+
+-- a detail of 257 bytes
+abbrev pub FailsAtLength : Type 0
+FailsAtLength = Turns processing_desk (fails (codes "badCSR") (replicate 257 97)) 400 malformed
+
+-- no detail
+abbrev pub FailsWithoutDetail : Type 0
+FailsWithoutDetail = Turns processing_desk (fails (codes "badCSR") []) 400 malformed
+
+-- an order that was never made
+abbrev pub FailsUnknown : Type 0
+FailsUnknown = Turns processing_desk (office.FailOrder 2 short_key) 404 nothing_here
+
+-- an order that is not processing
+abbrev pub FailsUnready : Type 0
+FailsUnready = Turns http_desk (fails (codes "badCSR") (codes "key too short")) 409 unfit_report
+
+-- ---- keys and the directory
+
+-- the canonical text of an account's key
+abbrev pub KeyOfAccount : Type 0
+KeyOfAccount = Repeats waiting_desk (office.KeyOf 1) rsa_key
+
+-- an account that was never opened
+abbrev pub KeyOfUnknown : Type 0
+KeyOfUnknown = Turns waiting_desk (office.KeyOf 2) 404 nothing_here
+
+-- the directory
+abbrev pub Directory : Type 0
+Directory =
+    Repeats new_desk office.Directory
+    (codes "{\"keyChange\":\"https://ca.example/key-change\",\"newAccount\":\"https://ca.example/new-account\",\"newNonce\":\"https://ca.example/new-nonce\",\"newOrder\":\"https://ca.example/new-order\"}")
+
+-- ---- repeats of failed reports, and keys of several accounts
+
+-- the same failure of the connection again
+abbrev pub ConnectionAgain : Type 0
+ConnectionAgain =
+    Repeats (on 0 (reported 1 connection) ∷ http_desk) (report (found.Error fetch.Connection))
+    (codes "{\"error\":{\"detail\":\"the validator could not connect\",\"status\":400,\"type\":\"urn:ietf:params:acme:error:connection\"},\"status\":\"invalid\",\"token\":\"AAAAAAAAAAAAAAAAAAAAAA\",\"type\":\"http-01\",\"url\":\"https://ca.example/chall/1\"}")
+
+-- the same failure of the look-up again
+abbrev pub DnsAgain : Type 0
+DnsAgain =
+    Repeats (on 0 (reported 1 dns) ∷ http_desk) (report (found.Error fetch.Dns))
+    (codes "{\"error\":{\"detail\":\"the validator found no records\",\"status\":400,\"type\":\"urn:ietf:params:acme:error:dns\"},\"status\":\"invalid\",\"token\":\"AAAAAAAAAAAAAAAAAAAAAA\",\"type\":\"http-01\",\"url\":\"https://ca.example/chall/1\"}")
+
+-- the other failure contradicts it
+abbrev pub DnsAfterConnection : Type 0
+DnsAfterConnection = Turns (on 0 (reported 1 connection) ∷ http_desk) (report (found.Error fetch.Dns)) 409 unfit_report
+
+-- a challenge asks for the key of its own account
+abbrev pub OwnKeyWork : Type 0
+OwnKeyWork =
+    Repeats (on 0 (answered 3) ∷ on 0 (ordered 2 (wants (codes "a.example") ∷ [])) ∷ on 0 (opened second_key []) ∷ waiting_desk) office.ChallengeWork
+    (codes "{\"challenges\":[{\"challenge\":3,\"expected\":\"AAAAAAAAAAAAAAAAAAAAAA.pF1dcf6lIm6B95gxRV0_u2O1e7FkRx6C8-vJxcZYuDw\",\"name\":\"a.example\",\"token\":\"AAAAAAAAAAAAAAAAAAAAAA\",\"type\":\"http-01\"}]}")

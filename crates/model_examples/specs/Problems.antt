@@ -1,0 +1,92 @@
+-- The document of each refusal (RFC 7807; RFC 8555, 6.7, 6.7.1).
+use Rattle.std.specs.Prelude.{◌≡◌, ℕ, List, [], ◌∷◌, true, codes}
+use Rattle.serde_json.specs.Written.{compact_text}
+use Rattle.desk_model.specs.declared.refusal.Refusal.{Refusal}
+use Rattle.desk_model.specs.Refusals.{problem_document, refusal_of}
+use Rattle.desk_model.specs.declared.refusal.Refusal.TheVariants as refusal
+use Rattle.desk_model.specs.declared.reply.Problem.{Problem}
+use Rattle.desk_model.specs.declared.reply.Subproblem.{Subproblem}
+use Rattle.desk_model.specs.declared.reply.Allow.TheVariants as allow
+use Rattle.model_examples.specs.Texts.{malformed, nothing_here, wrong_method, bad_nonce, bad_public_key, no_account, unauthorized}
+use Rattle.model_examples.specs.Texts.{unsupported_contact, invalid_contact, unsupported_identifier, rejected_identifier}
+use Rattle.model_examples.specs.Texts.{order_not_ready, bad_csr, unfit_report, could_not_act, too_large}
+
+-- this refusal, with these subproblems
+abbrev pub problem : Refusal → List Subproblem → Problem
+problem why subproblems = record { refusal = why; subproblems = subproblems; allow = allow.No; index = true }
+
+-- this refusal has this number, and is said so
+abbrev pub Says : ℕ → Refusal → List ℕ → Type 0
+Says n why text = ((refusal_of why).number ≡ n) × (compact_text (problem_document (problem why [])) ≡ text)
+
+-- the request is not well formed
+abbrev pub Malformed : Type 0
+Malformed = Says 1 refusal.Malformed malformed
+
+-- there is nothing here
+abbrev pub NothingHere : Type 0
+NothingHere = Says 2 refusal.NotFound nothing_here
+
+-- this method is not served here
+abbrev pub WrongMethod : Type 0
+WrongMethod = Says 3 refusal.MethodNotAllowed wrong_method
+
+-- the nonce is not open
+abbrev pub BadNonce : Type 0
+BadNonce = Says 4 refusal.BadNonce bad_nonce
+
+-- the key is not accepted
+abbrev pub BadPublicKey : Type 0
+BadPublicKey = Says 5 refusal.BadPublicKey bad_public_key
+
+-- no account has this key
+abbrev pub NoAccount : Type 0
+NoAccount = Says 6 refusal.AccountDoesNotExist no_account
+
+-- the account is not valid
+abbrev pub Unauthorized : Type 0
+Unauthorized = Says 7 refusal.Unauthorized unauthorized
+
+-- the contact scheme is not supported
+abbrev pub UnsupportedContact : Type 0
+UnsupportedContact = Says 8 refusal.UnsupportedContact unsupported_contact
+
+-- the contact is not accepted
+abbrev pub InvalidContact : Type 0
+InvalidContact = Says 9 refusal.InvalidContact invalid_contact
+
+-- the identifier type is not supported
+abbrev pub UnsupportedIdentifier : Type 0
+UnsupportedIdentifier = Says 10 refusal.UnsupportedIdentifier unsupported_identifier
+
+-- the name is not accepted
+abbrev pub RejectedIdentifier : Type 0
+RejectedIdentifier = Says 11 refusal.RejectedIdentifier rejected_identifier
+
+-- the order is not ready
+abbrev pub OrderNotReady : Type 0
+OrderNotReady = Says 12 refusal.OrderNotReady order_not_ready
+
+-- the CSR is not accepted
+abbrev pub BadCsr : Type 0
+BadCsr = Says 13 refusal.BadCsr bad_csr
+
+-- the report does not fit the records
+abbrev pub UnfitReport : Type 0
+UnfitReport = Says 14 refusal.Conflict unfit_report
+
+-- the desk could not act
+abbrev pub CouldNotAct : Type 0
+CouldNotAct = Says 15 refusal.ServerInternal could_not_act
+
+-- the request is too large
+abbrev pub TooLarge : Type 0
+TooLarge = Says 16 refusal.TooLarge too_large
+
+-- a subproblem has its identifier as received, and no status
+abbrev pub OneSubproblem : Type 0
+OneSubproblem =
+    compact_text
+    (problem_document
+    (problem refusal.RejectedIdentifier ((record { refusal = refusal.RejectedIdentifier; kind = codes "dns"; value = codes "A..b" }) ∷ [])))
+    ≡ codes "{\"detail\":\"the name is not accepted\",\"status\":400,\"subproblems\":[{\"detail\":\"the name is not accepted\",\"identifier\":{\"type\":\"dns\",\"value\":\"A..b\"},\"type\":\"urn:ietf:params:acme:error:rejectedIdentifier\"}],\"type\":\"urn:ietf:params:acme:error:rejectedIdentifier\"}"

@@ -1,0 +1,134 @@
+-- Refusals of signed requests: which test answers, and that the nonce is spent (RFC 8555, 6.2, 6.5, 6.7).
+use Rattle.std.specs.Prelude.{ℕ, List, [], ◌∷◌, Option, Some, None, Ok, Err, codes}
+use Rattle.model_examples.specs.Entries.{issued, spent, opened, account_ended, revoked, History}
+use Rattle.desk_model.specs.declared.call.Call.{Call}
+use Rattle.desk_model.specs.declared.call.Ask.TheVariants as ask
+use Rattle.desk_model.specs.declared.call.Target.{Target}
+use Rattle.desk_model.specs.declared.call.Target.TheVariants as to
+use Rattle.model_examples.specs.Computed.{Gives, refuses, plain, renewed, Json}
+use Rattle.model_examples.specs.Calls.{on, zeros, account_desk, order_desk, default_terms, first_key, second_key, asked, signed, request, nonce_one, nonce_two}
+use Rattle.model_examples.specs.Texts.{malformed, nothing_here, bad_nonce, bad_public_key, no_account, unauthorized, order_not_ready}
+
+-- the call is refused with this document, its nonce is spent and a fresh one issued
+abbrev pub Refuses : History → Call → ℕ → List ℕ → Type 0
+Refuses F call status text = Gives F call (refuses status text nonce_two) (spent 1 ∷ issued (zeros 16) ∷ [])
+
+-- ---- the order of the tests
+
+-- a request with this nonce, if any
+abbrev pub with_nonce : Option (List ℕ) → Call
+with_nonce nonce = asked 0 16 (ask.Signed (record { target = to.NewAccount; key = Ok first_key; nonce = nonce; payload = codes "{}" }))
+
+-- without a nonce a fresh one is issued, and nothing is spent (6.5)
+abbrev pub WithoutNonce : Type 0
+WithoutNonce = Gives account_desk (with_nonce None) (refuses 400 bad_nonce nonce_two) (issued (zeros 16) ∷ [])
+
+-- a nonce that was never issued
+abbrev pub UnknownNonce : Type 0
+UnknownNonce = Gives account_desk (with_nonce (Some nonce_two)) (refuses 400 bad_nonce nonce_two) (issued (zeros 16) ∷ [])
+
+-- a nonce with the serial of an open one and other random bytes
+abbrev pub GuessedNonce : Type 0
+GuessedNonce =
+    Gives account_desk (with_nonce (Some (codes "AAAAAAAAAAEAAAAAAAAAAAAAAAAAAAAB"))) (refuses 400 bad_nonce nonce_two) (issued (zeros 16) ∷ [])
+
+-- a text that spells no nonce
+abbrev pub NoNonceText : Type 0
+NoNonceText = Gives account_desk (with_nonce (Some (codes "AAAA"))) (refuses 400 bad_nonce nonce_two) (issued (zeros 16) ∷ [])
+
+-- the key is tested behind the nonce, and before the payload
+abbrev pub BadKey : Type 0
+BadKey =
+    Refuses account_desk
+    (asked 0 16 (ask.Signed (record { target = to.NewAccount; key = Err (record {}); nonce = Some nonce_one; payload = codes "no object" })))
+    400 bad_public_key
+
+-- a bad key without an open nonce is refused for its nonce
+abbrev pub BadKeyWithoutNonce : Type 0
+BadKeyWithoutNonce =
+    Gives account_desk
+    (asked 0 16 (ask.Signed (record { target = to.NewAccount; key = Err (record {}); nonce = None; payload = [] })))
+    (refuses 400 bad_nonce nonce_two) (issued (zeros 16) ∷ [])
+
+-- the key has no account: tested before the payload
+abbrev pub KeyWithoutAccount : Type 0
+KeyWithoutAccount = Refuses account_desk (asked 0 16 (signed second_key nonce_one to.NewOrder (codes "no object"))) 400 no_account
+
+-- a desk whose account has ended
+abbrev pub ended_desk : History
+ended_desk = on 0 (account_ended 1 revoked) ∷ account_desk
+
+-- the account has ended: tested before the payload
+abbrev pub EndedAccount : Type 0
+EndedAccount = Refuses ended_desk (request to.NewOrder (codes "no object")) 401 unauthorized
+
+-- the key of an ended account opens no other
+abbrev pub EndedKey : Type 0
+EndedKey = Refuses ended_desk (request to.NewAccount (codes "no object")) 401 unauthorized
+
+-- the object is tested before the payload
+abbrev pub UnknownOrder : Type 0
+UnknownOrder = Refuses account_desk (request (to.Order 1) (codes "no object")) 404 nothing_here
+
+-- the payload is tested before the order's status
+abbrev pub FormBeforeStatus : Type 0
+FormBeforeStatus = Refuses (order_desk default_terms) (request (to.Finalize 1) (codes "{}")) 400 malformed
+
+-- the status is tested before the CSR
+abbrev pub StatusBeforeCsr : Type 0
+StatusBeforeCsr = Refuses (order_desk default_terms) (request (to.Finalize 1) (codes "{\"csr\":\"!\"}")) 403 order_not_ready
+
+-- ---- objects that are not there, or another's
+
+-- the path of another account
+abbrev pub AnotherAccount : Type 0
+AnotherAccount = Refuses (on 0 (opened second_key []) ∷ account_desk) (request (to.Account 2) []) 404 nothing_here
+
+-- the orders of another account
+abbrev pub AnotherOrders : Type 0
+AnotherOrders = Refuses (on 0 (opened second_key []) ∷ account_desk) (request (to.Orders 2) []) 404 nothing_here
+
+-- another account's objects look as if there were none
+abbrev pub two_accounts : History
+two_accounts = on 0 (opened second_key []) ∷ order_desk default_terms
+
+-- a request of the second account
+abbrev pub by_second : Target → List ℕ → Call
+by_second target payload = asked 0 16 (signed second_key nonce_one target payload)
+
+-- another account's order
+abbrev pub AnotherOrder : Type 0
+AnotherOrder = Refuses two_accounts (by_second (to.Order 1) []) 404 nothing_here
+
+-- an order that was never made
+abbrev pub MissingOrder : Type 0
+MissingOrder = Refuses two_accounts (by_second (to.Order 99) []) 404 nothing_here
+
+-- another account's order, to be finalized
+abbrev pub AnotherFinalize : Type 0
+AnotherFinalize = Refuses two_accounts (by_second (to.Finalize 1) (codes "{\"csr\":\"AQID\"}")) 404 nothing_here
+
+-- another account's certificate
+abbrev pub AnotherCertificate : Type 0
+AnotherCertificate = Refuses two_accounts (by_second (to.Cert 1) []) 404 nothing_here
+
+-- another account's authorization
+abbrev pub AnotherAuthorization : Type 0
+AnotherAuthorization = Refuses two_accounts (by_second (to.Authz 1) []) 404 nothing_here
+
+-- another account's challenge
+abbrev pub AnotherChallenge : Type 0
+AnotherChallenge = Refuses two_accounts (by_second (to.Chall 1) (codes "{}")) 404 nothing_here
+
+-- a challenge that was never made
+abbrev pub MissingChallenge : Type 0
+MissingChallenge = Refuses two_accounts (by_second (to.Chall 3) []) 404 nothing_here
+
+-- the certificate of an order that is not valid
+abbrev pub NoCertificate : Type 0
+NoCertificate = Refuses (order_desk default_terms) (request (to.Cert 1) []) 404 nothing_here
+
+-- an account lists its own orders alone
+abbrev pub OwnOrders : Type 0
+OwnOrders =
+    Gives two_accounts (by_second (to.Orders 2) []) (renewed nonce_two (plain 200 (Json (codes "{\"orders\":[]}")))) (spent 1 ∷ issued (zeros 16) ∷ [])

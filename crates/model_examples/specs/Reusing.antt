@@ -1,0 +1,179 @@
+-- Orders that use valid authorizations again (RFC 8555, 7.4).
+use Rattle.std.specs.Prelude.{◌≡◌, ℕ, [], ◌∷◌, Option, Some, None, true, codes, map, option_map}
+use Rattle.desk_model.specs.Authorization.{authorizations, count_challenges}
+use Rattle.desk_model.specs.Name.{Name}
+use Rattle.desk_model.specs.Order.{order_by_number}
+use Rattle.desk_model.specs.Questions.{order_on, serving_on}
+use Rattle.desk_model.specs.Rules.{wanted}
+use Rattle.desk_model.specs.Tables.{tables_at}
+use Rattle.desk_model.specs.Terms.{Terms}
+use Rattle.desk_model.specs.declared.entry.Wanted.{Wanted}
+use Rattle.desk_model.specs.declared.status.OrderStatus.{OrderStatus}
+use Rattle.desk_model.specs.declared.status.OrderStatus.TheVariants as order
+use Rattle.model_examples.specs.Entries.{History, answered, authorization_ended, certified, finalized, good}
+use Rattle.model_examples.specs.Entries.{key_changed, opened, ordered, reported, reused, revoked}
+use Rattle.model_examples.specs.Calls.{first_key, on, order_desk, second_key, simple, terms_of, wants, zeros}
+use Rattle.model_examples.specs.Following.{May, MayNot}
+
+-- a desk with these terms whose first authorization, for a.example, is valid
+abbrev pub proved_desk : Terms → History
+proved_desk terms = on 0 (reported 1 good) ∷ on 0 (answered 1) ∷ order_desk terms
+
+-- authorizations live longer than orders
+abbrev pub long : Terms
+long = terms_of 3600 100 200
+
+-- a.example with the authorization of this number
+abbrev pub again : ℕ → Wanted
+again n = reused (simple (codes "a.example")) n
+
+abbrev pub wildcard : Name
+wildcard = record { base = codes "a.example"; wildcard = true }
+
+-- ---- what may follow
+
+-- the account's valid authorization for the name is used again
+abbrev pub ReusesValid : Type 0
+ReusesValid = May (proved_desk long) (ordered 1 (again 1 ∷ [])) 0
+
+-- beside a new one
+abbrev pub ReusesBesideNew : Type 0
+ReusesBesideNew = May (proved_desk long) (ordered 1 (again 1 ∷ wants (codes "b.example") ∷ [])) 0
+
+-- a new one for the same name may be made, too
+abbrev pub MakesAnother : Type 0
+MakesAnother = May (proved_desk long) (ordered 1 (wants (codes "a.example") ∷ [])) 0
+
+-- a pending one is not used again
+abbrev pub ReusesPending : Type 0
+ReusesPending = MayNot (order_desk long) (ordered 1 (again 1 ∷ [])) 0
+
+-- nor one that was revoked
+abbrev pub ReusesRevoked : Type 0
+ReusesRevoked = MayNot (on 0 (authorization_ended 1 revoked) ∷ proved_desk long) (ordered 1 (again 1 ∷ [])) 0
+
+-- nor one of another name
+abbrev pub ReusesOther : Type 0
+ReusesOther = MayNot (proved_desk long) (ordered 1 (reused (simple (codes "b.example")) 1 ∷ [])) 0
+
+-- nor that of the name for its wildcard
+abbrev pub ReusesForWildcard : Type 0
+ReusesForWildcard = MayNot (proved_desk long) (ordered 1 (reused wildcard 1 ∷ [])) 0
+
+-- nor that of another account
+abbrev pub ReusesForeign : Type 0
+ReusesForeign = MayNot (on 0 (opened second_key []) ∷ proved_desk long) (ordered 2 (again 1 ∷ [])) 0
+
+-- an account that has another key uses its authorizations again
+abbrev pub ReusesUnderNewKey : Type 0
+ReusesUnderNewKey = May (on 0 (key_changed 1 second_key) ∷ proved_desk long) (ordered 1 (again 1 ∷ [])) 0
+
+-- and whoever opens an account with the key that it had does not
+abbrev pub ReusesUnderOldKey : Type 0
+ReusesUnderOldKey = MayNot (on 0 (opened first_key []) ∷ on 0 (key_changed 1 second_key) ∷ proved_desk long) (ordered 2 (again 1 ∷ [])) 0
+
+-- nor one that is not there
+abbrev pub ReusesUnknown : Type 0
+ReusesUnknown = MayNot (proved_desk long) (ordered 1 (again 2 ∷ [])) 0
+
+-- nor one twice
+abbrev pub ReusesTwice : Type 0
+ReusesTwice = MayNot (proved_desk long) (ordered 1 (again 1 ∷ again 1 ∷ [])) 0
+
+-- it lives as long as the order
+abbrev pub ReusesToTheEnd : Type 0
+ReusesToTheEnd = May (proved_desk long) (ordered 1 (again 1 ∷ [])) 100
+
+-- and no second less
+abbrev pub ReusesTooShort : Type 0
+ReusesTooShort = MayNot (proved_desk long) (ordered 1 (again 1 ∷ [])) 101
+
+-- ---- which is used
+
+-- the number of the one that serves
+abbrev pub serving : History → ℕ → Name → Option ℕ
+serving F m name = option_map (λ r. r.number) (serving_on (tables_at F m) 1 name)
+
+-- the valid one
+abbrev pub ServesValid : Type 0
+ServesValid = serving (proved_desk long) 0 (simple (codes "a.example")) ≡ Some 1
+
+-- none where it is pending, for the wildcard, or past the moment
+abbrev pub ServesNoPending : Type 0
+ServesNoPending = serving (order_desk long) 0 (simple (codes "a.example")) ≡ None
+
+abbrev pub ServesNoWildcard : Type 0
+ServesNoWildcard = serving (proved_desk long) 0 wildcard ≡ None
+
+abbrev pub ServesNoLonger : Type 0
+ServesNoLonger = serving (proved_desk long) 101 (simple (codes "a.example")) ≡ None
+
+-- a second order for the name, with an authorization of its own that was proved, too
+abbrev pub twice_proved : History
+twice_proved =
+    on 0 (reported 3 good) ∷ on 0 (answered 3) ∷ on 0 (ordered 1 (wants (codes "a.example") ∷ [])) ∷ proved_desk long
+
+-- of several the one of the least number
+abbrev pub ServesLeast : Type 0
+ServesLeast = serving twice_proved 0 (simple (codes "a.example")) ≡ Some 1
+
+-- the next, where that was revoked
+abbrev pub ServesNext : Type 0
+ServesNext = serving (on 0 (authorization_ended 1 revoked) ∷ twice_proved) 0 (simple (codes "a.example")) ≡ Some 2
+
+-- names get it, and the others new ones, with tokens from the random bytes
+abbrev pub Picks : Type 0
+Picks =
+    wanted (tables_at (proved_desk long) 0) 1 (simple (codes "a.example") ∷ simple (codes "b.example") ∷ []) (zeros 32)
+    ≡ again 1 ∷ wants (codes "b.example") ∷ []
+
+-- ---- what is made
+
+-- an order of a name with the authorization that was there, and of another
+abbrev pub shared_desk : History
+shared_desk = on 0 (ordered 1 (again 1 ∷ wants (codes "b.example") ∷ [])) ∷ proved_desk long
+
+-- one authorization is made, the second, with two challenges
+abbrev pub MakesOne : Type 0
+MakesOne = map (λ a. a.number) (authorizations shared_desk) ≡ 1 ∷ 2 ∷ []
+
+abbrev pub MakesTwoChallenges : Type 0
+MakesTwoChallenges = count_challenges (authorizations shared_desk) ≡ 4
+
+-- the order lists both
+abbrev pub ListsBoth : Type 0
+ListsBoth = option_map (λ o. o.authorizations) (order_by_number 2 shared_desk) ≡ Some (1 ∷ 2 ∷ [])
+
+-- the status of an order at a moment
+abbrev pub status : History → ℕ → ℕ → Option OrderStatus
+status F m n = option_map (λ o. o.status) (order_on (tables_at F m) n)
+
+-- it is pending, by the new one
+abbrev pub BesideNewIsPending : Type 0
+BesideNewIsPending = status shared_desk 0 2 ≡ Some order.Pending
+
+-- an order that makes none is ready at once
+abbrev pub ReusedIsReady : Type 0
+ReusedIsReady = status (on 0 (ordered 1 (again 1 ∷ [])) ∷ proved_desk long) 0 2 ≡ Some order.Ready
+
+-- ---- an authorization of several orders ends
+
+-- the first order has its certificate
+abbrev pub certified_desk : History
+certified_desk =
+    on 0 (ordered 1 (again 1 ∷ [])) ∷ on 0 (certified 1 (zeros 1)) ∷ on 0 (finalized 1 (zeros 1)) ∷ proved_desk long
+
+-- it stays valid when the authorization is revoked
+abbrev pub CertifiedStays : Type 0
+CertifiedStays = status (on 0 (authorization_ended 1 revoked) ∷ certified_desk) 0 1 ≡ Some order.Valid
+
+-- the second falls
+abbrev pub SharingFalls : Type 0
+SharingFalls = status (on 0 (authorization_ended 1 revoked) ∷ certified_desk) 0 2 ≡ Some order.Invalid
+
+-- both fall, where neither has one
+abbrev pub BothFall : Type 0
+BothFall = status (on 0 (authorization_ended 1 revoked) ∷ shared_desk) 0 1 ≡ Some order.Invalid
+
+abbrev pub OtherFalls : Type 0
+OtherFalls = status (on 0 (authorization_ended 1 revoked) ∷ shared_desk) 0 2 ≡ Some order.Invalid

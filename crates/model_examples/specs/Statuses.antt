@@ -1,0 +1,299 @@
+-- Statuses over time: validation, expiry, deactivation and what orders make of them (RFC 8555, 7.1.6).
+use Rattle.std.specs.Prelude.{ℕ, List, [], ◌∷◌, false, codes}
+use Rattle.desk_model.specs.Terms.{Terms}
+use Rattle.desk_model.specs.declared.call.Call.{Call}
+use Rattle.desk_model.specs.declared.call.Ask.TheVariants as ask
+use Rattle.desk_model.specs.declared.call.OfficeAsk.TheVariants as office
+use Rattle.desk_model.specs.declared.call.Finding.TheVariants as found
+use Rattle.desk_model.specs.declared.call.FetchError.TheVariants as fetch
+use Rattle.desk_model.specs.declared.call.Target.{Target}
+use Rattle.desk_model.specs.declared.call.Target.TheVariants as to
+use Rattle.model_examples.specs.Computed.{Gives, refuses, plain, renewed, shows, located, below, Json, Problem, Certificate}
+use Rattle.model_examples.specs.Entries.{issued, spent, ordered, answered, reported, good, authorization_ended, finalized, certified, deactivated, History}
+use Rattle.model_examples.specs.Calls.{on, zeros, order_desk, account_desk, terms_of, default_terms, first_key, asked, signed}
+use Rattle.model_examples.specs.Calls.{request, nonce_one, nonce_two, wants}
+use Rattle.model_examples.specs.Texts.{nothing_here, unfit_report, order_not_ready, bad_csr}
+
+-- nonces live 3600 seconds, orders and authorizations 100
+abbrev pub short_terms : Terms
+short_terms = terms_of 3600 100 100
+
+-- the key authorization of a token of zero bytes under the first key (8.1)
+abbrev pub authorization_text : List ℕ
+authorization_text = codes "AAAAAAAAAAAAAAAAAAAAAA.CmzeuaSxxfG8gIKRU_AgBzPa16nTt0H64JD7q1sZUUY"
+
+-- the validator found the right body for the first challenge
+abbrev pub matching : ℕ → Call
+matching at = asked at 0 (ask.Office (office.Report 1 (found.Body authorization_text)))
+
+-- a request at a moment that reads an object
+abbrev pub reading : ℕ → Target → Call
+reading at target = asked at 16 (signed first_key nonce_one target [])
+
+-- a signed request is answered with this document and records nothing more
+abbrev pub Reads : History → Call → List ℕ → Type 0
+Reads F call text = Gives F call (renewed nonce_two (plain 200 (Json text))) (spent 1 ∷ issued (zeros 16) ∷ [])
+
+-- a report, or what the signing office hands in, does not fit, and nothing is recorded
+abbrev pub Unfit : History → Call → Type 0
+Unfit F call = Gives F call (plain 409 (Problem false unfit_report)) []
+
+-- ---- a challenge is answered and reported
+
+-- the client says that a challenge can be validated (7.5.1)
+abbrev pub ChallengeAnswered : Type 0
+ChallengeAnswered =
+    Gives (order_desk short_terms) (asked 10 16 (signed first_key nonce_one (to.Chall 1) (codes "{}")))
+    (below (codes "https://ca.example/authz/1")
+    (renewed nonce_two
+    (plain 200
+    (Json (codes "{\"status\":\"processing\",\"token\":\"AAAAAAAAAAAAAAAAAAAAAA\",\"type\":\"http-01\",\"url\":\"https://ca.example/chall/1\"}")))))
+    (spent 1 ∷ issued (zeros 16) ∷ answered 1 ∷ [])
+
+-- the first challenge was answered at 10
+abbrev pub answered_desk : History
+answered_desk = on 10 (answered 1) ∷ order_desk short_terms
+
+-- answering again changes nothing
+abbrev pub AnswersAgain : Type 0
+AnswersAgain =
+    Gives answered_desk (asked 11 16 (signed first_key nonce_one (to.Chall 1) (codes "{}")))
+    (below (codes "https://ca.example/authz/1")
+    (renewed nonce_two
+    (plain 200
+    (Json (codes "{\"status\":\"processing\",\"token\":\"AAAAAAAAAAAAAAAAAAAAAA\",\"type\":\"http-01\",\"url\":\"https://ca.example/chall/1\"}")))))
+    (spent 1 ∷ issued (zeros 16) ∷ [])
+
+-- a matching report in the authorization's last second
+abbrev pub ReportInTime : Type 0
+ReportInTime =
+    Gives answered_desk (matching 100)
+    (shows (codes
+    "{\"status\":\"valid\",\"token\":\"AAAAAAAAAAAAAAAAAAAAAA\",\"type\":\"http-01\",\"url\":\"https://ca.example/chall/1\",\"validated\":\"1970-01-01T00:01:40Z\"}"))
+    (reported 1 good ∷ [])
+
+-- and proved at 100
+abbrev pub ready_desk : History
+ready_desk = on 100 (reported 1 good) ∷ answered_desk
+
+-- makes the authorization valid, which then shows that challenge alone
+abbrev pub ValidAuthorization : Type 0
+ValidAuthorization =
+    Reads ready_desk (reading 100 (to.Authz 1))
+    (codes "{\"challenges\":[{\"status\":\"valid\",\"token\":\"AAAAAAAAAAAAAAAAAAAAAA\",\"type\":\"http-01\",\"url\":\"https://ca.example/chall/1\",\"validated\":\"1970-01-01T00:01:40Z\"}],\"expires\":\"1970-01-01T00:01:40Z\",\"identifier\":{\"type\":\"dns\",\"value\":\"a.example\"},\"status\":\"valid\"}")
+
+-- and the order ready
+abbrev pub ReadyOrder : Type 0
+ReadyOrder =
+    Reads ready_desk (reading 100 (to.Order 1))
+    (codes "{\"authorizations\":[\"https://ca.example/authz/1\"],\"expires\":\"1970-01-01T00:01:40Z\",\"finalize\":\"https://ca.example/order/1/finalize\",\"identifiers\":[{\"type\":\"dns\",\"value\":\"a.example\"}],\"status\":\"ready\"}")
+
+-- a second later the report comes too late
+abbrev pub ReportTooLate : Type 0
+ReportTooLate = Unfit answered_desk (matching 101)
+
+-- the order is invalid
+abbrev pub ExpiredOrder : Type 0
+ExpiredOrder =
+    Reads answered_desk (reading 101 (to.Order 1))
+    (codes "{\"authorizations\":[\"https://ca.example/authz/1\"],\"expires\":\"1970-01-01T00:01:40Z\",\"finalize\":\"https://ca.example/order/1/finalize\",\"identifiers\":[{\"type\":\"dns\",\"value\":\"a.example\"}],\"status\":\"invalid\"}")
+
+-- its authorization expired
+abbrev pub ExpiredAuthorization : Type 0
+ExpiredAuthorization =
+    Reads answered_desk (reading 101 (to.Authz 1))
+    (codes "{\"challenges\":[{\"status\":\"processing\",\"token\":\"AAAAAAAAAAAAAAAAAAAAAA\",\"type\":\"http-01\",\"url\":\"https://ca.example/chall/1\"},{\"status\":\"pending\",\"token\":\"AAAAAAAAAAAAAAAAAAAAAA\",\"type\":\"dns-01\",\"url\":\"https://ca.example/chall/2\"}],\"expires\":\"1970-01-01T00:01:40Z\",\"identifier\":{\"type\":\"dns\",\"value\":\"a.example\"},\"status\":\"expired\"}")
+
+-- a valid authorization expires too
+abbrev pub ValidExpires : Type 0
+ValidExpires =
+    Reads ready_desk (reading 101 (to.Authz 1))
+    (codes "{\"challenges\":[{\"status\":\"valid\",\"token\":\"AAAAAAAAAAAAAAAAAAAAAA\",\"type\":\"http-01\",\"url\":\"https://ca.example/chall/1\",\"validated\":\"1970-01-01T00:01:40Z\"}],\"expires\":\"1970-01-01T00:01:40Z\",\"identifier\":{\"type\":\"dns\",\"value\":\"a.example\"},\"status\":\"expired\"}")
+
+-- an answer that comes too late is not recorded
+abbrev pub AnswerTooLate : Type 0
+AnswerTooLate =
+    Gives (order_desk short_terms) (asked 101 16 (signed first_key nonce_one (to.Chall 1) (codes "{}")))
+    (below (codes "https://ca.example/authz/1")
+    (renewed nonce_two
+    (plain 200
+    (Json (codes "{\"status\":\"pending\",\"token\":\"AAAAAAAAAAAAAAAAAAAAAA\",\"type\":\"http-01\",\"url\":\"https://ca.example/chall/1\"}")))))
+    (spent 1 ∷ issued (zeros 16) ∷ [])
+
+-- an end that comes past the authorization's moment does not show: it has expired
+abbrev pub LateEnd : Type 0
+LateEnd =
+    Gives answered_desk (asked 101 16 (signed first_key nonce_one (to.Authz 1) (codes "{\"status\":\"deactivated\"}")))
+    (renewed nonce_two
+    (plain 200
+    (Json (codes
+    "{\"challenges\":[{\"status\":\"processing\",\"token\":\"AAAAAAAAAAAAAAAAAAAAAA\",\"type\":\"http-01\",\"url\":\"https://ca.example/chall/1\"},{\"status\":\"pending\",\"token\":\"AAAAAAAAAAAAAAAAAAAAAA\",\"type\":\"dns-01\",\"url\":\"https://ca.example/chall/2\"}],\"expires\":\"1970-01-01T00:01:40Z\",\"identifier\":{\"type\":\"dns\",\"value\":\"a.example\"},\"status\":\"expired\"}"))))
+    (spent 1 ∷ issued (zeros 16) ∷ [])
+
+-- ---- the same report again, and others
+
+-- a matching report again records nothing
+abbrev pub ReportAgain : Type 0
+ReportAgain =
+    Gives ready_desk (matching 100)
+    (shows (codes
+    "{\"status\":\"valid\",\"token\":\"AAAAAAAAAAAAAAAAAAAAAA\",\"type\":\"http-01\",\"url\":\"https://ca.example/chall/1\",\"validated\":\"1970-01-01T00:01:40Z\"}"))
+    []
+
+-- another finding contradicts it
+abbrev pub ReportContradicts : Type 0
+ReportContradicts = Unfit ready_desk (asked 100 0 (ask.Office (office.Report 1 (found.Error fetch.Connection))))
+
+-- a challenge that nobody answered waits for no report
+abbrev pub ReportUnasked : Type 0
+ReportUnasked = Unfit (order_desk short_terms) (matching 10)
+
+-- ---- an authorization is deactivated
+
+-- the order was proved and finalized
+abbrev pub processing_desk : History
+processing_desk = on 0 (finalized 1 (1 ∷ 2 ∷ 3 ∷ [])) ∷ on 0 (reported 1 good) ∷ on 0 (answered 1) ∷ order_desk default_terms
+
+-- there is no certificate while the order is processing
+abbrev pub NoCertificateYet : Type 0
+NoCertificateYet = Gives processing_desk (reading 0 (to.Cert 1)) (refuses 404 nothing_here nonce_two) (spent 1 ∷ issued (zeros 16) ∷ [])
+
+-- the client deactivates the authorization
+abbrev pub deactivating : Call
+deactivating = request (to.Authz 1) (codes "{\"status\":\"deactivated\"}")
+
+-- a valid authorization is deactivated by its client (7.5.2)
+abbrev pub Deactivates : Type 0
+Deactivates =
+    Gives processing_desk deactivating
+    (renewed nonce_two
+    (plain 200
+    (Json (codes
+    "{\"challenges\":[{\"status\":\"valid\",\"token\":\"AAAAAAAAAAAAAAAAAAAAAA\",\"type\":\"http-01\",\"url\":\"https://ca.example/chall/1\",\"validated\":\"1970-01-01T00:00:00Z\"}],\"expires\":\"1970-01-31T00:00:00Z\",\"identifier\":{\"type\":\"dns\",\"value\":\"a.example\"},\"status\":\"deactivated\"}"))))
+    (spent 1 ∷ issued (zeros 16) ∷ authorization_ended 1 deactivated ∷ [])
+
+-- the desk after it
+abbrev pub fallen_desk : History
+fallen_desk = on 0 (authorization_ended 1 deactivated) ∷ processing_desk
+
+-- again: nothing changes
+abbrev pub DeactivatesAgain : Type 0
+DeactivatesAgain =
+    Reads fallen_desk deactivating
+    (codes "{\"challenges\":[{\"status\":\"valid\",\"token\":\"AAAAAAAAAAAAAAAAAAAAAA\",\"type\":\"http-01\",\"url\":\"https://ca.example/chall/1\",\"validated\":\"1970-01-01T00:00:00Z\"}],\"expires\":\"1970-01-31T00:00:00Z\",\"identifier\":{\"type\":\"dns\",\"value\":\"a.example\"},\"status\":\"deactivated\"}")
+
+-- the order that was processing is invalid
+abbrev pub ProcessingFalls : Type 0
+ProcessingFalls =
+    Reads fallen_desk (reading 0 (to.Order 1))
+    (codes "{\"authorizations\":[\"https://ca.example/authz/1\"],\"expires\":\"1970-01-08T00:00:00Z\",\"finalize\":\"https://ca.example/order/1/finalize\",\"identifiers\":[{\"type\":\"dns\",\"value\":\"a.example\"}],\"status\":\"invalid\"}")
+
+-- and gets no certificate
+abbrev pub FallenIsNotCertified : Type 0
+FallenIsNotCertified = Unfit fallen_desk (asked 0 0 (ask.Office (office.Certify 1 (codes "chain"))))
+
+-- an order that is invalid stands in no list of orders (7.1.2.1)
+abbrev pub FallenIsNotListed : Type 0
+FallenIsNotListed = Reads fallen_desk (reading 0 (to.Orders 1)) (codes "{\"orders\":[]}")
+
+-- an order that got its certificate before its authorization was deactivated
+abbrev pub valid_desk : History
+valid_desk = on 0 (authorization_ended 1 deactivated) ∷ on 0 (certified 1 (codes "chain")) ∷ processing_desk
+
+-- a valid order stays valid
+abbrev pub ValidStays : Type 0
+ValidStays =
+    Reads valid_desk (reading 0 (to.Order 1))
+    (codes "{\"authorizations\":[\"https://ca.example/authz/1\"],\"certificate\":\"https://ca.example/cert/1\",\"expires\":\"1970-01-08T00:00:00Z\",\"finalize\":\"https://ca.example/order/1/finalize\",\"identifiers\":[{\"type\":\"dns\",\"value\":\"a.example\"}],\"status\":\"valid\"}")
+
+-- past its moment too
+abbrev pub ValidNeverExpires : Type 0
+ValidNeverExpires =
+    Gives (on 604801 (issued (zeros 16)) ∷ valid_desk) (asked 604801 16 (signed first_key nonce_two (to.Orders 1) []))
+    (renewed (codes "AAAAAAAAAAMAAAAAAAAAAAAAAAAAAAAA") (plain 200 (Json (codes "{\"orders\":[\"https://ca.example/order/1\"]}"))))
+    (spent 2 ∷ issued (zeros 16) ∷ [])
+
+-- and its certificate is given as it was handed in (7.4.2)
+abbrev pub CertificateGiven : Type 0
+CertificateGiven = Gives valid_desk (reading 0 (to.Cert 1)) (renewed nonce_two (plain 200 (Certificate (codes "chain")))) (spent 1 ∷ issued (zeros 16) ∷ [])
+
+-- ---- an order of two names
+
+-- an order of a.example and b.example, the first of them validated
+abbrev pub half_desk : History
+half_desk = on 0 (reported 1 good) ∷ on 0 (answered 1) ∷ on 0 (ordered 1 (wants (codes "a.example") ∷ wants (codes "b.example") ∷ [])) ∷ account_desk
+
+-- the second too, by its dns-01 challenge
+abbrev pub whole_desk : History
+whole_desk = on 0 (reported 4 good) ∷ on 0 (answered 4) ∷ half_desk
+
+-- one validated of two: the order is pending
+abbrev pub OneOfTwo : Type 0
+OneOfTwo =
+    Reads half_desk (reading 0 (to.Order 1))
+    (codes "{\"authorizations\":[\"https://ca.example/authz/1\",\"https://ca.example/authz/2\"],\"expires\":\"1970-01-08T00:00:00Z\",\"finalize\":\"https://ca.example/order/1/finalize\",\"identifiers\":[{\"type\":\"dns\",\"value\":\"a.example\"},{\"type\":\"dns\",\"value\":\"b.example\"}],\"status\":\"pending\"}")
+
+-- the client finalizes the order
+abbrev pub finalizing : List ℕ → Call
+finalizing payload = request (to.Finalize 1) payload
+
+-- and is not finalized (7.4)
+abbrev pub PendingIsNotFinalized : Type 0
+PendingIsNotFinalized = Gives half_desk (finalizing (codes "{\"csr\":\"AQID\"}")) (refuses 403 order_not_ready nonce_two) (spent 1 ∷ issued (zeros 16) ∷ [])
+
+-- both: it is ready
+abbrev pub BothOfTwo : Type 0
+BothOfTwo =
+    Reads whole_desk (reading 0 (to.Order 1))
+    (codes "{\"authorizations\":[\"https://ca.example/authz/1\",\"https://ca.example/authz/2\"],\"expires\":\"1970-01-08T00:00:00Z\",\"finalize\":\"https://ca.example/order/1/finalize\",\"identifiers\":[{\"type\":\"dns\",\"value\":\"a.example\"},{\"type\":\"dns\",\"value\":\"b.example\"}],\"status\":\"ready\"}")
+
+-- a CSR of no bytes
+abbrev pub EmptyCsr : Type 0
+EmptyCsr = Gives whole_desk (finalizing (codes "{\"csr\":\"\"}")) (refuses 400 bad_csr nonce_two) (spent 1 ∷ issued (zeros 16) ∷ [])
+
+-- a text that is no base64url
+abbrev pub NoCsr : Type 0
+NoCsr = Gives whole_desk (finalizing (codes "{\"csr\":\"AQID=\"}")) (refuses 400 bad_csr nonce_two) (spent 1 ∷ issued (zeros 16) ∷ [])
+
+-- a CSR of three bytes: the order is processing
+abbrev pub Finalizes : Type 0
+Finalizes =
+    Gives whole_desk (finalizing (codes "{\"csr\":\"AQID\"}"))
+    (located (codes "https://ca.example/order/1") (renewed nonce_two (plain 200 (Json (codes
+    "{\"authorizations\":[\"https://ca.example/authz/1\",\"https://ca.example/authz/2\"],\"expires\":\"1970-01-08T00:00:00Z\",\"finalize\":\"https://ca.example/order/1/finalize\",\"identifiers\":[{\"type\":\"dns\",\"value\":\"a.example\"},{\"type\":\"dns\",\"value\":\"b.example\"}],\"status\":\"processing\"}")))))
+    (spent 1 ∷ issued (zeros 16) ∷ finalized 1 (1 ∷ 2 ∷ 3 ∷ []) ∷ [])
+
+-- the desk after it
+abbrev pub finalized_desk : History
+finalized_desk = on 0 (finalized 1 (1 ∷ 2 ∷ 3 ∷ [])) ∷ whole_desk
+
+-- again: it is not ready any more
+abbrev pub FinalizesOnce : Type 0
+FinalizesOnce = Gives finalized_desk (finalizing (codes "{\"csr\":\"AQID\"}")) (refuses 403 order_not_ready nonce_two) (spent 1 ∷ issued (zeros 16) ∷ [])
+
+-- the signing office sees its CSR and its names
+abbrev pub OrderWork : Type 0
+OrderWork = Gives finalized_desk (asked 0 0 (ask.Office office.OrderWork))
+    (shows (codes "{\"orders\":[{\"csr\":\"AQID\",\"names\":[\"a.example\",\"b.example\"],\"order\":1}]}")) []
+
+-- ---- what the client of a proved or pending authorization may do
+
+-- a challenge beside the one that proved the authorization is not answered any more
+abbrev pub OtherChallengeAnswered : Type 0
+OtherChallengeAnswered =
+    Gives ready_desk (asked 100 16 (signed first_key nonce_one (to.Chall 2) (codes "{}")))
+    (below (codes "https://ca.example/authz/1")
+    (renewed nonce_two
+    (plain 200
+    (Json (codes "{\"status\":\"pending\",\"token\":\"AAAAAAAAAAAAAAAAAAAAAA\",\"type\":\"dns-01\",\"url\":\"https://ca.example/chall/2\"}")))))
+    (spent 1 ∷ issued (zeros 16) ∷ [])
+
+-- a pending authorization is deactivated in its last second
+abbrev pub DeactivatesPending : Type 0
+DeactivatesPending =
+    Gives (order_desk short_terms) (asked 100 16 (signed first_key nonce_one (to.Authz 1) (codes "{\"status\":\"deactivated\"}")))
+    (renewed nonce_two
+    (plain 200
+    (Json (codes
+    "{\"challenges\":[{\"status\":\"pending\",\"token\":\"AAAAAAAAAAAAAAAAAAAAAA\",\"type\":\"http-01\",\"url\":\"https://ca.example/chall/1\"},{\"status\":\"pending\",\"token\":\"AAAAAAAAAAAAAAAAAAAAAA\",\"type\":\"dns-01\",\"url\":\"https://ca.example/chall/2\"}],\"expires\":\"1970-01-01T00:01:40Z\",\"identifier\":{\"type\":\"dns\",\"value\":\"a.example\"},\"status\":\"deactivated\"}"))))
+    (spent 1 ∷ issued (zeros 16) ∷ authorization_ended 1 deactivated ∷ [])

@@ -1,0 +1,156 @@
+-- Several entries on a part.
+use Rattle.std.proofs.Common.{◌≡◌, ◌≤◌, ◌<◌, ℕ, ◌+◌, List, [], ◌∷◌, ◌++◌, map, filter, refl, sym, ap, ◌∙◌, true, false, Bool, cond, arith}
+use Rattle.desk_model.specs.Entry.{History}
+use Rattle.desk_model.specs.History.{clock, record_all}
+use Rattle.desk_model.specs.Legal.{EachFollows}
+use Rattle.desk_model.specs.Nonce.{issued_by}
+use Rattle.desk_model.specs.Account.{opened_by}
+use Rattle.desk_model.specs.Order.{ordered_by}
+use Rattle.desk_model.specs.Tables.{Tables, picture}
+use Rattle.desk_model.specs.Derived.{numbers_of, restated_authorization, restated_order}
+use Rattle.desk_model.specs.Effect.{noted_account, noted_order, touches_account, touches_order, moved_account}
+use Rattle.desk_model.specs.Effect.{moved_authorization, moved_order, fresh_account, fresh_authorization, fresh_order, not_spent}
+use Rattle.desk_model.specs.Effect.{new_authorizations, authorizations_after, effect, effects, swept}
+use Rattle.desk_model.specs.Change.{all_changes, recorded_changes, applied}
+use Rattle.desk_model.specs.Kept.{Kept, restricted, EachOf, IsClosed, CoversSweep, HoldersKept}
+use Rattle.desk_model.specs.declared.entry.Entry.{Entry}
+use Rattle.desk_model.specs.declared.objects.Nonce.{Nonce}
+use Rattle.desk_model.specs.declared.rows.AccountRow.{AccountRow}
+use Rattle.desk_model.specs.declared.rows.AuthorizationRow.{AuthorizationRow}
+use Rattle.desk_model.specs.declared.rows.Change.TheVariants.{PutMeta}
+use Rattle.desk_model.specs.declared.rows.OrderRow.{OrderRow}
+use Rattle.model_laws.specs.Ordered.{Ascends}
+use Rattle.model_laws.specs.Parts.{FreshKept, CoversAll}
+use Rattle.model_laws.proofs.Basics.{each, each_all}
+use Rattle.model_laws.proofs.Recorded.{issued_up, opened_up, ordered_up, made_up, recorded}
+use Rattle.model_laws.proofs.Step.{filter-append}
+use Rattle.model_laws.proofs.Local.{all_moved_same, filters_swap, filter_all, moved_part, restated_same, kept_after, moved_number, touches_same}
+use Rattle.model_laws.proofs.Local.{changes_local, sweep_changes_local, swept_part}
+
+-- new rows are kept
+pub up_kept : {X : Type 0} (number : X → ℕ) (kept : ℕ → Bool) (count : ℕ) → ((n : ℕ) → count < n → kept n ≡ true) → (n : ℕ) → count < n →
+    (xs : List X) → Ascends number n xs → EachOf (λ x. kept (number x) ≡ true) xs
+up_kept number kept count f n lt [] h = tt
+up_kept number kept count f n lt (x ∷ xs) h =
+    let up : n ≤ number x = h.0 in (f (number x) (omega arith), up_kept number kept count f (number x + 1) (omega arith) xs h.1)
+
+-- moved rows and new ones: the part of them
+part_on : {X : Type 0} (number : X → ℕ) (kept : ℕ → Bool) (f g : X → X) (xs fresh fresh' : List X) → ((x : X) → number (g x) ≡ number x) →
+    EachOf (λ x. kept (number x) ≡ true → f x ≡ g x) xs →
+    fresh ≡ fresh' → EachOf (λ x. kept (number x) ≡ true) fresh' → map f (filter (λ x. kept (number x)) xs) ++ fresh
+    ≡ filter (λ x. kept (number x)) (map g xs ++ fresh')
+part_on number kept f g xs fresh fresh' same each_same e all =
+    (λ i. moved_part (λ x. kept (number x)) f g xs (λ x. ap kept (same x)) each_same i ++ (e ∙ sym (filter_all (λ x. kept (number x)) fresh' all)) i)
+    ∙ sym (filter-append (λ x. kept (number x)) (map g xs) fresh')
+
+-- a moved account keeps its number
+pub account_number : (e : Entry) (m : ℕ) (row : AccountRow) → (moved_account e m row).number ≡ row.number
+account_number e m row = by (touches_account e row)
+  where
+    by : (b : Bool) → (cond b (noted_account e m row) row).number ≡ row.number
+    by true = refl
+    by false = refl
+
+-- a moved order keeps its number
+pub order_number : (e : Entry) (m : ℕ) (before after : List AuthorizationRow) (row : OrderRow) → (moved_order e m before after row).number ≡ row.number
+order_number e m before after row = by (touches_order e before row)
+  where
+    by : (b : Bool) → (cond b (restated_order m after (noted_order e m row)) row).number ≡ row.number
+    by true = refl
+    by false = refl
+
+-- new orders get the same status from the part as from the whole
+fresh_orders : (k : Kept) (T : Tables) (m : ℕ) (e : Entry) (xs : List _) → HoldersKept k T e →
+    EachOf (λ o. EachOf (λ n. k.authorizations n ≡ true) (numbers_of (fresh_order o).listed)) xs →
+    map (λ o. restated_order m (authorizations_after (restricted k T) e m) (fresh_order o)) xs
+    ≡ map (λ o. restated_order m (authorizations_after T e m) (fresh_order o)) xs
+fresh_orders k T m e [] holders h = refl
+fresh_orders k T m e (o ∷ os) holders h =
+    λ i. restated_same m (authorizations_after (restricted k T) e m) (authorizations_after T e m) (fresh_order o)
+    (kept_after k T e m (numbers_of (fresh_order o).listed) holders h.0) i ∷ fresh_orders k T m e os holders h.1 i
+
+-- the part's authorizations after an entry are the part of those after it
+pub authorizations_part : (k : Kept) (T : Tables) (m : ℕ) (e : Entry) → ((n : ℕ) → T.meta.counters.authorizations < n → k.authorizations n ≡ true) →
+    HoldersKept k T e →
+    (effect m (restricted k T) e).authorizations ≡ filter (λ a. k.authorizations a.number) (effect m T e).authorizations
+authorizations_part k T m e new holders =
+    part_on (λ (a : AuthorizationRow). a.number) k.authorizations (moved_authorization e m (restricted k T).accounts)
+    (moved_authorization e m T.accounts) T.authorizations _
+    (map (λ a. restated_authorization m (fresh_authorization a)) (new_authorizations T e m)) (moved_number e m T.accounts)
+    (all_moved_same k T e m holders) refl
+    (up_kept (λ (a : AuthorizationRow). a.number) k.authorizations T.meta.counters.authorizations new
+    (T.meta.counters.authorizations + 1)
+    (omega arith) _ (made_up e m T.meta.policy.authz_life (T.meta.counters.authorizations + 1) (T.meta.counters.challenges + 1)))
+
+-- the part after an entry is the part of the tables after it
+pub effect_part : (k : Kept) (T : Tables) (m : ℕ) (e : Entry) → IsClosed k T → HoldersKept k T e → FreshKept k T m e →
+    effect m (restricted k T) e ≡ restricted k (effect m T e)
+effect_part k T m e closed holders fresh =
+    λ i. record {
+      meta = (effect m T e).meta;
+      nonces = nonces_part i;
+      accounts =
+          part_on (λ (a : AccountRow). a.number) k.accounts (moved_account e m) (moved_account e m) T.accounts _
+          (map fresh_account (opened_by e m (T.meta.counters.accounts + 1))) (account_number e m) (each_all _ T.accounts (λ a yes. refl)) refl
+          (up_kept (λ (a : AccountRow). a.number) k.accounts T.meta.counters.accounts closed.new_accounts (T.meta.counters.accounts + 1) (omega arith) _
+          (opened_up e m (T.meta.counters.accounts + 1))) i;
+      authorizations = authorizations_part k T m e closed.new_authorizations holders i;
+      orders =
+          part_on (λ (o : OrderRow). o.number) k.orders (moved_order e m (restricted k T).authorizations (authorizations_after (restricted k T) e m))
+          (moved_order e m T.authorizations (authorizations_after T e m)) T.orders
+          (map (λ o. restated_order m (authorizations_after (restricted k T) e m) (fresh_order o))
+          (ordered_by e m T.meta.policy (T.meta.counters.authorizations + 1) (T.meta.counters.orders + 1)))
+          (map (λ o. restated_order m (authorizations_after T e m) (fresh_order o))
+          (ordered_by e m T.meta.policy (T.meta.counters.authorizations + 1) (T.meta.counters.orders + 1)))
+          (order_number e m T.authorizations (authorizations_after T e m))
+          (each _ _ T.orders (λ o all yes.
+          (λ j. cond (touches_same k T e o (all yes) j)
+          (restated_same m (authorizations_after (restricted k T) e m) (authorizations_after T e m) (noted_order e m o)
+          (kept_after k T e m (numbers_of o.listed) holders (all yes)) j) o)) closed.listed)
+          (fresh_orders k T m e _ holders fresh)
+          (up_kept (λ (o : OrderRow). o.number) k.orders T.meta.counters.orders closed.new_orders (T.meta.counters.orders + 1) (omega arith) _
+          (ordered_up e m T.meta.policy (T.meta.counters.authorizations + 1) (T.meta.counters.orders + 1) (authorizations_after T e m))) i;
+    }
+  where
+    nonces_part : filter (not_spent e) (filter (λ n. k.nonces n.serial) T.nonces) ++ issued_by e m (T.meta.counters.nonces + 1)
+        ≡ filter (λ n. k.nonces n.serial) (filter (not_spent e) T.nonces ++ issued_by e m (T.meta.counters.nonces + 1))
+    nonces_part =
+        (λ i. filters_swap (not_spent e) (λ n. k.nonces n.serial) T.nonces i
+        ++ sym (filter_all (λ n. k.nonces n.serial) (issued_by e m (T.meta.counters.nonces + 1))
+        (up_kept (λ (n : Nonce). n.serial) k.nonces T.meta.counters.nonces closed.new_nonces (T.meta.counters.nonces + 1) (omega arith) _
+        (issued_up e m (T.meta.counters.nonces + 1)))) i)
+        ∙ sym (filter-append (λ n. k.nonces n.serial) (filter (not_spent e) T.nonces) (issued_by e m (T.meta.counters.nonces + 1)))
+
+-- the part changes as the whole by entries in a row
+pub all_changes_local : (k : Kept) (m : ℕ) (T : Tables) (es : List Entry) → CoversAll k m T es →
+    all_changes m (restricted k T) es ≡ all_changes m T es
+all_changes_local k m T [] h = refl
+all_changes_local k m T (e ∷ es) h =
+    λ i. changes_local k T m e h.0 h.1 h.2 i ++
+    (ap (λ P. all_changes m P es) (effect_part k T m e h.0 h.1.holders h.2) ∙ all_changes_local k m (effect m T e) es h.3) i
+
+-- the part after some entries is the part of the tables after them
+pub effects_part : (k : Kept) (m : ℕ) (T : Tables) (es : List Entry) → CoversAll k m T es →
+    effects m (restricted k T) es ≡ restricted k (effects m T es)
+effects_part k m T [] h = refl
+effects_part k m T (e ∷ es) h = ap (λ P. effects m P es) (effect_part k T m e h.0 h.1.holders h.2) ∙ effects_part k m (effect m T e) es h.3
+
+-- a part records of some entries what the whole does
+pub recorded_local : (k : Kept) (T : Tables) (m : ℕ) (es : List Entry) → IsClosed k T → CoversSweep k T m →
+    CoversAll k m (swept m T) es → recorded_changes m (restricted k T) es ≡ recorded_changes m T es
+recorded_local k T m [] closed covers_sweep covers = refl
+recorded_local k T m (e ∷ es) closed covers_sweep covers =
+    let now = swept_part k T m closed in
+    let meta = ap (λ (P : Tables). P.meta) (ap (λ P. effects m P (e ∷ es)) now ∙ effects_part k m (swept m T) (e ∷ es) covers) in
+    λ i. sweep_changes_local k T m closed covers_sweep i
+    ++ ((ap (λ P. all_changes m P (e ∷ es)) now ∙ all_changes_local k m (swept m T) (e ∷ es) covers) i ++ PutMeta (meta i) ∷ [])
+
+-- what a part records makes, in the whole tables, those of the longer history
+pub part_recorded : (F : History) (k : Kept) (e : Entry) (es : List Entry) (m : ℕ) → clock F ≤ m → EachFollows (record_all m (e ∷ es) F) →
+    IsClosed k (picture F) → CoversSweep k (picture F) m → CoversAll k m (swept m (picture F)) (e ∷ es) →
+    (let P : Tables = restricted k (picture F) in
+    applied (recorded_changes m P (e ∷ es)) (picture F) ≡ picture (record_all m (e ∷ es) F))
+part_recorded F k e es m le follows closed covers_sweep covers =
+    let T : Tables = picture F in
+    ap (λ cs. applied cs T) (recorded_local k T m (e ∷ es) closed covers_sweep covers)
+    ∙ recorded F e es m le follows

@@ -1,0 +1,238 @@
+-- A row that does not differ afterwards is the row itself, and one that differs is another.
+use Rattle.std.proofs.Common.{◌≡◌, ℕ, List, [], ◌∷◌, map, Option, Some, None, refl, sym, ap, ◌∙◌, true, false, Bool, cond, not}
+use Rattle.std.specs.Prelude.{◌==◌, ◌||◌, bytes_eq}
+use Rattle.std.specs.Cmp.Lexicographic.{pointwise}
+use Rattle.std.specs.List.{list_any, zip}
+use Rattle.std.proofs.lemmas.Bool.{eqb-true, eq-eqb, or_parts}
+use Rattle.std.proofs.lemmas.Slice.Eq.{bytes_eq-Decides, slice_eq-Decides}
+use Rattle.desk_model.specs.History.{earlier}
+use Rattle.desk_model.specs.Account.{ends as account_ends}
+use Rattle.desk_model.specs.Derived.{account_code, chall_code, authz_code, order_code, restated_authorization, restated_order}
+use Rattle.desk_model.specs.Keys.{thumbprint}
+use Rattle.desk_model.specs.Effect.{key_numbered, noted_account, noted_challenge, answered_challenge, reported_challenge, noted_authorization, noted_order}
+use Rattle.desk_model.specs.Change.{is_gained, account_differs, challenge_differs, authorization_differs, order_differs}
+use Rattle.desk_model.specs.Kept.{EachOf}
+use Rattle.desk_model.specs.declared.entry.Entry.{Entry}
+use Rattle.desk_model.specs.declared.entry.Entry.TheVariants.{Answered as answered, Reported as reported}
+use Rattle.desk_model.specs.declared.rows.AccountRow.{AccountRow}
+use Rattle.desk_model.specs.declared.rows.ChallengeRow.{ChallengeRow}
+use Rattle.desk_model.specs.declared.rows.AuthorizationRow.{AuthorizationRow}
+use Rattle.desk_model.specs.declared.rows.OrderRow.{OrderRow}
+use Rattle.desk_model.specs.declared.status.AccountStatus.{AccountStatus}
+use Rattle.desk_model.specs.declared.status.AccountStatus.TheVariants as account
+use Rattle.desk_model.specs.declared.status.ChallengeStatus.{ChallengeStatus}
+use Rattle.desk_model.specs.declared.status.ChallengeStatus.TheVariants as chall
+use Rattle.desk_model.specs.declared.status.AuthzStatus.{AuthzStatus}
+use Rattle.desk_model.specs.declared.status.AuthzStatus.TheVariants as authz
+use Rattle.desk_model.specs.declared.status.OrderStatus.{OrderStatus}
+use Rattle.desk_model.specs.declared.status.OrderStatus.TheVariants as order
+use Rattle.model_laws.proofs.RowFacts.{kept_challenges}
+
+-- ---- statuses by their codes
+
+-- the status of a code, for an account
+account_by_code : ℕ → AccountStatus
+account_by_code n = cond (n == 0) account.Valid (cond (n == 1) account.Deactivated account.Revoked)
+
+-- a code tells the status
+account_coded : (s : AccountStatus) → account_by_code (account_code s) ≡ s
+unfolding account_by_code
+account_coded account.Valid = refl
+account_coded account.Deactivated = refl
+account_coded account.Revoked = refl
+
+-- for a challenge
+chall_by_code : ℕ → ChallengeStatus
+chall_by_code n = cond (n == 0) chall.Pending (cond (n == 1) chall.Processing (cond (n == 2) chall.Valid chall.Invalid))
+
+-- a code tells the status
+chall_coded : (s : ChallengeStatus) → chall_by_code (chall_code s) ≡ s
+unfolding chall_by_code
+chall_coded chall.Pending = refl
+chall_coded chall.Processing = refl
+chall_coded chall.Valid = refl
+chall_coded chall.Invalid = refl
+
+-- for an authorization
+authz_by_code : ℕ → AuthzStatus
+authz_by_code n =
+    cond (n == 0) authz.Pending
+    (cond (n == 1) authz.Valid
+    (cond (n == 2) authz.Invalid (cond (n == 3) authz.Deactivated (cond (n == 4) authz.Expired authz.Revoked))))
+
+-- a code tells the status
+authz_coded : (s : AuthzStatus) → authz_by_code (authz_code s) ≡ s
+unfolding authz_by_code
+authz_coded authz.Pending = refl
+authz_coded authz.Valid = refl
+authz_coded authz.Invalid = refl
+authz_coded authz.Deactivated = refl
+authz_coded authz.Expired = refl
+authz_coded authz.Revoked = refl
+
+-- for an order
+order_by_code : ℕ → OrderStatus
+order_by_code n =
+    cond (n == 0) order.Pending
+    (cond (n == 1) order.Ready (cond (n == 2) order.Processing (cond (n == 3) order.Valid order.Invalid)))
+
+-- a code tells the status
+order_coded : (s : OrderStatus) → order_by_code (order_code s) ≡ s
+unfolding order_by_code
+order_coded order.Pending = refl
+order_coded order.Ready = refl
+order_coded order.Processing = refl
+order_coded order.Valid = refl
+order_coded order.Invalid = refl
+
+-- a test whose negation fails
+unnegated : (b : Bool) → not b ≡ false → b ≡ true
+unnegated true h = refl
+unnegated false h = cc
+
+-- equal codes are of equal values
+same_coded : {S : Type 0} (code : S → ℕ) (by_code : ℕ → S) → ((s : S) → by_code (code s) ≡ s) → (a b : S) → not (code a == code b) ≡ false → b ≡ a
+same_coded code by_code coded a b h =
+    sym (coded b) ∙ (ap by_code (sym (eqb-true (code a) (code b) (unnegated (code a == code b) h))) ∙ coded a)
+
+-- a value's code is its own
+own_code : (n : ℕ) → not (n == n) ≡ false
+own_code n = ap not (eq-eqb n n refl)
+
+-- ---- facts
+
+-- where no fact is gained, the fact stays
+pub earlier_stays : {X : Type 0} (x y : Option X) → is_gained x (earlier x y) ≡ false → earlier x y ≡ x
+earlier_stays None None h = refl
+earlier_stays None (Some y) h = cc
+earlier_stays (Some x) None h = refl
+earlier_stays (Some x) (Some y) h = refl
+
+-- no fact is gained where nothing changes
+none_gained : {X : Type 0} (x : Option X) → is_gained x x ≡ false
+none_gained None = refl
+none_gained (Some x) = refl
+
+-- ---- accounts
+
+-- contacts that do not differ are equal
+same_contacts : (xs ys : List (List ℕ)) → not (pointwise bytes_eq xs ys) ≡ false → ys ≡ xs
+same_contacts xs ys h = sym ((slice_eq-Decides bytes_eq-Decides xs ys (pointwise bytes_eq xs ys) refl).0 (unnegated (pointwise bytes_eq xs ys) h))
+
+-- keys that do not differ are equal
+same_key : (xs ys : List ℕ) → not (bytes_eq xs ys) ≡ false → ys ≡ xs
+same_key xs ys h = sym ((bytes_eq-Decides xs ys).0 (unnegated (bytes_eq xs ys) h))
+
+-- an account's row that does not differ is the same
+pub account_unmoved : (e : Entry) (m : ℕ) (row : AccountRow) → account_differs row (noted_account e m row) ≡ false → noted_account e m row ≡ row
+account_unmoved e m row h =
+    let after : AccountRow = noted_account e m row in
+    let k = or_parts (not (bytes_eq row.key after.key)) _ h in
+    let p = or_parts (not (pointwise bytes_eq row.contacts after.contacts)) _ k.1 in
+    let q = or_parts (is_gained row.ended after.ended) _ p.1 in
+    let key : after.key ≡ row.key = same_key row.key after.key k.0 in
+    let contacts : after.contacts ≡ row.contacts = same_contacts row.contacts after.contacts p.0 in
+    let ended : after.ended ≡ row.ended = earlier_stays row.ended (account_ends row.number e m) q.0 in
+    let status : after.status ≡ row.status = same_coded account_code account_by_code account_coded row.status after.status q.1 in
+    λ i. record row { key = key i; contacts = contacts i; ended = ended i; status = status i }
+
+-- no account's row differs from itself
+pub account_differs_not : (row : AccountRow) → account_differs row row ≡ false
+account_differs_not row =
+    λ i. not (key i) || (not (contacts i) || (none_gained row.ended i || own_code (account_code row.status) i))
+  where
+    key : bytes_eq row.key row.key ≡ true
+    key = (bytes_eq-Decides row.key row.key).1 refl
+
+    contacts : pointwise bytes_eq row.contacts row.contacts ≡ true
+    contacts = (slice_eq-Decides bytes_eq-Decides row.contacts row.contacts (pointwise bytes_eq row.contacts row.contacts) refl).1 refl
+
+-- ---- challenges
+
+-- a challenge's row that does not differ is the same
+pub challenge_unmoved : (e : Entry) (m : ℕ) (key : List ℕ) (row : ChallengeRow) → challenge_differs row (noted_challenge e m key row) ≡ false →
+    noted_challenge e m key row ≡ row
+challenge_unmoved (answered n) m key row h = by (n == row.number) h
+  where
+    by : (b : Bool) → challenge_differs row (cond b (answered_challenge m key row) row) ≡ false → cond b (answered_challenge m key row) row ≡ row
+    by true k =
+        let p = or_parts (is_gained row.answered (answered_challenge m key row).answered) _ k in
+        let q = or_parts (is_gained row.reported row.reported) _ p.1 in
+        let fact : (answered_challenge m key row).answered ≡ row.answered =
+        earlier_stays row.answered (Some (record { date = m; thumb = thumbprint key })) p.0 in
+        let status : (answered_challenge m key row).status ≡ row.status =
+        same_coded chall_code chall_by_code chall_coded row.status (answered_challenge m key row).status q.1 in
+        λ i. record row { answered = fact i; status = status i }
+    by false k = refl
+challenge_unmoved (reported n o) m key row h = by (n == row.number) h
+  where
+    by : (b : Bool) → challenge_differs row (cond b (reported_challenge o m row) row) ≡ false → cond b (reported_challenge o m row) row ≡ row
+    by true k =
+        let p = or_parts (is_gained row.answered row.answered) _ k in
+        let q = or_parts (is_gained row.reported (reported_challenge o m row).reported) _ p.1 in
+        let fact : (reported_challenge o m row).reported ≡ row.reported = earlier_stays row.reported (Some (record { date = m; outcome = o })) q.0 in
+        let status : (reported_challenge o m row).status ≡ row.status =
+        same_coded chall_code chall_by_code chall_coded row.status (reported_challenge o m row).status q.1 in
+        λ i. record row { reported = fact i; status = status i }
+    by false k = refl
+challenge_unmoved _ m key row h = refl
+
+-- no challenge's row differs from itself
+challenge_differs_not : (row : ChallengeRow) → challenge_differs row row ≡ false
+challenge_differs_not row = λ i. none_gained row.answered i || (none_gained row.reported i || own_code (chall_code row.status) i)
+
+-- ---- authorizations
+
+-- challenges that do not differ are the same
+challenges_unmoved : (e : Entry) (m : ℕ) (key : List ℕ) (cs : List ChallengeRow) →
+    list_any (λ p. challenge_differs p.0 p.1) (zip cs (map (noted_challenge e m key) cs)) ≡ false →
+    EachOf (λ c. noted_challenge e m key c ≡ c) cs
+challenges_unmoved e m key [] h = tt
+challenges_unmoved e m key (c ∷ cs) h =
+    let p = or_parts (challenge_differs c (noted_challenge e m key c)) _ h in
+    (challenge_unmoved e m key c p.0, challenges_unmoved e m key cs p.1)
+
+-- an authorization's row that does not differ is the same
+pub authorization_unmoved : (e : Entry) (m : ℕ) (accounts : List AccountRow) (row : AuthorizationRow) →
+    authorization_differs row (restated_authorization m (noted_authorization e m accounts row)) ≡ false →
+    restated_authorization m (noted_authorization e m accounts row) ≡ row
+authorization_unmoved e m accounts row h =
+    let key : List ℕ = key_numbered row.account accounts in
+    let after : AuthorizationRow = restated_authorization m (noted_authorization e m accounts row) in
+    let p = or_parts (is_gained row.ended after.ended) _ h in
+    let q = or_parts (not (authz_code row.status == authz_code after.status)) _ p.1 in
+    let ended : after.ended ≡ row.ended = earlier_stays row.ended _ p.0 in
+    let status : after.status ≡ row.status = same_coded authz_code authz_by_code authz_coded row.status after.status q.0 in
+    let challenges : after.challenges ≡ row.challenges =
+    kept_challenges (noted_challenge e m key) row.challenges (challenges_unmoved e m key row.challenges q.1) in
+    λ i. record row { ended = ended i; status = status i; challenges = challenges i }
+
+-- no challenge of an authorization differs from itself
+none_differs : (cs : List ChallengeRow) → list_any (λ p. challenge_differs p.0 p.1) (zip cs cs) ≡ false
+none_differs [] = refl
+none_differs (c ∷ cs) = λ i. challenge_differs_not c i || none_differs cs i
+
+-- no authorization's row differs from itself
+pub authorization_differs_not : (row : AuthorizationRow) → authorization_differs row row ≡ false
+authorization_differs_not row = λ i. none_gained row.ended i || (own_code (authz_code row.status) i || none_differs row.challenges i)
+
+-- ---- orders
+
+-- an order's row that does not differ is the same
+pub order_unmoved : (e : Entry) (m : ℕ) (rows : List AuthorizationRow) (row : OrderRow) →
+    order_differs row (restated_order m rows (noted_order e m row)) ≡ false → restated_order m rows (noted_order e m row) ≡ row
+order_unmoved e m rows row h =
+    let after : OrderRow = restated_order m rows (noted_order e m row) in
+    let p = or_parts (is_gained row.finalized after.finalized) _ h in
+    let q = or_parts (is_gained row.certified after.certified) _ p.1 in
+    let r = or_parts (is_gained row.failed after.failed) _ q.1 in
+    let finalized : after.finalized ≡ row.finalized = earlier_stays row.finalized _ p.0 in
+    let certified : after.certified ≡ row.certified = earlier_stays row.certified _ q.0 in
+    let failed : after.failed ≡ row.failed = earlier_stays row.failed _ r.0 in
+    let status : after.status ≡ row.status = same_coded order_code order_by_code order_coded row.status after.status r.1 in
+    λ i. record row { finalized = finalized i; certified = certified i; failed = failed i; status = status i }
+
+-- no order's row differs from itself
+pub order_differs_not : (row : OrderRow) → order_differs row row ≡ false
+order_differs_not row =
+    λ i. none_gained row.finalized i || (none_gained row.certified i || (none_gained row.failed i || own_code (order_code row.status) i))

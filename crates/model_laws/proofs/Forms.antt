@@ -1,0 +1,94 @@
+-- What is drawn has 16 bytes, and what the signing office hands in is a problem.
+use Rattle.std.proofs.Common.{◌≡◌, ℕ, ◌+◌, List, [], ◌∷◌, length, Some, None, true, false, Bool, cond}
+use Rattle.std.specs.Prelude.{◌==◌, IfSome}
+use Rattle.std.specs.List.{list_all}
+use Rattle.std.proofs.lemmas.Bool.{eqb-true, and_parts}
+use Rattle.desk_model.specs.Authorization.{authorizations, challenges_from, count_challenges, kinds_of, made_by, made_for}
+use Rattle.desk_model.specs.BaseName.{is_base_name}
+use Rattle.desk_model.specs.Entry.{History}
+use Rattle.desk_model.specs.History.{terms}
+use Rattle.desk_model.specs.Kept.{EachOf}
+use Rattle.desk_model.specs.Legal.{EachFollows, Follows, is_problem, is_wanted, may_follow}
+use Rattle.desk_model.specs.Nonce.{issued_by, nonces}
+use Rattle.desk_model.specs.Order.{failing, failure}
+use Rattle.desk_model.specs.declared.entry.Dated.{Dated}
+use Rattle.desk_model.specs.declared.entry.Entry.{Entry}
+use Rattle.desk_model.specs.declared.entry.Entry.TheVariants.{Issued as issued, Ordered as ordered, Failed as failed}
+use Rattle.desk_model.specs.declared.entry.Wanted.{Wanted}
+use Rattle.desk_model.specs.declared.entry.Wanted.TheVariants.{New, Reused}
+use Rattle.desk_model.specs.declared.objects.Authorization.{Authorization}
+use Rattle.desk_model.specs.declared.objects.Kind.{Kind}
+use Rattle.desk_model.specs.declared.rows.DatedProblem.{DatedProblem}
+use Rattle.model_laws.proofs.Basics.{each-append}
+use Rattle.model_laws.proofs.StatedFacts.{first_holds}
+use Rattle.model_laws.proofs.NewOrders.{may_be_ordered}
+use Rattle.model_laws.proofs.Numbers.{made_now}
+
+-- ---- random bytes
+
+-- each nonce has 16 random bytes
+pub nonces_drawn : (F : History) → EachFollows F → EachOf (λ n. length n.random ≡ 16) (nonces F)
+nonces_drawn [] h = tt
+nonces_drawn (e ∷ F) h = each-append _ (nonces F) _ (nonces_drawn F h.1) (one e.entry h.0.allowed)
+  where
+    one : (entry : Entry) → may_follow F entry e.date ≡ true → EachOf (λ n. length n.random ≡ 16) (issued_by entry e.date (length (nonces F) + 1))
+    one (issued r) may = (eqb-true (length r) 16 may, tt)
+    one _ may = tt
+
+-- each challenge of the authorization has a token of 16 bytes
+abbrev pub HasTokens : Authorization → Type 0
+HasTokens a = EachOf (λ c. length c.token ≡ 16) a.challenges
+
+-- challenges that are made of tokens of 16 bytes
+challenges_drawn : (number : ℕ) (kinds : List Kind) (tokens : List (List ℕ)) → list_all (λ token. length token == 16) tokens ≡ true →
+    EachOf (λ c. length c.token ≡ 16) (challenges_from number kinds tokens)
+challenges_drawn number [] tokens h = tt
+challenges_drawn number (kind ∷ kinds) [] h = tt
+challenges_drawn number (kind ∷ kinds) (token ∷ tokens) h =
+    let p = and_parts (length token == 16) _ h in
+    (eqb-true (length token) 16 p.0, challenges_drawn (number + 1) kinds tokens p.1)
+
+-- authorizations that are made for well-formed names
+made_for_drawn : (account date expires : ℕ) (ws : List Wanted) (n c : ℕ) → list_all is_wanted ws ≡ true →
+    EachOf HasTokens (made_for account date expires ws n c)
+made_for_drawn account date expires [] n c h = tt
+made_for_drawn account date expires (New name tokens ∷ ws) n c h =
+    let p = and_parts (is_wanted (New name tokens)) _ h in
+    let q = and_parts (is_base_name name.base) _ p.0 in
+    let r = and_parts (length tokens == length (kinds_of name)) _ q.1 in
+    (challenges_drawn c (kinds_of name) tokens r.1, made_for_drawn account date expires ws (n + 1) _ p.1)
+made_for_drawn account date expires (Reused name k ∷ ws) n c h = made_for_drawn account date expires ws n c (and_parts (is_wanted (Reused name k)) _ h).1
+
+-- each token has 16 bytes
+pub tokens_drawn : (F : History) → EachFollows F → EachOf HasTokens (authorizations F)
+tokens_drawn [] h = tt
+tokens_drawn (e ∷ F) h = each-append _ (authorizations F) (made_now e F) (tokens_drawn F h.1) (more e.entry h.0.allowed)
+  where
+    more : (entry : Entry) → may_follow F entry e.date ≡ true →
+        EachOf HasTokens
+        (made_by entry e.date (terms F).authz_life (length (authorizations F) + 1) (count_challenges (authorizations F) + 1))
+    more (ordered k ws) may =
+        made_for_drawn k e.date _ ws _ _
+        (may_be_ordered F e.date k ws may).wanted
+    more _ may = tt
+
+-- ---- problems
+
+-- what holds of each entry that may follow those before it
+pub each_follows : (P : Dated → Type 0) → ((e : Dated) (before : History) → Follows e before → P e) → (F : History) → EachFollows F → EachOf P F
+each_follows P f [] h = tt
+each_follows P f (e ∷ F) h = (f e F h.0, each_follows P f F h.1)
+
+-- an order that failed did so by a problem that the signing office may hand in
+pub problem_formed : (n : ℕ) (F : History) → EachFollows F → IfSome (failure n F) (λ f. is_problem f.problem ≡ true)
+problem_formed n F h =
+    first_holds _ (λ e. failing n e.entry e.date) F (each_follows _ (λ e before k. by e.entry e.date before k.allowed) F h)
+  where
+    stated : (b : Bool) (x : DatedProblem) → is_problem x.problem ≡ true → IfSome (cond b (Some x) None) (λ f. is_problem f.problem ≡ true)
+    stated true x k = k
+    stated false x k = tt
+
+    by : (entry : Entry) (date : ℕ) (before : History) → may_follow before entry date ≡ true →
+        IfSome (failing n entry date) (λ f. is_problem f.problem ≡ true)
+    by (failed k problem) date before may = stated (k == n) _ (and_parts _ (is_problem problem) may).1
+    by _ date before may = tt

@@ -1,0 +1,304 @@
+-- What is made new has no facts yet: an entry names only what was made before it.
+use Rattle.std.proofs.Common.{◌≡◌, ◌≤◌, ◌<◌, ℕ, ◌+◌, List, [], ◌∷◌, length, map, Option, Some, None, refl, ap, ◌∙◌, subst, true, false, Bool, cond, arith}
+use Rattle.std.specs.Prelude.{◌==◌, ◌||◌, find, is_some, unwrap_or}
+use Rattle.std.specs.List.{list_any}
+use Rattle.std.proofs.lemmas.Bool.{eqb-true, and_parts}
+use Rattle.desk_model.specs.Entry.{History}
+use Rattle.desk_model.specs.History.{terms, first, latest, earlier}
+use Rattle.desk_model.specs.Lookup.{holds}
+use Rattle.desk_model.specs.Nonce.{spending}
+use Rattle.desk_model.specs.Account.{accounts, opened_by, account_by_number, account_end, account_key, account_status, changing, rekeying}
+use Rattle.desk_model.specs.Account.{ends as account_ends, status_of as account_status_of, is_valid as is_valid_account}
+use Rattle.desk_model.specs.Authorization.{authorizations, has_challenge, made_for, kinds_of, challenges_from, count_challenges}
+use Rattle.desk_model.specs.Authorization.{authorization_end, ends, in_time, is_good, kind_of, answering, reporting}
+use Rattle.desk_model.specs.Authorization.{answer, answer_by, when_answered, report, challenge_status_by}
+use Rattle.desk_model.specs.Order.{orders, ordered_by, csr, certificate, failure, finalizing, certifying, failing, listed_by}
+use Rattle.desk_model.specs.Legal.{EachFollows}
+use Rattle.desk_model.specs.Tables.{account_row, challenge_row, authorization_row, order_row}
+use Rattle.desk_model.specs.Derived.{restated_authorization, restated_order}
+use Rattle.desk_model.specs.Effect.{fresh_account, fresh_challenge, fresh_authorization, fresh_order}
+use Rattle.desk_model.specs.declared.objects.EndKind.TheVariants as kind
+use Rattle.desk_model.specs.declared.status.AccountStatus.TheVariants as account
+use Rattle.desk_model.specs.Kept.{EachOf}
+use Rattle.desk_model.specs.declared.entry.Dated.{Dated}
+use Rattle.desk_model.specs.declared.entry.Ending.{Ending}
+use Rattle.desk_model.specs.declared.entry.Ending.TheVariants.{Deactivated as deactivated, Revoked as revoked}
+use Rattle.desk_model.specs.declared.entry.Entry.{Entry}
+use Rattle.desk_model.specs.declared.entry.Entry.TheVariants.{Spent as spent, Opened as opened}
+use Rattle.desk_model.specs.declared.entry.Entry.TheVariants.{ContactsChanged as contacts_changed, KeyChanged as key_changed, AccountEnded as account_ended}
+use Rattle.desk_model.specs.declared.entry.Entry.TheVariants.{Ordered as ordered, Answered as answered, Reported as reported}
+use Rattle.desk_model.specs.declared.entry.Entry.TheVariants.{AuthorizationEnded as authorization_ended, Finalized as finalized}
+use Rattle.desk_model.specs.declared.entry.Entry.TheVariants.{Certified as certified, Failed as failed}
+use Rattle.desk_model.specs.declared.entry.Wanted.{Wanted}
+use Rattle.desk_model.specs.declared.entry.Wanted.TheVariants.{New, Reused}
+use Rattle.desk_model.specs.declared.objects.Account.{Account}
+use Rattle.desk_model.specs.declared.objects.AccountEnd.{AccountEnd}
+use Rattle.desk_model.specs.declared.objects.Authorization.{Authorization}
+use Rattle.desk_model.specs.declared.objects.AuthorizationEnd.{AuthorizationEnd}
+use Rattle.desk_model.specs.declared.objects.Challenge.{Challenge}
+use Rattle.desk_model.specs.declared.objects.Order.{Order}
+use Rattle.model_laws.proofs.Basics.{less_differs, each, each_both, map-each, IsNumbered}
+use Rattle.model_laws.specs.Given.{Counts, counts, NamesGiven}
+use Rattle.model_laws.proofs.RowFacts.{authorization_stated}
+use Rattle.model_laws.proofs.Numbers.{no_first, no_latest, first_no, made_now, challenges_numbered, all_named}
+use Rattle.model_laws.proofs.OrderFacts.{order_stated}
+
+-- ---- new rows
+
+-- an order, an account and a nonce of a number that was not given have no facts
+new_order_csr : (c : Counts) (n : ℕ) → c.orders < n → (d : Dated) → NamesGiven c d.entry → finalizing n d.entry d.date ≡ None
+new_order_csr c n new d named = by d.entry named
+  where
+    by : (e : Entry) → NamesGiven c e → finalizing n e d.date ≡ None
+    by (finalized k bytes) h = rw (less_differs k n (omega arith)) refl
+    by _ h = refl
+
+-- no certificate
+new_order_certificate : (c : Counts) (n : ℕ) → c.orders < n → (d : Dated) → NamesGiven c d.entry → certifying n d.entry d.date ≡ None
+new_order_certificate c n new d named = by d.entry named
+  where
+    by : (e : Entry) → NamesGiven c e → certifying n e d.date ≡ None
+    by (certified k bytes) h = rw (less_differs k n (omega arith)) refl
+    by _ h = refl
+
+-- no failure
+new_order_failure : (c : Counts) (n : ℕ) → c.orders < n → (d : Dated) → NamesGiven c d.entry → failing n d.entry d.date ≡ None
+new_order_failure c n new d named = by d.entry named
+  where
+    by : (e : Entry) → NamesGiven c e → failing n e d.date ≡ None
+    by (failed k f) h = rw (less_differs k n (omega arith)) refl
+    by _ h = refl
+
+-- a challenge of a number that was not given has no answer
+new_challenge_answer : (c : Counts) (n : ℕ) → c.challenges < n → (d : Dated) → NamesGiven c d.entry → answering n d.entry d.date ≡ None
+new_challenge_answer c n new d named = by d.entry named
+  where
+    by : (e : Entry) → NamesGiven c e → answering n e d.date ≡ None
+    by (answered k) h = rw (less_differs k n (omega arith)) refl
+    by _ h = refl
+
+-- and no report
+new_challenge_report : (c : Counts) (n : ℕ) → c.challenges < n → (d : Dated) → NamesGiven c d.entry → reporting n d.entry d.date ≡ None
+new_challenge_report c n new d named = by d.entry named
+  where
+    by : (e : Entry) → NamesGiven c e → reporting n e d.date ≡ None
+    by (reported k o) h = rw (less_differs k n (omega arith)) refl
+    by _ h = refl
+
+-- an account of a number that was not given has no end
+new_account_end : (c : Counts) (n : ℕ) → c.accounts < n → (d : Dated) → NamesGiven c d.entry → account_ends n d.entry d.date ≡ None
+new_account_end c n new d named = by d.entry named
+  where
+    by : (e : Entry) → NamesGiven c e → account_ends n e d.date ≡ None
+    by (account_ended k s) h = rw (less_differs k n (omega arith)) refl
+    by _ h = refl
+
+-- and no new contacts
+new_account_contacts : (c : Counts) (n : ℕ) → c.accounts < n → (d : Dated) → NamesGiven c d.entry → changing n d.entry ≡ None
+new_account_contacts c n new d named = by d.entry named
+  where
+    by : (e : Entry) → NamesGiven c e → changing n e ≡ None
+    by (contacts_changed k cs) h = rw (less_differs k n (omega arith)) refl
+    by _ h = refl
+
+-- and no other key
+pub new_account_key : (c : Counts) (n : ℕ) → c.accounts < n → (d : Dated) → NamesGiven c d.entry → rekeying n d.entry ≡ None
+new_account_key c n new d named = by d.entry named
+  where
+    by : (e : Entry) → NamesGiven c e → rekeying n e ≡ None
+    by (key_changed k key) h = rw (less_differs k n (omega arith)) refl
+    by _ h = refl
+
+-- a nonce of a serial that was not given is not spent
+pub new_nonce_spent : (c : Counts) (n : ℕ) → c.nonces < n → (d : Dated) → NamesGiven c d.entry → spending n d.entry d.date ≡ None
+new_nonce_spent c n new d named = by d.entry named
+  where
+    by : (e : Entry) → NamesGiven c e → spending n e d.date ≡ None
+    by (spent k) h = rw (less_differs k n (omega arith)) refl
+    by _ h = refl
+
+-- a new order
+pub orders_fresh : (F : History) (e : Entry) (m : ℕ) → EachFollows (record { date = m; entry = e } ∷ F) →
+    (let G : History = record { date = m; entry = e } ∷ F in
+    EachOf (λ o. order_row G m o ≡ restated_order m (map (authorization_row G m) (authorizations G)) (fresh_order o))
+    (ordered_by e m (terms F) (length (authorizations F) + 1) (length (orders F) + 1)))
+orders_fresh F (ordered k ws) m h =
+    let n : ℕ = length (orders F) + 1 in
+    let G : History = record { date = m; entry = ordered k ws } ∷ F in
+    let o : Order =
+    record {
+      number = n;
+      account = k;
+      made = m;
+      expires = m + (terms F).order_life;
+      authorizations = listed_by ws (length (authorizations F) + 1);
+    } in
+    let new : length (orders F) < n = omega arith in
+    let named = all_named F h.1 in
+    let finalized_none : csr n F ≡ None = no_first (λ d. finalizing n d.entry d.date) F (each _ _ F (new_order_csr (counts F) n new) named) in
+    let certified_none : certificate n F ≡ None =
+    no_first (λ d. certifying n d.entry d.date) F (each _ _ F (new_order_certificate (counts F) n new) named) in
+    let failed_none : failure n F ≡ None = no_first (λ d. failing n d.entry d.date) F (each _ _ F (new_order_failure (counts F) n new) named) in (
+      order_stated G m m o
+          ∙ (λ i. restated_order m (map (authorization_row G m) (authorizations G))
+          (record (order_row G m o) { finalized = finalized_none i; certified = certified_none i; failed = failed_none i })),
+      tt,
+    )
+orders_fresh F _ m h = tt
+
+-- a new account
+pub accounts_fresh : (F : History) (e : Entry) (m : ℕ) → EachFollows (record { date = m; entry = e } ∷ F) →
+    EachOf (λ a. account_row (record { date = m; entry = e } ∷ F) a ≡ fresh_account a) (opened_by e m (length (accounts F) + 1))
+accounts_fresh F (opened k cs) m h =
+    let n : ℕ = length (accounts F) + 1 in
+    let new : length (accounts F) < n = omega arith in
+    let named = all_named F h.1 in
+    let ended_none : first (λ d. account_ends n d.entry d.date) F ≡ None =
+    no_first (λ d. account_ends n d.entry d.date) F (each _ _ F (new_account_end (counts F) n new) named) in
+    let changed_none : latest (λ d. changing n d.entry) F ≡ None =
+    no_latest (λ d. changing n d.entry) F (each _ _ F (new_account_contacts (counts F) n new) named) in
+    let rekeyed_none : latest (λ d. rekeying n d.entry) F ≡ None =
+    no_latest (λ d. rekeying n d.entry) F (each _ _ F (new_account_key (counts F) n new) named) in (
+      (λ i. record {
+        number = n;
+        key = unwrap_or (earlier None (rekeyed_none i)) k;
+        contacts = unwrap_or
+            (earlier None (changed_none i)) cs;
+        opened = m;
+        ended = ended_none i;
+        status = account_status_of (ended_none i);
+      }),
+      tt,
+    )
+accounts_fresh F _ m h = tt
+
+-- ---- new authorizations
+
+-- no number below is among challenges that count up from there
+from_numbered : (n k : ℕ) (cs : List Challenge) → k < n → IsNumbered (λ c. c.number) n cs → list_any (λ c. k == c.number) cs ≡ false
+from_numbered n k [] lt h = refl
+from_numbered n k (c ∷ cs) lt h =
+    let start : c.number ≡ n = h.0 in
+    ap (λ b. b || list_any (λ d. k == d.number) cs) (less_differs k c.number (omega arith)) ∙ from_numbered (n + 1) k cs (omega arith) h.1
+
+-- an entry that ends another account
+not_ended : (k n : ℕ) (s : Ending) (date : ℕ) → account_ends n (account_ended k s) date ≡ None → (k == n) ≡ false
+not_ended k n s date h = by (k == n) h
+  where
+    by : (b : Bool) → cond {A = Option AccountEnd} b (Some (record { date = date; ending = s })) None ≡ None → b ≡ false
+    by true h = cc
+    by false h = refl
+
+-- no entry ends an authorization that is not made yet, if its account has not ended
+no_end : (c : Counts) (a : Authorization) → c.authorizations < a.number → ((k : ℕ) → k ≤ c.challenges → has_challenge k a ≡ false) →
+    (d : Dated) → NamesGiven c d.entry → account_ends a.account d.entry d.date ≡ None → ends a d.entry d.date ≡ None
+no_end c a new free d named alive = by d.entry named alive
+  where
+    by : (e : Entry) → NamesGiven c e → account_ends a.account e d.date ≡ None → ends a e d.date ≡ None
+    by (reported k o) h l =
+        ap (λ b. cond {A = Option AuthorizationEnd} (is_good o) None
+        (cond {A = Option AuthorizationEnd} b (Some (record { date = d.date; kind = kind.Invalid })) None)) (free k h)
+        ∙ either (is_good o)
+      where
+        either : (b : Bool) → cond {A = Option AuthorizationEnd} b None None ≡ None
+        either true = refl
+        either false = refl
+    by (authorization_ended k s) h l =
+        ap (λ b. cond {A = Option AuthorizationEnd} b (Some (record { date = d.date; kind = kind_of s })) None)
+        (less_differs k a.number (omega arith))
+    by (account_ended k s) h l =
+        ap (λ b. cond {A = Option AuthorizationEnd} b (Some (record { date = d.date; kind = kind_of s })) None) (not_ended k a.account s d.date l)
+    by _ h l = refl
+
+-- where no entry answers a challenge it has no answer
+unanswered : (account n : ℕ) (F : History) → EachOf (λ d. answering n d.entry d.date ≡ None) F → answer account n F ≡ None
+unanswered account n [] h = refl
+unanswered account n (e ∷ F) h = λ i. earlier (unanswered account n F h.1 i) (answer_by (account_key account F) (h.0 i))
+
+-- new challenges
+pub challenges_fresh : (F : History) (account n : ℕ) (cs : List Challenge) → EachFollows F → count_challenges (authorizations F) < n →
+    IsNumbered (λ c. c.number) n cs → EachOf (λ c. challenge_row F account c ≡ fresh_challenge c) cs
+challenges_fresh F account n [] h lt numbered = tt
+challenges_fresh F account n (c ∷ cs) h lt numbered =
+    let start : c.number ≡ n = numbered.0 in
+    let new : count_challenges (authorizations F) < c.number = omega arith in
+    let named = all_named F h in
+    let never = each _ _ F (new_challenge_answer (counts F) c.number new) named in
+    let answered_none : answer account c.number F ≡ None = unanswered account c.number F never in
+    let when_none : when_answered c.number F ≡ None = no_first (λ d. answering c.number d.entry d.date) F never in
+    let reported_none : report c.number F ≡ None =
+    no_first (λ d. reporting c.number d.entry d.date) F (each _ _ F (new_challenge_report (counts F) c.number new) named) in (
+      (λ i. record {
+        number = c.number;
+        kind = c.kind;
+        token = c.token;
+        answered = answered_none i;
+        reported = reported_none i;
+        status = challenge_status_by (reported_none i) (is_some (when_none i));
+      }),
+      challenges_fresh F account (n + 1) cs h (omega arith) numbered.1,
+    )
+
+-- a new authorization has no end, and its challenges no facts
+authorization_fresh : (F : History) (e : Entry) (m : ℕ) (a : Authorization) (c : ℕ) → EachFollows F →
+    first (λ d. account_ends a.account d.entry d.date) F ≡ None →
+    length (authorizations F) < a.number → count_challenges (authorizations F) < c → IsNumbered (λ x. x.number) c a.challenges →
+    (authorization_end a F ≡ None) × (map (challenge_row F a.account) a.challenges ≡ map fresh_challenge a.challenges)
+authorization_fresh F e m a c h alive new free numbered = (
+  ap (in_time a.expires) (no_first (λ d. ends a d.entry d.date) F
+      (each _ _ F (λ d p. no_end (counts F) a new (λ k below. from_numbered c k a.challenges (omega arith) numbered) d p.0 p.1)
+      (each_both _ _ F (all_named F h) (first_no (λ d. account_ends a.account d.entry d.date) F alive)))),
+  map-each (challenge_row F a.account) fresh_challenge a.challenges (challenges_fresh F a.account c a.challenges h free numbered),
+)
+
+-- new authorizations of an order
+made_fresh : (F : History) (k m : ℕ) (ws : List Wanted) (expires : ℕ) (vs : List Wanted) (n c : ℕ) →
+    EachFollows (record { date = m; entry = ordered k ws } ∷ F) →
+    first (λ d. account_ends k d.entry d.date) F ≡ None → length (authorizations F) < n → count_challenges (authorizations F) < c →
+    EachOf (λ a. authorization_row (record { date = m; entry = ordered k ws } ∷ F) m a ≡ restated_authorization m (fresh_authorization a))
+    (made_for k m expires vs n c)
+made_fresh F k m ws expires [] n c h alive new free = tt
+made_fresh F k m ws expires (New name tokens ∷ vs) n c h alive after free =
+    let G : History = record { date = m; entry = ordered k ws } ∷ F in
+    let a : Authorization =
+    record { number = n; account = k; name = name; made = m; expires = expires; challenges = challenges_from c (kinds_of name) tokens } in
+    let p = authorization_fresh F (ordered k ws) m a c h.1 alive after free (challenges_numbered c (kinds_of name) tokens) in (
+      authorization_stated G h m m a ∙ (λ i. restated_authorization m (record (authorization_row G m a) { ended = p.0 i; challenges = p.1 i })),
+      made_fresh F k m ws expires vs (n + 1) (c + length (challenges_from c (kinds_of name) tokens)) h alive (omega arith) (omega arith),
+    )
+made_fresh F k m ws expires (Reused name j ∷ vs) n c h alive new free = made_fresh F k m ws expires vs n c h alive new free
+
+-- an account that is valid has not ended
+account_alive : (F : History) (n : ℕ) → holds (λ a. is_valid_account (account_status a F)) (account_by_number n F) ≡ true →
+    first (λ d. account_ends n d.entry d.date) F ≡ None
+account_alive F n h = by (accounts F) h
+  where
+    unended : (o : Option AccountEnd) → is_valid_account (account_status_of o) ≡ true → o ≡ None
+    unended None h = refl
+    unended (Some x) h = ending x.ending h
+      where
+        ending : (s : Ending) → is_valid_account (elim s [ deactivated ↦ account.Deactivated | revoked ↦ account.Revoked ]) ≡ true → Some x ≡ None
+        ending deactivated h = cc
+        ending revoked h = cc
+
+    by : (xs : List Account) → holds (λ a. is_valid_account (account_status a F)) (find (λ a. a.number == n) xs) ≡ true →
+        first (λ d. account_ends n d.entry d.date) F ≡ None
+    by [] h = cc
+    by (x ∷ xs) h = one (x.number == n) refl h (by xs)
+      where
+        one : (b : Bool) → (x.number == n) ≡ b →
+            holds (λ a. is_valid_account (account_status a F)) (cond b (Some x) (find (λ a. a.number == n) xs)) ≡ true
+            → (holds (λ a. is_valid_account (account_status a F)) (find (λ a. a.number == n) xs) ≡ true → first (λ d. account_ends n d.entry d.date) F
+            ≡ None) → first (λ d. account_ends n d.entry d.date) F ≡ None
+        one true e h ih = subst (λ k. first (λ d. account_ends k d.entry d.date) F ≡ None) (eqb-true x.number n e) (unended (account_end x F) h)
+        one false e h ih = ih h
+
+-- new authorizations
+pub authorizations_fresh : (F : History) (e : Entry) (m : ℕ) → EachFollows (record { date = m; entry = e } ∷ F) →
+    EachOf (λ a. authorization_row (record { date = m; entry = e } ∷ F) m a ≡ restated_authorization m (fresh_authorization a))
+    (made_now (record { date = m; entry = e }) F)
+authorizations_fresh F (ordered k ws) m h =
+    made_fresh F k m ws (m + (terms F).authz_life) ws (length (authorizations F) + 1) (count_challenges (authorizations F) + 1) h
+    (account_alive F k (and_parts (holds (λ a. is_valid_account (account_status a F)) (account_by_number k F)) _ h.0.allowed).0) (omega arith)
+    (omega arith)
+authorizations_fresh F _ m h = tt

@@ -1,0 +1,333 @@
+-- A part that holds what is touched records the same changes as the whole.
+use Rattle.std.proofs.Common.{◌≡◌, ℕ, ◌+◌, List, [], ◌∷◌, ◌++◌, map, filter, Some, refl, sym, ap, ◌∙◌, true, false, Bool, cond, not}
+use Rattle.std.specs.Prelude.{nat_lt, ◌==◌, ◌&&◌, ◌||◌, is_some, find}
+use Rattle.std.specs.List.{list_any, list_all}
+use Rattle.std.specs.Option.{option_or}
+use Rattle.std.proofs.lemmas.Bool.{eqb-true, and_parts}
+use Rattle.std.proofs.lemmas.List.Folds.{find-append}
+use Rattle.desk_model.specs.Lookup.{holds}
+use Rattle.desk_model.specs.History.{earlier}
+use Rattle.desk_model.specs.Account.{opened_by}
+use Rattle.desk_model.specs.Authorization.{in_time, is_over, is_valid}
+use Rattle.desk_model.specs.Order.{ordered_by, order_status_by}
+use Rattle.desk_model.specs.Tables.{Tables}
+use Rattle.desk_model.specs.Derived.{numbers_of, authorization_numbered, stored_statuses, and_status, restated_authorization, restated_order}
+use Rattle.desk_model.specs.Effect.{noted_account, noted_authorization, noted_order, touches_account, touches_authorization}
+use Rattle.desk_model.specs.Effect.{key_in, key_numbered, noted_challenge, row_ends, touches_order, names_order, lists_one, moved_authorization, fresh_account}
+use Rattle.desk_model.specs.Effect.{fresh_authorization, fresh_order, new_authorizations, authorizations_after, lasts, swept}
+use Rattle.desk_model.specs.Effect.{swept_authorization, swept_order, is_overdue, falls, is_live_order}
+use Rattle.desk_model.specs.Change.{moved_rows, account_differs, authorization_differs, order_differs, spent_by, nonces_put}
+use Rattle.desk_model.specs.Change.{accounts_put, authorizations_put, changes, sweep_changes, nonces_gone, authorizations_expired}
+use Rattle.desk_model.specs.Change.{orders_fallen}
+use Rattle.desk_model.specs.Kept.{Kept, restricted, EachOf, IsClosed, Covers, CoversSweep, HoldersKept}
+use Rattle.desk_model.specs.declared.status.AuthzStatus.TheVariants as authz
+use Rattle.desk_model.specs.declared.status.OrderStatus.TheVariants as order
+use Rattle.desk_model.specs.declared.entry.Entry.{Entry}
+use Rattle.desk_model.specs.declared.objects.Nonce.{Nonce}
+use Rattle.desk_model.specs.declared.objects.Order.{Order}
+use Rattle.desk_model.specs.declared.rows.AccountRow.{AccountRow}
+use Rattle.desk_model.specs.declared.rows.AuthorizationRow.{AuthorizationRow}
+use Rattle.desk_model.specs.declared.rows.Change.TheVariants.{PutNonce, RemoveNonce, PutAccount, PutAuthorization, PutOrder}
+use Rattle.desk_model.specs.declared.rows.OrderRow.{OrderRow}
+use Rattle.model_laws.specs.Parts.{FreshKept}
+use Rattle.model_laws.proofs.Basics.{each, each_all}
+use Rattle.model_laws.proofs.RowFacts.{authorization_untouched}
+
+-- ---- lists
+
+-- the picked rows of a part, moved, are those of the whole
+picked : {X Y : Type 0} (kept p q : X → Bool) (f g : X → Y) (xs : List X) → EachOf (λ x. kept x ≡ true → (p x ≡ q x) × (f x ≡ g x)) xs →
+    EachOf (λ x. q x ≡ true → kept x ≡ true) xs →
+    map f (filter p (filter kept xs)) ≡ map g (filter q xs)
+picked kept p q f g [] h k = refl
+picked kept p q f g (x ∷ xs) h k = by (kept x) refl (q x) refl (picked kept p q f g xs h.1 k.1)
+  where
+    by : (b : Bool) → kept x ≡ b → (c : Bool) → q x ≡ c → map f (filter p (filter kept xs)) ≡ map g (filter q xs) →
+        map f (filter p (cond b (x ∷ filter kept xs) (filter kept xs))) ≡ map g (cond c (x ∷ filter q xs) (filter q xs))
+    by true e true r ih =
+        ap (λ z. map f (cond z (x ∷ filter p (filter kept xs)) (filter p (filter kept xs)))) ((h.0 e).0 ∙ r) ∙ (λ i. (h.0 e).1 i ∷ ih i)
+    by true e false r ih = ap (λ z. map f (cond z (x ∷ filter p (filter kept xs)) (filter p (filter kept xs)))) ((h.0 e).0 ∙ r) ∙ ih
+    by false e true r ih = let yes : kept x ≡ true = k.0 r in cc
+    by false e false r ih = ih
+
+-- the rows of a part, moved, are the part of the moved rows
+pub moved_part : {X : Type 0} (kept : X → Bool) (f g : X → X) (xs : List X) → ((x : X) → kept (g x) ≡ kept x) →
+    EachOf (λ x. kept x ≡ true → f x ≡ g x) xs →
+    map f (filter kept xs) ≡ filter kept (map g xs)
+moved_part kept f g [] same h = refl
+moved_part kept f g (x ∷ xs) same h =
+    by (kept x) refl (moved_part kept f g xs same h.1) ∙ ap (λ b. cond b (g x ∷ filter kept (map g xs)) (filter kept (map g xs))) (sym (same x))
+  where
+    by : (b : Bool) → kept x ≡ b → map f (filter kept xs) ≡ filter kept (map g xs) →
+        map f (cond b (x ∷ filter kept xs) (filter kept xs)) ≡ cond b (g x ∷ filter kept (map g xs)) (filter kept (map g xs))
+    by true e ih = λ i. h.0 e i ∷ ih i
+    by false e ih = ih
+
+-- ---- look-ups
+
+-- a number that is kept is found in the part as in the whole
+pub find_kept : {X : Type 0} (number : X → ℕ) (kept : ℕ → Bool) (n : ℕ) (xs : List X) → kept n ≡ true →
+    find (λ x. number x == n) (filter (λ x. kept (number x)) xs) ≡ find (λ x. number x == n) xs
+find_kept number kept n [] h = refl
+find_kept number kept n (x ∷ xs) h = by (kept (number x)) refl (number x == n) refl (find_kept number kept n xs h)
+  where
+    by : (b : Bool) → kept (number x) ≡ b → (c : Bool) → (number x == n) ≡ c →
+        find (λ y. number y == n) (filter (λ y. kept (number y)) xs) ≡ find (λ y. number y == n) xs →
+        find (λ y. number y == n) (cond b (x ∷ filter (λ y. kept (number y)) xs) (filter (λ y. kept (number y)) xs))
+        ≡ cond c (Some x) (find (λ y. number y == n) xs)
+    by true e true r ih = ap (λ z. cond z (Some x) (find (λ y. number y == n) (filter (λ y. kept (number y)) xs))) r
+    by true e false r ih = ap (λ z. cond z (Some x) (find (λ y. number y == n) (filter (λ y. kept (number y)) xs))) r ∙ ih
+    by false e true r ih = let same : number x ≡ n = eqb-true (number x) n r in let yes : kept (number x) ≡ true = rw same h in cc
+    by false e false r ih = ih
+
+-- the authorizations of these numbers are the same in both lists
+abbrev SameFor : List AuthorizationRow → List AuthorizationRow → List ℕ → Type 0
+SameFor rows others ns = EachOf (λ n. authorization_numbered n rows ≡ authorization_numbered n others) ns
+
+-- orders list the same, where the look-ups agree
+lists_same : (test : AuthorizationRow → Bool) (rows others : List AuthorizationRow) (ns : List ℕ) → SameFor rows others ns →
+    lists_one test rows ns ≡ lists_one test others ns
+lists_same test rows others [] h = refl
+lists_same test rows others (n ∷ ns) h = λ i. holds test (h.0 i) || lists_same test rows others ns h.1 i
+
+-- and the stored statuses are the same
+statuses_same : (rows others : List AuthorizationRow) (ns : List ℕ) → SameFor rows others ns → stored_statuses rows ns ≡ stored_statuses others ns
+statuses_same rows others [] h = refl
+statuses_same rows others (n ∷ ns) h = λ i. and_status (h.0 i) (statuses_same rows others ns h.1 i)
+
+-- and an order gets the same status
+pub restated_same : (m : ℕ) (rows others : List AuthorizationRow) (row : OrderRow) → SameFor rows others (numbers_of row.listed) →
+    restated_order m rows row ≡ restated_order m others row
+restated_same m rows others row h =
+    let same : stored_statuses rows (numbers_of row.listed) ≡ stored_statuses others (numbers_of row.listed) =
+    statuses_same rows others (numbers_of row.listed) h in
+    λ i. record row {
+      status =
+          order_status_by (is_some row.certified) (is_some row.failed || (nat_lt row.expires m || list_any is_over (same i))) (is_some row.finalized)
+          (list_all is_valid (same i));
+    }
+
+-- the look-ups agree for kept authorizations
+kept_before : (k : Kept) (T : Tables) (ns : List ℕ) → EachOf (λ n. k.authorizations n ≡ true) ns →
+    SameFor (restricted k T).authorizations T.authorizations ns
+kept_before k T ns h = each _ _ ns (λ n yes. find_kept (λ (a : AuthorizationRow). a.number) k.authorizations n T.authorizations yes) h
+
+-- a moved authorization keeps its number
+pub moved_number : (e : Entry) (m : ℕ) (accounts : List AccountRow) (row : AuthorizationRow) → (moved_authorization e m accounts row).number ≡ row.number
+moved_number e m accounts row = by (touches_authorization e row)
+  where
+    by : (b : Bool) → (cond b (restated_authorization m (noted_authorization e m accounts row)) row).number ≡ row.number
+    by true = refl
+    by false = refl
+
+-- an account that is kept has its key in the part
+key_kept : (k : Kept) (T : Tables) (n : ℕ) → k.accounts n ≡ true → key_numbered n (restricted k T).accounts ≡ key_numbered n T.accounts
+key_kept k T n h = ap key_in (find_kept (λ (a : AccountRow). a.number) k.accounts n T.accounts h)
+
+-- an authorization is noted by the part as by the whole, if its account is kept where the entry touches it
+noted_same : (k : Kept) (T : Tables) (e : Entry) (m : ℕ) (a : AuthorizationRow) → (touches_authorization e a ≡ true → k.accounts a.account ≡ true) →
+    noted_authorization e m (restricted k T).accounts a ≡ noted_authorization e m T.accounts a
+noted_same k T e m a h = by (touches_authorization e a) refl
+  where
+    by : (b : Bool) → touches_authorization e a ≡ b → noted_authorization e m (restricted k T).accounts a ≡ noted_authorization e m T.accounts a
+    by true t =
+        ap (λ key. record a { ended = earlier a.ended (in_time a.expires (row_ends a e m)); challenges = map (noted_challenge e m key) a.challenges })
+        (key_kept k T a.account (h t))
+    by false t = authorization_untouched e m (restricted k T).accounts a t ∙ sym (authorization_untouched e m T.accounts a t)
+
+-- and so it is moved
+moved_same : (k : Kept) (T : Tables) (e : Entry) (m : ℕ) (a : AuthorizationRow) → (touches_authorization e a ≡ true → k.accounts a.account ≡ true) →
+    moved_authorization e m (restricted k T).accounts a ≡ moved_authorization e m T.accounts a
+moved_same k T e m a h = ap (λ r. cond (touches_authorization e a) (restated_authorization m r) a) (noted_same k T e m a h)
+
+-- each of them
+pub all_moved_same : (k : Kept) (T : Tables) (e : Entry) (m : ℕ) → HoldersKept k T e →
+    EachOf (λ a. k.authorizations a.number ≡ true → moved_authorization e m (restricted k T).accounts a ≡ moved_authorization e m T.accounts a)
+    T.authorizations
+all_moved_same k T e m holders = each _ _ T.authorizations (λ a h yes. moved_same k T e m a h) holders
+
+-- the part's authorizations after an entry
+pub after_part : (k : Kept) (T : Tables) (e : Entry) (m : ℕ) → HoldersKept k T e → authorizations_after (restricted k T) e m
+    ≡ filter (λ a. k.authorizations a.number) (map (moved_authorization e m T.accounts) T.authorizations)
+    ++ map (λ a. restated_authorization m (fresh_authorization a)) (new_authorizations T e m)
+after_part k T e m holders =
+    ap (λ rows. rows ++ map (λ a. restated_authorization m (fresh_authorization a)) (new_authorizations T e m))
+    (moved_part (λ (a : AuthorizationRow). k.authorizations a.number) (moved_authorization e m (restricted k T).accounts)
+    (moved_authorization e m T.accounts) T.authorizations
+    (λ a. ap k.authorizations (moved_number e m T.accounts a)) (all_moved_same k T e m holders))
+
+-- the look-ups agree after an entry
+pub kept_after : (k : Kept) (T : Tables) (e : Entry) (m : ℕ) (ns : List ℕ) → HoldersKept k T e → EachOf (λ n. k.authorizations n ≡ true) ns →
+    SameFor (authorizations_after (restricted k T) e m) (authorizations_after T e m) ns
+kept_after k T e m ns holders h =
+    each _ _ ns (λ n yes.
+    let new : List AuthorizationRow = map (λ a. restated_authorization m (fresh_authorization a)) (new_authorizations T e m) in
+    let rows : List AuthorizationRow = map (moved_authorization e m T.accounts) T.authorizations in
+    ap (authorization_numbered n) (after_part k T e m holders)
+    ∙ find-append (λ a. a.number == n) (filter (λ a. k.authorizations a.number) rows) new
+    ∙ ap (λ o. option_or o (find (λ a. a.number == n) new)) (find_kept (λ (a : AuthorizationRow). a.number) k.authorizations n rows yes)
+    ∙ sym (find-append (λ a. a.number == n) rows new)) h
+
+-- ---- the sweep
+
+-- an order falls by the part where it falls by the whole
+falls_same : (k : Kept) (T : Tables) (m : ℕ) (row : OrderRow) → EachOf (λ n. k.authorizations n ≡ true) (numbers_of row.listed) →
+    falls m (restricted k T).authorizations row ≡ falls m T.authorizations row
+falls_same k T m row h =
+    ap (λ b. is_live_order row.status && (nat_lt row.expires m || b))
+    (lists_same (is_overdue m) _ T.authorizations (numbers_of row.listed) (kept_before k T (numbers_of row.listed) h))
+
+-- the part changes as the whole by the passing of time
+pub sweep_changes_local : (k : Kept) (T : Tables) (m : ℕ) → IsClosed k T → CoversSweep k T m → sweep_changes m (restricted k T) ≡ sweep_changes m T
+sweep_changes_local k T m closed covers =
+    let gone : nonces_gone m (restricted k T) ≡ nonces_gone m T =
+    picked (λ (n : Nonce). k.nonces n.serial) (λ n. not (lasts T.meta.policy m n)) (λ n. not (lasts T.meta.policy m n)) (λ n. n.serial)
+    (λ n. n.serial) T.nonces (each_all _ T.nonces (λ n yes. (refl, refl))) covers.nonces in
+    let expired : authorizations_expired m (restricted k T) ≡ authorizations_expired m T =
+    picked (λ (a : AuthorizationRow). k.authorizations a.number) (is_overdue m) (is_overdue m)
+    (λ (r : AuthorizationRow). record r { status = authz.Expired })
+    (λ (r : AuthorizationRow). record r { status = authz.Expired }) T.authorizations
+    (each_all _ T.authorizations (λ a yes. (refl, refl))) covers.authorizations in
+    let fallen : orders_fallen m (restricted k T) ≡ orders_fallen m T =
+    picked (λ (o : OrderRow). k.orders o.number) (falls m (restricted k T).authorizations) (falls m T.authorizations)
+    (λ (r : OrderRow). record r { status = order.Invalid }) (λ (r : OrderRow). record r { status = order.Invalid }) T.orders
+    (each _ _ T.orders (λ o all yes. (falls_same k T m o (all yes), refl)) closed.listed) covers.orders in
+    λ i. map RemoveNonce (gone i) ++ (map PutAuthorization (expired i) ++ map PutOrder (fallen i))
+
+-- ---- an entry
+
+-- an entry touches an order by the part where it does by the whole
+pub touches_same : (k : Kept) (T : Tables) (e : Entry) (row : OrderRow) → EachOf (λ n. k.authorizations n ≡ true) (numbers_of row.listed) →
+    touches_order e (restricted k T).authorizations row ≡ touches_order e T.authorizations row
+touches_same k T e row h =
+    ap (λ b. names_order e row.number || b)
+    (lists_same (touches_authorization e) _ T.authorizations (numbers_of row.listed) (kept_before k T (numbers_of row.listed) h))
+
+-- the part changes as the whole by an entry
+pub changes_local : (k : Kept) (T : Tables) (m : ℕ) (e : Entry) → IsClosed k T → Covers k T e →
+    FreshKept k T m e → changes m (restricted k T) e ≡ changes m T e
+changes_local k T m e closed covers fresh_kept =
+    let accounts : accounts_put (restricted k T) e m ≡ accounts_put T e m =
+    ap (λ rows. rows ++ map fresh_account (opened_by e m (T.meta.counters.accounts + 1)))
+    (picked (λ (a : AccountRow). k.accounts a.number) (λ r. touches_account e r && account_differs r (noted_account e m r))
+    (λ r. touches_account e r && account_differs r (noted_account e m r)) (noted_account e m) (noted_account e m) T.accounts
+    (each_all _ T.accounts (λ a yes. (refl, refl)))
+    (each _ _ T.accounts (λ a f h. f (and_parts (touches_account e a) _ h).0) covers.accounts)) in
+    let authorizations : authorizations_put (restricted k T) e m ≡ authorizations_put T e m =
+    ap (λ rows. rows ++ map (λ a. restated_authorization m (fresh_authorization a)) (new_authorizations T e m))
+    (picked (λ (a : AuthorizationRow). k.authorizations a.number)
+    (λ r. touches_authorization e r && authorization_differs r (restated_authorization m (noted_authorization e m (restricted k T).accounts r)))
+    (λ r. touches_authorization e r && authorization_differs r (restated_authorization m (noted_authorization e m T.accounts r)))
+    (λ r. restated_authorization m (noted_authorization e m (restricted k T).accounts r))
+    (λ r. restated_authorization m (noted_authorization e m T.accounts r)) T.authorizations
+    (each _ _ T.authorizations (λ a h yes.
+    let same = ap (restated_authorization m) (noted_same k T e m a h) in
+    ((λ i. touches_authorization e a && authorization_differs a (same i)), same)) covers.holders)
+    (each _ _ T.authorizations (λ a f h. f (and_parts (touches_authorization e a) _ h).0) covers.authorizations)) in
+    let before : List AuthorizationRow = (restricted k T).authorizations in
+    let after : List AuthorizationRow = authorizations_after (restricted k T) e m in
+    let old : moved_rows (touches_order e before) order_differs (λ r. restated_order m after (noted_order e m r)) (restricted k T).orders
+    ≡ moved_rows (touches_order e T.authorizations) order_differs (λ r. restated_order m (authorizations_after T e m) (noted_order e m r)) T.orders =
+    picked (λ (o : OrderRow). k.orders o.number)
+    (λ r. touches_order e before r && order_differs r (restated_order m after (noted_order e m r)))
+    (λ r. touches_order e T.authorizations r && order_differs r (restated_order m (authorizations_after T e m) (noted_order e m r)))
+    (λ r. restated_order m after (noted_order e m r)) (λ r. restated_order m (authorizations_after T e m) (noted_order e m r)) T.orders
+    (each _ _ T.orders (λ o all yes.
+    let same = restated_same m after (authorizations_after T e m) (noted_order e m o)
+    (kept_after k T e m (numbers_of o.listed) covers.holders (all yes)) in
+    ((λ i. touches_same k T e o (all yes) i && order_differs o (same i)), same)) closed.listed)
+    (each _ _ T.orders (λ o f h. f (and_parts (touches_order e T.authorizations o) _ h).0) covers.orders) in
+    let new = news (ordered_by e m T.meta.policy (T.meta.counters.authorizations + 1) (T.meta.counters.orders + 1)) fresh_kept in
+    λ i. map RemoveNonce (spent_by e) ++
+    (map PutNonce (nonces_put T e m) ++
+    (map PutAccount (accounts i) ++ (map PutAuthorization (authorizations i) ++ map PutOrder (old i ++ new i))))
+  where
+    news : (os : List Order) → EachOf (λ o. EachOf (λ n. k.authorizations n ≡ true) (numbers_of (fresh_order o).listed)) os →
+        map (λ o. restated_order m (authorizations_after (restricted k T) e m) (fresh_order o)) os
+        ≡ map (λ o. restated_order m (authorizations_after T e m) (fresh_order o)) os
+    news [] h = refl
+    news (o ∷ os) h =
+        λ i. restated_same m (authorizations_after (restricted k T) e m) (authorizations_after T e m) (fresh_order o)
+        (kept_after k T e m (numbers_of (fresh_order o).listed) covers.holders h.0) i ∷ news os h.1 i
+
+-- ---- a part moves as the whole
+
+-- a test that all pass leaves all
+pub filter_all : {X : Type 0} (p : X → Bool) (xs : List X) → EachOf (λ x. p x ≡ true) xs → filter p xs ≡ xs
+filter_all p [] h = refl
+filter_all p (x ∷ xs) h = ap (λ b. cond b (x ∷ filter p xs) (filter p xs)) h.0 ∙ ap (λ l. x ∷ l) (filter_all p xs h.1)
+
+-- filters in either order
+pub filters_swap : {X : Type 0} (p q : X → Bool) (xs : List X) → filter p (filter q xs) ≡ filter q (filter p xs)
+filters_swap p q [] = refl
+filters_swap p q (x ∷ xs) = by (p x) refl (q x) refl (filters_swap p q xs)
+  where
+    by : (b : Bool) → p x ≡ b → (c : Bool) → q x ≡ c → filter p (filter q xs) ≡ filter q (filter p xs) →
+        filter p (cond c (x ∷ filter q xs) (filter q xs)) ≡ filter q (cond b (x ∷ filter p xs) (filter p xs))
+    by true e true r ih =
+        ap (λ z. cond z (x ∷ filter p (filter q xs)) (filter p (filter q xs))) e
+        ∙ ap (λ l. x ∷ l) ih
+        ∙ sym (ap (λ z. cond z (x ∷ filter q (filter p xs)) (filter q (filter p xs))) r)
+    by true e false r ih = ih ∙ sym (ap (λ z. cond z (x ∷ filter q (filter p xs)) (filter q (filter p xs))) r)
+    by false e true r ih = ap (λ z. cond z (x ∷ filter p (filter q xs)) (filter p (filter q xs))) e ∙ ih
+    by false e false r ih = ih
+
+-- a swept authorization keeps its number
+pub swept_number : (m : ℕ) (row : AuthorizationRow) → (swept_authorization m row).number ≡ row.number
+swept_number m row = by (is_overdue m row)
+  where
+    by : (b : Bool) → (cond b (record row { status = authz.Expired }) row).number ≡ row.number
+    by true = refl
+    by false = refl
+
+-- a swept order keeps its number
+pub swept_order_number : (m : ℕ) (rows : List AuthorizationRow) (row : OrderRow) → (swept_order m rows row).number ≡ row.number
+swept_order_number m rows row = by (falls m rows row)
+  where
+    by : (b : Bool) → (cond b (record row { status = order.Invalid }) row).number ≡ row.number
+    by true = refl
+    by false = refl
+
+-- the part, swept, is the part of the swept tables
+pub swept_part : (k : Kept) (T : Tables) (m : ℕ) → IsClosed k T → swept m (restricted k T) ≡ restricted k (swept m T)
+swept_part k T m closed =
+    λ i. record {
+      meta = (swept m T).meta;
+      nonces = filters_swap (lasts T.meta.policy m) (λ n. k.nonces n.serial) T.nonces i;
+      accounts = filter (λ a. k.accounts a.number) T.accounts;
+      authorizations =
+          moved_part (λ (a : AuthorizationRow). k.authorizations a.number) (swept_authorization m) (swept_authorization m) T.authorizations
+          (λ a. ap k.authorizations (swept_number m a)) (each_all _ T.authorizations (λ a yes. refl)) i;
+      orders =
+          moved_part (λ (o : OrderRow). k.orders o.number) (swept_order m (restricted k T).authorizations) (swept_order m T.authorizations) T.orders
+          (λ o. ap k.orders (swept_order_number m T.authorizations o))
+          (each _ _ T.orders (λ o all yes. ap (λ b. cond b (record o { status = order.Invalid }) o) (falls_same k T m o (all yes))) closed.listed) i;
+    }
+
+-- ---- what a decision reads: the first row that passes a test, and all rows that pass one
+
+-- the first row that passes is the same in a part that keeps the rows that pass
+pub find_part : {X : Type 0} (test kept : X → Bool) (xs : List X) → EachOf (λ x. test x ≡ true → kept x ≡ true) xs →
+    find test (filter kept xs) ≡ find test xs
+find_part test kept [] h = refl
+find_part test kept (x ∷ xs) h = by (kept x) refl (test x) refl (find_part test kept xs h.1)
+  where
+    by : (b : Bool) → kept x ≡ b → (c : Bool) → test x ≡ c → find test (filter kept xs) ≡ find test xs →
+        find test (cond b (x ∷ filter kept xs) (filter kept xs)) ≡ cond c (Some x) (find test xs)
+    by true e true r ih = ap (λ z. cond z (Some x) (find test (filter kept xs))) r
+    by true e false r ih = ap (λ z. cond z (Some x) (find test (filter kept xs))) r ∙ ih
+    by false e true r ih = let yes : kept x ≡ true = h.0 r in cc
+    by false e false r ih = ih
+
+-- and so are all rows that pass
+pub filter_part : {X : Type 0} (test kept : X → Bool) (xs : List X) → EachOf (λ x. test x ≡ true → kept x ≡ true) xs →
+    filter test (filter kept xs) ≡ filter test xs
+filter_part test kept [] h = refl
+filter_part test kept (x ∷ xs) h = by (kept x) refl (test x) refl (filter_part test kept xs h.1)
+  where
+    by : (b : Bool) → kept x ≡ b → (c : Bool) → test x ≡ c → filter test (filter kept xs) ≡ filter test xs →
+        filter test (cond b (x ∷ filter kept xs) (filter kept xs)) ≡ cond c (x ∷ filter test xs) (filter test xs)
+    by true e true r ih = ap (λ z. cond z (x ∷ filter test (filter kept xs)) (filter test (filter kept xs))) r ∙ ap (λ l. x ∷ l) ih
+    by true e false r ih = ap (λ z. cond z (x ∷ filter test (filter kept xs)) (filter test (filter kept xs))) r ∙ ih
+    by false e true r ih = let yes : kept x ≡ true = h.0 r in cc
+    by false e false r ih = ih

@@ -1,0 +1,260 @@
+-- Numbers: how they are given, and that an entry names only such as were given.
+use Rattle.std.proofs.Common.{◌≡◌, ◌≤◌, ◌<◌, ℕ, ◌+◌, List, [], ◌∷◌, ◌++◌, length, Option, Some, None, refl, subst, true, false}
+use Rattle.std.proofs.Common.{Bool, cond, arith, length-append}
+use Rattle.std.specs.Prelude.{◌==◌, ◌||◌, find}
+use Rattle.std.specs.List.{list_any, list_all}
+use Rattle.std.proofs.lemmas.Bool.{eqb-true, and_parts}
+use Rattle.desk_model.specs.Entry.{History}
+use Rattle.desk_model.specs.History.{terms, first, latest, earlier}
+use Rattle.desk_model.specs.Lookup.{holds}
+use Rattle.desk_model.specs.Nonce.{nonces, issued_by}
+use Rattle.desk_model.specs.Account.{accounts, opened_by}
+use Rattle.desk_model.specs.Authorization.{authorizations, has_challenge, made_by, made_for, kinds_of, challenges_from, count_challenges, challenge_status}
+use Rattle.desk_model.specs.Order.{orders, ordered_by}
+use Rattle.desk_model.specs.Legal.{EachFollows, may_follow, may_want, is_pending_challenge, is_processing_challenge}
+use Rattle.desk_model.specs.Kept.{EachOf}
+use Rattle.desk_model.specs.declared.entry.Dated.{Dated}
+use Rattle.desk_model.specs.declared.entry.Entry.{Entry}
+use Rattle.desk_model.specs.declared.entry.Entry.TheVariants.{Made as made, Issued as issued, Spent as spent, Opened as opened}
+use Rattle.desk_model.specs.declared.entry.Entry.TheVariants.{ContactsChanged as contacts_changed, KeyChanged as key_changed, AccountEnded as account_ended}
+use Rattle.desk_model.specs.declared.entry.Entry.TheVariants.{Ordered as ordered, Answered as answered, Reported as reported}
+use Rattle.desk_model.specs.declared.entry.Entry.TheVariants.{AuthorizationEnded as authorization_ended, Finalized as finalized}
+use Rattle.desk_model.specs.declared.entry.Entry.TheVariants.{Certified as certified, Failed as failed}
+use Rattle.desk_model.specs.declared.entry.Wanted.{Wanted}
+use Rattle.desk_model.specs.declared.entry.Wanted.TheVariants.{New, Reused}
+use Rattle.desk_model.specs.declared.objects.Authorization.{Authorization}
+use Rattle.desk_model.specs.declared.objects.Challenge.{Challenge}
+use Rattle.desk_model.specs.declared.objects.Kind.{Kind}
+use Rattle.desk_model.specs.declared.objects.Order.{Order}
+use Rattle.model_laws.proofs.Basics.{each, IsNumbered, numbered-append}
+use Rattle.model_laws.specs.Given.{Counts, counts, NamesGiven}
+use Rattle.model_laws.specs.Reused.{OfReused}
+use Rattle.model_laws.proofs.NewOrders.{may_be_ordered}
+use Rattle.model_laws.proofs.OrderFacts.{authorizations_numbered}
+
+-- ---- facts that no entry states
+
+-- what no entry states is no first fact
+pub no_first : {X : Type 0} (fact : Dated → Option X) (F : History) → EachOf (λ d. fact d ≡ None) F → first fact F ≡ None
+no_first fact [] h = refl
+no_first fact (e ∷ F) h = λ i. earlier (no_first fact F h.1 i) (h.0 i)
+
+-- nor a latest one
+pub no_latest : {X : Type 0} (fact : Dated → Option X) (F : History) → EachOf (λ d. fact d ≡ None) F → latest fact F ≡ None
+no_latest fact [] h = refl
+no_latest fact (e ∷ F) h = λ i. earlier (h.0 i) (no_latest fact F h.1 i)
+
+-- where there is no first fact, no entry states one
+pub first_no : {X : Type 0} (fact : Dated → Option X) (F : History) → first fact F ≡ None → EachOf (λ d. fact d ≡ None) F
+first_no fact [] h = tt
+first_no fact (e ∷ F) h = let p = parts (first fact F) (fact e) h in (p.1, first_no fact F p.0)
+  where
+    parts : {X : Type 0} (x y : Option X) → earlier x y ≡ None → (x ≡ None) × (y ≡ None)
+    parts None None k = (refl, refl)
+    parts None (Some y) k = cc
+    parts (Some x) None k = cc
+    parts (Some x) (Some y) k = cc
+
+-- ---- numbers
+
+-- no count is greater
+record IsWithin (c d : Counts) : Type 0 where
+  nonces : c.nonces ≤ d.nonces
+  accounts : c.accounts ≤ d.accounts
+  orders : c.orders ≤ d.orders
+  authorizations : c.authorizations ≤ d.authorizations
+  challenges : c.challenges ≤ d.challenges
+
+-- what was given stays given
+names_more : (c d : Counts) → IsWithin c d → (e : Entry) → NamesGiven c e → NamesGiven d e
+names_more c d w (spent n) h = omega (arith, w.nonces)
+names_more c d w (contacts_changed n cs) h = omega (arith, w.accounts)
+names_more c d w (key_changed n key) h = omega (arith, w.accounts)
+names_more c d w (account_ended n s) h = omega (arith, w.accounts)
+names_more c d w (ordered n ws) h =
+    let account : n ≤ c.accounts = h.0 in
+    (omega (arith, w.accounts), reused_more ws h.1)
+  where
+    reused_more : (xs : List Wanted) → EachOf (OfReused (λ k. k ≤ c.authorizations)) xs → EachOf (OfReused (λ k. k ≤ d.authorizations)) xs
+    reused_more [] k = tt
+    reused_more (New name tokens ∷ xs) k = (tt, reused_more xs k.1)
+    reused_more (Reused name j ∷ xs) k = let given : j ≤ c.authorizations = k.0 in (omega (arith, w.authorizations), reused_more xs k.1)
+names_more c d w (answered n) h = omega (arith, w.challenges)
+names_more c d w (reported n o) h = omega (arith, w.challenges)
+names_more c d w (authorization_ended n s) h = omega (arith, w.authorizations)
+names_more c d w (finalized n bytes) h = omega (arith, w.orders)
+names_more c d w (certified n bytes) h = omega (arith, w.orders)
+names_more c d w (failed n f) h = omega (arith, w.orders)
+names_more c d w _ h = tt
+
+-- challenges of two lists
+pub count-append : (xs ys : List Authorization) → count_challenges (xs ++ ys) ≡ count_challenges xs + count_challenges ys
+count-append [] ys = omega arith
+count-append (x ∷ xs) ys = omega (arith, count-append xs ys)
+
+-- what the entry makes
+abbrev pub made_now : Dated → History → List Authorization
+made_now e F = made_by e.entry e.date (terms F).authz_life (length (authorizations F) + 1) (count_challenges (authorizations F) + 1)
+
+-- the order that the entry makes
+abbrev pub ordered_now : Dated → History → List Order
+ordered_now e F = ordered_by e.entry e.date (terms F) (length (authorizations F) + 1) (length (orders F) + 1)
+
+-- counts only grow
+counts_grow : (e : Dated) (F : History) → IsWithin (counts F) (counts (e ∷ F))
+counts_grow e F =
+    record {
+      nonces = omega (arith, length-append (nonces F) (issued_by e.entry e.date (length (nonces F) + 1)));
+      accounts = omega (arith, length-append (accounts F) (opened_by e.entry e.date (length (accounts F) + 1)));
+      orders = omega (arith, length-append (orders F) (ordered_now e F));
+      authorizations = omega (arith, length-append (authorizations F) (made_now e F));
+      challenges = omega (arith, count-append (authorizations F) (made_now e F));
+    }
+
+-- what is found by its number is among the first
+found_below : {X : Type 0} (number : X → ℕ) (n k : ℕ) (xs : List X) (test : X → Bool) → IsNumbered number n xs →
+    holds test (find (λ x. number x == k) xs) ≡ true → k < n + length xs
+found_below number n k [] test h is = cc
+found_below number n k (x ∷ xs) test h is = by (number x == k) refl is (found_below number (n + 1) k xs test h.1)
+  where
+    by : (b : Bool) → (number x == k) ≡ b → holds test (cond b (Some x) (find (λ y. number y == k) xs)) ≡ true →
+        (holds test (find (λ y. number y == k) xs) ≡ true → k < (n + 1) + length xs) → k < n + length (x ∷ xs)
+    by true e p ih = let same : number x ≡ k = eqb-true (number x) k e in let start : number x ≡ n = h.0 in omega arith
+    by false e p ih = let below : k < (n + 1) + length xs = ih p in omega arith
+
+-- serials of nonces count up from 1
+pub nonces_numbered : (F : History) → IsNumbered (λ n. n.serial) 1 (nonces F)
+nonces_numbered [] = tt
+nonces_numbered (e ∷ F) = numbered-append (λ n. n.serial) 1 (nonces F) _ (length (nonces F) + 1) (omega arith) (nonces_numbered F) (one e.entry)
+  where
+    one : (entry : Entry) → IsNumbered (λ n. n.serial) (length (nonces F) + 1) (issued_by entry e.date (length (nonces F) + 1))
+    one (issued r) = (refl, tt)
+    one _ = tt
+
+-- numbers of accounts count up from 1
+pub accounts_numbered : (F : History) → IsNumbered (λ a. a.number) 1 (accounts F)
+accounts_numbered [] = tt
+accounts_numbered (e ∷ F) =
+    numbered-append (λ a. a.number) 1 (accounts F) _ (length (accounts F) + 1) (omega arith) (accounts_numbered F) (one e.entry)
+  where
+    one : (entry : Entry) → IsNumbered (λ a. a.number) (length (accounts F) + 1) (opened_by entry e.date (length (accounts F) + 1))
+    one (opened k cs) = (refl, tt)
+    one _ = tt
+
+-- numbers of orders count up from 1
+pub orders_numbered : (F : History) → IsNumbered (λ o. o.number) 1 (orders F)
+orders_numbered [] = tt
+orders_numbered (e ∷ F) = numbered-append (λ o. o.number) 1 (orders F) _ (length (orders F) + 1) (omega arith) (orders_numbered F) (one e.entry)
+  where
+    one : (entry : Entry) →
+        IsNumbered (λ o. o.number) (length (orders F) + 1) (ordered_by entry e.date (terms F) (length (authorizations F) + 1) (length (orders F) + 1))
+    one (ordered k ws) = (refl, tt)
+    one _ = tt
+
+-- the challenges' numbers count up through all authorizations
+abbrev pub AreNumbered : ℕ → List Authorization → Type 0
+AreNumbered n [] = Unit {0}
+AreNumbered n (a ∷ rest) = IsNumbered (λ c. c.number) n a.challenges × AreNumbered (n + length a.challenges) rest
+
+-- challenges that are made count up
+pub challenges_numbered : (n : ℕ) (ks : List Kind) (tokens : List (List ℕ)) → IsNumbered (λ c. c.number) n (challenges_from n ks tokens)
+challenges_numbered n [] tokens = tt
+challenges_numbered n (k ∷ ks) [] = tt
+challenges_numbered n (k ∷ ks) (t ∷ ts) = (refl, challenges_numbered (n + 1) ks ts)
+
+-- and so through the authorizations of an order
+made_are_numbered : (account date expires : ℕ) (ws : List Wanted) (n c : ℕ) → AreNumbered c (made_for account date expires ws n c)
+made_are_numbered account date expires [] n c = tt
+made_are_numbered account date expires (New name tokens ∷ ws) n c =
+    (challenges_numbered c (kinds_of name) tokens, made_are_numbered account date expires ws (n + 1) _)
+made_are_numbered account date expires (Reused name k ∷ ws) n c = made_are_numbered account date expires ws n c
+
+-- challenges that go on counting
+are_numbered-append : (n : ℕ) (xs ys : List Authorization) (k : ℕ) → k ≡ count_challenges xs + n → AreNumbered n xs → AreNumbered k ys →
+    AreNumbered n (xs ++ ys)
+are_numbered-append n [] ys k e h g = let same : k ≡ n = omega arith in subst (λ j. AreNumbered j ys) same g
+are_numbered-append n (x ∷ xs) ys k e h g = (h.0, are_numbered-append (n + length x.challenges) xs ys k (omega arith) h.1 g)
+
+-- numbers of challenges count up from 1
+pub challenges_count : (F : History) → AreNumbered 1 (authorizations F)
+challenges_count [] = tt
+challenges_count (e ∷ F) =
+    are_numbered-append 1 (authorizations F) _ (count_challenges (authorizations F) + 1) (omega arith) (challenges_count F) (more e.entry)
+  where
+    more : (entry : Entry) →
+        AreNumbered (count_challenges (authorizations F) + 1)
+        (made_by entry e.date (terms F).authz_life (length (authorizations F) + 1) (count_challenges (authorizations F) + 1))
+    more (ordered k ws) = made_are_numbered k e.date _ ws _ _
+    more _ = tt
+
+-- a challenge of an authorization is among those counted
+any_below : (n k : ℕ) (cs : List Challenge) → IsNumbered (λ c. c.number) n cs → list_any (λ c. k == c.number) cs ≡ true → k < n + length cs
+any_below n k [] h is = cc
+any_below n k (c ∷ cs) h is = by (k == c.number) refl is (any_below (n + 1) k cs h.1)
+  where
+    by : (b : Bool) → (k == c.number) ≡ b → (b || list_any (λ d. k == d.number) cs) ≡ true →
+        (list_any (λ d. k == d.number) cs ≡ true → k < (n + 1) + length cs) → k < n + length (c ∷ cs)
+    by true e p ih = let same : k ≡ c.number = eqb-true k c.number e in let start : c.number ≡ n = h.0 in omega arith
+    by false e p ih = let below : k < (n + 1) + length cs = ih p in omega arith
+
+-- a challenge that is of an authorization is among the first
+challenge_below : (n k : ℕ) (xs : List Authorization) (test : Authorization → Bool) → AreNumbered n xs →
+    holds test (find (has_challenge k) xs) ≡ true → k < n + count_challenges xs
+challenge_below n k [] test h is = cc
+challenge_below n k (x ∷ xs) test h is = by (has_challenge k x) refl is (challenge_below (n + length x.challenges) k xs test h.1)
+  where
+    by : (b : Bool) → has_challenge k x ≡ b → holds test (cond b (Some x) (find (has_challenge k) xs)) ≡ true →
+        (holds test (find (has_challenge k) xs) ≡ true → k < (n + length x.challenges) + count_challenges xs) → k < n + count_challenges (x ∷ xs)
+    by true e p ih = let below : k < n + length x.challenges = any_below n k x.challenges h.0 e in omega arith
+    by false e p ih = let below : k < (n + length x.challenges) + count_challenges xs = ih p in omega arith
+
+-- an entry that may follow names only numbers that were given
+names_allowed : (F : History) (e : Entry) (m : ℕ) → may_follow F e m ≡ true → NamesGiven (counts F) e
+names_allowed F (made t) m may = tt
+names_allowed F (issued r) m may = tt
+names_allowed F (opened k cs) m may = tt
+names_allowed F (spent n) m may =
+    let below : n < 1 + length (nonces F) = found_below (λ x. x.serial) 1 n (nonces F) _ (nonces_numbered F) may in omega arith
+names_allowed F (contacts_changed n cs) m may =
+    let below : n < 1 + length (accounts F) = found_below (λ x. x.number) 1 n (accounts F) _ (accounts_numbered F) (and_parts _ _ may).0 in
+    omega arith
+names_allowed F (key_changed n key) m may =
+    let below : n < 1 + length (accounts F) = found_below (λ x. x.number) 1 n (accounts F) _ (accounts_numbered F) (and_parts _ _ may).0 in
+    omega arith
+names_allowed F (account_ended n s) m may =
+    let below : n < 1 + length (accounts F) = found_below (λ x. x.number) 1 n (accounts F) _ (accounts_numbered F) may in omega arith
+names_allowed F (ordered n ws) m may =
+    let tests = may_be_ordered F m n ws may in
+    let below : n < 1 + length (accounts F) = found_below (λ x. x.number) 1 n (accounts F) _ (accounts_numbered F) tests.holder in
+    (omega arith, reused_below ws tests.reused)
+  where
+    reused_below : (xs : List Wanted) → list_all (may_want F m n) xs ≡ true → EachOf (OfReused (λ k. k ≤ length (authorizations F))) xs
+    reused_below [] h = tt
+    reused_below (New name tokens ∷ xs) h = (tt, reused_below xs h)
+    reused_below (Reused name k ∷ xs) h =
+        let p = and_parts (may_want F m n (Reused name k)) _ h in
+        let below : k < 1 + length (authorizations F) = found_below (λ x. x.number) 1 k (authorizations F) _ (authorizations_numbered F) p.0 in
+        (omega arith, reused_below xs p.1)
+names_allowed F (answered n) m may =
+    let below : n < 1 + count_challenges (authorizations F) = challenge_below 1 n (authorizations F) _ (challenges_count F)
+    (and_parts _ (is_pending_challenge (challenge_status n F)) may).0 in omega arith
+names_allowed F (reported n o) m may =
+    let below : n < 1 + count_challenges (authorizations F) = challenge_below 1 n (authorizations F) _ (challenges_count F)
+    (and_parts _ (is_processing_challenge (challenge_status n F)) may).0 in omega arith
+names_allowed F (authorization_ended n s) m may =
+    let below : n < 1 + length (authorizations F) = found_below (λ x. x.number) 1 n (authorizations F) _ (authorizations_numbered F) may in
+    omega arith
+names_allowed F (finalized n bytes) m may =
+    let below : n < 1 + length (orders F) = found_below (λ x. x.number) 1 n (orders F) _ (orders_numbered F) (and_parts _ _ may).0 in omega arith
+names_allowed F (certified n bytes) m may =
+    let below : n < 1 + length (orders F) = found_below (λ x. x.number) 1 n (orders F) _ (orders_numbered F) (and_parts _ _ may).0 in omega arith
+names_allowed F (failed n f) m may =
+    let below : n < 1 + length (orders F) = found_below (λ x. x.number) 1 n (orders F) _ (orders_numbered F) (and_parts _ _ may).0 in omega arith
+
+-- each entry names only numbers that were given
+pub all_named : (F : History) → EachFollows F → EachOf (λ d. NamesGiven (counts F) d.entry) F
+all_named [] h = tt
+all_named (e ∷ F) h = (
+  names_more (counts F) (counts (e ∷ F)) (counts_grow e F) e.entry (names_allowed F e.entry e.date h.0.allowed),
+  each _ _ F (λ d. names_more (counts F) (counts (e ∷ F)) (counts_grow e F) d.entry) (all_named F h.1),
+)

@@ -1,0 +1,358 @@
+-- What an entry, and the passing of time, does to the row of an order.
+use Rattle.std.proofs.Common.{◌≡◌, ◌≤◌, ℕ, ◌+◌, List, [], ◌∷◌, length, map, Option, Some, None, refl, sym, ap, ◌∙◌, true, false, Bool, cond, arith}
+use Rattle.std.specs.Prelude.{nat_lt, ◌==◌, ◌&&◌, ◌||◌, is_some, IsSome}
+use Rattle.std.specs.List.{list_any, list_all}
+use Rattle.std.specs.Option.{option_map}
+use Rattle.std.proofs.lemmas.Bool.{or_parts, and_parts}
+use Rattle.std.proofs.lemmas.List.Folds.{list_all-map}
+use Rattle.desk_model.specs.Entry.{History}
+use Rattle.desk_model.specs.History.{clock, terms, earlier}
+use Rattle.desk_model.specs.Lookup.{holds}
+use Rattle.desk_model.specs.Authorization.{authorizations, authorization, made_by, made_for, count_challenges, authorization_status, is_over, is_valid, is_live}
+use Rattle.desk_model.specs.Order.{orders, ordered_by, order_status, order_status_by, csr, certificate, failure, finalizing}
+use Rattle.desk_model.specs.Order.{certifying, failing, has_lost, all_valid, and_found, authorizations_at, listed_by}
+use Rattle.desk_model.specs.Legal.{EachFollows, may_follow, may_serve, may_want}
+use Rattle.desk_model.specs.Tables.{authorization_row, order_row, listed_from}
+use Rattle.desk_model.specs.Derived.{stored_statuses, and_status, authorization_numbered, numbers_of, restated_order}
+use Rattle.desk_model.specs.Effect.{noted_order, touches_authorization, names_order, lists_one, touches_order, moved_order}
+use Rattle.desk_model.specs.Effect.{is_overdue, is_live_order, falls, swept_order}
+use Rattle.desk_model.specs.declared.status.AuthzStatus.{AuthzStatus}
+use Rattle.desk_model.specs.declared.status.AuthzStatus.TheVariants as authz
+use Rattle.desk_model.specs.declared.status.OrderStatus.{OrderStatus}
+use Rattle.desk_model.specs.declared.status.OrderStatus.TheVariants as order
+use Rattle.desk_model.specs.Kept.{EachOf}
+use Rattle.desk_model.specs.declared.entry.Dated.{Dated}
+use Rattle.desk_model.specs.declared.entry.Entry.{Entry}
+use Rattle.desk_model.specs.declared.entry.Entry.TheVariants.{Ordered as ordered, Finalized as finalized, Certified as certified, Failed as failed}
+use Rattle.desk_model.specs.declared.entry.Wanted.{Wanted}
+use Rattle.desk_model.specs.declared.entry.Wanted.TheVariants.{New as new, Reused as reused}
+use Rattle.desk_model.specs.declared.objects.Authorization.{Authorization}
+use Rattle.desk_model.specs.declared.objects.Order.{Order}
+use Rattle.desk_model.specs.declared.rows.AuthorizationRow.{AuthorizationRow}
+use Rattle.desk_model.specs.declared.rows.DatedBytes.{DatedBytes}
+use Rattle.desk_model.specs.declared.rows.DatedProblem.{DatedProblem}
+use Rattle.desk_model.specs.declared.rows.OrderRow.{OrderRow}
+use Rattle.model_laws.proofs.Basics.{list_any-map, list_any-same, any_or, each, each-append, each_after}
+use Rattle.model_laws.proofs.Basics.{map-each, find-map, find-append, still_some, there, IsNumbered, numbered-append}
+use Rattle.model_laws.proofs.NewOrders.{may_be_ordered}
+use Rattle.model_laws.proofs.RowLists.{ascends_found, numbered_ascends}
+use Rattle.model_laws.proofs.RowFacts.{authorization_kept, authorization_later, past_later}
+use Rattle.model_laws.specs.Ordered.{Ascends}
+use Rattle.model_laws.specs.Reused.{OfReused}
+
+-- ---- the authorizations of an order are found by their numbers
+
+-- an authorization has the number
+abbrev pub IsFound : History → ℕ → Type 0
+IsFound F n = IsSome (authorization n F)
+
+-- each number that the order lists is that of an authorization
+abbrev pub AreFound : History → Order → Type 0
+AreFound F o = EachOf (IsFound F) o.authorizations
+
+-- new authorizations count up
+made_for_numbered : (account date expires : ℕ) (ws : List Wanted) (n c : ℕ) → IsNumbered (λ a. a.number) n (made_for account date expires ws n c)
+made_for_numbered account date expires [] n c = tt
+made_for_numbered account date expires (new name tokens ∷ ws) n c = (refl, made_for_numbered account date expires ws (n + 1) _)
+made_for_numbered account date expires (reused name k ∷ ws) n c = made_for_numbered account date expires ws n c
+
+-- those of an entry count up
+pub made_by_numbered : (e : Entry) (date life n c : ℕ) → IsNumbered (λ a. a.number) n (made_by e date life n c)
+made_by_numbered (ordered account ws) date life n c = made_for_numbered account date (date + life) ws n c
+made_by_numbered _ date life n c = tt
+
+-- numbers of authorizations count up from 1
+pub authorizations_numbered : (F : History) → IsNumbered (λ a. a.number) 1 (authorizations F)
+authorizations_numbered [] = tt
+authorizations_numbered (e ∷ F) =
+    numbered-append (λ a. a.number) 1 (authorizations F) _ (length (authorizations F) + 1) (omega arith) (authorizations_numbered F)
+    (made_by_numbered e.entry e.date _ _ _)
+
+-- each authorization is found by its number
+pub all_found : (F : History) → EachOf (λ a. authorization a.number F ≡ Some a) (authorizations F)
+all_found F = ascends_found (λ a. a.number) 1 (authorizations F) (numbered_ascends (λ a. a.number) 1 (authorizations F) (authorizations_numbered F))
+
+-- what is found stays found
+pub found_later : (F : History) (e : Dated) (n : ℕ) → IsFound F n → IsFound (e ∷ F) n
+found_later F e n h =
+    still_some (λ a. a.number == n) (authorizations F)
+    (made_by e.entry e.date (terms F).authz_life (length (authorizations F) + 1) (count_challenges (authorizations F) + 1)) h
+
+-- what holds of the numbers of those that are made, and of those that are used again, holds of all that an order lists
+pub each_listed : (P : ℕ → Type 0) (account date expires : ℕ) (ws : List Wanted) (n c : ℕ) →
+    EachOf (λ a. P a.number) (made_for account date expires ws n c) → EachOf (OfReused P) ws → EachOf P (listed_by ws n)
+each_listed P account date expires [] n c h k = tt
+each_listed P account date expires (new name tokens ∷ ws) n c h k = (h.0, each_listed P account date expires ws (n + 1) _ h.1 k.1)
+each_listed P account date expires (reused name j ∷ ws) n c h k = (k.0, each_listed P account date expires ws n c h k.1)
+
+-- the authorizations that an order uses again are there
+pub reused_found : (F : History) (m account : ℕ) (ws : List Wanted) → may_follow F (ordered account ws) m ≡ true → EachOf (OfReused (IsFound F)) ws
+reused_found F m account ws may =
+    go ws (may_be_ordered F m account ws may).reused
+  where
+    go : (xs : List Wanted) → list_all (may_want F m account) xs ≡ true → EachOf (OfReused (IsFound F)) xs
+    go [] h = tt
+    go (new name tokens ∷ xs) h = (tt, go xs h)
+    go (reused name k ∷ xs) h =
+        let p = and_parts (may_want F m account (reused name k)) _ h in
+        (there (may_serve F m account name (m + (terms F).order_life)) (authorization k F) p.0, go xs p.1)
+
+-- the numbers that each order lists are found
+pub listed_found : (F : History) → EachFollows F → EachOf (AreFound F) (orders F)
+listed_found [] h = tt
+listed_found (e ∷ F) h =
+    each-append (AreFound (e ∷ F)) (orders F) _
+    (each (AreFound F) (AreFound (e ∷ F)) (orders F) (λ o. each (IsFound F) (IsFound (e ∷ F)) o.authorizations (found_later F e))
+    (listed_found F h.1))
+    (now e.entry h.0.allowed
+    (each (λ a. authorization a.number (e ∷ F) ≡ Some a) (λ a. IsFound (e ∷ F) a.number) _ (λ a k. ap is_some k)
+    (each_after (λ a. authorization a.number (e ∷ F) ≡ Some a) (authorizations F) _ (all_found (e ∷ F)))))
+  where
+    now : (entry : Entry) → may_follow F entry e.date ≡ true →
+        EachOf (λ a. IsFound (e ∷ F) a.number)
+        (made_by entry e.date (terms F).authz_life (length (authorizations F) + 1) (count_challenges (authorizations F) + 1)) →
+        EachOf (AreFound (e ∷ F)) (ordered_by entry e.date (terms F) (length (authorizations F) + 1) (length (orders F) + 1))
+    now (ordered account ws) may h =
+        (each_listed (IsFound (e ∷ F)) account e.date _ ws (length (authorizations F) + 1) _ h (later ws (reused_found F e.date account ws may)), tt)
+      where
+        later : (xs : List Wanted) → EachOf (OfReused (IsFound F)) xs → EachOf (OfReused (IsFound (e ∷ F))) xs
+        later [] k = tt
+        later (new name tokens ∷ xs) k = (tt, later xs k.1)
+        later (reused name n ∷ xs) k = (found_later F e n k.0, later xs k.1)
+    now _ may h = tt
+
+-- places count up
+pub places_ascend : (place : ℕ) (ns : List ℕ) → Ascends (λ l. l.place) place (listed_from place ns)
+places_ascend place [] = tt
+places_ascend place (n ∷ ns) = (omega arith, places_ascend (place + 1) ns)
+
+-- the numbers of authorizations in their places are these numbers
+pub numbers_listed : (place : ℕ) (ns : List ℕ) → numbers_of (listed_from place ns) ≡ ns
+numbers_listed place [] = refl
+numbers_listed place (n ∷ ns) = ap (λ rest. n ∷ rest) (numbers_listed (place + 1) ns)
+
+-- ---- look-ups in the rows
+
+-- the row of the authorization of this number
+numbered_row : (F : History) (t n : ℕ) →
+    authorization_numbered n (map (authorization_row F t) (authorizations F)) ≡ option_map (authorization_row F t) (authorization n F)
+numbered_row F t n = find-map (λ r. r.number == n) (authorization_row F t) (authorizations F)
+
+-- the statuses of these authorizations
+abbrev statuses_of : History → ℕ → List Authorization → List AuthzStatus
+statuses_of F t xs = map (λ a. authorization_status a F t) xs
+
+-- the stored statuses are those that the history gives
+stored : (F : History) (t : ℕ) (ns : List ℕ) →
+    stored_statuses (map (authorization_row F t) (authorizations F)) ns ≡ statuses_of F t (authorizations_at ns F)
+stored F t [] = refl
+stored F t (n ∷ ns) = (λ i. and_status (numbered_row F t n i) (stored F t ns i)) ∙ one (authorization n F) (authorizations_at ns F)
+  where
+    one : (o : Option Authorization) (xs : List Authorization) →
+        and_status (option_map (authorization_row F t) o) (statuses_of F t xs) ≡ statuses_of F t (and_found o xs)
+    one None xs = refl
+    one (Some a) xs = refl
+
+-- the status of an order, by its facts and the statuses of its authorizations
+abbrev status_by : History → ℕ → Order → List AuthzStatus → OrderStatus
+status_by F t o ss =
+    order_status_by (is_some (certificate o.number F)) (is_some (failure o.number F) || (nat_lt o.expires t || list_any is_over ss))
+    (is_some (csr o.number F)) (list_all is_valid ss)
+
+-- an order's status by those of its authorizations
+status_by_listed : (F : History) (t : ℕ) (o : Order) → order_status o F t ≡ status_by F t o (statuses_of F t (authorizations_at o.authorizations F))
+status_by_listed F t o =
+    λ i. order_status_by (is_some (certificate o.number F))
+    (is_some (failure o.number F) || (nat_lt o.expires t || sym (list_any-map is_over (λ a. authorization_status a F t) (authorizations_at o.authorizations F))
+    i))
+    (is_some (csr o.number F)) (sym (list_all-map is_valid (λ a. authorization_status a F t) (authorizations_at o.authorizations F)) i)
+
+-- the status that a history gives is the one that the row ought to have
+pub order_stated : (F : History) (t u : ℕ) (o : Order) →
+    order_row F t o ≡ restated_order t (map (authorization_row F t) (authorizations F)) (order_row F u o)
+order_stated F t u o =
+    let rows : List AuthorizationRow = map (authorization_row F t) (authorizations F) in
+    let same : order_status o F t ≡ status_by F t o (stored_statuses rows (numbers_of (listed_from 1 o.authorizations))) =
+    status_by_listed F t o
+    ∙ ap (status_by F t o) (sym (ap (stored_statuses rows) (numbers_listed 1 o.authorizations) ∙ stored F t o.authorizations)) in
+    λ i. record (order_row F t o) { status = same i }
+
+-- ---- an entry
+
+-- the row of an order after an entry, in general
+pub order_noted : (F : History) (e : Entry) (m t : ℕ) (o : Order) →
+    (let G : History = record { date = m; entry = e } ∷ F in order_row G m o
+    ≡ restated_order m (map (authorization_row G m) (authorizations G)) (noted_order e m (order_row F t o)))
+order_noted F e m t o = order_stated (record { date = m; entry = e } ∷ F) m m o
+
+-- a test of the listed rows is one of the authorizations
+none_listed : (F : History) (t p : ℕ) (test : AuthorizationRow → Bool) (ns : List ℕ) →
+    lists_one test (map (authorization_row F t) (authorizations F)) (numbers_of (listed_from p ns))
+    ≡ list_any (λ a. test (authorization_row F t a)) (authorizations_at ns F)
+none_listed F t p test [] = refl
+none_listed F t p test (n ∷ ns) =
+    (λ i. holds test (numbered_row F t n i) || none_listed F t (p + 1) test ns i) ∙ one (authorization n F) (authorizations_at ns F)
+  where
+    one : (o : Option Authorization) (xs : List Authorization) →
+        (holds test (option_map (authorization_row F t) o) || list_any (λ a. test (authorization_row F t a)) xs)
+        ≡ list_any (λ a. test (authorization_row F t a)) (and_found o xs)
+    one None xs = refl
+    one (Some a) xs = refl
+
+-- the authorizations of an order stay what they are
+at_later : (F : History) (e : Dated) (ns : List ℕ) → EachOf (IsFound F) ns → authorizations_at ns (e ∷ F) ≡ authorizations_at ns F
+at_later F e [] h = refl
+at_later F e (n ∷ ns) h = λ i. and_found (same (authorization n F) refl h.0 i) (at_later F e ns h.1 i)
+  where
+    same : (o : Option Authorization) → authorization n F ≡ o → IsSome o → authorization n (e ∷ F) ≡ authorization n F
+    same None p there = cc
+    same (Some a) p there = find-append (λ x. x.number == n) (authorizations F) _ a p ∙ sym p
+
+-- where no item passes, each fails
+each_not : {X : Type 0} (p : X → Bool) (xs : List X) → list_any p xs ≡ false → EachOf (λ x. p x ≡ false) xs
+each_not p [] h = tt
+each_not p (x ∷ xs) h = let k = or_parts (p x) _ h in (k.0, each_not p xs k.1)
+
+-- the three facts of an order that the entry doesn't name
+csr_other : (F : History) (e : Entry) (m n : ℕ) → names_order e n ≡ false → earlier (csr n F) (finalizing n e m) ≡ csr n F
+csr_other F (finalized k bytes) m n h =
+    ap (λ b. earlier (csr n F) (cond {A = Option DatedBytes} b (Some (record { date = m; bytes = bytes })) None)) h
+csr_other F _ m n h = refl
+
+-- no certificate of it
+certificate_other : (F : History) (e : Entry) (m n : ℕ) → names_order e n ≡ false → earlier (certificate n F) (certifying n e m) ≡ certificate n F
+certificate_other F (certified k bytes) m n h =
+    ap (λ b. earlier (certificate n F) (cond {A = Option DatedBytes} b (Some (record { date = m; bytes = bytes })) None)) h
+certificate_other F _ m n h = refl
+
+-- no failure of it
+failure_other : (F : History) (e : Entry) (m n : ℕ) → names_order e n ≡ false → earlier (failure n F) (failing n e m) ≡ failure n F
+failure_other F (failed k f) m n h =
+    ap (λ b. earlier (failure n F) (cond {A = Option DatedProblem} b (Some (record { date = m; problem = f })) None)) h
+failure_other F _ m n h = refl
+
+-- an order that the entry does not touch keeps its row
+pub order_untouched : (F : History) (e : Entry) (m : ℕ) (o : Order) → EachFollows (record { date = m; entry = e } ∷ F) → clock F ≤ m → AreFound F o →
+    touches_order e (map (authorization_row F m) (authorizations F)) (order_row F m o) ≡ false → order_row (record { date = m; entry = e } ∷ F) m o
+    ≡ order_row F m o
+order_untouched F e m o each_follows le found h =
+    let G : History = record { date = m; entry = e } ∷ F in
+    let parts = or_parts (names_order e o.number) _ h in
+    let listed : List Authorization = authorizations_at o.authorizations F in
+    let others : EachOf (λ a. touches_authorization e (authorization_row F m a) ≡ false) listed =
+    each_not _ listed (sym (none_listed F m 1 (touches_authorization e) o.authorizations) ∙ parts.1) in
+    let statuses : statuses_of G m (authorizations_at o.authorizations G) ≡ statuses_of F m listed =
+    ap (statuses_of G m) (at_later F (record { date = m; entry = e }) o.authorizations found)
+    ∙ map-each (λ a. authorization_status a G m) (λ a. authorization_status a F m) listed
+    (each _ _ listed (λ a k. ap (λ (r : AuthorizationRow). r.status) (authorization_kept F e m a each_follows le k)) others) in
+    let status : order_status o G m ≡ order_status o F m =
+    status_by_listed G m o
+    ∙ (λ i. order_status_by (is_some (certificate_other F e m o.number parts.0 i))
+    (is_some (failure_other F e m o.number parts.0 i) || (nat_lt o.expires m || list_any is_over (statuses i)))
+    (is_some (csr_other F e m o.number parts.0 i)) (list_all is_valid (statuses i)))
+    ∙ sym (status_by_listed F m o) in
+    λ i. record (order_row F m o) {
+      finalized = csr_other F e m o.number parts.0 i;
+      certified = certificate_other F e m o.number parts.0 i;
+      failed = failure_other F e m o.number parts.0 i;
+      status = status i;
+    }
+
+-- the row of an order after an entry
+pub order_moves : (F : History) (e : Entry) (m : ℕ) (o : Order) → EachFollows (record { date = m; entry = e } ∷ F) → clock F ≤ m → AreFound F o →
+    (let G : History = record { date = m; entry = e } ∷ F in
+    order_row G m o ≡ moved_order e m (map (authorization_row F m) (authorizations F)) (map (authorization_row G m) (authorizations G))
+    (order_row F m o))
+order_moves F e m o each_follows le found = by (touches_order e (map (authorization_row F m) (authorizations F)) (order_row F m o)) refl
+  where
+    by : (b : Bool) → touches_order e (map (authorization_row F m) (authorizations F)) (order_row F m o) ≡ b →
+        (let G : History = record { date = m; entry = e } ∷ F in
+        order_row G m o ≡ cond b (restated_order m (map (authorization_row G m) (authorizations G)) (noted_order e m (order_row F m o)))
+        (order_row F m o))
+    by true h = order_noted F e m m o
+    by false h = order_untouched F e m o each_follows le found h
+
+-- ---- the passing of time
+
+-- an authorization that is over stays so; another is over at the later moment exactly where it is overdue
+over_later : (F : History) (t m : ℕ) (a : Authorization) → t ≤ m →
+    is_over (authorization_status a F m) ≡ (is_over (authorization_status a F t) || is_overdue m (authorization_row F t a))
+over_later F t m a le = ap is_over (authorization_later F t m a le) ∙ by (authorization_status a F t) (nat_lt a.expires m)
+  where
+    by : (s : AuthzStatus) (b : Bool) → is_over (cond (is_live s && b) authz.Expired s) ≡ (is_over s || (is_live s && b))
+    by authz.Pending true = refl
+    by authz.Pending false = refl
+    by authz.Valid true = refl
+    by authz.Valid false = refl
+    by authz.Expired b = refl
+    by authz.Invalid b = refl
+    by authz.Deactivated b = refl
+    by authz.Revoked b = refl
+
+-- an order has lost one at the later moment where it had before, or one is overdue
+lost_later : (F : History) (t m : ℕ) (o : Order) → t ≤ m →
+    has_lost o F m ≡ (has_lost o F t || list_any (λ a. is_overdue m (authorization_row F t a)) (authorizations_at o.authorizations F))
+lost_later F t m o le =
+    let listed : List Authorization = authorizations_at o.authorizations F in
+    list_any-same (λ a. is_over (authorization_status a F m))
+    (λ a. is_over (authorization_status a F t) || is_overdue m (authorization_row F t a)) listed (λ a. over_later F t m a le)
+    ∙ any_or (λ a. is_over (authorization_status a F t)) (λ a. is_overdue m (authorization_row F t a)) listed
+
+-- tests that agree on each item
+all_same : {X : Type 0} (p q : X → Bool) (xs : List X) → EachOf (λ x. p x ≡ q x) xs → list_all p xs ≡ list_all q xs
+all_same p q [] h = refl
+all_same p q (x ∷ xs) h = λ i. h.0 i && all_same p q xs h.1 i
+
+-- none is overdue: as many are valid
+valid_later : (F : History) (t m : ℕ) (o : Order) → t ≤ m →
+    list_any (λ a. is_overdue m (authorization_row F t a)) (authorizations_at o.authorizations F) ≡ false →
+    all_valid o F m ≡ all_valid o F t
+valid_later F t m o le h =
+    let listed : List Authorization = authorizations_at o.authorizations F in
+    all_same (λ a. is_valid (authorization_status a F m)) (λ a. is_valid (authorization_status a F t)) listed
+    (each _ _ listed (λ a k. ap is_valid (authorization_later F t m a le ∙ ap (λ b. cond b authz.Expired (authorization_status a F t)) k))
+    (each_not _ listed h))
+
+-- an order's status at a later moment, case by case
+order_status_later : (c f x y z v w l d : Bool) → (x ≡ true → y ≡ true) → (d ≡ false → w ≡ v) →
+    order_status_by c (f || (y || (l || d))) z w
+    ≡ cond (is_live_order (order_status_by c (f || (x || l)) z v) && (y || d)) order.Invalid (order_status_by c (f || (x || l)) z v)
+order_status_later true f x y z v w l d more same = refl
+order_status_later false true x y z v w l d more same = refl
+order_status_later false false true true z v w l d more same = refl
+order_status_later false false true false z v w l d more same = let no : false ≡ true = more refl in cc
+order_status_later false false false true z v w true d more same = refl
+order_status_later false false false false z v w true d more same = refl
+order_status_later false false false true true v w false d more same = refl
+order_status_later false false false true false true w false d more same = refl
+order_status_later false false false true false false w false d more same = refl
+order_status_later false false false false true v w false true more same = refl
+order_status_later false false false false false true w false true more same = refl
+order_status_later false false false false false false w false true more same = refl
+order_status_later false false false false true v w false false more same = refl
+order_status_later false false false false false true w false false more same = rw (same refl) refl
+order_status_later false false false false false false w false false more same = rw (same refl) refl
+
+-- an order's status at a later moment
+pub order_later : (F : History) (t m : ℕ) (o : Order) → t ≤ m →
+    order_status o F m ≡ cond (falls m (map (authorization_row F t) (authorizations F)) (order_row F t o)) order.Invalid (order_status o F t)
+order_later F t m o le =
+    ap (λ b. order_status_by (is_some (certificate o.number F)) (is_some (failure o.number F) || (nat_lt o.expires m || b)) (is_some (csr o.number F))
+    (all_valid o F m)) (lost_later F t m o le)
+    ∙ order_status_later (is_some (certificate o.number F)) (is_some (failure o.number F)) (nat_lt o.expires t) (nat_lt o.expires m)
+    (is_some (csr o.number F)) (all_valid o F t) (all_valid o F m) (has_lost o F t)
+    (list_any (λ a. is_overdue m (authorization_row F t a)) (authorizations_at o.authorizations F)) (past_later o.expires t m le) (valid_later F t m o le)
+    ∙ ap (λ b. cond (is_live_order (order_status o F t) && (nat_lt o.expires m || b)) order.Invalid (order_status o F t))
+    (sym (none_listed F t 1 (is_overdue m) o.authorizations))
+
+-- an order's row at a later moment
+pub order_swept : (F : History) (t m : ℕ) (o : Order) → t ≤ m →
+    order_row F m o ≡ swept_order m (map (authorization_row F t) (authorizations F)) (order_row F t o)
+order_swept F t m o le =
+    (λ i. record (order_row F t o) { status = order_later F t m o le i })
+    ∙ by (falls m (map (authorization_row F t) (authorizations F)) (order_row F t o))
+  where
+    by : (b : Bool) → (let r : OrderRow = record (order_row F t o) { status = cond b order.Invalid (order_status o F t) } in
+        r ≡ cond b (record (order_row F t o) { status = order.Invalid }) (order_row F t o))
+    by true = refl
+    by false = refl

@@ -1,0 +1,343 @@
+-- An answer to a challenge changes no order, where each status is the one that its row gives: so the orders that list its authorization may lack.
+use Rattle.std.proofs.Common.{◌≡◌, ◌≤◌, ℕ, List, [], ◌∷◌, ◌++◌, map, Option, Some, None, refl, sym, ap, subst, ◌∙◌, true, false, Bool, cond, not}
+use Rattle.std.proofs.Common.{Result, Ok, Err}
+use Rattle.std.specs.Prelude.{◌==◌, ◌&&◌, ◌||◌, is_some, nat_lt}
+use Rattle.std.specs.List.{list_all, list_any}
+use Rattle.std.proofs.lemmas.Bool.{eq-eqb, or_left}
+use Rattle.desk_model.specs.Account.{is_valid as is_valid_account}
+use Rattle.desk_model.specs.Authorization.{authorization_status_by, is_good, is_over, is_valid}
+use Rattle.desk_model.specs.Change.{all_changes, changes, is_gained, order_differs, recorded_changes}
+use Rattle.desk_model.specs.Decide.{entries_of}
+use Rattle.desk_model.specs.Derived.{and_status, authorization_numbered, numbers_of, order_code, restated_authorization}
+use Rattle.desk_model.specs.Derived.{restated_order, stored_statuses}
+use Rattle.desk_model.specs.Effect.{answered_challenge, authorizations_after, effect, effects, has_row, key_numbered, moved_authorization, noted_authorization}
+use Rattle.desk_model.specs.Effect.{noted_challenge}
+use Rattle.desk_model.specs.Effect.{noted_order, swept, swept_authorization, touches_authorization, touches_order}
+use Rattle.desk_model.specs.Kept.{CoversSweep, EachOf, HoldersKept, IsClosed, Kept, restricted}
+use Rattle.desk_model.specs.Legal.{EachFollows, is_pending_challenge}
+use Rattle.desk_model.specs.Entry.{History}
+use Rattle.desk_model.specs.History.{clock}
+use Rattle.desk_model.specs.Lookup.{holds}
+use Rattle.desk_model.specs.Order.{order_status_by}
+use Rattle.desk_model.specs.Payload.{challenge_change}
+use Rattle.desk_model.specs.Questions.{account_with_key, owner_on}
+use Rattle.desk_model.specs.Rules.{challenge_verdict, key_verdict, open_nonce, own, signed_verdict, stands_open}
+use Rattle.desk_model.specs.Shown.{moved_reply, reply_of}
+use Rattle.desk_model.specs.Tables.{Tables, authorization_row, order_row, picture}
+use Rattle.desk_model.specs.declared.call.Ask.{Ask}
+use Rattle.desk_model.specs.declared.call.Ask.TheVariants as ask
+use Rattle.desk_model.specs.declared.call.BadKey.{BadKey}
+use Rattle.desk_model.specs.declared.call.Signed.{Signed}
+use Rattle.desk_model.specs.declared.call.Target.TheVariants as to
+use Rattle.desk_model.specs.declared.entry.Entry.TheVariants.{Answered as answered, Issued as issued, Spent as spent}
+use Rattle.desk_model.specs.declared.moves.Move.TheVariants as move
+use Rattle.desk_model.specs.declared.payload.ChallengeChange.{ChallengeChange}
+use Rattle.desk_model.specs.declared.payload.ChallengeChange.TheVariants as chall_change
+use Rattle.desk_model.specs.declared.refusal.Refusal.TheVariants as refusal
+use Rattle.desk_model.specs.declared.rows.AccountRow.{AccountRow}
+use Rattle.desk_model.specs.declared.rows.AuthorizationRow.{AuthorizationRow}
+use Rattle.desk_model.specs.declared.rows.Change.TheVariants.{PutMeta}
+use Rattle.desk_model.specs.declared.rows.ChallengeRow.{ChallengeRow}
+use Rattle.desk_model.specs.declared.rows.OrderRow.{OrderRow}
+use Rattle.desk_model.specs.declared.verdict.Verdict.{Verdict}
+use Rattle.desk_model.specs.declared.verdict.Verdict.TheVariants.{Refused as refused, KeyTaken as key_taken, Answers as answers, Moves as moves}
+use Rattle.desk_model.specs.Authorization.{authorizations}
+use Rattle.desk_model.specs.Order.{orders}
+use Rattle.model_laws.proofs.Basics.{each, each_all, each_both, each-map}
+use Rattle.model_laws.proofs.Chain.{effect_part, recorded_local}
+use Rattle.desk_model.specs.declared.status.AuthzStatus.{AuthzStatus}
+use Rattle.model_laws.proofs.Local.{changes_local, kept_after, moved_number, restated_same, sweep_changes_local, swept_part, touches_same}
+use Rattle.model_laws.proofs.OrderFacts.{order_stated}
+use Rattle.model_laws.proofs.Plain.{covers_issued, covers_spent, issued_closed, issued_effect, nonces_covered, spent_closed, spent_effect}
+use Rattle.model_laws.proofs.RowFacts.{authorization_stated}
+use Rattle.model_laws.proofs.Step.{sweep}
+use Rattle.model_laws.proofs.SweptParts.{swept_account, swept_closed, touches_swept}
+use Rattle.model_lives.proofs.Steps.{check_keeps, either_keeps, given_keeps}
+use Rattle.model_lives.specs.AnswersAs.{CarriesOutAs, PassesAs}
+use Rattle.model_lives.specs.Few.{IsStated, IsStatedFor, IsStatedTo}
+use Rattle.desk_model.specs.declared.call.Target.{Target}
+use Rattle.model_lives.proofs.Between.{bare}
+use Rattle.model_lives.proofs.Enough.{carried_by}
+use Rattle.model_lives.proofs.Grown.{KeepsNamed, KeepsRestated, keeps_falling, target_answers}
+use Rattle.model_lives.proofs.Lists.{filtered_each}
+use Rattle.model_lives.proofs.Ready.{swept_names}
+use Rattle.model_lives.proofs.Replies.{client_challenge_shown, owner_after}
+use Rattle.model_lives.proofs.Unlisted.{bare_changes, moves_order}
+use Rattle.model_lives.proofs.Verdicts.{nonce_same, signed_same, verdict_by}
+use Rattle.model_lives.proofs.Walks.{sent}
+
+-- ---- statuses stand
+
+-- at each moment the statuses of a picture are those that its rows give
+pub pictures_stated : (F : History) (m : ℕ) → EachFollows F → clock F ≤ m → IsStated m (swept m (picture F))
+pictures_stated F m h le =
+    subst (IsStated m) (sweep F (clock F) m le)
+    (record {
+      authorizations = each-map _ (authorization_row F m) (authorizations F) (each_all _ (authorizations F) (λ a. sym (authorization_stated F h m m a)));
+      orders = each-map _ (order_row F m) (orders F) (each_all _ (orders F) (λ o. sym (order_stated F m m o)));
+    })
+
+-- so they are what is asked of them, whatever the ask
+pub stated_for : (a : Ask) (m : ℕ) (T : Tables) → IsStated m (swept m T) → IsStatedFor a m T
+stated_for (ask.Signed s) m T h = by s.target
+  where
+    by : (t : Target) → IsStatedTo t m T
+    by (to.Chall k) = h
+    by _ = tt
+stated_for (ask.NewNonce head) m T h = tt
+stated_for (ask.Office a) m T h = tt
+
+-- the first row of a number, moved or not, gives the same status
+same_status : (move : AuthorizationRow → AuthorizationRow) (n : ℕ) (xs : List AuthorizationRow) (others rest : List AuthzStatus) →
+    EachOf (λ r. ((move r).number ≡ r.number) × ((move r).status ≡ r.status)) xs → others ≡ rest →
+    and_status (authorization_numbered n (map move xs ++ [])) others ≡ and_status (authorization_numbered n xs) rest
+same_status move n [] others rest h same = same
+same_status move n (x ∷ xs) others rest h same =
+    ap (λ j. and_status (cond (j == n) (Some (move x)) (authorization_numbered n (map move xs ++ []))) others) h.0.0
+    ∙ found (x.number == n) (same_status move n xs others rest h.1 same)
+  where
+    found : (b : Bool) → and_status (authorization_numbered n (map move xs ++ [])) others ≡ and_status (authorization_numbered n xs) rest →
+        and_status (cond b (Some (move x)) (authorization_numbered n (map move xs ++ []))) others
+        ≡ and_status (cond b (Some x) (authorization_numbered n xs)) rest
+    found true later = λ i. h.0.1 i ∷ same i
+    found false later = later
+
+-- rows that move, but keep number and status, give orders the same statuses
+same_statuses : (move : AuthorizationRow → AuthorizationRow) (rows : List AuthorizationRow) →
+    EachOf (λ r. ((move r).number ≡ r.number) × ((move r).status ≡ r.status)) rows → (ns : List ℕ) →
+    stored_statuses (map move rows ++ []) ns ≡ stored_statuses rows ns
+same_statuses move rows h [] = refl
+same_statuses move rows h (n ∷ ns) = same_status move n rows _ _ h (same_statuses move rows h ns)
+
+-- an answer reports nothing
+still_proved : (n m : ℕ) (key : List ℕ) (cs : List ChallengeRow) →
+    list_any (λ c. holds (λ r. is_good r.outcome) c.reported) (map (noted_challenge (answered n) m key) cs)
+    ≡ list_any (λ c. holds (λ r. is_good r.outcome) c.reported) cs
+still_proved n m key [] = refl
+still_proved n m key (c ∷ cs) = λ i. one (n == c.number) i || still_proved n m key cs i
+  where
+    one : (b : Bool) → holds (λ r. is_good r.outcome) (cond b (answered_challenge m key c) c).reported ≡ holds (λ r. is_good r.outcome) c.reported
+    one true = refl
+    one false = refl
+
+-- so an authorization keeps its status
+status_stands : (m n : ℕ) (accounts : List AccountRow) (r : AuthorizationRow) → restated_authorization m r ≡ r →
+    (moved_authorization (answered n) m accounts r).status ≡ r.status
+status_stands m n accounts r stated = by (touches_authorization (answered n) r)
+  where
+    by : (b : Bool) → (cond b (restated_authorization m (noted_authorization (answered n) m accounts r)) r).status ≡ r.status
+    by true =
+        ap (authorization_status_by r.ended (nat_lt r.expires m)) (still_proved n m (key_numbered r.account accounts) r.challenges)
+        ∙ ap (λ (x : AuthorizationRow). x.status) stated
+    by false = refl
+
+no_gain : {X : Type 0} (x : Option X) → is_gained x x ≡ false
+no_gain None = refl
+no_gain (Some x) = refl
+
+-- no order differs from itself
+never_differs : (o : OrderRow) → order_differs o o ≡ false
+never_differs o =
+    λ i. no_gain o.finalized i || (no_gain o.certified i || (no_gain o.failed i || not (eq-eqb (order_code o.status) (order_code o.status) refl i)))
+
+-- and no order moves
+orders_stand : (m n : ℕ) (S : Tables) → IsStated m S → EachOf (λ o. moves_order m S (answered n) o ≡ false) S.orders
+orders_stand m n S h =
+    each _ _ S.orders
+    (λ o stated.
+    let statuses : stored_statuses (authorizations_after S (answered n) m) (numbers_of o.listed) ≡ stored_statuses S.authorizations (numbers_of o.listed) =
+    same_statuses (moved_authorization (answered n) m S.accounts) S.authorizations
+    (each _ _ S.authorizations (λ r s. (moved_number (answered n) m S.accounts r, status_stands m n S.accounts r s)) h.authorizations) (numbers_of o.listed) in
+    let same : restated_order m (authorizations_after S (answered n) m) (noted_order (answered n) m o) ≡ o =
+    (λ i. record o {
+      status = order_status_by (is_some o.certified) (is_some o.failed || (nat_lt o.expires m || list_any is_over (statuses i))) (is_some o.finalized)
+          (list_all is_valid (statuses i));
+    }) ∙ stated in
+    ap (λ x. touches_order (answered n) S.authorizations o && order_differs o x) same
+    ∙ ap (λ b. touches_order (answered n) S.authorizations o && b) (never_differs o)
+    ∙ neither (touches_order (answered n) S.authorizations o)) h.orders
+  where
+    neither : (b : Bool) → (b && false) ≡ false
+    neither true = refl
+    neither false = refl
+
+-- nor in a part
+part_stands : (k : Kept) (m n : ℕ) (S : Tables) → IsClosed k S → HoldersKept k S (answered n) → IsStated m S →
+    EachOf (λ o. moves_order m (restricted k S) (answered n) o ≡ false) (restricted k S).orders
+part_stands k m n S closed holders h =
+    filtered_each _ (λ (o : OrderRow). k.orders o.number) S.orders
+    (each _ _ S.orders (λ o p kept.
+    (λ i. touches_same k S (answered n) o (p.1 kept) i
+    && order_differs o (restated_same m (authorizations_after (restricted k S) (answered n) m) (authorizations_after S (answered n) m)
+    (noted_order (answered n) m o) (kept_after k S (answered n) m (numbers_of o.listed) holders (p.1 kept)) i))
+    ∙ p.0) (each_both _ _ S.orders (orders_stand m n S h) closed.listed))
+
+-- ---- what is recorded
+
+-- the authorizations of the challenge are kept
+abbrev OwnersKept : Kept → Tables → ℕ → Type 0
+OwnersKept k S n = EachOf (λ r. has_row n r ≡ true → k.authorizations r.number ≡ true) S.authorizations
+
+-- the part changes as the whole, whatever orders it lacks
+answered_same : (k : Kept) (m n : ℕ) (S : Tables) → IsClosed k S → HoldersKept k S (answered n) → OwnersKept k S n → IsStated m S →
+    changes m (restricted k S) (answered n) ≡ changes m S (answered n)
+answered_same k m n S closed holders owners h =
+    bare_changes m (restricted k S) (answered n) (part_stands k m n S closed holders h)
+    ∙ changes_local k (bare S) m (answered n)
+    (record {
+      listed = tt;
+      new_nonces = closed.new_nonces;
+      new_accounts = closed.new_accounts;
+      new_authorizations = closed.new_authorizations;
+      new_orders = closed.new_orders;
+    })
+    (record { accounts = each_all _ S.accounts (λ a t. cc); authorizations = owners; orders = tt; holders = holders }) tt
+    ∙ sym (bare_changes m S (answered n) (orders_stand m n S h))
+
+-- also behind the nonces
+entries_same : (k : Kept) (m n : ℕ) (r : List ℕ) (j : ℕ) (S : Tables) → IsClosed k S → HoldersKept k S (answered j) → OwnersKept k S j → IsStated m S →
+    all_changes m (restricted k S) (spent n ∷ issued r ∷ answered j ∷ []) ≡ all_changes m S (spent n ∷ issued r ∷ answered j ∷ [])
+entries_same k m n r j S closed holders owners h =
+    λ i. changes_local k S m (spent n) closed (covers_spent k S n) tt i
+    ++ (ap (λ P. all_changes m P (issued r ∷ answered j ∷ [])) (effect_part k S m (spent n) closed (covers_spent k S n).holders tt)
+    ∙ (λ l. changes_local k S1 m (issued r) closed1 (covers_issued k S1 r) tt l
+    ++ (ap (λ P. all_changes m P (answered j ∷ [])) (effect_part k S1 m (issued r) closed1 (covers_issued k S1 r).holders tt)
+    ∙ (λ q. answered_same k m j S2 closed2 holders2 owners2 stated2 q ++ [])) l)) i
+  where
+    S1 : Tables
+    S1 = effect m S (spent n)
+
+    S2 : Tables
+    S2 = effect m S1 (issued r)
+
+    closed1 : IsClosed k S1
+    closed1 = spent_closed k m S n closed
+
+    closed2 : IsClosed k S2
+    closed2 = issued_closed k m S1 r closed1
+
+    holders1 : HoldersKept k S1 (answered j)
+    holders1 = subst (λ U. HoldersKept k U (answered j)) (sym (spent_effect m S n)) holders
+
+    holders2 : HoldersKept k S2 (answered j)
+    holders2 = subst (λ U. HoldersKept k U (answered j)) (sym (issued_effect m S1 r)) holders1
+
+    owners1 : OwnersKept k S1 j
+    owners1 = subst (λ U. OwnersKept k U j) (sym (spent_effect m S n)) owners
+
+    owners2 : OwnersKept k S2 j
+    owners2 = subst (λ U. OwnersKept k U j) (sym (issued_effect m S1 r)) owners1
+
+    stated1 : IsStated m S1
+    stated1 = subst (IsStated m) (sym (spent_effect m S n)) (record { authorizations = h.authorizations; orders = h.orders })
+
+    stated2 : IsStated m S2
+    stated2 = subst (IsStated m) (sym (issued_effect m S1 r)) (record { authorizations = stated1.authorizations; orders = stated1.orders })
+
+-- ---- what is shown
+
+-- a verdict on an answer, by a part: what it shows is the same, and what its entry reads is kept
+abbrev IsReplied : Kept → ℕ → Tables → Verdict → Type 0
+IsReplied k m S (refused why subproblems) = Unit {0}
+IsReplied k m S (key_taken account) = Unit {0}
+IsReplied k m S (answers what) = reply_of (restricted k S) what ≡ reply_of S what
+IsReplied k m S (moves (move.Answered n)) =
+    (HoldersKept k S (answered n) × OwnersKept k S n)
+    × (moved_reply (restricted k (effect m S (answered n))) (move.Answered n) ≡ moved_reply (effect m S (answered n)) (move.Answered n))
+IsReplied k m S _ = ⊥
+
+-- the owner and its account are kept
+challenge_replied : (k : Kept) (m : ℕ) (S : Tables) (j : ℕ) (r : AuthorizationRow) (p : ChallengeChange) → IsClosed k S → HoldersKept k S (answered j) →
+    OwnersKept k S j → IsReplied k m S (challenge_verdict j r p)
+challenge_replied k m S j r chall_change.Read closed holders owners = client_challenge_shown k S j owners
+challenge_replied k m S j r chall_change.Answer closed holders owners =
+    either_keeps (IsReplied k m S) (stands_open (λ c. is_pending_challenge c.status) r j) _ _ (
+      (holders, owners),
+      client_challenge_shown k (effect m S (answered j)) j (owner_after k S m (answered j) j closed owners),
+    )
+    (client_challenge_shown k S j owners)
+
+-- by the account that the key has
+key_replied : (k : Kept) (m : ℕ) (S : Tables) (r key p : List ℕ) (j : ℕ) (o : Option AccountRow) → IsClosed k S → HoldersKept k S (answered j) →
+    OwnersKept k S j → IsReplied k m S (key_verdict S r key p (to.Chall j) o)
+key_replied k m S r key p j None closed holders owners = tt
+key_replied k m S r key p j (Some x) closed holders owners =
+    check_keeps (IsReplied k m S) (is_valid_account x.status) refusal.Unauthorized _ tt (λ valid.
+    given_keeps (IsReplied k m S) (own (λ (y : AuthorizationRow). y.account) x.number (owner_on S j)) refusal.NotFound _ tt (λ a is.
+    given_keeps (IsReplied k m S) (challenge_change p) refusal.Malformed _ tt (λ q says. challenge_replied k m S j a q closed holders owners)))
+
+signed_replied : (k : Kept) (m : ℕ) (S : Tables) (r : List ℕ) (s : Signed) (j : ℕ) → IsClosed k S → HoldersKept k S (answered j) → OwnersKept k S j →
+    IsReplied k m S (signed_verdict S r (record s { target = to.Chall j }))
+signed_replied k m S r s j closed holders owners = by s.key
+  where
+    by : (key : Result (List ℕ) BadKey) → IsReplied k m S (verdict_by S r (record s { target = to.Chall j }) key)
+    by (Err why) = tt
+    by (Ok key) = key_replied k m S r key s.payload j (account_with_key S key) closed holders owners
+
+-- ---- the request
+
+carried_answer : (k : Kept) (T : Tables) (m : ℕ) (v : Verdict) → IsClosed k T → IsReplied k m (swept m T) v → CarriesOutAs m T (restricted k T) v
+carried_answer k T m (refused why ss) closed h = carried_by k T m (refused why ss) (swept_part k T m closed) (λ index. refl)
+carried_answer k T m (key_taken account) closed h = carried_by k T m (key_taken account) (swept_part k T m closed) (λ index. refl)
+carried_answer k T m (answers what) closed h = carried_by k T m (answers what) (swept_part k T m closed) (λ index. h)
+carried_answer k T m (moves (move.Answered j)) closed h =
+    carried_by k T m (moves (move.Answered j))
+    (ap (λ P. effect m P (answered j)) (swept_part k T m closed) ∙ effect_part k (swept m T) m (answered j) (swept_closed k T m closed) h.0.0 tt)
+    (λ index. h.1)
+carried_answer k T m _ closed h = absurd h
+
+nonces_same : (k : Kept) (T : Tables) (m : ℕ) → IsClosed k T → CoversSweep k T m → (n : ℕ) (fresh : List ℕ) →
+    recorded_changes m (restricted k T) (spent n ∷ issued fresh ∷ []) ≡ recorded_changes m T (spent n ∷ issued fresh ∷ [])
+nonces_same k T m closed covers n fresh =
+    recorded_local k T m (spent n ∷ issued fresh ∷ []) closed covers (nonces_covered k m (swept m T) n fresh [] (swept_closed k T m closed) tt)
+
+records_answer : (k : Kept) (T : Tables) (m : ℕ) (v : Verdict) → IsClosed k T → CoversSweep k T m → IsStated m (swept m T) → IsReplied k m (swept m T) v →
+    (n : ℕ) (fresh : List ℕ) →
+    recorded_changes m (restricted k T) (spent n ∷ issued fresh ∷ entries_of v) ≡ recorded_changes m T (spent n ∷ issued fresh ∷ entries_of v)
+records_answer k T m (refused why ss) closed covers stated h n fresh = nonces_same k T m closed covers n fresh
+records_answer k T m (key_taken account) closed covers stated h n fresh = nonces_same k T m closed covers n fresh
+records_answer k T m (answers what) closed covers stated h n fresh = nonces_same k T m closed covers n fresh
+records_answer k T m (moves (move.Answered j)) closed covers stated h n fresh =
+    λ i. sweep_changes_local k T m closed covers i
+    ++ ((ap (λ P. all_changes m P (spent n ∷ issued fresh ∷ answered j ∷ [])) (swept_part k T m closed)
+    ∙ entries_same k m n fresh j (swept m T) (swept_closed k T m closed) h.0.0 h.0.1 stated) i
+    ++ PutMeta (effects m (swept m T) (spent n ∷ issued fresh ∷ answered j ∷ [])).meta ∷ [])
+records_answer k T m _ closed covers stated h n fresh = absurd h
+
+-- what the sweep leaves of the owner and its account
+swept_holders : (k : Kept) (T : Tables) (m j : ℕ) → HoldersKept k T (answered j) → HoldersKept k (swept m T) (answered j)
+swept_holders k T m j h =
+    each-map _ (swept_authorization m) T.authorizations
+    (each _ _ T.authorizations (λ a f t. ap k.accounts (swept_account m a) ∙ f (sym (touches_swept (answered j) m a) ∙ t)) h)
+
+passes_chall : (b : Bool) (k : Kept) (T : Tables) (m : ℕ) (s : Signed) (j : ℕ) → IsStated m (swept m T) → IsClosed k T →
+    KeepsRestated b k T m (sent s (to.Chall j)) → KeepsNamed k T (sent s (to.Chall j)) → PassesAs m (record s { target = to.Chall j }) T (restricted k T)
+passes_chall b k T m s j stated closed restated kept =
+    record {
+      nonce = ap (λ P. open_nonce P s.nonce) (swept_part k T m closed) ∙ nonce_same k (swept m T) (record s { target = to.Chall j }) named.nonce;
+      issues = record {
+        records = λ r. recorded_local k T m (issued r ∷ []) closed covers (swept_closed k T m closed, covers_issued k (swept m T) r, tt, tt);
+      };
+      judged = λ r. ap (λ P. signed_verdict P r (record s { target = to.Chall j })) (swept_part k T m closed)
+          ∙ signed_same k (swept m T) r (record s { target = to.Chall j }) named;
+      verdict = λ r. carried_answer k T m (signed_verdict (swept m T) r (record s { target = to.Chall j })) closed (replied r);
+      records = λ r n fresh. records_answer k T m (signed_verdict (swept m T) r (record s { target = to.Chall j })) closed covers stated (replied r) n fresh;
+    }
+  where
+    covers : CoversSweep k T m
+    covers = keeps_falling b k T m (sent s (to.Chall j)) restated
+
+    named : KeepsNamed k (swept m T) (sent s (to.Chall j))
+    named = swept_names k T m (sent s (to.Chall j)) kept
+
+    holders : HoldersKept k T (answered j)
+    holders = each _ _ T.authorizations (λ r f has. f (or_left _ _ has)) restated.holders
+
+    replied : (r : List ℕ) → IsReplied k m (swept m T) (signed_verdict (swept m T) r (record s { target = to.Chall j }))
+    replied r = signed_replied k m (swept m T) r s j (swept_closed k T m closed) (swept_holders k T m j holders) named.owner
+
+-- an answer by a part that keeps the authorization and its account
+pub passes_answer : (b : Bool) (k : Kept) (T : Tables) (m : ℕ) (s : Signed) (t : Target) → target_answers t s.payload ≡ true → IsStatedTo t m T → IsClosed k T →
+    KeepsRestated b k T m (sent s t) → KeepsNamed k T (sent s t) → PassesAs m (record s { target = t }) T (restricted k T)
+passes_answer b k T m s (to.Chall j) h stated closed restated kept = passes_chall b k T m s j stated closed restated kept
+passes_answer b k T m s _ h stated closed restated kept = cc

@@ -1,0 +1,162 @@
+-- The rows that a call touches are a part of the tables, cut by numbers.
+use Rattle.std.proofs.Common.{◌≡◌, ◌≤◌, ◌<◌, ℕ, ◌+◌, max, List, [], ◌∷◌, refl, sym, ap, subst, ◌∙◌, true, false, Bool, arith}
+use Rattle.std.specs.Prelude.{◌==◌, ◌&&◌, ◌||◌}
+use Rattle.std.specs.List.{list_any}
+use Rattle.std.proofs.lemmas.Bool.{and_from, or_left, or_right}
+use Rattle.std.proofs.Math.Bool.{or-false}
+use Rattle.desk_model.specs.Derived.{numbers_of}
+use Rattle.desk_model.specs.Tables.{Tables}
+use Rattle.desk_model.specs.Kept.{EachOf, Kept, restricted}
+use Rattle.desk_model.specs.declared.call.Ask.{Ask}
+use Rattle.desk_model.specs.declared.call.Ask.TheVariants as ask
+use Rattle.desk_model.specs.declared.call.OfficeAsk.TheVariants as office
+use Rattle.desk_model.specs.declared.call.Call.{Call}
+use Rattle.desk_model.specs.declared.objects.Nonce.{Nonce}
+use Rattle.desk_model.specs.declared.rows.AccountRow.{AccountRow}
+use Rattle.desk_model.specs.declared.rows.AuthorizationRow.{AuthorizationRow}
+use Rattle.desk_model.specs.declared.rows.OrderRow.{OrderRow}
+use Rattle.model_laws.specs.Ordered.{Ascends, IsOrdered}
+use Rattle.model_laws.proofs.Basics.{each, each_both, less_differs, more_differs}
+use Rattle.model_lives.specs.IsPart.{IsPartFor, Keeps}
+use Rattle.model_lives.proofs.Listed.{KeepsListed}
+use Rattle.desk_model.specs.Touched.{is_asked_authorization, is_first_authorization, is_touched_account, is_touched_authorization, is_touched_nonce}
+use Rattle.desk_model.specs.Touched.{is_touched_order, lists, only_meta, touched, touched_at, touched_rows}
+use Rattle.model_lives.proofs.Enough.{whole_part}
+use Rattle.model_lives.proofs.Lists.{each_member, filter_nothing, filter_same, filtered_each, same_number}
+
+-- ---- a test on rows, and on their numbers
+
+abbrev pub at_number : {X : Type 0} → (X → ℕ) → (X → Bool) → List X → ℕ → Bool
+at_number number test xs n = list_any (λ y. (number y == n) && test y) xs
+
+-- no row above has the number
+none_above : {X : Type 0} (number : X → ℕ) (test : X → Bool) (n j : ℕ) (xs : List X) → n < j → Ascends number j xs → at_number number test xs n ≡ false
+none_above number test n j [] lt h = refl
+none_above number test n j (x ∷ xs) lt h =
+    let up : j ≤ number x = h.0 in
+    ap (λ b. (b && test x) || at_number number test xs n) (more_differs (number x) n (omega arith))
+    ∙ none_above number test n (number x + 1) xs (omega arith) h.1
+
+-- each row has its number alone
+numbered_from : {X : Type 0} (number : X → ℕ) (test : X → Bool) (n : ℕ) (xs : List X) → Ascends number n xs →
+    EachOf (λ x. (at_number number test xs (number x) ≡ test x) × (n ≤ number x)) xs
+numbered_from number test n [] h = tt
+numbered_from number test n (x ∷ xs) h = (
+  (
+    ap (λ b. (b && test x) || at_number number test xs (number x)) (same_number (number x))
+        ∙ ap (λ b. test x || b) (none_above number test (number x) (number x + 1) xs (omega arith) h.1) ∙ or-false (test x),
+    h.0,
+  ),
+  each _ _ xs (λ y p. (
+    (let up : number x + 1 ≤ number y = p.1 in
+        ap (λ b. (b && test x) || at_number number test xs (number y)) (less_differs (number x) (number y) (omega arith)) ∙ p.0),
+    (let up : number x + 1 ≤ number y = p.1 in let low : n ≤ number x = h.0 in omega arith),
+  )) (numbered_from number test (number x + 1) xs h.1),
+)
+
+pub numbered : {X : Type 0} (number : X → ℕ) (test : X → Bool) (n : ℕ) (xs : List X) → Ascends number n xs →
+    EachOf (λ x. at_number number test xs (number x) ≡ test x) xs
+numbered number test n xs h = each _ _ xs (λ x p. p.0) (numbered_from number test n xs h)
+
+-- ---- the numbers of the rows that are touched
+
+abbrev pub kept_by : Tables → ℕ → Ask → Kept
+kept_by T m a =
+    record {
+      nonces = at_number (λ (x : Nonce). x.serial) (is_touched_nonce T m a) T.nonces;
+      accounts = at_number (λ (x : AccountRow). x.number) (is_touched_account T m a) T.accounts;
+      authorizations = λ n.
+          at_number (λ (r : AuthorizationRow). r.number) (is_first_authorization T m a) T.authorizations n
+          || (list_any (λ o. is_touched_order T m a o && lists o n) T.orders
+          || at_number (λ (r : AuthorizationRow). r.number) (is_asked_authorization T a) T.authorizations n);
+      orders = at_number (λ (o : OrderRow). o.number) (is_touched_order T m a) T.orders;
+    }
+
+pub same_authorizations : (T : Tables) (m : ℕ) (a : Ask) → IsOrdered T →
+    EachOf (λ r. (kept_by T m a).authorizations r.number ≡ is_touched_authorization T m a r) T.authorizations
+same_authorizations T m a h =
+    each _ _ T.authorizations (λ r e i. e.0 i || (list_any (λ o. is_touched_order T m a o && lists o r.number) T.orders || e.1 i))
+    (each_both _ _ T.authorizations (numbered (λ (r : AuthorizationRow). r.number) (is_first_authorization T m a) 1 T.authorizations h.authorizations.0)
+    (numbered (λ (r : AuthorizationRow). r.number) (is_asked_authorization T a) 1 T.authorizations h.authorizations.0))
+
+pub touched_cut : (T : Tables) (m : ℕ) (a : Ask) → IsOrdered T → touched_rows T m a ≡ restricted (kept_by T m a) T
+touched_cut T m a h =
+    λ i. record {
+      meta = T.meta;
+      nonces = filter_same _ _ T.nonces (each _ _ T.nonces (λ x e. sym e)
+          (numbered (λ (x : Nonce). x.serial) (is_touched_nonce T m a) 1 T.nonces h.nonces.0)) i;
+      accounts =
+          filter_same _ _ T.accounts (each _ _ T.accounts (λ x e. sym e)
+          (numbered (λ (x : AccountRow). x.number) (is_touched_account T m a) 1 T.accounts h.accounts.0)) i;
+      authorizations = filter_same _ _ T.authorizations (each _ _ T.authorizations (λ r e. sym e) (same_authorizations T m a h)) i;
+      orders = filter_same _ _ T.orders (each _ _ T.orders (λ o e. sym e)
+          (numbered (λ (o : OrderRow). o.number) (is_touched_order T m a) 1 T.orders h.orders.0)) i;
+    }
+
+pub touched_listed : (T : Tables) (m : ℕ) (a : Ask) → IsOrdered T → KeepsListed (kept_by T m a) T
+touched_listed T m a h =
+    each _ _ T.orders (λ o p kept.
+    let touched_too : is_touched_order T m a o ≡ true = sym p.0 ∙ kept in
+    each _ _ (numbers_of o.listed) (λ n member. or_right (at_number (λ (r : AuthorizationRow). r.number) (is_first_authorization T m a) T.authorizations n) _
+    (or_left _ _ (p.1 (λ y. is_touched_order T m a y && lists y n) (and_from _ _ touched_too (member (λ j. j == n) (same_number n))))))
+    (each_member (numbers_of o.listed)))
+    (each_both _ _ T.orders (numbered (λ (o : OrderRow). o.number) (is_touched_order T m a) 1 T.orders h.orders.0) (each_member T.orders))
+
+pub touched_kept : (T : Tables) (m : ℕ) (a : Ask) → IsOrdered T → Keeps (kept_by T m a) (touched_rows T m a)
+touched_kept T m a h =
+    record {
+      nonces = filtered_each _ (is_touched_nonce T m a) T.nonces
+          (each _ _ T.nonces (λ x e yes. e ∙ yes) (numbered (λ (x : Nonce). x.serial) (is_touched_nonce T m a) 1 T.nonces h.nonces.0));
+      accounts = filtered_each _ (is_touched_account T m a) T.accounts
+          (each _ _ T.accounts (λ x e yes. e ∙ yes) (numbered (λ (x : AccountRow). x.number) (is_touched_account T m a) 1 T.accounts h.accounts.0));
+      authorizations = filtered_each _ (is_touched_authorization T m a) T.authorizations
+          (each _ _ T.authorizations (λ r e yes. e ∙ yes) (same_authorizations T m a h));
+      orders = filtered_each _ (is_touched_order T m a) T.orders
+          (each _ _ T.orders (λ o e yes. e ∙ yes) (numbered (λ (o : OrderRow). o.number) (is_touched_order T m a) 1 T.orders h.orders.0));
+    }
+
+-- nothing is kept
+abbrev pub no_rows : Kept
+no_rows = record { nonces = λ n. false; accounts = λ n. false; authorizations = λ n. false; orders = λ n. false }
+
+pub no_part : (T : Tables) → only_meta T ≡ restricted no_rows T
+no_part T =
+    λ i. record {
+      meta = T.meta;
+      nonces = filter_nothing T.nonces i;
+      accounts = filter_nothing T.accounts i;
+      authorizations = filter_nothing T.authorizations i;
+      orders = filter_nothing T.orders i;
+    }
+
+pub touched_part : (T : Tables) (call : Call) → IsOrdered T → IsPartFor call T (touched T call)
+touched_part T call h = by call.ask refl
+  where
+    rows : (a : Ask) → touched_at T (max call.at T.meta.counters.clock) a ≡ touched_rows T (max call.at T.meta.counters.clock) a
+        → call.ask ≡ a → IsPartFor call T (touched T call)
+    rows a e is =
+        let same : touched T call ≡ touched_rows T (max call.at T.meta.counters.clock) a = ap (touched_at T (max call.at T.meta.counters.clock)) is ∙ e in
+        record {
+          kept = kept_by T (max call.at T.meta.counters.clock) a;
+          cut = same ∙ touched_cut T (max call.at T.meta.counters.clock) a h;
+          holds = subst (Keeps (kept_by T (max call.at T.meta.counters.clock) a)) (sym same) (touched_kept T (max call.at T.meta.counters.clock) a h);
+        }
+
+    by : (a : Ask) → call.ask ≡ a → IsPartFor call T (touched T call)
+    by (ask.Office office.Directory) is =
+        let same : touched T call ≡ only_meta T = ap (touched_at T (max call.at T.meta.counters.clock)) is in
+        record {
+          kept = no_rows;
+          cut = same ∙ no_part T;
+          holds = subst (Keeps no_rows) (sym same) (record { nonces = tt; accounts = tt; authorizations = tt; orders = tt });
+        }
+    by (ask.Office office.ChallengeWork) is = subst (IsPartFor call T) (sym (ap (touched_at T (max call.at T.meta.counters.clock)) is)) (whole_part T call)
+    by (ask.Office office.OrderWork) is = subst (IsPartFor call T) (sym (ap (touched_at T (max call.at T.meta.counters.clock)) is)) (whole_part T call)
+    by (ask.NewNonce head) is = rows (ask.NewNonce head) refl is
+    by (ask.Signed s) is = rows (ask.Signed s) refl is
+    by (ask.Office (office.Report n finding)) is = rows (ask.Office (office.Report n finding)) refl is
+    by (ask.Office (office.Certify n bytes)) is = rows (ask.Office (office.Certify n bytes)) refl is
+    by (ask.Office (office.FailOrder n problem)) is = rows (ask.Office (office.FailOrder n problem)) refl is
+    by (ask.Office (office.RevokeAuthz n)) is = rows (ask.Office (office.RevokeAuthz n)) refl is
+    by (ask.Office (office.RevokeAccount n)) is = rows (ask.Office (office.RevokeAccount n)) refl is
+    by (ask.Office (office.KeyOf n)) is = rows (ask.Office (office.KeyOf n)) refl is

@@ -1,0 +1,235 @@
+-- What has ended keeps its row: through an entry, through the passing of time, and so for ever.
+use Rattle.std.proofs.Common.{◌≡◌, ◌≤◌, ℕ, List, [], ◌∷◌, ◌++◌, map, Option, Some, None, refl, sym, ap, ◌∙◌, subst, Bool, true, false, cond, arith, max}
+use Rattle.std.specs.Prelude.{IsTrue, find, ◌&&◌, ◌||◌, ◌==◌, nat_lt}
+use Rattle.desk_model.specs.Entry.{History}
+use Rattle.desk_model.specs.declared.entry.Entry.{Entry}
+use Rattle.desk_model.specs.declared.entry.Dated.{Dated}
+use Rattle.desk_model.specs.declared.entry.Entry.TheVariants.{Made as made}
+use Rattle.desk_model.specs.History.{clock}
+use Rattle.desk_model.specs.Authorization.{authorizations, is_over, is_live}
+use Rattle.desk_model.specs.Order.{orders}
+use Rattle.desk_model.specs.Legal.{EachFollows, Legal}
+use Rattle.desk_model.specs.Allowed.{may_on}
+use Rattle.desk_model.specs.Questions.{account_on, order_on, authorization_on, owner_on, challenge_of}
+use Rattle.desk_model.specs.Tables.{Tables, authorization_row, order_row, tables_at, picture}
+use Rattle.desk_model.specs.declared.rows.AccountRow.{AccountRow}
+use Rattle.desk_model.specs.declared.rows.ChallengeRow.{ChallengeRow}
+use Rattle.desk_model.specs.declared.rows.AuthorizationRow.{AuthorizationRow}
+use Rattle.desk_model.specs.declared.rows.OrderRow.{OrderRow}
+use Rattle.desk_model.specs.Derived.{restated_authorization, restated_order, numbers_of}
+use Rattle.desk_model.specs.Effect.{authorizations_after, effect, falls, has_row, is_live_order, is_overdue, key_numbered, lists_one}
+use Rattle.desk_model.specs.Effect.{moved_account, moved_authorization, moved_order, noted_account, noted_authorization}
+use Rattle.desk_model.specs.Effect.{noted_challenge, noted_order, swept, swept_authorization, swept_order, touches_account}
+use Rattle.desk_model.specs.Effect.{touches_authorization, touches_order}
+use Rattle.desk_model.specs.Life.{history, is_final_account, is_final_challenge, is_final_order, challenge_in_rows, challenge_on, EndedRowsStay, EndedStays}
+use Rattle.desk_model.specs.declared.status.AuthzStatus.{AuthzStatus}
+use Rattle.desk_model.specs.declared.status.AuthzStatus.TheVariants as authz
+use Rattle.desk_model.specs.declared.status.OrderStatus.{OrderStatus}
+use Rattle.desk_model.specs.declared.status.OrderStatus.TheVariants as order
+use Rattle.model_laws.proofs.AllowedFacts.{allowed}
+use Rattle.model_laws.proofs.Basics.{each_all, each-map, find-append}
+use Rattle.model_laws.proofs.MovedRows.{challenge_number, has_row-moved, one_kept}
+use Rattle.model_laws.proofs.OrderFacts.{order_stated}
+use Rattle.model_laws.proofs.Recorded.{challenges_ordered}
+use Rattle.model_laws.proofs.RowFacts.{authorization_stated}
+use Rattle.model_laws.proofs.Step.{step, sweep}
+use Rattle.model_laws.proofs.Finds.{found_moved}
+use Rattle.model_lives.proofs.EndedRows.{IsStated, account_stays, authorization_stays, challenge_stays}
+use Rattle.model_lives.proofs.EndedOrders.{order_stays}
+use Rattle.model_lives.proofs.Extends.{extends_earlier, histories_are_legal}
+
+-- ---- a challenge through its authorization
+
+-- a challenge that stands in the tables, and its authorization
+pub record Stands (T : Tables) (n : ℕ) (row : ChallengeRow) : Type 0 where
+  pub owner : AuthorizationRow
+  pub owned : owner_on T n ≡ Some owner
+  pub found : challenge_of n owner ≡ Some row
+
+-- each challenge of the tables stands in one
+stands : (T : Tables) (n : ℕ) (row : ChallengeRow) → challenge_on T n ≡ Some row → Stands T n row
+stands T n row h = by (owner_on T n) refl h
+  where
+    by : (o : Option AuthorizationRow) → owner_on T n ≡ o → challenge_in_rows n o ≡ Some row → Stands T n row
+    by None e k = cc
+    by (Some a) e k = record { owner = a; owned = e; found = k }
+
+-- ---- an entry
+
+-- a challenge that has ended stands in the moved authorization
+challenge_moved : (T : Tables) (e : Entry) (m n : ℕ) (a : AuthorizationRow) (row : ChallengeRow) → may_on T e ≡ true → owner_on T n ≡ Some a →
+    challenge_of n a ≡ Some row → is_final_challenge row.status ≡ true →
+    challenge_of n (moved_authorization e m T.accounts a) ≡ Some row
+challenge_moved T e m n a row may owner found ended = by (touches_authorization e a)
+  where
+    key : List ℕ
+    key = key_numbered a.account T.accounts
+
+    noted : find (λ c. n == c.number) (map (noted_challenge e m key) a.challenges) ≡ Some row
+    noted =
+        found_moved (λ c. n == c.number) (noted_challenge e m key) (λ c. ap (λ k. n == k) (challenge_number e m key c)) a.challenges row found
+        ∙ ap (λ c. Some c) (challenge_stays T e m n key a row may owner found ended)
+
+    by : (b : Bool) → challenge_of n (cond b (restated_authorization m (noted_authorization e m T.accounts a)) a) ≡ Some row
+    by true = noted
+    by false = found
+
+-- an entry that may be recorded leaves the rows that have ended
+entry_stays : (T : Tables) (e : Entry) (m : ℕ) → IsStated m T → may_on T e ≡ true → EndedRowsStay T (effect m T e)
+entry_stays T e m stated may = record { accounts = accounts_stay; orders = orders_stay; authorizations = authorizations_stay; challenges = challenges_stay }
+  where
+    accounts_stay : (n : ℕ) (row : AccountRow) → account_on T n ≡ Some row → IsTrue (is_final_account row.status) →
+        account_on (effect m T e) n ≡ Some row
+    accounts_stay n row found ended =
+        find-append (λ a. a.number == n) (map (moved_account e m) T.accounts) _ row
+        (found_moved (λ a. a.number == n) (moved_account e m)
+        (λ a. ap (λ k. k == n) (one_kept (λ (a : AccountRow). a.number) (touches_account e a) (noted_account e m a) a refl)) T.accounts row found
+        ∙ ap (λ a. Some a) (account_stays T e m n row may found ended))
+
+    authorizations_stay : (n : ℕ) (row : AuthorizationRow) → authorization_on T n ≡ Some row → IsTrue (is_over row.status) →
+        authorization_on (effect m T e) n ≡ Some row
+    authorizations_stay n row found ended =
+        find-append (λ a. a.number == n) (map (moved_authorization e m T.accounts) T.authorizations) _ row
+        (found_moved (λ a. a.number == n) (moved_authorization e m T.accounts)
+        (λ a. ap (λ k. k == n) (one_kept (λ (a : AuthorizationRow). a.number) (touches_authorization e a)
+        (restated_authorization m (noted_authorization e m T.accounts a)) a refl)) T.authorizations row found
+        ∙ ap (λ a. Some a) (authorization_stays T e m n row stated may found ended))
+
+    orders_stay : (n : ℕ) (row : OrderRow) → order_on T n ≡ Some row → IsTrue (is_final_order row.status) → order_on (effect m T e) n ≡ Some row
+    orders_stay n row found ended =
+        let later : List AuthorizationRow = authorizations_after T e m in
+        find-append (λ o. o.number == n) (map (moved_order e m T.authorizations later) T.orders) _ row
+        (found_moved (λ o. o.number == n) (moved_order e m T.authorizations later)
+        (λ o. ap (λ k. k == n) (one_kept (λ (o : OrderRow). o.number) (touches_order e T.authorizations o) (restated_order m later (noted_order e m o))
+        o refl)) T.orders row found
+        ∙ ap (λ o. Some o) (order_stays T e m n row later stated may found ended authorizations_stay))
+
+    challenges_stay : (n : ℕ) (row : ChallengeRow) → challenge_on T n ≡ Some row → IsTrue (is_final_challenge row.status) →
+        challenge_on (effect m T e) n ≡ Some row
+    challenges_stay n row found ended =
+        let s = stands T n row found in
+        ap (challenge_in_rows n) (find-append (has_row n) (map (moved_authorization e m T.accounts) T.authorizations) _
+        (moved_authorization e m T.accounts s.owner)
+        (found_moved (has_row n) (moved_authorization e m T.accounts) (has_row-moved n e m T.accounts) T.authorizations s.owner s.owned))
+        ∙ challenge_moved T e m n s.owner row may s.owned s.found ended
+
+-- ---- the passing of time
+
+-- one that is over is not overdue
+over_lasts : (s : AuthzStatus) (past : Bool) → is_over s ≡ true → (is_live s && past) ≡ false
+over_lasts authz.Pending past h = cc
+over_lasts authz.Valid past h = cc
+over_lasts authz.Invalid past h = refl
+over_lasts authz.Deactivated past h = refl
+over_lasts authz.Expired past h = refl
+over_lasts authz.Revoked past h = refl
+
+-- an order that has ended does not fall
+final_lasts : (s : OrderStatus) (test : Bool) → is_final_order s ≡ true → (is_live_order s && test) ≡ false
+final_lasts order.Pending test h = cc
+final_lasts order.Ready test h = cc
+final_lasts order.Processing test h = cc
+final_lasts order.Valid test h = refl
+final_lasts order.Invalid test h = refl
+
+-- the passing of time leaves the rows that have ended
+time_stays : (T : Tables) (m : ℕ) → EndedRowsStay T (swept m T)
+time_stays T m =
+    record { accounts = λ n row found ended. found; orders = orders_stay; authorizations = authorizations_stay; challenges = challenges_stay }
+  where
+    authorizations_stay : (n : ℕ) (row : AuthorizationRow) → authorization_on T n ≡ Some row → IsTrue (is_over row.status) →
+        authorization_on (swept m T) n ≡ Some row
+    authorizations_stay n row found ended =
+        found_moved (λ a. a.number == n) (swept_authorization m)
+        (λ a. ap (λ k. k == n) (one_kept (λ (a : AuthorizationRow). a.number) (is_overdue m a) (record a { status = authz.Expired }) a refl))
+        T.authorizations row found
+        ∙ ap (λ b. Some (cond b (record row { status = authz.Expired }) row)) (over_lasts row.status (nat_lt row.expires m) ended)
+
+    orders_stay : (n : ℕ) (row : OrderRow) → order_on T n ≡ Some row → IsTrue (is_final_order row.status) → order_on (swept m T) n ≡ Some row
+    orders_stay n row found ended =
+        found_moved (λ o. o.number == n) (swept_order m T.authorizations)
+        (λ o. ap (λ k. k == n) (one_kept (λ (o : OrderRow). o.number) (falls m T.authorizations o) (record o { status = order.Invalid }) o refl))
+        T.orders row found
+        ∙ ap (λ b. Some (cond b (record row { status = order.Invalid }) row))
+        (final_lasts row.status (nat_lt row.expires m || lists_one (is_overdue m) T.authorizations (numbers_of row.listed)) ended)
+
+    challenges_stay : (n : ℕ) (row : ChallengeRow) → challenge_on T n ≡ Some row → IsTrue (is_final_challenge row.status) →
+        challenge_on (swept m T) n ≡ Some row
+    challenges_stay n row found ended =
+        let s = stands T n row found in
+        ap (challenge_in_rows n) (found_moved (has_row n) (swept_authorization m)
+        (λ a. one_kept (has_row n) (is_overdue m a) (record a { status = authz.Expired }) a refl) T.authorizations s.owner s.owned)
+        ∙ one_kept (challenge_of n) (is_overdue m s.owner) (record s.owner { status = authz.Expired }) s.owner refl
+        ∙ s.found
+
+-- ---- histories
+
+-- rows that stay from T to U and from U to V stay from T to V
+stays_trans : (T U V : Tables) → EndedRowsStay T U → EndedRowsStay U V → EndedRowsStay T V
+stays_trans T U V p q =
+    record {
+      accounts = λ n row found ended. q.accounts n row (p.accounts n row found ended) ended;
+      orders = λ n row found ended. q.orders n row (p.orders n row found ended) ended;
+      authorizations = λ n row found ended. q.authorizations n row (p.authorizations n row found ended) ended;
+      challenges = λ n row found ended. q.challenges n row (p.challenges n row found ended) ended;
+    }
+
+-- each row stays where it is
+stays_refl : (T : Tables) → EndedRowsStay T T
+stays_refl T =
+    record {
+      accounts = λ n row found ended. found;
+      orders = λ n row found ended. found;
+      authorizations = λ n row found ended. found;
+      challenges = λ n row found ended. found;
+    }
+
+-- the tables of a legal history have the statuses that their columns give
+tables_stated : (F : History) (m : ℕ) → EachFollows F → IsStated m (tables_at F m)
+tables_stated F m h =
+    record {
+      authorizations = each-map _ (authorization_row F m) (authorizations F)
+          (each_all _ (authorizations F) (λ a. ap (λ (r : AuthorizationRow). r.status) (authorization_stated F h m m a)));
+      orders = each-map _ (order_row F m) (orders F)
+          (each_all _ (orders F) (λ o. ap (λ (r : OrderRow). r.status) (order_stated F m m o)));
+      challenges = challenges_ordered F m;
+    }
+
+-- an entry of a history leaves the rows that have ended at its moment
+follows_stays : (F : History) (e : Entry) (m : ℕ) → EachFollows (record { date = m; entry = e } ∷ F) →
+    EndedRowsStay (tables_at F m) (tables_at (record { date = m; entry = e } ∷ F) m)
+follows_stays F e m h = subst (EndedRowsStay (tables_at F m)) (sym (step F e m h)) (by e F h)
+  where
+    by : (e : Entry) (F : History) → EachFollows (record { date = m; entry = e } ∷ F) → EndedRowsStay (tables_at F m) (effect m (tables_at F m) e)
+    by (made terms) [] h =
+        record {
+          accounts = λ n row found ended. found;
+          orders = λ n row found ended. found;
+          authorizations = λ n row found ended. found;
+          challenges = λ n row found ended. found;
+        }
+    by (made terms) (f ∷ F) h = let may : false ≡ true = h.0.allowed in cc
+    by e F h = entry_stays (tables_at F m) e m (tables_stated F m h.1) (sym (allowed F e m tt) ∙ h.0.allowed)
+
+-- one more entry leaves the rows that have ended
+more_stays : (F : History) (d : Dated) → EachFollows (d ∷ F) → EndedRowsStay (picture F) (picture (d ∷ F))
+more_stays F d h =
+    let late : clock F ≤ d.date = h.0.in_order in
+    let now : max (clock F) d.date ≡ d.date = omega arith in
+    subst (λ t. EndedRowsStay (picture F) (tables_at (d ∷ F) t)) (sym now)
+    (stays_trans (picture F) (tables_at F d.date) (tables_at (d ∷ F) d.date)
+    (subst (EndedRowsStay (picture F)) (sym (sweep F (clock F) d.date late)) (time_stays (picture F) d.date))
+    (follows_stays F d.entry d.date h))
+
+-- and so do some
+extended_stays : (more : List Dated) (F : History) → EachFollows (more ++ F) → EndedRowsStay (picture F) (picture (more ++ F))
+extended_stays [] F h = stays_refl (picture F)
+extended_stays (d ∷ more) F h = stays_trans (picture F) (picture (more ++ F)) (picture (d ∷ more ++ F)) (extended_stays more F h.1) (more_stays (more ++ F) d h)
+
+-- what has ended keeps its row over every life
+pub ended_stays : EndedStays
+ended_stays start later earlier life =
+    let p = extends_earlier start later earlier in
+    let legal : Legal (history start (later ++ earlier)) = histories_are_legal start (later ++ earlier) life in
+    subst (λ G. EndedRowsStay (picture (history start earlier)) (picture G)) p.is
+    (extended_stays p.more (history start earlier) (subst EachFollows (sym p.is) legal.each))

@@ -1,0 +1,136 @@
+-- What the look-ups of the few rows find is what is enough, rule by rule.
+use Rattle.std.proofs.Common.{◌≡◌, ℕ, List, refl, ap, ◌∙◌, true, false, Bool, not}
+use Rattle.std.proofs.Common.{Option, None, Some}
+use Rattle.std.specs.Prelude.{◌==◌, ◌&&◌, ◌||◌}
+use Rattle.std.specs.List.{flat_map, list_any}
+use Rattle.desk_model.specs.Asked.{asked_names, asks_authorizations, asks_orders}
+use Rattle.desk_model.specs.Lookup.{holds}
+use Rattle.desk_model.specs.Name.{Name, same_name}
+use Rattle.desk_model.specs.Tables.{Tables}
+use Rattle.desk_model.specs.Touched.{is_named_account, is_named_order, is_past_order, is_touched_nonce, lists}
+use Rattle.desk_model.specs.declared.call.Ask.{Ask}
+use Rattle.desk_model.specs.declared.rows.AccountRow.{AccountRow}
+use Rattle.desk_model.specs.declared.rows.AuthorizationRow.{AuthorizationRow}
+use Rattle.model_laws.specs.Ordered.{IsOrdered}
+use Rattle.model_laws.proofs.Basics.{each_all, eq_turn, list_any-same}
+use Rattle.model_lives.specs.Few.{few_rows, is_few_account, is_few_authorization, is_few_order, is_moved_authorization, is_opened_order}
+use Rattle.model_lives.specs.Few.{is_restated_authorization, is_wanted_authorization, needs_listed, restates}
+use Rattle.model_lives.specs.FewLoaded.{few_accounts, few_authorizations, few_loaded, few_orders, holders_of, moved_authorizations, opened_orders}
+use Rattle.model_lives.specs.FewLoaded.{restated_authorizations}
+use Rattle.model_lives.specs.Loaded.{accounts_once, authorizations_asked_of, authorizations_for, authorizations_once, found_nonces}
+use Rattle.model_lives.specs.Loaded.{named_accounts, orders_once}
+use Rattle.model_lives.specs.LookUps.{accounts_numbered, authorizations_of, orders_of}
+use Rattle.model_lives.proofs.Found.{IsFound, found_both, found_by, found_filter, found_if, found_none, found_once, found_same, found_table}
+use Rattle.model_lives.proofs.Loading.{accounts_named, accounts_once_named, any_under, authorizations_by_names, authorizations_listed, authorizations_named}
+use Rattle.model_lives.proofs.Loading.{authorizations_over, nonces_found, of_account, of_authorization, of_nonce, of_order, orders_listed, orders_named}
+use Rattle.model_lives.proofs.Loading.{orders_over}
+
+moved_found : (T : Tables) (a : Ask) → IsOrdered T → IsFound of_authorization (is_moved_authorization T a) T.authorizations (moved_authorizations T a)
+moved_found T a h =
+    found_both of_authorization _ _ T.authorizations _ _ (authorizations_named T a h)
+    (found_same of_authorization _ _ T.authorizations _
+    (each_all _ T.authorizations (λ r.
+    together (restates a) (asks_authorizations a) (list_any (λ x. is_named_account a x && (r.account == x.number)) T.accounts)))
+    (found_if of_authorization (restates a && asks_authorizations a) (λ r. list_any (λ x. is_named_account a x && (r.account == x.number)) T.accounts)
+    T.authorizations _
+    (found_same of_authorization _ _ T.authorizations _ (each_all _ T.authorizations (λ r. (accounts_once_named T a h).tests (λ x. r.account == x.number)))
+    (found_by of_authorization (λ (x : AccountRow) r. r.account == x.number) (λ x. authorizations_of T x.number) T.authorizations
+    (λ x. found_filter of_authorization (λ r. r.account == x.number) 1 T.authorizations h.authorizations.0) (accounts_once (named_accounts T a))))))
+  where
+    together : (b c d : Bool) → ((b && c) && d) ≡ (b && (c && d))
+    together true c d = refl
+    together false c d = refl
+
+moved_once : (T : Tables) (a : Ask) → IsOrdered T → IsFound of_authorization (is_moved_authorization T a) T.authorizations
+    (authorizations_once (moved_authorizations T a))
+moved_once T a h = found_once of_authorization (is_moved_authorization T a) 1 T.authorizations (moved_authorizations T a) h.authorizations.0 (moved_found T a h)
+
+-- the accounts of the authorizations that are found
+holders_found : (T : Tables) (test : AuthorizationRow → Bool) (rows : List AuthorizationRow) → IsOrdered T →
+    IsFound of_authorization test T.authorizations rows →
+    IsFound of_account (λ x. list_any (λ r. test r && (r.account == x.number)) T.authorizations) T.accounts (holders_of T rows)
+holders_found T test rows h is =
+    found_same of_account _ _ T.accounts _
+    (each_all _ T.accounts (λ x. is.tests (λ r. x.number == r.account)
+    ∙ list_any-same _ _ T.authorizations (λ r. ap (λ b. test r && b) (eq_turn x.number r.account))))
+    (found_by of_account (λ (r : AuthorizationRow) x. x.number == r.account) (λ r. accounts_numbered T r.account) T.accounts
+    (λ r. found_filter of_account (λ x. x.number == r.account) 1 T.accounts h.accounts.0) rows)
+
+accounts_few : (T : Tables) (a : Ask) → IsOrdered T → IsFound of_account (is_few_account T a) T.accounts (few_accounts T a)
+accounts_few T a h =
+    found_both of_account _ _ T.accounts _ _ (accounts_named T a h) (holders_found T (is_moved_authorization T a) _ h (moved_once T a h))
+
+accounts_few_once : (T : Tables) (a : Ask) → IsOrdered T → IsFound of_account (is_few_account T a) T.accounts (accounts_once (few_accounts T a))
+accounts_few_once T a h = found_once of_account (is_few_account T a) 1 T.accounts (few_accounts T a) h.accounts.0 (accounts_few T a h)
+
+pub restated_found : (T : Tables) (m : ℕ) (a : Ask) → IsOrdered T →
+    IsFound of_authorization (is_restated_authorization T m a) T.authorizations (restated_authorizations T m a)
+restated_found T m a h =
+    found_both of_authorization _ _ T.authorizations _ _ (authorizations_over T m h)
+    (found_if of_authorization (restates a) (is_moved_authorization T a) T.authorizations _ (moved_once T a h))
+
+opened_found : (T : Tables) (m : ℕ) (a : Ask) → IsOrdered T → IsFound of_order (is_opened_order T m a) T.orders (opened_orders T m a)
+opened_found T m a h =
+    found_both of_order _ _ T.orders _ _
+    (found_both of_order _ _ T.orders _ _ (orders_over T m h)
+    (orders_listed T (is_restated_authorization T m a) (authorizations_once (restated_authorizations T m a)) h
+    (found_once of_authorization (is_restated_authorization T m a) 1 T.authorizations (restated_authorizations T m a) h.authorizations.0
+    (restated_found T m a h))))
+    (found_if of_order (needs_listed a) (is_named_order a) T.orders _ (orders_named T a h))
+
+opened_once : (T : Tables) (m : ℕ) (a : Ask) → IsOrdered T → IsFound of_order (is_opened_order T m a) T.orders (orders_once (opened_orders T m a))
+opened_once T m a h = found_once of_order (is_opened_order T m a) 1 T.orders (opened_orders T m a) h.orders.0 (opened_found T m a h)
+
+orders_few : (T : Tables) (m : ℕ) (a : Ask) → IsOrdered T → IsFound of_order (is_few_order T m a) T.orders (few_orders T m a)
+orders_few T m a h =
+    found_same of_order _ _ T.orders _
+    (each_all _ T.orders (λ o. by (is_past_order m o || list_any (λ r. is_restated_authorization T m a r && lists o r.number) T.authorizations)
+    (needs_listed a) (is_named_order a o) (asks_orders a && list_any (λ x. is_few_account T a x && (o.account == x.number)) T.accounts)))
+    (found_both of_order _ _ T.orders _ _ (opened_found T m a h)
+    (found_both of_order _ _ T.orders _ _ (found_if of_order (not (needs_listed a)) (is_named_order a) T.orders _ (orders_named T a h))
+    (found_if of_order (asks_orders a) (λ o. list_any (λ x. is_few_account T a x && (o.account == x.number)) T.accounts) T.orders _
+    (found_same of_order _ _ T.orders _ (each_all _ T.orders (λ o. (accounts_few_once T a h).tests (λ x. o.account == x.number)))
+    (found_by of_order (λ (x : AccountRow) o. o.account == x.number) (λ x. orders_of T x.number) T.orders
+    (λ x. found_filter of_order (λ o. o.account == x.number) 1 T.orders h.orders.0) (accounts_once (few_accounts T a)))))))
+  where
+    by : (x n d w : Bool) → ((x || (n && d)) || ((not n && d) || w)) ≡ ((x || (n && d)) || (d || w))
+    by true n d w = refl
+    by false true true w = refl
+    by false true false w = refl
+    by false false d w = refl
+
+wanted_found : (T : Tables) (a : Ask) → IsOrdered T → IsFound of_authorization (is_wanted_authorization T a) T.authorizations
+    (authorizations_asked_of T (asked_names a) (accounts_once (few_accounts T a)))
+wanted_found T a h = by (asked_names a)
+  where
+    by : (names : Option (List Name)) → IsFound of_authorization
+        (λ r. holds (list_any (same_name r.name)) names && list_any (λ x. is_few_account T a x && (r.account == x.number)) T.accounts)
+        T.authorizations (authorizations_asked_of T names (accounts_once (few_accounts T a)))
+    by None = found_none of_authorization T.authorizations
+    by (Some names) =
+        found_same of_authorization _ _ T.authorizations _
+        (each_all _ T.authorizations (λ r. any_under (list_any (same_name r.name) names) (λ x. r.account == x.number) (accounts_once (few_accounts T a))
+        ∙ ap (λ b. list_any (same_name r.name) names && b) ((accounts_few_once T a h).tests (λ x. r.account == x.number))))
+        (found_by of_authorization (λ (x : AccountRow) r. list_any (same_name r.name) names && (r.account == x.number))
+        (λ x. flat_map (authorizations_for T x.number) names) T.authorizations
+        (λ x. authorizations_by_names T x.number h names) (accounts_once (few_accounts T a)))
+
+authorizations_few : (T : Tables) (m : ℕ) (a : Ask) → IsOrdered T →
+    IsFound of_authorization (is_few_authorization T m a) T.authorizations (few_authorizations T m a)
+authorizations_few T m a h =
+    found_both of_authorization _ _ T.authorizations _ _
+    (found_both of_authorization _ _ T.authorizations _ _ (restated_found T m a h)
+    (authorizations_listed T (is_opened_order T m a) (orders_once (opened_orders T m a)) h (opened_once T m a h)))
+    (found_both of_authorization _ _ T.authorizations _ _ (moved_once T a h) (wanted_found T a h))
+
+-- as tables
+pub loaded_few : (T : Tables) (m : ℕ) (a : Ask) → IsOrdered T → few_loaded T m a ≡ few_rows T m a
+loaded_few T m a h =
+    λ i. record {
+      meta = T.meta;
+      nonces = found_table of_nonce (is_touched_nonce T m a) 1 T.nonces (found_nonces T m a) h.nonces.0 (nonces_found T m a h) i;
+      accounts = found_table of_account (is_few_account T a) 1 T.accounts (few_accounts T a) h.accounts.0 (accounts_few T a h) i;
+      authorizations = found_table of_authorization (is_few_authorization T m a) 1 T.authorizations (few_authorizations T m a) h.authorizations.0
+          (authorizations_few T m a h) i;
+      orders = found_table of_order (is_few_order T m a) 1 T.orders (few_orders T m a) h.orders.0 (orders_few T m a h) i;
+    }

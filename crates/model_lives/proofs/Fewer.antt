@@ -1,0 +1,207 @@
+-- The few rows that are enough for a call: they are cut from the tables by their numbers, and have all that decides.
+use Rattle.std.proofs.Common.{◌≡◌, ℕ, refl, sym, ap, subst, ◌∙◌, true, false, Bool}
+use Rattle.std.specs.Prelude.{◌==◌, ◌&&◌, ◌||◌}
+use Rattle.std.specs.List.{list_any}
+use Rattle.std.proofs.lemmas.Bool.{and_from, and_parts, or_left, or_right}
+use Rattle.std.proofs.Math.Bool.{or-false}
+use Rattle.desk_model.specs.Asked.{asks_name, asks_orders, target_orders}
+use Rattle.desk_model.specs.Derived.{numbers_of}
+use Rattle.desk_model.specs.Kept.{EachOf, Kept, restricted}
+use Rattle.desk_model.specs.Tables.{Tables}
+use Rattle.desk_model.specs.Touched.{is_named_account, is_named_order, is_touched_nonce, lists}
+use Rattle.desk_model.specs.declared.call.Ask.{Ask}
+use Rattle.desk_model.specs.declared.call.Ask.TheVariants as ask
+use Rattle.desk_model.specs.declared.call.OfficeAsk.{OfficeAsk}
+use Rattle.desk_model.specs.declared.call.Signed.{Signed}
+use Rattle.desk_model.specs.declared.call.Target.{Target}
+use Rattle.desk_model.specs.declared.call.Target.TheVariants as to
+use Rattle.desk_model.specs.declared.objects.Nonce.{Nonce}
+use Rattle.desk_model.specs.declared.rows.AccountRow.{AccountRow}
+use Rattle.desk_model.specs.declared.rows.AuthorizationRow.{AuthorizationRow}
+use Rattle.desk_model.specs.declared.rows.OrderRow.{OrderRow}
+use Rattle.model_laws.specs.Ordered.{IsOrdered}
+use Rattle.model_laws.proofs.Basics.{each, each_both}
+use Rattle.model_lives.specs.AnswersAs.{IssuesAs, PassesAs, SettlesAs}
+use Rattle.model_lives.specs.Few.{few_rows, is_few_account, is_few_authorization, is_few_order, is_moved_authorization, is_opened_order}
+use Rattle.model_lives.specs.Few.{IsStatedFor, is_restated_authorization, is_wanted_authorization, needs_listed, restates, target_needs_listed}
+use Rattle.model_lives.proofs.Answering.{passes_answer}
+use Rattle.model_lives.specs.IsPart.{Keeps}
+use Rattle.model_lives.proofs.Cut.{at_number, numbered}
+use Rattle.model_lives.proofs.Enough.{issues_as, passes_as, settles_as}
+use Rattle.model_lives.proofs.Grown.{KeepsNamed, KeepsRestated, KeepsRows, answers_challenge, grown, grown_closed, grown_part, kept_number}
+use Rattle.model_lives.proofs.Grown.{keeps_falling, keeps_named, target_answers}
+use Rattle.model_lives.proofs.Listed.{KeepsListed}
+use Rattle.model_lives.proofs.Lists.{any_wider, each_filtered, each_member, filter_same, filtered_each, or_cases, same_number}
+use Rattle.model_lives.proofs.Ready.{IsReady}
+use Rattle.model_lives.proofs.Unlisted.{passes_open}
+use Rattle.model_lives.proofs.Walks.{IsNoWork}
+
+-- ---- by their numbers
+
+abbrev pub few_kept : Tables → ℕ → Ask → Kept
+few_kept T m a =
+    record {
+      nonces = at_number (λ (x : Nonce). x.serial) (is_touched_nonce T m a) T.nonces;
+      accounts = at_number (λ (x : AccountRow). x.number) (is_few_account T a) T.accounts;
+      authorizations = λ n.
+          (at_number (λ (r : AuthorizationRow). r.number) (is_restated_authorization T m a) T.authorizations n
+          || list_any (λ o. is_opened_order T m a o && lists o n) T.orders)
+          || at_number (λ (r : AuthorizationRow). r.number) (λ r. is_moved_authorization T a r || is_wanted_authorization T a r) T.authorizations n;
+      orders = at_number (λ (o : OrderRow). o.number) (is_few_order T m a) T.orders;
+    }
+
+few_authorizations : (T : Tables) (m : ℕ) (a : Ask) → IsOrdered T →
+    EachOf (λ r. (few_kept T m a).authorizations r.number ≡ is_few_authorization T m a r) T.authorizations
+few_authorizations T m a h =
+    each _ _ T.authorizations (λ r e i. (e.0 i || list_any (λ o. is_opened_order T m a o && lists o r.number) T.orders) || e.1 i)
+    (each_both _ _ T.authorizations (numbered (λ (r : AuthorizationRow). r.number) (is_restated_authorization T m a) 1 T.authorizations h.authorizations.0)
+    (numbered (λ (r : AuthorizationRow). r.number) (λ r. is_moved_authorization T a r || is_wanted_authorization T a r) 1 T.authorizations
+    h.authorizations.0))
+
+pub few_cut : (T : Tables) (m : ℕ) (a : Ask) → IsOrdered T → few_rows T m a ≡ restricted (few_kept T m a) T
+few_cut T m a h =
+    λ i. record {
+      meta = T.meta;
+      nonces = filter_same _ _ T.nonces (each _ _ T.nonces (λ x e. sym e)
+          (numbered (λ (x : Nonce). x.serial) (is_touched_nonce T m a) 1 T.nonces h.nonces.0)) i;
+      accounts = filter_same _ _ T.accounts (each _ _ T.accounts (λ x e. sym e)
+          (numbered (λ (x : AccountRow). x.number) (is_few_account T a) 1 T.accounts h.accounts.0)) i;
+      authorizations = filter_same _ _ T.authorizations (each _ _ T.authorizations (λ r e. sym e) (few_authorizations T m a h)) i;
+      orders = filter_same _ _ T.orders (each _ _ T.orders (λ o e. sym e)
+          (numbered (λ (o : OrderRow). o.number) (is_few_order T m a) 1 T.orders h.orders.0)) i;
+    }
+
+few_hold : (T : Tables) (m : ℕ) (a : Ask) → IsOrdered T → Keeps (few_kept T m a) (few_rows T m a)
+few_hold T m a h =
+    record {
+      nonces = filtered_each _ (is_touched_nonce T m a) T.nonces
+          (each _ _ T.nonces (λ x e so. e ∙ so) (numbered (λ (x : Nonce). x.serial) (is_touched_nonce T m a) 1 T.nonces h.nonces.0));
+      accounts = filtered_each _ (is_few_account T a) T.accounts
+          (each _ _ T.accounts (λ x e so. e ∙ so) (numbered (λ (x : AccountRow). x.number) (is_few_account T a) 1 T.accounts h.accounts.0));
+      authorizations = filtered_each _ (is_few_authorization T m a) T.authorizations
+          (each _ _ T.authorizations (λ r e so. e ∙ so) (few_authorizations T m a h));
+      orders = filtered_each _ (is_few_order T m a) T.orders
+          (each _ _ T.orders (λ o e so. e ∙ so) (numbered (λ (o : OrderRow). o.number) (is_few_order T m a) 1 T.orders h.orders.0));
+    }
+
+-- where what orders list is needed, no list of orders is asked for
+no_list : (a : Ask) → needs_listed a ≡ true → asks_orders a ≡ false
+no_list (ask.Signed s) h = by s.target h
+  where
+    by : (t : Target) → target_needs_listed t ≡ true → target_orders t ≡ false
+    by (to.Orders k) e = cc
+    by _ e = refl
+no_list (ask.NewNonce head) h = refl
+no_list (ask.Office a) h = refl
+
+-- and each order is opened
+all_opened : (T : Tables) (m : ℕ) (a : Ask) (o : OrderRow) → needs_listed a ≡ true → is_few_order T m a o ≡ true → is_opened_order T m a o ≡ true
+all_opened T m a o all h =
+    or_cases (is_opened_order T m a o) _ h (λ opens. opens)
+    (λ e. or_cases (is_named_order a o) _ e (λ named. or_right _ _ (and_from _ _ all named))
+    (λ own. let no : asks_orders a ≡ false = no_list a all in let asked : asks_orders a ≡ true = (and_parts (asks_orders a) _ own).0 in cc))
+
+-- so what it lists is kept
+few_listed : (T : Tables) (m : ℕ) (a : Ask) → IsOrdered T → needs_listed a ≡ true → KeepsListed (few_kept T m a) T
+few_listed T m a h all =
+    each _ _ T.orders (λ o p kept.
+    let opens : is_opened_order T m a o ≡ true = all_opened T m a o all (sym p.0 ∙ kept) in
+    each _ _ (numbers_of o.listed) (λ n member. or_left _ _
+    (or_right (at_number (λ (r : AuthorizationRow). r.number) (is_restated_authorization T m a) T.authorizations n) _
+    (p.1 (λ y. is_opened_order T m a y && lists y n) (and_from _ _ opens (member (λ j. j == n) (same_number n))))))
+    (each_member (numbers_of o.listed)))
+    (each_both _ _ T.orders (numbered (λ (o : OrderRow). o.number) (is_few_order T m a) 1 T.orders h.orders.0) (each_member T.orders))
+
+-- ---- what they have
+
+few_restated : (k : Kept) (T : Tables) (m : ℕ) (a : Ask) → Keeps k (few_rows T m a) → KeepsRestated (restates a) (grown k T) T m a
+few_restated k T m a h =
+    record {
+      nonces = each _ _ T.nonces (λ x f so. or_left _ _ (f so)) (each_filtered _ (is_touched_nonce T m a) T.nonces h.nonces);
+      accounts = each _ _ T.accounts (λ x f so. f (or_left _ _ so)) accounts;
+      authorizations = each _ _ T.authorizations (λ r f so. or_left _ _ (f (or_left _ _ (or_left _ _ so))))
+          (each_filtered _ (is_few_authorization T m a) T.authorizations h.authorizations);
+      orders = each _ _ T.orders (λ o f so. or_left _ _ (f (or_left _ _ so))) (each_filtered _ (is_few_order T m a) T.orders h.orders);
+      named = each _ _ T.orders (λ o f so. or_left _ _ (f (or_right (is_opened_order T m a o) _ (or_left _ _ so))))
+          (each_filtered _ (is_few_order T m a) T.orders h.orders);
+      holders =
+          each _ _ T.authorizations
+          (λ r member so. kept_number (λ (x : AccountRow). x.number) T.accounts k.accounts (λ n. r.account == n)
+          (each _ _ T.accounts (λ x f same. f (or_right (is_named_account a x) _
+          (member (λ y. is_moved_authorization T a y && (y.account == x.number)) (and_from _ _ so same)))) accounts)
+          r.account (same_number r.account)) (each_member T.authorizations);
+    }
+  where
+    accounts : EachOf (λ x. is_few_account T a x ≡ true → (grown k T).accounts x.number ≡ true) T.accounts
+    accounts = each _ _ T.accounts (λ x f so. or_left _ _ (f so)) (each_filtered _ (is_few_account T a) T.accounts h.accounts)
+
+-- what is an account's by the named accounts is so by these
+wider_holder : (T : Tables) (a : Ask) (n : ℕ) → list_any (λ x. is_named_account a x && (n == x.number)) T.accounts ≡ true →
+    list_any (λ x. is_few_account T a x && (n == x.number)) T.accounts ≡ true
+wider_holder T a n h =
+    any_wider (λ x. is_named_account a x && (n == x.number)) (λ x. is_few_account T a x && (n == x.number)) T.accounts
+    (λ x so. let p = and_parts (is_named_account a x) _ so in and_from _ _ (or_left _ _ p.0) p.1) h
+
+few_named : (k : Kept) (T : Tables) (m : ℕ) (a : Ask) → Keeps k (few_rows T m a) → KeepsRows (grown k T) T a
+few_named k T m a h =
+    record {
+      nonces = each _ _ T.nonces (λ x f so. or_left _ _ (f (or_left _ _ so))) (each_filtered _ (is_touched_nonce T m a) T.nonces h.nonces);
+      accounts = each _ _ T.accounts (λ x f so. or_left _ _ (f (or_left _ _ so))) (each_filtered _ (is_few_account T a) T.accounts h.accounts);
+      authorizations = each _ _ T.authorizations (λ r f so. or_left _ _ (f (or_right _ _ (or_left _ _ (or_left _ _ so))))) authorizations;
+      asked = each _ _ T.authorizations (λ r f so.
+          let p = and_parts (asks_name a r.name) _ so in
+          or_left _ _ (f (or_right _ _ (or_right (is_moved_authorization T a r) _ (and_from _ _ p.0 (wider_holder T a r.account p.1)))))) authorizations;
+      orders = each _ _ T.orders (λ o f so. or_left _ _ (f (or_right (is_opened_order T m a o) _ (or_left _ _ so)))) orders;
+      own = each _ _ T.orders (λ o f so.
+          let p = and_parts (asks_orders a) _ so in
+          or_left _ _ (f (or_right (is_opened_order T m a o) _ (or_right (is_named_order a o) _ (and_from _ _ p.0 (wider_holder T a o.account p.1)))))) orders;
+    }
+  where
+    authorizations : EachOf (λ r. is_few_authorization T m a r ≡ true → k.authorizations r.number ≡ true) T.authorizations
+    authorizations = each_filtered _ (is_few_authorization T m a) T.authorizations h.authorizations
+
+    orders : EachOf (λ o. is_few_order T m a o ≡ true → k.orders o.number ≡ true) T.orders
+    orders = each_filtered _ (is_few_order T m a) T.orders h.orders
+
+-- ---- they are enough
+
+few_ready : (T : Tables) (m : ℕ) (a : Ask) → IsOrdered T → needs_listed a ≡ true → answers_challenge a ≡ false → IsReady (grown (few_kept T m a) T) T m a
+few_ready T m a h all none =
+    let k : Kept = few_kept T m a in
+    record {
+      closed = grown_closed k T h (few_listed T m a h all);
+      restated = subst (λ b. KeepsRestated b (grown k T) T m a) (sym (ap (λ b. restates a || b) none ∙ or-false (restates a)))
+          (few_restated k T m a (few_hold T m a h));
+      named = keeps_named k T a (few_named k T m a (few_hold T m a h));
+    }
+
+pub few_issue : (T : Tables) (m : ℕ) (a : Ask) → IsOrdered T → needs_listed a ≡ true → answers_challenge a ≡ false →
+    IssuesAs m T (restricted (few_kept T m a) T)
+few_issue T m a h all none =
+    let k : Kept = few_kept T m a in
+    subst (IssuesAs m T) (grown_part k T) (issues_as (grown k T) T m a (few_ready T m a h all none))
+
+pub few_settle : (T : Tables) (m : ℕ) (a : OfficeAsk) → IsNoWork a → IsOrdered T → SettlesAs m a T (restricted (few_kept T m (ask.Office a)) T)
+few_settle T m a none h =
+    let k : Kept = few_kept T m (ask.Office a) in
+    subst (SettlesAs m a T) (grown_part k T) (settles_as (grown k T) T m a none (few_ready T m (ask.Office a) h refl refl))
+
+pub few_pass : (T : Tables) (m : ℕ) (s : Signed) → IsOrdered T → IsStatedFor (ask.Signed s) m T → PassesAs m s T (restricted (few_kept T m (ask.Signed s)) T)
+few_pass T m s h stated =
+    subst (PassesAs m s T) (grown_part k T) (by (target_answers s.target s.payload) refl (target_needs_listed s.target) refl)
+  where
+    k : Kept
+    k = few_kept T m (ask.Signed s)
+
+    restated : KeepsRestated (restates (ask.Signed s)) (grown k T) T m (ask.Signed s)
+    restated = few_restated k T m (ask.Signed s) (few_hold T m (ask.Signed s) h)
+
+    named : KeepsNamed (grown k T) T (ask.Signed s)
+    named = keeps_named k T (ask.Signed s) (few_named k T m (ask.Signed s) (few_hold T m (ask.Signed s) h))
+
+    by : (b : Bool) → target_answers s.target s.payload ≡ b → (c : Bool) → target_needs_listed s.target ≡ c → PassesAs m s T (restricted (grown k T) T)
+    by true answers true all =
+        passes_answer (restates (ask.Signed s)) (grown k T) T m s s.target answers stated (grown_closed k T h (few_listed T m (ask.Signed s) h all))
+        restated named
+    by false none true all = passes_as (grown k T) T m s (few_ready T m (ask.Signed s) h all none)
+    by b answers false alone = passes_open (grown k T) T m s h alone (keeps_falling (restates (ask.Signed s)) (grown k T) T m (ask.Signed s) restated) named

@@ -1,0 +1,215 @@
+-- What a string of a UTF-8 text stands for is UTF-8 (RFC 8259, 7).
+use Rattle.std.proofs.Common.{◌≡◌, ℕ, zero, suc, ◌+◌, ◌*◌, ◌<◌, ◌≤◌, List, [], ◌∷◌, ◌++◌, length, Option, Some, None, IsUtf8}
+use Rattle.std.proofs.Common.{IfSome, refl, sym, subst, Bool, true, false, cond, arith, append-nil, append_assoc, encode_utf8}
+use Rattle.std.specs.Prelude.{◌==◌, ◌&&◌, ◌||◌, nat_lt, option_and_then}
+use Rattle.std.specs.Char.{IsScalar, digit_value, is_digit}
+use Rattle.std.proofs.lemmas.Bool.Decides.{nat_tests}
+use Rattle.std.proofs.lemmas.Bool.{and_parts, eqb-true, ltb-true, lt-ltb}
+use Rattle.std.proofs.lemmas.Str.{IsUtf8-append, IsUtf8-encode}
+use Rattle.model_laws.proofs.AsciiTexts.{ascii_text, parted}
+use Rattle.json.specs.Text.{content, plain, after_backslash, after_u, after_high, code_unit, short_escape, is_high_surrogate}
+use Rattle.json.specs.Text.{is_low_surrogate, surrogate_pair, prepend}
+
+-- what follows an ASCII byte is a text
+after_ascii : (b : ℕ) (rest : List ℕ) → IsUtf8 (b ∷ rest) → b < 128 → IsUtf8 rest
+after_ascii b rest whole ascii = (parted [] b rest whole ascii).after
+
+-- ---- escapes
+
+-- what stands behind these bytes makes a text with them, if there is something
+abbrev IsTextBehind : List ℕ → Option (List ℕ) → Type 0
+IsTextBehind front o = IfSome o (λ s. IsUtf8 (front ++ s))
+
+-- a text behind a text
+behind : (front : List ℕ) (o : Option (List ℕ)) → IsUtf8 front → IsTextBehind [] o → IsTextBehind front o
+behind front None text h = tt
+behind front (Some s) text h = IsUtf8-append front s text h
+
+-- and with it
+prepended : (front bytes : List ℕ) (o : Option (List ℕ)) → IsTextBehind (front ++ bytes) o → IsTextBehind front (prepend bytes o)
+prepended front bytes None h = tt
+prepended front bytes (Some s) h = subst IsUtf8 (append_assoc front bytes s) h
+
+-- a letter behind a backslash, and the byte that it stands for
+named : (x k c : ℕ) (o : Option ℕ) → k < 128 → c < 128 → IfSome o (λ d. (x < 128) × (d < 128)) → IfSome (cond (x == k) (Some c) o) (λ d. (x < 128) × (d < 128))
+named x k c o low small other = by (x == k) refl
+  where
+    by : (b : Bool) → (x == k) ≡ b → IfSome (cond b (Some c) o) (λ d. (x < 128) × (d < 128))
+    by true is = let same : x ≡ k = eqb-true x k is in (omega arith, small)
+    by false is = other
+
+-- a byte behind a backslash and what it stands for are ASCII
+short_ascii : (x : ℕ) → IfSome (short_escape x) (λ c. (x < 128) × (c < 128))
+unfolding short_escape
+short_ascii x = by ((x == 34) || (x == 92) || (x == 47)) refl
+  where
+    by : (b : Bool) → ((x == 34) || (x == 92) || (x == 47)) ≡ b →
+        IfSome (cond b (Some x)
+        (cond (x == 98) (Some 8)
+        (cond (x == 102) (Some 12) (cond (x == 110) (Some 10) (cond (x == 114) (Some 13) (cond (x == 116) (Some 9) None))))))
+        (λ c. (x < 128) × (c < 128))
+    by true is = let low : x < 128 = grind (arith, nat_tests) in (low, low)
+    by false is =
+        named x 98 8 _ (omega arith) (omega arith) (named x 102 12 _ (omega arith) (omega arith) (named x 110 10 _ (omega arith) (omega arith)
+        (named x 114 13 _ (omega arith) (omega arith) (named x 116 9 _ (omega arith) (omega arith) tt))))
+
+-- a hex digit is ASCII, and its value is below 16
+pub record IsHex (x : ℕ) : Type 0 where
+  pub ascii : x < 128
+  pub small : digit_value x < 16
+
+-- the digits of a code unit
+digit_of : (x : ℕ) → is_digit x 16 ≡ true → IsHex x
+digit_of x h = record { ascii = grind (arith, nat_tests); small = ltb-true (digit_value x) 16 h }
+
+-- four hex digits are ASCII, and spell a number of 16 bits
+pub record IsUnit (a b c d u : ℕ) : Type 0 where
+  pub first : a < 128
+  pub second : b < 128
+  pub third : c < 128
+  pub fourth : d < 128
+  pub small : u < 65536
+
+-- what four bytes spell, if they spell something
+unit_of : (a b c d : ℕ) → IfSome (code_unit a b c d) (IsUnit a b c d)
+unfolding code_unit
+unit_of a b c d = by (is_digit a 16 && is_digit b 16 && is_digit c 16 && is_digit d 16) refl
+  where
+    by : (t : Bool) → (is_digit a 16 && is_digit b 16 && is_digit c 16 && is_digit d 16) ≡ t →
+        IfSome (cond t (Some (digit_value a * 4096 + digit_value b * 256 + digit_value c * 16 + digit_value d)) None) (IsUnit a b c d)
+    by false h = tt
+    by true h =
+        let p = and_parts _ (is_digit d 16) h in
+        let q = and_parts _ (is_digit c 16) p.0 in
+        let r = and_parts (is_digit a 16) (is_digit b 16) q.0 in
+        let one : IsHex a = digit_of a r.0 in
+        let two : IsHex b = digit_of b r.1 in
+        let three : IsHex c = digit_of c q.1 in
+        let four : IsHex d = digit_of d p.1 in
+        record { first = one.ascii; second = two.ascii; third = three.ascii; fourth = four.ascii; small = omega arith }
+
+-- what stands behind four hex digits is a text
+after_unit : (a b c d u : ℕ) (rest : List ℕ) → IsUnit a b c d u → IsUtf8 (a ∷ b ∷ c ∷ d ∷ rest) → IsUtf8 rest
+after_unit a b c d u rest h text =
+    after_ascii d rest (after_ascii c (d ∷ rest) (after_ascii b (c ∷ d ∷ rest) (after_ascii a (b ∷ c ∷ d ∷ rest) text h.first) h.second) h.third) h.fourth
+
+-- a code unit that is no surrogate is a character
+unit_scalar : (u : ℕ) → u < 65536 → is_high_surrogate u ≡ false → is_low_surrogate u ≡ false → IsScalar u
+unit_scalar u small high low = grind (arith, nat_tests)
+
+-- and so is what two surrogates stand for
+pair_scalar : (h l : ℕ) → is_high_surrogate h ≡ true → is_low_surrogate l ≡ true → IsScalar (surrogate_pair h l)
+pair_scalar h l high low = grind (arith, nat_tests)
+
+-- ---- strings
+
+-- the content of what is no longer than n, up to the quotation mark, is a text
+abbrev GivesTexts : ℕ → Type 0
+GivesTexts n = (rest : List ℕ) → length rest ≤ n → IsUtf8 rest → IsTextBehind [] (content plain rest)
+
+-- a character and what follows it
+character_then : (c : ℕ) (o : Option (List ℕ)) → IsScalar c → IsTextBehind [] o → IsTextBehind [] (prepend (encode_utf8 c) o)
+character_then c o scalar h = prepended [] (encode_utf8 c) o (behind (encode_utf8 c) o (IsUtf8-encode c scalar) h)
+
+-- the second half of a surrogate pair
+low_half : (n : ℕ) → GivesTexts n → (h : ℕ) → is_high_surrogate h ≡ true → (rest : List ℕ) → length rest ≤ n → IsUtf8 rest →
+    IsTextBehind [] (content (after_high h) rest)
+unfolding content
+low_half n more h high [] fits text = tt
+low_half n more h high (s ∷ []) fits text = tt
+low_half n more h high (s ∷ u ∷ []) fits text = tt
+low_half n more h high (s ∷ u ∷ a ∷ []) fits text = tt
+low_half n more h high (s ∷ u ∷ a ∷ b ∷ []) fits text = tt
+low_half n more h high (s ∷ u ∷ a ∷ b ∷ c ∷ []) fits text = tt
+low_half n more h high (s ∷ u ∷ a ∷ b ∷ c ∷ d ∷ rest) fits text = by ((s == 92) && (u == 117)) refl
+  where
+    pair : (l : ℕ) → IsUnit a b c d l → IsUtf8 (a ∷ b ∷ c ∷ d ∷ rest) → (t : Bool) → is_low_surrogate l ≡ t →
+        IsTextBehind [] (cond t (prepend (encode_utf8 (surrogate_pair h l)) (content plain rest)) None)
+    pair l unit behind_mark false low = tt
+    pair l unit behind_mark true low =
+        character_then (surrogate_pair h l) (content plain rest) (pair_scalar h l high low)
+        (more rest (omega arith) (after_unit a b c d l rest unit behind_mark))
+
+    spelled : (o : Option ℕ) → IfSome o (IsUnit a b c d) → IsUtf8 (a ∷ b ∷ c ∷ d ∷ rest) →
+        IsTextBehind []
+        (option_and_then (λ l. cond (is_low_surrogate l) (prepend (encode_utf8 (surrogate_pair h l)) (content plain rest)) None) o)
+    spelled None unit behind_mark = tt
+    spelled (Some l) unit behind_mark = pair l unit behind_mark (is_low_surrogate l) refl
+
+    by : (t : Bool) → ((s == 92) && (u == 117)) ≡ t →
+        IsTextBehind []
+        (cond t (option_and_then (λ l. cond (is_low_surrogate l) (prepend (encode_utf8 (surrogate_pair h l)) (content plain rest)) None)
+        (code_unit a b c d)) None)
+    by false p = tt
+    by true p =
+        let parts = and_parts (s == 92) (u == 117) p in
+        let mark : s ≡ 92 = eqb-true s 92 parts.0 in
+        let letter : u ≡ 117 = eqb-true u 117 parts.1 in
+        spelled (code_unit a b c d) (unit_of a b c d)
+        (after_ascii u _ (after_ascii s _ text (omega arith)) (omega arith))
+
+-- what stands behind `\u`
+unit_then : (n : ℕ) → GivesTexts n → (rest : List ℕ) → length rest ≤ n → IsUtf8 rest → IsTextBehind [] (content after_u rest)
+unfolding content
+unit_then n more [] fits text = tt
+unit_then n more (a ∷ []) fits text = tt
+unit_then n more (a ∷ b ∷ []) fits text = tt
+unit_then n more (a ∷ b ∷ c ∷ []) fits text = tt
+unit_then n more (a ∷ b ∷ c ∷ d ∷ rest) fits text = spelled (code_unit a b c d) (unit_of a b c d)
+  where
+    by : (u : ℕ) → IsUnit a b c d u → (high : Bool) → is_high_surrogate u ≡ high → (low : Bool) → is_low_surrogate u ≡ low →
+        IsTextBehind [] (cond high (content (after_high u) rest) (cond low None (prepend (encode_utf8 u) (content plain rest))))
+    by u unit true p low q = low_half n more u p rest (omega arith) (after_unit a b c d u rest unit text)
+    by u unit false p true q = tt
+    by u unit false p false q =
+        character_then u (content plain rest) (unit_scalar u unit.small p q) (more rest (omega arith) (after_unit a b c d u rest unit text))
+
+    spelled : (o : Option ℕ) → IfSome o (IsUnit a b c d) →
+        IsTextBehind []
+        (option_and_then (λ u. cond (is_high_surrogate u) (content (after_high u) rest)
+        (cond (is_low_surrogate u) None (prepend (encode_utf8 u) (content plain rest)))) o)
+    spelled None unit = tt
+    spelled (Some u) unit = by u unit (is_high_surrogate u) refl (is_low_surrogate u) refl
+
+-- what stands behind a backslash
+escape_then : (n : ℕ) → GivesTexts n → (rest : List ℕ) → length rest ≤ n → IsUtf8 rest → IsTextBehind [] (content after_backslash rest)
+unfolding content
+escape_then n more [] fits text = tt
+escape_then n more (x ∷ rest) fits text = by (x == 117) refl
+  where
+    short : (o : Option ℕ) → IfSome o (λ c. (x < 128) × (c < 128)) →
+        IsTextBehind [] (option_and_then (λ c. prepend (c ∷ []) (content plain rest)) o)
+    short None h = tt
+    short (Some c) h =
+        prepended [] (c ∷ []) (content plain rest)
+        (behind (c ∷ []) (content plain rest) (ascii_text (c ∷ []) (rw (lt-ltb c 128 h.1) refl)) (more rest (omega arith) (after_ascii x rest text h.0)))
+
+    by : (t : Bool) → (x == 117) ≡ t →
+        IsTextBehind [] (cond t (content after_u rest) (option_and_then (λ c. prepend (c ∷ []) (content plain rest)) (short_escape x)))
+    by true p = let letter : x ≡ 117 = eqb-true x 117 p in unit_then n more rest (omega arith) (after_ascii x rest text (omega arith))
+    by false p = short (short_escape x) (short_ascii x)
+
+-- up to the quotation mark, behind some bytes
+content_text : (n : ℕ) (front rest : List ℕ) → length rest ≤ n → IsUtf8 (front ++ rest) → IsTextBehind front (content plain rest)
+unfolding content
+content_text n front [] fits text = tt
+content_text zero front (x ∷ rest) fits text = absurd (omega arith)
+content_text (suc n) front (x ∷ rest) fits text =
+    by (λ before after small whole. content_text n before after small whole) (x == 34) refl (x == 92) refl (nat_lt x 32)
+  where
+    by : ((before after : List ℕ) → length after ≤ n → IsUtf8 (before ++ after) → IsTextBehind before (content plain after)) → (q : Bool) → (x == 34) ≡ q →
+        (b : Bool) → (x == 92) ≡ b → (c : Bool) →
+        IsTextBehind front (cond q (Some []) (cond b (content after_backslash rest) (cond c None (prepend (x ∷ []) (content plain rest)))))
+    by more true p b q c = let mark : x ≡ 34 = eqb-true x 34 p in subst IsUtf8 (sym (append-nil front)) (parted front x rest text (omega arith)).before
+    by more false p true q c =
+        let mark : x ≡ 92 = eqb-true x 92 q in
+        let parts = parted front x rest text (omega arith) in
+        behind front (content after_backslash rest) parts.before (escape_then n (more []) rest (omega arith) parts.after)
+    by more false p false q true = tt
+    by more false p false q false =
+        prepended front (x ∷ []) (content plain rest)
+        (more (front ++ x ∷ []) rest (omega arith) (subst IsUtf8 (sym (append_assoc front (x ∷ []) rest)) text))
+
+-- the content of a string that a text goes on with is a text
+pub string_text : (rest : List ℕ) → IsUtf8 rest → IfSome (content plain rest) IsUtf8
+string_text rest text = content_text (length rest) [] rest (omega arith) text

@@ -1,0 +1,467 @@
+-- What the look-ups find is what the call touches, rule by rule.
+use Rattle.std.proofs.Common.{◌≡◌, ℕ, ◌+◌, ◌-◌, max, List, [], ◌∷◌, map, filter, Option, Some, None, refl, ap, ◌∙◌, true}
+use Rattle.std.proofs.Common.{false, Bool, not, arith, Result, Ok, Err}
+use Rattle.std.specs.Prelude.{◌==◌, ◌&&◌, ◌||◌, nat_lt, nat_le, bytes_eq, option_and_then}
+use Rattle.std.specs.List.{list_any, flat_map}
+use Rattle.std.proofs.lemmas.Bool.Decides.{nat_tests}
+use Rattle.std.proofs.lemmas.List.Folds.{list_any-append}
+use Rattle.std.proofs.Math.Bool.{or-false}
+use Rattle.desk_model.specs.Derived.{authz_code, numbers_of, order_code}
+use Rattle.desk_model.specs.Authorization.{is_live}
+use Rattle.desk_model.specs.Effect.{has_row, is_live_order, is_overdue}
+use Rattle.desk_model.specs.Lookup.{holds}
+use Rattle.desk_model.specs.Name.{Name, same_bool, same_name}
+use Rattle.desk_model.specs.Tables.{Tables}
+use Rattle.desk_model.specs.Tokens.{NonceText, nonce_in}
+use Rattle.desk_model.specs.Kept.{EachOf}
+use Rattle.desk_model.specs.declared.call.Ask.{Ask}
+use Rattle.desk_model.specs.declared.call.Ask.TheVariants as ask
+use Rattle.desk_model.specs.declared.call.OfficeAsk.TheVariants as office
+use Rattle.desk_model.specs.declared.call.BadKey.{BadKey}
+use Rattle.desk_model.specs.declared.call.Call.{Call}
+use Rattle.desk_model.specs.declared.call.Target.{Target}
+use Rattle.desk_model.specs.declared.call.Target.TheVariants as to
+use Rattle.desk_model.specs.declared.objects.Nonce.{Nonce}
+use Rattle.desk_model.specs.declared.rows.AccountRow.{AccountRow}
+use Rattle.desk_model.specs.declared.rows.AuthorizationRow.{AuthorizationRow}
+use Rattle.desk_model.specs.declared.rows.OrderRow.{OrderRow}
+use Rattle.desk_model.specs.declared.status.AuthzStatus.{AuthzStatus}
+use Rattle.desk_model.specs.declared.status.AuthzStatus.TheVariants as authz
+use Rattle.desk_model.specs.declared.status.OrderStatus.{OrderStatus}
+use Rattle.desk_model.specs.declared.status.OrderStatus.TheVariants as order
+use Rattle.model_laws.specs.Ordered.{IsOrdered}
+use Rattle.model_laws.proofs.Basics.{each, each_all, eq_turn, list_any-map, list_any-same}
+use Rattle.model_lives.specs.Loaded.{accounts_once, authorizations_once, orders_once, account_numbers, authorization_numbers}
+use Rattle.model_lives.specs.Loaded.{challenge_numbers, first_authorizations, found_accounts, found_authorizations, found_nonces}
+use Rattle.model_lives.specs.Loaded.{new_keys, of_key, target_new_keys}
+use Rattle.model_lives.specs.Loaded.{found_orders, keys, listed_authorizations, listing_orders, loaded, loaded_at, loaded_rows}
+use Rattle.model_lives.specs.Loaded.{named_accounts, named_authorizations, named_orders, of_text, order_numbers}
+use Rattle.model_lives.specs.Loaded.{asked_authorizations, authorizations_asked_of, authorizations_for, own_authorizations, own_orders}
+use Rattle.model_lives.specs.Loaded.{past_authorizations, past_orders, serials, target_accounts}
+use Rattle.model_lives.specs.Loaded.{target_authorization_numbers, target_challenge_numbers, target_order_numbers}
+use Rattle.model_lives.specs.LookUps.{accounts_numbered, accounts_with_key, authorizations_numbered, authorizations_of, challenges}
+use Rattle.model_lives.specs.LookUps.{nonces_numbered, orders_listing, orders_numbered, orders_of, orders_past}
+use Rattle.model_lives.specs.LookUps.{owners_of, places}
+use Rattle.desk_model.specs.Payload.{key_change}
+use Rattle.desk_model.specs.Asked.{has_new_key, target_new_key}
+use Rattle.desk_model.specs.Asked.{asks_authorizations, asks_orders, carries, has_key, names_account, names_authorization, asked_names}
+use Rattle.desk_model.specs.Asked.{names_order, names_owner, target_account, target_authorization, target_order, target_owner}
+use Rattle.desk_model.specs.Touched.{is_asked_authorization, is_first_authorization, is_named_account, is_named_authorization, is_named_order}
+use Rattle.desk_model.specs.Touched.{is_own_authorization, is_own_order, is_past_order, is_touched_account}
+use Rattle.desk_model.specs.Touched.{is_touched_authorization, is_touched_nonce, is_touched_order, lists, touched, touched_at}
+use Rattle.desk_model.specs.Touched.{touched_rows}
+use Rattle.model_lives.proofs.Cut.{numbered}
+use Rattle.model_lives.proofs.Found.{IsFound, any_filter, found_both, found_by, found_filter, found_filtered}
+use Rattle.model_lives.proofs.Found.{found_if, found_none, found_once, found_same, found_table}
+
+-- ---- tests on lists
+
+pub any_flat : {X Y : Type 0} (p : Y → Bool) (f : X → List Y) (xs : List X) → list_any p (flat_map f xs) ≡ list_any (λ x. list_any p (f x)) xs
+any_flat p f [] = refl
+any_flat p f (x ∷ xs) = list_any-append p (f x) (flat_map f xs) ∙ ap (λ b. list_any p (f x) || b) (any_flat p f xs)
+
+pub any_beside : {X : Type 0} (p : X → Bool) (b : Bool) (xs : List X) → list_any (λ x. p x && b) xs ≡ (b && list_any p xs)
+any_beside p b [] = none b
+  where
+    none : (c : Bool) → false ≡ (c && false)
+    none true = refl
+    none false = refl
+any_beside p b (x ∷ xs) = ap (λ z. (p x && b) || z) (any_beside p b xs) ∙ by (p x) b (list_any p xs)
+  where
+    by : (a b c : Bool) → ((a && b) || (b && c)) ≡ (b && (a || c))
+    by true true c = refl
+    by true false c = refl
+    by false true c = refl
+    by false false c = refl
+
+-- ---- what an ask names
+
+carried : (a : Ask) (n : ℕ) → list_any (λ k. n == k) (serials a) ≡ carries a n
+carried (ask.Signed s) n = by (option_and_then nonce_in s.nonce)
+  where
+    by : (t : Option NonceText) → list_any (λ k. n == k) (of_text t) ≡ holds (λ (x : NonceText). n == x.serial) t
+    by None = refl
+    by (Some t) = or-false (n == t.serial)
+carried (ask.NewNonce head) n = refl
+carried (ask.Office a) n = refl
+
+abbrev key_list : Result (List ℕ) BadKey → List (List ℕ)
+key_list key = elim key [ Err e ↦ [] | Ok mine ↦ mine ∷ [] ]
+
+abbrev has_this : Result (List ℕ) BadKey → List ℕ → Bool
+has_this key text = elim key [ Err e ↦ false | Ok mine ↦ bytes_eq text mine ]
+
+keyed : (a : Ask) (text : List ℕ) → list_any (λ k. bytes_eq text k) (keys a) ≡ has_key a text
+keyed (ask.Signed s) text = by s.key
+  where
+    by : (key : Result (List ℕ) BadKey) → list_any (λ k. bytes_eq text k) (key_list key) ≡ has_this key text
+    by (Err e) = refl
+    by (Ok key) = or-false (bytes_eq text key)
+keyed (ask.NewNonce head) text = refl
+keyed (ask.Office a) text = refl
+
+new_keyed : (a : Ask) (text : List ℕ) → list_any (λ k. bytes_eq text k) (new_keys a) ≡ has_new_key a text
+new_keyed (ask.Signed s) text = by s.target
+  where
+    one : (o : Option (List ℕ)) → list_any (λ k. bytes_eq text k) (of_key o) ≡ holds (bytes_eq text) o
+    one None = refl
+    one (Some key) = or-false (bytes_eq text key)
+
+    by : (t : Target) → list_any (λ k. bytes_eq text k) (target_new_keys t s.payload) ≡ target_new_key t s.payload text
+    by to.KeyChange = one (option_and_then (λ c. c.new_key) (key_change s.payload))
+    by _ = refl
+new_keyed (ask.NewNonce head) text = refl
+new_keyed (ask.Office a) text = refl
+
+account_listed : (a : Ask) (n : ℕ) → list_any (λ k. n == k) (account_numbers a) ≡ names_account a n
+account_listed (ask.Signed s) n = by s.target
+  where
+    by : (t : Target) → list_any (λ k. n == k) (target_accounts t) ≡ target_account t n
+    by (to.Account k) = or-false (n == k)
+    by (to.Orders k) = or-false (n == k)
+    by _ = refl
+account_listed (ask.Office (office.RevokeAccount k)) n = or-false (n == k)
+account_listed (ask.Office (office.KeyOf k)) n = or-false (n == k)
+account_listed _ n = refl
+
+order_listed : (a : Ask) (n : ℕ) → list_any (λ k. n == k) (order_numbers a) ≡ names_order a n
+order_listed (ask.Signed s) n = by s.target
+  where
+    by : (t : Target) → list_any (λ k. n == k) (target_order_numbers t) ≡ target_order t n
+    by (to.Order k) = or-false (n == k)
+    by (to.Finalize k) = or-false (n == k)
+    by (to.Cert k) = or-false (n == k)
+    by _ = refl
+order_listed (ask.Office (office.Certify k bytes)) n = or-false (n == k)
+order_listed (ask.Office (office.FailOrder k problem)) n = or-false (n == k)
+order_listed _ n = refl
+
+authorization_listed : (a : Ask) (n : ℕ) → list_any (λ k. n == k) (authorization_numbers a) ≡ names_authorization a n
+authorization_listed (ask.Signed s) n = by s.target
+  where
+    by : (t : Target) → list_any (λ k. n == k) (target_authorization_numbers t) ≡ target_authorization t n
+    by (to.Authz k) = or-false (n == k)
+    by _ = refl
+authorization_listed (ask.Office (office.RevokeAuthz k)) n = or-false (n == k)
+authorization_listed _ n = refl
+
+challenge_listed : (a : Ask) (r : AuthorizationRow) → list_any (λ c. has_row c r) (challenge_numbers a) ≡ names_owner a r
+challenge_listed (ask.Signed s) r = by s.target
+  where
+    by : (t : Target) → list_any (λ c. has_row c r) (target_challenge_numbers t) ≡ target_owner t r
+    by (to.Chall k) = or-false (has_row k r)
+    by _ = refl
+challenge_listed (ask.Office (office.Report k finding)) r = or-false (has_row k r)
+challenge_listed _ r = refl
+
+-- ---- rows that belong to others
+
+-- an authorization's number is found at a challenge where the authorization has it
+owner_found : (T : Tables) → IsOrdered T → (c : ℕ) → EachOf (λ r. list_any (λ n. r.number == n) (owners_of T c) ≡ has_row c r) T.authorizations
+owner_found T ordered c =
+    each _ _ T.authorizations
+    (λ r e.
+    list_any-map (λ n. r.number == n) (λ p. p.1) (filter (λ p. p.0 == c) (challenges T))
+    ∙ any_filter (λ p. p.0 == c) (λ p. r.number == p.1) (challenges T)
+    ∙ any_flat (λ p. (p.0 == c) && (r.number == p.1)) (λ (x : AuthorizationRow). map (λ d. (d.number, x.number)) x.challenges) T.authorizations
+    ∙ list_any-same _ _ T.authorizations (λ x.
+    list_any-map (λ p. (p.0 == c) && (r.number == p.1)) (λ d. (d.number, x.number)) x.challenges
+    ∙ any_beside (λ d. d.number == c) (r.number == x.number) x.challenges
+    ∙ (λ i. eq_turn r.number x.number i && list_any-same (λ d. d.number == c) (λ d. c == d.number) x.challenges (λ d. eq_turn d.number c) i))
+    ∙ e)
+    (numbered (λ (r : AuthorizationRow). r.number) (has_row c) 1 T.authorizations ordered.authorizations.0)
+
+-- an order's number is found at an authorization that it lists
+listing_found : (T : Tables) → IsOrdered T → (j : ℕ) → EachOf (λ o. list_any (λ n. o.number == n) (orders_listing T j) ≡ lists o j) T.orders
+listing_found T ordered j =
+    each _ _ T.orders
+    (λ o e.
+    list_any-map (λ n. o.number == n) (λ p. p.0) (filter (λ p. p.1 == j) (places T))
+    ∙ any_filter (λ p. p.1 == j) (λ p. o.number == p.0) (places T)
+    ∙ any_flat (λ p. (p.1 == j) && (o.number == p.0)) (λ (x : OrderRow). map (λ i. (x.number, i)) (numbers_of x.listed)) T.orders
+    ∙ list_any-same _ _ T.orders (λ x.
+    list_any-map (λ p. (p.1 == j) && (o.number == p.0)) (λ i. (x.number, i)) (numbers_of x.listed)
+    ∙ any_beside (λ i. i == j) (o.number == x.number) (numbers_of x.listed)
+    ∙ ap (λ b. b && lists x j) (eq_turn o.number x.number))
+    ∙ e)
+    (numbered (λ (o : OrderRow). o.number) (λ x. lists x j) 1 T.orders ordered.orders.0)
+
+-- ---- the rules
+
+-- numbers of the rows
+abbrev pub of_nonce : Nonce → ℕ
+of_nonce x = x.serial
+
+abbrev pub of_account : AccountRow → ℕ
+of_account x = x.number
+
+abbrev pub of_authorization : AuthorizationRow → ℕ
+of_authorization r = r.number
+
+abbrev pub of_order : OrderRow → ℕ
+of_order o = o.number
+
+past_life : (m life : ℕ) (x : Nonce) → nat_lt x.issued (m - life) ≡ not (nat_le m (x.issued + life))
+past_life m life x = by x.issued
+  where
+    by : (n : ℕ) → nat_lt n (m - life) ≡ not (nat_le m (n + life))
+    by n = grind (arith, nat_tests)
+
+pub nonces_found : (T : Tables) (m : ℕ) (a : Ask) → IsOrdered T → IsFound of_nonce (is_touched_nonce T m a) T.nonces (found_nonces T m a)
+nonces_found T m a h =
+    found_same of_nonce _ (is_touched_nonce T m a) T.nonces (found_nonces T m a)
+    (each_all _ T.nonces (λ x i. carried a x.serial i || past_life m T.meta.policy.nonce_life x i))
+    (found_both of_nonce (λ x. list_any (λ k. x.serial == k) (serials a)) (λ x. nat_lt x.issued (m - T.meta.policy.nonce_life)) T.nonces _ _
+    (found_by of_nonce (λ k x. x.serial == k) (nonces_numbered T) T.nonces (λ k. found_filter of_nonce (λ x. x.serial == k) 1 T.nonces h.nonces.0) (serials a))
+    (found_filter of_nonce (λ x. nat_lt x.issued (m - T.meta.policy.nonce_life)) 1 T.nonces h.nonces.0))
+
+pub accounts_named : (T : Tables) (a : Ask) → IsOrdered T → IsFound of_account (is_named_account a) T.accounts (named_accounts T a)
+accounts_named T a h =
+    found_same of_account _ (is_named_account a) T.accounts (named_accounts T a)
+    (each_all _ T.accounts (λ x i. keyed a x.key i || (new_keyed a x.key i || account_listed a x.number i)))
+    (found_both of_account (λ x. list_any (λ k. bytes_eq x.key k) (keys a))
+    (λ x. list_any (λ k. bytes_eq x.key k) (new_keys a) || list_any (λ k. x.number == k) (account_numbers a)) T.accounts _ _
+    (keys_found (keys a))
+    (found_both of_account (λ x. list_any (λ k. bytes_eq x.key k) (new_keys a)) (λ x. list_any (λ k. x.number == k) (account_numbers a)) T.accounts _ _
+    (keys_found (new_keys a))
+    (found_by of_account (λ k x. x.number == k) (accounts_numbered T) T.accounts
+    (λ k. found_filter of_account (λ x. x.number == k) 1 T.accounts h.accounts.0) (account_numbers a))))
+  where
+    keys_found : (texts : List (List ℕ)) →
+        IsFound of_account (λ x. list_any (λ k. bytes_eq x.key k) texts) T.accounts (flat_map (accounts_with_key T) texts)
+    keys_found texts =
+        found_by of_account (λ k x. bytes_eq x.key k) (accounts_with_key T) T.accounts
+        (λ k. found_filter of_account (λ x. bytes_eq x.key k) 1 T.accounts h.accounts.0) texts
+
+pub accounts_once_named : (T : Tables) (a : Ask) → IsOrdered T → IsFound of_account (is_named_account a) T.accounts (accounts_once (named_accounts T a))
+accounts_once_named T a h = found_once of_account (is_named_account a) 1 T.accounts (named_accounts T a) h.accounts.0 (accounts_named T a h)
+
+orders_at : (T : Tables) → IsOrdered T → (ns : List ℕ) → IsFound of_order (λ o. list_any (λ k. o.number == k) ns) T.orders (flat_map (orders_numbered T) ns)
+orders_at T h ns = found_by of_order (λ k o. o.number == k) (orders_numbered T) T.orders
+    (λ k. found_filter of_order (λ o. o.number == k) 1 T.orders h.orders.0) ns
+
+pub authorizations_at : (T : Tables) → IsOrdered T → (ns : List ℕ) → IsFound of_authorization
+    (λ r. list_any (λ k. r.number == k) ns) T.authorizations (flat_map (authorizations_numbered T) ns)
+authorizations_at T h ns =
+    found_by of_authorization (λ k r. r.number == k) (authorizations_numbered T) T.authorizations
+    (λ k. found_filter of_authorization (λ r. r.number == k) 1 T.authorizations h.authorizations.0) ns
+
+pub orders_named : (T : Tables) (a : Ask) → IsOrdered T → IsFound of_order (is_named_order a) T.orders (named_orders T a)
+orders_named T a h = found_same of_order _ (is_named_order a) T.orders (named_orders T a)
+    (each_all _ T.orders (λ o. order_listed a o.number)) (orders_at T h (order_numbers a))
+
+pub authorizations_named : (T : Tables) (a : Ask) → IsOrdered T → IsFound of_authorization (is_named_authorization a) T.authorizations (named_authorizations T a)
+authorizations_named T a h =
+    found_same of_authorization _ (is_named_authorization a) T.authorizations (named_authorizations T a)
+    (each_all _ T.authorizations (λ r i. authorization_listed a r.number i || challenge_listed a r i))
+    (found_both of_authorization (λ r. list_any (λ k. r.number == k) (authorization_numbers a))
+    (λ r. list_any (λ c. has_row c r) (challenge_numbers a)) T.authorizations _ _
+    (authorizations_at T h (authorization_numbers a))
+    (found_by of_authorization (λ c r. has_row c r) (λ c. flat_map (authorizations_numbered T) (owners_of T c)) T.authorizations
+    (λ c. found_same of_authorization _ (has_row c) T.authorizations _ (owner_found T h c) (authorizations_at T h (owners_of T c))) (challenge_numbers a)))
+
+orders_own : (T : Tables) (a : Ask) → IsOrdered T → IsFound of_order (is_own_order T a) T.orders (own_orders T a)
+orders_own T a h =
+    found_if of_order (asks_orders a) (λ o. list_any (λ x. is_named_account a x && (o.account == x.number)) T.accounts) T.orders _
+    (found_same of_order _ _ T.orders _ (each_all _ T.orders (λ o. (accounts_once_named T a h).tests (λ x. o.account == x.number)))
+    (found_by of_order (λ (x : AccountRow) o. o.account == x.number) (λ x. orders_of T x.number) T.orders
+    (λ x. found_filter of_order (λ o. o.account == x.number) 1 T.orders h.orders.0) (accounts_once (named_accounts T a))))
+
+authorizations_own : (T : Tables) (a : Ask) → IsOrdered T → IsFound of_authorization (is_own_authorization T a) T.authorizations (own_authorizations T a)
+authorizations_own T a h =
+    found_if of_authorization (asks_authorizations a) (λ r. list_any (λ x. is_named_account a x && (r.account == x.number)) T.accounts) T.authorizations _
+    (found_same of_authorization _ _ T.authorizations _ (each_all _ T.authorizations (λ r. (accounts_once_named T a h).tests (λ x. r.account == x.number)))
+    (found_by of_authorization (λ (x : AccountRow) r. r.account == x.number) (λ x. authorizations_of T x.number) T.authorizations
+    (λ x. found_filter of_authorization (λ r. r.account == x.number) 1 T.authorizations h.authorizations.0) (accounts_once (named_accounts T a))))
+
+-- a test that knows nothing of the items stands before the others
+pub any_under : {X : Type 0} (b : Bool) (p : X → Bool) (xs : List X) → list_any (λ x. b && p x) xs ≡ (b && list_any p xs)
+any_under true p xs = refl
+any_under false p [] = refl
+any_under false p (x ∷ xs) = any_under false p xs
+
+-- and behind them
+any_behind : {X : Type 0} (b : Bool) (p : X → Bool) (xs : List X) → list_any (λ x. p x && b) xs ≡ (list_any p xs && b)
+any_behind b p xs = any_beside p b xs ∙ by b (list_any p xs)
+  where
+    by : (c d : Bool) → (c && d) ≡ (d && c)
+    by true true = refl
+    by true false = refl
+    by false true = refl
+    by false false = refl
+
+-- who has the name has its base
+same_bases : (one other : Name) (b : Bool) → (same_name one other && (b && bytes_eq one.base other.base)) ≡ (same_name one other && b)
+same_bases one other b = by (bytes_eq one.base other.base) (same_bool one.wildcard other.wildcard) b
+  where
+    by : (c d e : Bool) → ((c && d) && (e && c)) ≡ ((c && d) && e)
+    by true true true = refl
+    by true true false = refl
+    by true false e = refl
+    by false d e = refl
+
+-- the authorizations of an account for some names
+pub authorizations_by_names : (T : Tables) (n : ℕ) → IsOrdered T → (names : List Name)
+    → IsFound of_authorization (λ r. list_any (same_name r.name) names && (r.account == n)) T.authorizations (flat_map (authorizations_for T n) names)
+authorizations_by_names T n h names =
+    found_same of_authorization _ _ T.authorizations _
+    (each_all _ T.authorizations (λ r. list_any-same _ _ names (λ name. same_bases r.name name (r.account == n))
+    ∙ any_behind (r.account == n) (same_name r.name) names))
+    (found_by of_authorization (λ name r. same_name r.name name && ((r.account == n) && bytes_eq r.name.base name.base))
+    (authorizations_for T n) T.authorizations
+    (λ name. found_filtered of_authorization (λ r. same_name r.name name) _ T.authorizations _
+    (found_filter of_authorization (λ r. (r.account == n) && bytes_eq r.name.base name.base) 1 T.authorizations h.authorizations.0)) names)
+
+authorizations_asked : (T : Tables) (a : Ask) → IsOrdered T → IsFound of_authorization (is_asked_authorization T a) T.authorizations (asked_authorizations T a)
+authorizations_asked T a h = by (asked_names a)
+  where
+    by : (names : Option (List Name)) → IsFound of_authorization
+        (λ r. holds (list_any (same_name r.name)) names && list_any (λ x. is_named_account a x && (r.account == x.number)) T.accounts)
+        T.authorizations (authorizations_asked_of T names (accounts_once (named_accounts T a)))
+    by None = found_none of_authorization T.authorizations
+    by (Some names) =
+        found_same of_authorization _ _ T.authorizations _
+        (each_all _ T.authorizations (λ r. any_under (list_any (same_name r.name) names) (λ x. r.account == x.number) (accounts_once (named_accounts T a))
+        ∙ ap (λ b. list_any (same_name r.name) names && b) ((accounts_once_named T a h).tests (λ x. r.account == x.number))))
+        (found_by of_authorization (λ (x : AccountRow) r. list_any (same_name r.name) names && (r.account == x.number))
+        (λ x. flat_map (authorizations_for T x.number) names) T.authorizations
+        (λ x. authorizations_by_names T x.number h names) (accounts_once (named_accounts T a)))
+
+pub orders_over : (T : Tables) (m : ℕ) → IsOrdered T → IsFound of_order (is_past_order m) T.orders (past_orders T m)
+orders_over T m h =
+    found_same of_order _ (is_past_order m) T.orders (past_orders T m) (each_all _ T.orders (λ o. by o.status (nat_lt o.expires m)))
+    (found_both of_order (of_status order.Pending) (λ o. of_status order.Ready o || of_status order.Processing o) T.orders _ _ (one order.Pending)
+    (found_both of_order (of_status order.Ready) (of_status order.Processing) T.orders _ _ (one order.Ready) (one order.Processing)))
+  where
+    of_status : OrderStatus → OrderRow → Bool
+    of_status s o = (order_code o.status == order_code s) && nat_lt o.expires m
+
+    one : (s : OrderStatus) → IsFound of_order (of_status s) T.orders (orders_past T s m)
+    one s = found_filter of_order (λ o. (order_code o.status == order_code s) && nat_lt o.expires m) 1 T.orders h.orders.0
+
+    by : (s : OrderStatus) (b : Bool) →
+        (((order_code s == order_code order.Pending) && b)
+        || (((order_code s == order_code order.Ready) && b) || ((order_code s == order_code order.Processing) && b)))
+        ≡ (is_live_order s && b)
+    by order.Pending b = or-false b
+    by order.Ready b = or-false b
+    by order.Processing b = refl
+    by order.Valid b = refl
+    by order.Invalid b = refl
+
+pub authorizations_over : (T : Tables) (m : ℕ) → IsOrdered T → IsFound of_authorization (is_overdue m) T.authorizations (past_authorizations T m)
+authorizations_over T m h =
+    found_same of_authorization _ (is_overdue m) T.authorizations (past_authorizations T m)
+    (each_all _ T.authorizations (λ r. by r.status (nat_lt r.expires m)))
+    (found_both of_authorization (λ r. (authz_code r.status == authz_code authz.Pending) && nat_lt r.expires m)
+    (λ r. (authz_code r.status == authz_code authz.Valid) && nat_lt r.expires m) T.authorizations _ _
+    (found_filter of_authorization (λ r. (authz_code r.status == authz_code authz.Pending) && nat_lt r.expires m) 1 T.authorizations h.authorizations.0)
+    (found_filter of_authorization (λ r. (authz_code r.status == authz_code authz.Valid) && nat_lt r.expires m) 1 T.authorizations h.authorizations.0))
+  where
+    by : (s : AuthzStatus) (b : Bool) → (((authz_code s == authz_code authz.Pending) && b)
+        || ((authz_code s == authz_code authz.Valid) && b)) ≡ (is_live s && b)
+    by authz.Pending b = or-false b
+    by authz.Valid b = refl
+    by authz.Invalid b = refl
+    by authz.Deactivated b = refl
+    by authz.Expired b = refl
+    by authz.Revoked b = refl
+
+authorizations_first : (T : Tables) (m : ℕ) (a : Ask) → IsOrdered T
+    → IsFound of_authorization (is_first_authorization T m a) T.authorizations (first_authorizations T m a)
+authorizations_first T m a h =
+    found_both of_authorization (is_named_authorization a) (λ r. is_own_authorization T a r || is_overdue m r) T.authorizations _ _ (authorizations_named T a h)
+    (found_both of_authorization (is_own_authorization T a) (is_overdue m) T.authorizations _ _ (authorizations_own T a h) (authorizations_over T m h))
+
+-- orders that list one of the rows found
+pub orders_listed : (T : Tables) (test : AuthorizationRow → Bool) (rows : List AuthorizationRow) → IsOrdered T
+    → IsFound of_authorization test T.authorizations rows →
+    IsFound of_order (λ o. list_any (λ r. test r && lists o r.number) T.authorizations) T.orders (listing_orders T rows)
+orders_listed T test rows h is =
+    found_same of_order _ _ T.orders (listing_orders T rows) (each_all _ T.orders (λ o. is.tests (λ r. lists o r.number)))
+    (found_by of_order (λ (r : AuthorizationRow) o. lists o r.number) (λ r. flat_map (orders_numbered T) (orders_listing T r.number)) T.orders
+    (λ r. found_same of_order _ (λ o. lists o r.number) T.orders _ (listing_found T h r.number) (orders_at T h (orders_listing T r.number))) rows)
+
+orders_found : (T : Tables) (m : ℕ) (a : Ask) → IsOrdered T → IsFound of_order (is_touched_order T m a) T.orders (found_orders T m a)
+orders_found T m a h =
+    found_both of_order (λ o. is_named_order a o || (is_own_order T a o || is_past_order m o))
+    (λ o. list_any (λ r. is_first_authorization T m a r && lists o r.number) T.authorizations) T.orders _ _
+    (found_both of_order (is_named_order a) (λ o. is_own_order T a o || is_past_order m o) T.orders _ _ (orders_named T a h)
+    (found_both of_order (is_own_order T a) (is_past_order m) T.orders _ _ (orders_own T a h) (orders_over T m h)))
+    (orders_listed T (is_first_authorization T m a) (authorizations_once (first_authorizations T m a)) h
+    (found_once of_authorization (is_first_authorization T m a) 1 T.authorizations (first_authorizations T m a) h.authorizations.0
+    (authorizations_first T m a h)))
+
+orders_once_found : (T : Tables) (m : ℕ) (a : Ask) → IsOrdered T → IsFound of_order (is_touched_order T m a) T.orders (orders_once (found_orders T m a))
+orders_once_found T m a h = found_once of_order (is_touched_order T m a) 1 T.orders (found_orders T m a) h.orders.0 (orders_found T m a h)
+
+-- authorizations that the orders found list
+pub authorizations_listed : (T : Tables) (test : OrderRow → Bool) (rows : List OrderRow) → IsOrdered T → IsFound of_order test T.orders rows →
+    IsFound of_authorization (λ r. list_any (λ o. test o && lists o r.number) T.orders) T.authorizations (listed_authorizations T rows)
+authorizations_listed T test rows h is =
+    found_same of_authorization _ _ T.authorizations (listed_authorizations T rows)
+    (each_all _ T.authorizations (λ r. is.tests (λ o. list_any (λ n. r.number == n) (numbers_of o.listed))
+    ∙ list_any-same _ _ T.orders (λ o. ap (λ b. test o && b) (list_any-same _ _ (numbers_of o.listed) (λ n. eq_turn r.number n)))))
+    (found_by of_authorization (λ (o : OrderRow) r. list_any (λ n. r.number == n) (numbers_of o.listed))
+    (λ o. flat_map (authorizations_numbered T) (numbers_of o.listed)) T.authorizations
+    (λ o. authorizations_at T h (numbers_of o.listed)) rows)
+
+authorizations_found : (T : Tables) (m : ℕ) (a : Ask) → IsOrdered T
+    → IsFound of_authorization (is_touched_authorization T m a) T.authorizations (found_authorizations T m a)
+authorizations_found T m a h =
+    found_both of_authorization (is_first_authorization T m a)
+    (λ r. list_any (λ o. is_touched_order T m a o && lists o r.number) T.orders || is_asked_authorization T a r) T.authorizations _ _
+    (authorizations_first T m a h)
+    (found_both of_authorization (λ r. list_any (λ o. is_touched_order T m a o && lists o r.number) T.orders) (is_asked_authorization T a) T.authorizations _ _
+    (authorizations_listed T (is_touched_order T m a) (orders_once (found_orders T m a)) h (orders_once_found T m a h)) (authorizations_asked T a h))
+
+authorizations_once_found : (T : Tables) (m : ℕ) (a : Ask) → IsOrdered T
+    → IsFound of_authorization (is_touched_authorization T m a) T.authorizations (authorizations_once (found_authorizations T m a))
+authorizations_once_found T m a h =
+    found_once of_authorization (is_touched_authorization T m a) 1 T.authorizations (found_authorizations T m a) h.authorizations.0
+    (authorizations_found T m a h)
+
+accounts_found : (T : Tables) (m : ℕ) (a : Ask) → IsOrdered T → IsFound of_account (is_touched_account T m a) T.accounts (found_accounts T m a)
+accounts_found T m a h =
+    found_both of_account (is_named_account a) _ T.accounts _ _ (accounts_named T a h)
+    (found_both of_account (λ x. list_any (λ o. is_touched_order T m a o && (o.account == x.number)) T.orders)
+    (λ x. list_any (λ r. is_touched_authorization T m a r && (r.account == x.number)) T.authorizations) T.accounts _ _
+    (found_same of_account _ _ T.accounts _
+    (each_all _ T.accounts (λ x. (orders_once_found T m a h).tests (λ o. x.number == o.account)
+    ∙ list_any-same _ _ T.orders (λ o. ap (λ b. is_touched_order T m a o && b) (eq_turn x.number o.account))))
+    (found_by of_account (λ (o : OrderRow) x. x.number == o.account) (λ o. accounts_numbered T o.account) T.accounts
+    (λ o. found_filter of_account (λ x. x.number == o.account) 1 T.accounts h.accounts.0) (orders_once (found_orders T m a))))
+    (found_same of_account _ _ T.accounts _
+    (each_all _ T.accounts (λ x. (authorizations_once_found T m a h).tests (λ r. x.number == r.account)
+    ∙ list_any-same _ _ T.authorizations (λ r. ap (λ b. is_touched_authorization T m a r && b) (eq_turn x.number r.account))))
+    (found_by of_account (λ (r : AuthorizationRow) x. x.number == r.account) (λ r. accounts_numbered T r.account) T.accounts
+    (λ r. found_filter of_account (λ x. x.number == r.account) 1 T.accounts h.accounts.0) (authorizations_once (found_authorizations T m a)))))
+
+-- ---- as tables
+
+rows_loaded : (T : Tables) (m : ℕ) (a : Ask) → IsOrdered T → loaded_rows T m a ≡ touched_rows T m a
+rows_loaded T m a h =
+    λ i. record {
+      meta = T.meta;
+      nonces = found_table of_nonce (is_touched_nonce T m a) 1 T.nonces (found_nonces T m a) h.nonces.0 (nonces_found T m a h) i;
+      accounts = found_table of_account (is_touched_account T m a) 1 T.accounts (found_accounts T m a) h.accounts.0 (accounts_found T m a h) i;
+      authorizations = found_table of_authorization (is_touched_authorization T m a) 1 T.authorizations (found_authorizations T m a)
+          h.authorizations.0 (authorizations_found T m a h) i;
+      orders = found_table of_order (is_touched_order T m a) 1 T.orders (found_orders T m a) h.orders.0 (orders_found T m a h) i;
+    }
+
+pub loaded_touched : (T : Tables) (call : Call) → IsOrdered T → loaded T call ≡ touched T call
+loaded_touched T call h = by call.ask
+  where
+    by : (a : Ask) → loaded_at T (max call.at T.meta.counters.clock) a ≡ touched_at T (max call.at T.meta.counters.clock) a
+    by (ask.Office office.Directory) = refl
+    by (ask.Office office.ChallengeWork) = refl
+    by (ask.Office office.OrderWork) = refl
+    by (ask.NewNonce head) = rows_loaded T (max call.at T.meta.counters.clock) (ask.NewNonce head) h
+    by (ask.Signed s) = rows_loaded T (max call.at T.meta.counters.clock) (ask.Signed s) h
+    by (ask.Office (office.Report n finding)) = rows_loaded T (max call.at T.meta.counters.clock) (ask.Office (office.Report n finding)) h
+    by (ask.Office (office.Certify n bytes)) = rows_loaded T (max call.at T.meta.counters.clock) (ask.Office (office.Certify n bytes)) h
+    by (ask.Office (office.FailOrder n problem)) = rows_loaded T (max call.at T.meta.counters.clock) (ask.Office (office.FailOrder n problem)) h
+    by (ask.Office (office.RevokeAuthz n)) = rows_loaded T (max call.at T.meta.counters.clock) (ask.Office (office.RevokeAuthz n)) h
+    by (ask.Office (office.RevokeAccount n)) = rows_loaded T (max call.at T.meta.counters.clock) (ask.Office (office.RevokeAccount n)) h
+    by (ask.Office (office.KeyOf n)) = rows_loaded T (max call.at T.meta.counters.clock) (ask.Office (office.KeyOf n)) h

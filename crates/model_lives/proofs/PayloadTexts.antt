@@ -1,0 +1,123 @@
+-- The contacts that a UTF-8 payload names are UTF-8.
+use Rattle.std.proofs.Common.{ℕ, List, [], ◌∷◌, Option, Some, None, IsUtf8, IfSome, Ordering, Less, Equal, Greater, Bool, true, false, cond}
+use Rattle.std.specs.Prelude.{codes, option_map, unwrap_or}
+use Rattle.std.specs.Ordering.{match_ordering}
+use Rattle.serde_json.specs.Data.{Data, null, boolean, number, string, array, object, Items, no_items, item, Members, no_members, member}
+use Rattle.serde_json.specs.Find.{as_array, as_bool, as_str, get, get_member}
+use Rattle.serde_json.specs.Read.{read}
+use Rattle.desk_model.specs.Texts.{AreTexts}
+use Rattle.desk_model.specs.Payload.{account_change, account_change_in, and_each, each_in, if_object, is_object, new_account}
+use Rattle.desk_model.specs.Payload.{new_account_by, new_account_in, object_in, optional, says_deactivated, texts_in}
+use Rattle.desk_model.specs.declared.payload.AccountChange.{AccountChange}
+use Rattle.desk_model.specs.declared.payload.AccountChange.TheVariants as change
+use Rattle.desk_model.specs.declared.payload.NewAccount.{NewAccount}
+use Rattle.model_lives.proofs.JsonTexts.{HoldsStrings, HoldItemStrings, HoldMemberStrings, map_holds, read_strings, then_holds}
+
+-- ---- values
+
+-- the object that a text holds
+object_strings : (text : List ℕ) → IsUtf8 text → IfSome (object_in text) HoldsStrings
+unfolding object_in
+object_strings text h = then_holds HoldsStrings HoldsStrings if_object (λ d. by (is_object d) d) (read text) (read_strings text h)
+  where
+    by : (b : Bool) (d : Data) → HoldsStrings d → IfSome (cond b (Some d) None) HoldsStrings
+    by true d k = k
+    by false d k = tt
+
+-- a member of an object
+member_strings : (k : List ℕ) (ms : Members) → HoldMemberStrings ms → IfSome (get_member k ms) HoldsStrings
+member_strings k no_members h = tt
+member_strings k (member l d ms) h = by _ (member_strings k ms h.2)
+  where
+    by : (o : Ordering) → IfSome (get_member k ms) HoldsStrings → IfSome (match_ordering o (get_member k ms) (Some d) (get_member k ms)) HoldsStrings
+    by Less more = more
+    by Equal more = h.1
+    by Greater more = more
+
+-- a member of a value
+get_strings : (k : List ℕ) (d : Data) → HoldsStrings d → IfSome (get k d) HoldsStrings
+get_strings k null h = tt
+get_strings k (boolean b) h = tt
+get_strings k (number n) h = tt
+get_strings k (string s) h = tt
+get_strings k (array ds) h = tt
+get_strings k (object ms) h = member_strings k ms h
+
+-- the string that a value is
+string_strings : (d : Data) → HoldsStrings d → IfSome (as_str d) IsUtf8
+string_strings null h = tt
+string_strings (boolean b) h = tt
+string_strings (number n) h = tt
+string_strings (string s) h = h
+string_strings (array ds) h = tt
+string_strings (object ms) h = tt
+
+-- the items of the array that a value is
+array_strings : (d : Data) → HoldsStrings d → IfSome (as_array d) HoldItemStrings
+array_strings null h = tt
+array_strings (boolean b) h = tt
+array_strings (number n) h = tt
+array_strings (string s) h = tt
+array_strings (array ds) h = h
+array_strings (object ms) h = tt
+
+-- items that are strings
+items_are_texts : (ds : Items) → HoldItemStrings ds → IfSome (each_in as_str ds) AreTexts
+items_are_texts no_items h = tt
+items_are_texts (item d ds) h = by (as_str d) (each_in as_str ds) (string_strings d h.0) (items_are_texts ds h.1)
+  where
+    by : (o : Option (List ℕ)) (rest : Option (List (List ℕ))) → IfSome o IsUtf8 → IfSome rest AreTexts → IfSome (and_each o rest) AreTexts
+    by None rest p q = tt
+    by (Some s) None p q = tt
+    by (Some s) (Some ss) p q = (p, q)
+
+-- a list of texts
+list_texts : (d : Data) → HoldsStrings d → IfSome (texts_in d) AreTexts
+list_texts d h = then_holds HoldItemStrings AreTexts (each_in as_str) items_are_texts (as_array d) (array_strings d h)
+
+-- a list that may be left out
+optional_texts : (o : Option Data) → IfSome o HoldsStrings → IfSome (optional texts_in o) (λ x. IfSome x AreTexts)
+optional_texts None h = tt
+optional_texts (Some d) h = map_holds AreTexts (λ x. IfSome x AreTexts) (λ x. Some x) (λ x k. k) (texts_in d) (list_texts d h)
+
+-- ---- payloads
+
+-- a new account is asked for with texts
+abbrev pub AsksWithTexts : NewAccount → Type 0
+AsksWithTexts p = AreTexts p.contacts
+
+-- the contacts of a newAccount
+pub new_account_texts : (payload : List ℕ) → IsUtf8 payload → IfSome (new_account payload) AsksWithTexts
+new_account_texts payload h =
+    then_holds HoldsStrings AsksWithTexts new_account_in
+    (λ d k. by (optional texts_in (get (codes "contact") d)) (optional as_bool (get (codes "onlyReturnExisting") d))
+    (optional_texts (get (codes "contact") d) (get_strings (codes "contact") d k))) (object_in payload) (object_strings payload h)
+  where
+    given : (o : Option (List (List ℕ))) → IfSome o AreTexts → AreTexts (unwrap_or o [])
+    given None k = tt
+    given (Some cs) k = k
+
+    by : (contacts : Option (Option (List (List ℕ)))) (only : Option (Option Bool)) → IfSome contacts (λ x. IfSome x AreTexts) →
+        IfSome (new_account_by contacts only) AsksWithTexts
+    by None only k = tt
+    by (Some contacts) None k = tt
+    by (Some contacts) (Some only) k = given contacts k
+
+-- an account is changed to texts
+abbrev pub ChangesToTexts : AccountChange → Type 0
+ChangesToTexts (change.Update contacts) = IfSome contacts AreTexts
+ChangesToTexts _ = Unit {0}
+
+-- the contacts of a request to an account
+pub account_change_texts : (payload : List ℕ) → IsUtf8 payload → IfSome (account_change payload) ChangesToTexts
+account_change_texts [] h = tt
+account_change_texts (b ∷ bs) h =
+    then_holds HoldsStrings ChangesToTexts account_change_in
+    (λ d k. by d (says_deactivated d) (optional_texts (get (codes "contact") d) (get_strings (codes "contact") d k))) (object_in (b ∷ bs))
+    (object_strings (b ∷ bs) h)
+  where
+    by : (d : Data) (ends : Bool) → IfSome (optional texts_in (get (codes "contact") d)) (λ x. IfSome x AreTexts) →
+        IfSome (cond {A = Option AccountChange} ends (Some change.Deactivate) (option_map change.Update (optional texts_in (get (codes "contact") d))))
+        ChangesToTexts
+    by d true k = tt
+    by d false k = map_holds (λ x. IfSome x AreTexts) ChangesToTexts change.Update (λ x q. q) (optional texts_in (get (codes "contact") d)) k

@@ -1,0 +1,138 @@
+-- A part that keeps what is shown gives the same reply.
+use Rattle.std.proofs.Common.{◌≡◌, ℕ, ◌+◌, List, [], ◌∷◌, map, filter, Option, Some, None, refl, sym, ap, subst, ◌∙◌, true, false, Bool, cond, arith}
+use Rattle.std.specs.Prelude.{◌==◌, codes}
+use Rattle.std.proofs.lemmas.Bool.{and_parts, eqb-true}
+use Rattle.serde_json.specs.Data.{Data, string}
+use Rattle.desk_model.specs.Json.{document, list}
+use Rattle.desk_model.specs.Derived.{numbers_of, restated_authorization, restated_order}
+use Rattle.desk_model.specs.Document.{and_row, is_listed, key_document, order_document, order_url, order_with_names, rows_of}
+use Rattle.desk_model.specs.Effect.{effect, fresh_authorization, fresh_order, has_row, moved_authorization, moved_order}
+use Rattle.desk_model.specs.Effect.{new_authorizations, noted_order, touches_order}
+use Rattle.desk_model.specs.Order.{ordered_by}
+use Rattle.desk_model.specs.Questions.{order_on}
+use Rattle.desk_model.specs.Shown.{at, account_reply, authorization_reply, certificate_reply, challenge_in, client_challenge_in}
+use Rattle.desk_model.specs.Shown.{located_account, made_account, made_order, moved_reply, ok, reply_of, shown}
+use Rattle.desk_model.specs.Tables.{Tables}
+use Rattle.desk_model.specs.Kept.{EachOf, IsClosed, Kept, restricted}
+use Rattle.desk_model.specs.declared.entry.Entry.{Entry}
+use Rattle.desk_model.specs.declared.reply.Reply.{Reply}
+use Rattle.desk_model.specs.declared.rows.AccountRow.{AccountRow}
+use Rattle.desk_model.specs.declared.rows.AuthorizationRow.{AuthorizationRow}
+use Rattle.desk_model.specs.declared.rows.OrderRow.{OrderRow}
+use Rattle.desk_model.specs.declared.verdict.Shows.TheVariants as show
+use Rattle.desk_model.specs.declared.verdict.Listing.TheVariants as listing
+use Rattle.desk_model.specs.declared.moves.Move.TheVariants as move
+use Rattle.model_laws.specs.Parts.{FreshKept}
+use Rattle.model_laws.proofs.Basics.{each, each-append, each-map}
+use Rattle.model_laws.proofs.Chain.{order_number, up_kept}
+use Rattle.model_laws.proofs.Local.{filter_part, find_kept, moved_number}
+use Rattle.model_laws.proofs.Recorded.{made_up}
+use Rattle.model_laws.proofs.MovedRows.{has_row-moved}
+use Rattle.model_laws.proofs.Finds.{each_found, found_passes}
+use Rattle.model_lives.proofs.Listed.{KeepsListed}
+use Rattle.model_lives.proofs.Verdicts.{account_same, authorization_same, order_same, owner_same}
+
+-- ---- what a part keeps after an entry
+
+-- a moved order lists what it listed
+moved_listed : (e : Entry) (m : ℕ) (before after : List AuthorizationRow) (row : OrderRow)
+    → numbers_of (moved_order e m before after row).listed ≡ numbers_of row.listed
+moved_listed e m before after row = by (touches_order e before row)
+  where
+    by : (b : Bool) → numbers_of (cond b (restated_order m after (noted_order e m row)) row).listed ≡ numbers_of row.listed
+    by true = refl
+    by false = refl
+
+-- with an order what it lists
+pub listed_after : (k : Kept) (S : Tables) (m : ℕ) (e : Entry) → IsClosed k S → FreshKept k S m e → KeepsListed k (effect m S e)
+listed_after k S m e closed fresh =
+    each-append _ (map (moved_order e m S.authorizations (effect m S e).authorizations) S.orders) _
+    (each-map _ (moved_order e m S.authorizations (effect m S e).authorizations) S.orders
+    (each _ _ S.orders (λ o f kept.
+    subst (EachOf (λ n. k.authorizations n ≡ true)) (sym (moved_listed e m S.authorizations (effect m S e).authorizations o))
+    (f (ap k.orders (sym (order_number e m S.authorizations (effect m S e).authorizations o)) ∙ kept))) closed.listed))
+    (each-map _ (λ o. restated_order m (effect m S e).authorizations (fresh_order o))
+    (ordered_by e m S.meta.policy (S.meta.counters.authorizations + 1) (S.meta.counters.orders + 1))
+    (each _ _ (ordered_by e m S.meta.policy (S.meta.counters.authorizations + 1) (S.meta.counters.orders + 1)) (λ o f kept. f) fresh))
+
+-- the authorization of a challenge
+pub owner_after : (k : Kept) (S : Tables) (m : ℕ) (e : Entry) (n : ℕ) → IsClosed k S
+    → EachOf (λ r. has_row n r ≡ true → k.authorizations r.number ≡ true) S.authorizations →
+    EachOf (λ r. has_row n r ≡ true → k.authorizations r.number ≡ true) (effect m S e).authorizations
+owner_after k S m e n closed h =
+    each-append _ (map (moved_authorization e m S.accounts) S.authorizations) _
+    (each-map _ (moved_authorization e m S.accounts) S.authorizations
+    (each _ _ S.authorizations (λ r f has. ap k.authorizations (moved_number e m S.accounts r) ∙ f (sym (has_row-moved n e m S.accounts r) ∙ has)) h))
+    (each _ _ (map (λ a. restated_authorization m (fresh_authorization a)) (new_authorizations S e m)) (λ r f has. f)
+    (up_kept (λ (a : AuthorizationRow). a.number) k.authorizations S.meta.counters.authorizations closed.new_authorizations
+    (S.meta.counters.authorizations + 1) (omega arith) _
+    (made_up e m S.meta.policy.authz_life (S.meta.counters.authorizations + 1) (S.meta.counters.challenges + 1))))
+
+-- ---- what is shown
+
+pub account_shown : (k : Kept) (E : Tables) (n : ℕ) → k.accounts n ≡ true → reply_of (restricted k E) (show.Account n) ≡ reply_of E (show.Account n)
+account_shown k E n h = ap (shown (account_reply 200 E)) (account_same k E n h)
+
+pub known_shown : (k : Kept) (E : Tables) (n : ℕ) → k.accounts n ≡ true → reply_of (restricted k E) (show.KnownAccount n) ≡ reply_of E (show.KnownAccount n)
+known_shown k E n h = ap (shown (located_account 200 E)) (account_same k E n h)
+
+pub opened_shown : (k : Kept) (E : Tables) → k.accounts E.meta.counters.accounts ≡ true → made_account (restricted k E) ≡ made_account E
+opened_shown k E h = ap (shown (located_account 201 E)) (account_same k E E.meta.counters.accounts h)
+
+pub key_shown : (k : Kept) (E : Tables) (n : ℕ) → k.accounts n ≡ true → reply_of (restricted k E) (show.Key n) ≡ reply_of E (show.Key n)
+key_shown k E n h = ap (shown (λ (a : AccountRow). ok 200 (key_document a.key))) (account_same k E n h)
+
+pub authorization_shown : (k : Kept) (E : Tables) (n : ℕ) → k.authorizations n ≡ true
+    → reply_of (restricted k E) (show.Authorization n) ≡ reply_of E (show.Authorization n)
+authorization_shown k E n h = ap (shown (authorization_reply E)) (authorization_same k E n h)
+
+pub challenge_shown : (k : Kept) (E : Tables) (n : ℕ) → EachOf (λ r. has_row n r ≡ true → k.authorizations r.number ≡ true) E.authorizations →
+    reply_of (restricted k E) (show.Challenge n) ≡ reply_of E (show.Challenge n)
+challenge_shown k E n h = ap (shown (challenge_in E n)) (owner_same k E n h)
+
+pub client_challenge_shown : (k : Kept) (E : Tables) (n : ℕ) → EachOf (λ r. has_row n r ≡ true → k.authorizations r.number ≡ true) E.authorizations →
+    reply_of (restricted k E) (show.ClientChallenge n) ≡ reply_of E (show.ClientChallenge n)
+client_challenge_shown k E n h = ap (shown (client_challenge_in E n)) (owner_same k E n h)
+
+pub certificate_shown : (k : Kept) (E : Tables) (n : ℕ) → k.orders n ≡ true → reply_of (restricted k E) (show.Certificate n) ≡ reply_of E (show.Certificate n)
+certificate_shown k E n h = ap (shown (λ (o : OrderRow). certificate_reply o.certified)) (order_same k E n h)
+
+-- the orders of an account
+pub orders_shown : (k : Kept) (E : Tables) (n : ℕ) → EachOf (λ o. (o.account == n) ≡ true → k.orders o.number ≡ true) E.orders →
+    reply_of (restricted k E) (show.List (listing.Orders n)) ≡ reply_of E (show.List (listing.Orders n))
+orders_shown k E n h =
+    ap (λ rows. ok 200 (document ((codes "orders", list (map (λ (o : OrderRow). string (order_url E.meta.policy o.number)) rows)) ∷ [])))
+    (filter_part (is_listed n) (λ (o : OrderRow). k.orders o.number) E.orders
+    (each _ _ E.orders (λ o f l. f (and_parts (o.account == n) _ l).0) h))
+
+-- what an order lists
+pub rows_same : (k : Kept) (rows : List AuthorizationRow) (ns : List ℕ) → EachOf (λ n. k.authorizations n ≡ true) ns →
+    rows_of (filter (λ a. k.authorizations a.number) rows) ns ≡ rows_of rows ns
+rows_same k rows [] h = refl
+rows_same k rows (n ∷ ns) h =
+    λ i. and_row (find_kept (λ (a : AuthorizationRow). a.number) k.authorizations n rows h.0 i) (rows_same k rows ns h.1 i)
+
+document_same : (k : Kept) (E : Tables) (o : OrderRow) → EachOf (λ n. k.authorizations n ≡ true) (numbers_of o.listed) →
+    order_document (restricted k E) o ≡ order_document E o
+document_same k E o h = ap (λ rows. order_with_names E.meta.policy (map (λ a. a.name) rows) o) (rows_same k E.authorizations (numbers_of o.listed) h)
+
+-- shown by any reply that takes its document
+order_by : (k : Kept) (E : Tables) (n : ℕ) (f : OrderRow → Data → Reply) → k.orders n ≡ true → KeepsListed k E →
+    shown (λ o. f o (order_document (restricted k E) o)) (order_on (restricted k E) n) ≡ shown (λ o. f o (order_document E o)) (order_on E n)
+order_by k E n f h listed = ap (shown (λ o. f o (order_document (restricted k E) o))) (order_same k E n h) ∙ by (order_on E n) refl
+  where
+    by : (x : Option OrderRow) → order_on E n ≡ x → shown (λ o. f o (order_document (restricted k E) o)) x ≡ shown (λ o. f o (order_document E o)) x
+    by None e = refl
+    by (Some o) e =
+        let number : o.number ≡ n = eqb-true o.number n (found_passes (λ y. y.number == n) E.orders o e) in
+        ap (f o) (document_same k E o (each_found _ (λ y. y.number == n) E.orders o listed e (ap k.orders number ∙ h)))
+
+pub order_shown : (k : Kept) (E : Tables) (n : ℕ) → k.orders n ≡ true → KeepsListed k E → reply_of (restricted k E) (show.Order n) ≡ reply_of E (show.Order n)
+order_shown k E n h listed = order_by k E n (λ o d. ok 200 d) h listed
+
+pub made_shown : (k : Kept) (E : Tables) → k.orders E.meta.counters.orders ≡ true → KeepsListed k E → made_order (restricted k E) ≡ made_order E
+made_shown k E h listed = order_by k E E.meta.counters.orders (λ o d. at (order_url E.meta.policy o.number) (ok 201 d)) h listed
+
+pub finalized_shown : (k : Kept) (E : Tables) (n : ℕ) (csr : List ℕ) → k.orders n ≡ true → KeepsListed k E →
+    moved_reply (restricted k E) (move.Finalized n csr) ≡ moved_reply E (move.Finalized n csr)
+finalized_shown k E n csr h listed = order_by k E n (λ o d. at (order_url E.meta.policy o.number) (ok 200 d)) h listed

@@ -1,0 +1,289 @@
+-- A request that shows orders without what they list: a part may lack that, but for what falls.
+use Rattle.std.proofs.Common.{◌≡◌, ◌+◌, ℕ, List, [], ◌∷◌, ◌++◌, map, filter, Option, Some, None, refl, sym, ap, ◌∙◌, true, false, Bool, cond, not}
+use Rattle.std.proofs.Common.{Result, Ok, Err}
+use Rattle.std.specs.Prelude.{◌==◌, ◌&&◌, ◌||◌, bytes_eq, find, nat_lt}
+use Rattle.std.proofs.lemmas.Bool.{eqb-true, or_left}
+use Rattle.desk_model.specs.Account.{is_valid as is_valid_account}
+use Rattle.desk_model.specs.Change.{accounts_put, all_changes, authorizations_put, changes, moved_rows, nonces_put, order_differs, recorded_changes}
+use Rattle.desk_model.specs.Change.{spent_by, sweep_changes}
+use Rattle.desk_model.specs.Decide.{entries_of}
+use Rattle.desk_model.specs.Derived.{authorization_numbered, numbers_of, restated_order}
+use Rattle.desk_model.specs.Effect.{authorizations_after, effect, effects, falls, fresh_order, is_live_order, is_overdue, lasts, noted_order, swept}
+use Rattle.desk_model.specs.Effect.{swept_authorization, swept_order, touches_order}
+use Rattle.desk_model.specs.Kept.{CoversSweep, EachOf, IsClosed, Kept, restricted}
+use Rattle.desk_model.specs.Lookup.{holds}
+use Rattle.desk_model.specs.Questions.{account_with_key, order_on}
+use Rattle.desk_model.specs.Rules.{key_verdict, nothing, open_nonce, own, signed_verdict, target_verdict}
+use Rattle.desk_model.specs.Shown.{reply_of}
+use Rattle.desk_model.specs.Tables.{Tables}
+use Rattle.desk_model.specs.declared.call.Ask.TheVariants as ask
+use Rattle.desk_model.specs.declared.call.BadKey.{BadKey}
+use Rattle.desk_model.specs.declared.call.Signed.{Signed}
+use Rattle.desk_model.specs.declared.call.Target.{Target}
+use Rattle.desk_model.specs.declared.call.Target.TheVariants as to
+use Rattle.desk_model.specs.declared.entry.Entry.{Entry}
+use Rattle.desk_model.specs.declared.entry.Entry.TheVariants.{Issued as issued, Spent as spent}
+use Rattle.desk_model.specs.declared.refusal.Refusal.TheVariants as refusal
+use Rattle.desk_model.specs.declared.rows.AccountRow.{AccountRow}
+use Rattle.desk_model.specs.declared.rows.AuthorizationRow.{AuthorizationRow}
+use Rattle.desk_model.specs.Order.{ordered_by}
+use Rattle.desk_model.specs.declared.rows.Change.{Change}
+use Rattle.desk_model.specs.declared.rows.Change.TheVariants.{PutAccount, PutAuthorization, PutMeta, PutNonce, PutOrder, RemoveNonce}
+use Rattle.desk_model.specs.declared.rows.OrderRow.{OrderRow}
+use Rattle.desk_model.specs.declared.status.AuthzStatus.TheVariants as authz
+use Rattle.desk_model.specs.declared.status.OrderStatus.TheVariants as order
+use Rattle.desk_model.specs.declared.verdict.Verdict.{Verdict}
+use Rattle.desk_model.specs.declared.verdict.Verdict.TheVariants.{Refused as refused, KeyTaken as key_taken, Answers as answers}
+use Rattle.desk_model.specs.Asked.{asks_orders}
+use Rattle.desk_model.specs.Touched.{is_named_account}
+use Rattle.model_laws.specs.Ordered.{IsOrdered}
+use Rattle.model_laws.proofs.Basics.{each, each_all, list_any-same}
+use Rattle.model_laws.proofs.Chain.{all_changes_local}
+use Rattle.model_laws.proofs.Finds.{each_found, found_passes}
+use Rattle.model_laws.proofs.Local.{filter_part, filters_swap, find_kept, moved_part, swept_number, swept_order_number}
+use Rattle.model_laws.proofs.Plain.{covers_issued, nonces_covered, nothing_touched}
+use Rattle.model_laws.proofs.SweptParts.{swept_closed}
+use Rattle.model_lives.proofs.Steps.{check_keeps, given_keeps}
+use Rattle.model_lives.specs.AnswersAs.{CarriesOutAs, PassesAs}
+use Rattle.model_lives.specs.Few.{target_needs_listed}
+use Rattle.model_lives.proofs.Between.{authorizations_stand, bare, bare_ordered, open_kept, orders_end, swept_bare}
+use Rattle.model_lives.proofs.Grown.{KeepsNamed, grown_closed}
+use Rattle.model_lives.proofs.Lists.{filter_same, same_number}
+use Rattle.model_lives.proofs.Ready.{swept_names}
+use Rattle.model_lives.proofs.Replies.{certificate_shown, orders_shown}
+use Rattle.model_lives.proofs.Verdicts.{is_key, nonce_same, signed_same, verdict_by}
+use Rattle.model_lives.proofs.Walks.{sent}
+
+-- ---- what falls
+
+-- a number that is not kept is not found in the part
+not_found : (kept : ℕ → Bool) (n : ℕ) (xs : List AuthorizationRow) → kept n ≡ false →
+    find (λ a. a.number == n) (filter (λ a. kept a.number) xs) ≡ None
+not_found kept n [] h = refl
+not_found kept n (x ∷ xs) h = by (kept x.number) refl (x.number == n) refl (not_found kept n xs h)
+  where
+    by : (b : Bool) → kept x.number ≡ b → (c : Bool) → (x.number == n) ≡ c → find (λ a. a.number == n) (filter (λ a. kept a.number) xs) ≡ None →
+        find (λ a. a.number == n) (cond b (x ∷ filter (λ a. kept a.number) xs) (filter (λ a. kept a.number) xs)) ≡ None
+    by true e true r ih = let same : x.number ≡ n = eqb-true x.number n r in let no : kept x.number ≡ false = ap kept same ∙ h in cc
+    by true e false r ih = ap (λ z. cond z (Some x) (find (λ a. a.number == n) (filter (λ a. kept a.number) xs))) r ∙ ih
+    by false e c r ih = ih
+
+-- a row that passes a test is found in a part that keeps all that pass, and no other passes there
+found_alike : (kept : ℕ → Bool) (test : AuthorizationRow → Bool) (n : ℕ) (xs : List AuthorizationRow) →
+    EachOf (λ r. test r ≡ true → kept r.number ≡ true) xs →
+    holds test (authorization_numbered n (filter (λ a. kept a.number) xs)) ≡ holds test (authorization_numbered n xs)
+found_alike kept test n xs h = by (kept n) refl
+  where
+    fails : (r : AuthorizationRow) → r.number ≡ n → kept n ≡ false → (test r ≡ true → kept r.number ≡ true) → (b : Bool) → test r ≡ b → b ≡ false
+    fails r same e f true t = let no : kept r.number ≡ false = ap kept same ∙ e in let k : kept r.number ≡ true = f t in cc
+    fails r same e f false t = refl
+
+    none : kept n ≡ false → (o : Option AuthorizationRow) → authorization_numbered n xs ≡ o → holds test o ≡ false
+    none e None is = refl
+    none e (Some r) is =
+        fails r (eqb-true r.number n (found_passes (λ a. a.number == n) xs r is)) e (each_found _ (λ a. a.number == n) xs r h is) (test r) refl
+
+    by : (b : Bool) → kept n ≡ b → holds test (authorization_numbered n (filter (λ a. kept a.number) xs)) ≡ holds test (authorization_numbered n xs)
+    by true e = ap (holds test) (find_kept (λ (a : AuthorizationRow). a.number) kept n xs e)
+    by false e = ap (holds test) (not_found kept n xs e) ∙ sym (none e (authorization_numbered n xs) refl)
+
+-- an order falls by the part where it falls by the whole
+falls_open : (k : Kept) (T : Tables) (m : ℕ) → CoversSweep k T m → (o : OrderRow) → falls m (restricted k T).authorizations o ≡ falls m T.authorizations o
+falls_open k T m covers o =
+    ap (λ b. is_live_order o.status && (nat_lt o.expires m || b))
+    (list_any-same _ _ (numbers_of o.listed) (λ n. found_alike k.authorizations (is_overdue m) n T.authorizations covers.authorizations))
+
+-- the part, swept, is the part of the swept tables
+swept_open : (k : Kept) (T : Tables) (m : ℕ) → CoversSweep k T m → swept m (restricted k T) ≡ restricted k (swept m T)
+swept_open k T m covers =
+    λ i. record {
+      meta = (swept m T).meta;
+      nonces = filters_swap (lasts T.meta.policy m) (λ n. k.nonces n.serial) T.nonces i;
+      accounts = filter (λ a. k.accounts a.number) T.accounts;
+      authorizations =
+          moved_part (λ (a : AuthorizationRow). k.authorizations a.number) (swept_authorization m) (swept_authorization m) T.authorizations
+          (λ a. ap k.authorizations (swept_number m a)) (each_all _ T.authorizations (λ a kept. refl)) i;
+      orders =
+          moved_part (λ (o : OrderRow). k.orders o.number) (swept_order m (restricted k T).authorizations) (swept_order m T.authorizations) T.orders
+          (λ o. ap k.orders (swept_order_number m T.authorizations o))
+          (each_all _ T.orders (λ o kept. ap (λ b. cond b (record o { status = order.Invalid }) o) (falls_open k T m covers o))) i;
+    }
+
+-- the part changes as the whole by the passing of time
+sweep_open : (k : Kept) (T : Tables) (m : ℕ) → CoversSweep k T m → sweep_changes m (restricted k T) ≡ sweep_changes m T
+sweep_open k T m covers =
+    λ i. map RemoveNonce (map (λ n. n.serial) (filter_part (λ n. not (lasts T.meta.policy m n)) (λ n. k.nonces n.serial) T.nonces covers.nonces i))
+    ++ (map PutAuthorization (map (λ (r : AuthorizationRow). record r { status = authz.Expired })
+    (filter_part (is_overdue m) (λ (a : AuthorizationRow). k.authorizations a.number) T.authorizations covers.authorizations i))
+    ++ map PutOrder (map (λ (r : OrderRow). record r { status = order.Invalid }) (fallen i)))
+  where
+    fallen : filter (falls m (restricted k T).authorizations) (restricted k T).orders ≡ filter (falls m T.authorizations) T.orders
+    fallen =
+        filter_same (falls m (restricted k T).authorizations) (falls m T.authorizations) (restricted k T).orders
+        (each_all _ (restricted k T).orders (λ o. falls_open k T m covers o))
+        ∙ filter_part (falls m T.authorizations) (λ (o : OrderRow). k.orders o.number) T.orders covers.orders
+
+-- ---- nonces
+
+-- where no order that is touched differs, none is put
+no_orders : (touched : OrderRow → Bool) (move : OrderRow → OrderRow) (rows : List OrderRow) →
+    EachOf (λ o. (touched o && order_differs o (move o)) ≡ false) rows → moved_rows touched order_differs move rows ≡ []
+no_orders touched move rows none = by rows none
+  where
+    by : (xs : List OrderRow) → EachOf (λ o. (touched o && order_differs o (move o)) ≡ false) xs →
+        map move (filter (λ r. touched r && order_differs r (move r)) xs) ≡ []
+    by [] h = refl
+    by (x ∷ xs) h =
+        ap (λ b. map move (cond b (x ∷ filter (λ r. touched r && order_differs r (move r)) xs) (filter (λ r. touched r && order_differs r (move r)) xs))) h.0
+        ∙ by xs h.1
+
+-- what an entry changes, with these orders in the place of those that it moves
+abbrev changes_with : ℕ → Tables → Entry → List OrderRow → List Change
+changes_with m S e rows =
+    map RemoveNonce (spent_by e)
+    ++ (map PutNonce (nonces_put S e m)
+    ++ (map PutAccount (accounts_put S e m)
+    ++ (map PutAuthorization (authorizations_put S e m)
+    ++ map PutOrder (rows ++ map (λ o. restated_order m (authorizations_after S e m) (fresh_order o))
+    (ordered_by e m S.meta.policy (S.meta.counters.authorizations + 1) (S.meta.counters.orders + 1))))))
+
+-- an order that the entry touches differs after it
+abbrev pub moves_order : ℕ → Tables → Entry → OrderRow → Bool
+moves_order m S e o = touches_order e S.authorizations o && order_differs o (restated_order m (authorizations_after S e m) (noted_order e m o))
+
+-- an entry that moves no order changes the same without the orders
+pub bare_changes : (m : ℕ) (S : Tables) (e : Entry) → EachOf (λ o. moves_order m S e o ≡ false) S.orders → changes m S e ≡ changes m (bare S) e
+bare_changes m S e none =
+    ap (changes_with m S e)
+    (no_orders (touches_order e S.authorizations) (λ o. restated_order m (authorizations_after S e m) (noted_order e m o)) S.orders none)
+
+issued_bare : (m : ℕ) (S : Tables) (r : List ℕ) → all_changes m S (issued r ∷ []) ≡ all_changes m (bare S) (issued r ∷ [])
+issued_bare m S r = ap (λ cs. cs ++ []) (bare_changes m S (issued r) (each_all _ S.orders (λ o.
+    ap (λ b. b && order_differs o (restated_order m (authorizations_after S (issued r) m) (noted_order (issued r) m o)))
+    (nothing_touched S.authorizations (numbers_of o.listed)))))
+
+nonces_bare : (m : ℕ) (S : Tables) (n : ℕ) (r : List ℕ) → all_changes m S (spent n ∷ issued r ∷ []) ≡ all_changes m (bare S) (spent n ∷ issued r ∷ [])
+nonces_bare m S n r =
+    λ i. bare_changes m S (spent n) (each_all _ S.orders (λ o.
+    ap (λ b. b && order_differs o (restated_order m (authorizations_after S (spent n) m) (noted_order (spent n) m o)))
+    (nothing_touched S.authorizations (numbers_of o.listed)))) i ++ issued_bare m (effect m S (spent n)) r i
+
+-- a part of tables without orders is closed
+bare_closed : (k : Kept) (T : Tables) (m : ℕ) → IsOrdered T → IsClosed (open_kept k T) (swept m (bare T))
+bare_closed k T m h = swept_closed (open_kept k T) (bare T) m (grown_closed k (bare T) (bare_ordered T h) tt)
+
+-- so a part records the same of nonces
+issued_open : (k : Kept) (T : Tables) (m : ℕ) (r : List ℕ) → IsOrdered T → CoversSweep k T m →
+    recorded_changes m (restricted k T) (issued r ∷ []) ≡ recorded_changes m T (issued r ∷ [])
+issued_open k T m r h covers =
+    λ i. sweep_open k T m covers i ++ (same i ++ PutMeta (effects m (swept m T) (issued r ∷ [])).meta ∷ [])
+  where
+    same : all_changes m (swept m (restricted k T)) (issued r ∷ []) ≡ all_changes m (swept m T) (issued r ∷ [])
+    same =
+        issued_bare m (swept m (restricted k T)) r
+        ∙ ap (λ P. all_changes m P (issued r ∷ [])) (swept_bare k T m h)
+        ∙ all_changes_local (open_kept k T) m (swept m (bare T)) (issued r ∷ [])
+        (bare_closed k T m h, covers_issued (open_kept k T) (swept m (bare T)) r, tt, tt)
+        ∙ sym (issued_bare m (swept m T) r)
+
+nonces_open : (k : Kept) (T : Tables) (m : ℕ) (n : ℕ) (r : List ℕ) → IsOrdered T → CoversSweep k T m →
+    recorded_changes m (restricted k T) (spent n ∷ issued r ∷ []) ≡ recorded_changes m T (spent n ∷ issued r ∷ [])
+nonces_open k T m n r h covers =
+    λ i. sweep_open k T m covers i ++ (same i ++ PutMeta (effects m (swept m T) (spent n ∷ issued r ∷ [])).meta ∷ [])
+  where
+    same : all_changes m (swept m (restricted k T)) (spent n ∷ issued r ∷ []) ≡ all_changes m (swept m T) (spent n ∷ issued r ∷ [])
+    same =
+        nonces_bare m (swept m (restricted k T)) n r
+        ∙ ap (λ P. all_changes m P (spent n ∷ issued r ∷ [])) (swept_bare k T m h)
+        ∙ all_changes_local (open_kept k T) m (swept m (bare T)) (spent n ∷ issued r ∷ [])
+        (nonces_covered (open_kept k T) m (swept m (bare T)) n r [] (bare_closed k T m h) tt)
+        ∙ sym (nonces_bare m (swept m T) n r)
+
+-- ---- what is shown
+
+-- a verdict that records nothing, and shows by the part what it shows by the whole
+abbrev IsShown : Kept → Tables → Verdict → Type 0
+IsShown k S (refused why subproblems) = Unit {0}
+IsShown k S (key_taken account) = Unit {0}
+IsShown k S (answers what) = reply_of (restricted k S) what ≡ reply_of S what
+IsShown k S _ = ⊥
+
+-- the list of an account's orders, and a certificate
+target_shown : (k : Kept) (S : Tables) (r : List ℕ) (x : AccountRow) (s : Signed) (t : Target) → target_needs_listed t ≡ false → KeepsNamed k S (sent s t) →
+    EachOf (λ o. asks_orders (sent s t) ≡ true → (o.account == x.number) ≡ true → k.orders o.number ≡ true) S.orders →
+    IsShown k S (target_verdict S r x.number s.payload t)
+target_shown k S r x s (to.Orders j) e named owned =
+    check_keeps (IsShown k S) (j == x.number) refusal.NotFound _ tt (λ here.
+    check_keeps (IsShown k S) (nothing s.payload) refusal.Malformed _ tt (λ none.
+    orders_shown k S x.number (each _ _ S.orders (λ o f h. f refl h) owned)))
+target_shown k S r x s (to.Cert j) e named owned =
+    given_keeps (IsShown k S) (own (λ (y : OrderRow). y.account) x.number (order_on S j)) refusal.NotFound _ tt (λ o is.
+    check_keeps (IsShown k S) (nothing s.payload) refusal.Malformed _ tt (λ none.
+    given_keeps (IsShown k S) o.certified refusal.NotFound _ tt (λ c there. certificate_shown k S j (named.order j (same_number j)))))
+target_shown k S r x s _ e named owned = cc
+
+-- by the account that the key has
+key_shown : (k : Kept) (S : Tables) (r key : List ℕ) (s : Signed) (t : Target) → target_needs_listed t ≡ false → KeepsNamed k S (sent s t) →
+    ((x : AccountRow) → bytes_eq x.key key ≡ true → is_named_account (sent s t) x ≡ true) → (o : Option AccountRow) → account_with_key S key ≡ o →
+    IsShown k S (key_verdict S r key s.payload t o)
+key_shown k S r key s (to.Orders j) e named own None found = tt
+key_shown k S r key s (to.Cert j) e named own None found = tt
+key_shown k S r key s _ e named own None found = cc
+key_shown k S r key s t e named own (Some x) found =
+    check_keeps (IsShown k S) (is_valid_account x.status) refusal.Unauthorized _ tt (λ valid.
+    target_shown k S r x s t e named
+    (each_found _ (λ a. bytes_eq a.key key) S.accounts x named.orders found (own x (found_passes (λ a. bytes_eq a.key key) S.accounts x found))))
+
+signed_shown : (k : Kept) (S : Tables) (r : List ℕ) (s : Signed) → target_needs_listed s.target ≡ false → KeepsNamed k S (ask.Signed s) →
+    IsShown k S (signed_verdict S r s)
+signed_shown k S r s e named = by s.key (λ x h. or_left _ _ h)
+  where
+    by : (key : Result (List ℕ) BadKey) → ((x : AccountRow) → is_key key x.key ≡ true → is_named_account (ask.Signed s) x ≡ true) →
+        IsShown k S (verdict_by S r s key)
+    by (Err why) own = tt
+    by (Ok key) own = key_shown k S r key s s.target e named own (account_with_key S key) refl
+
+-- ---- the request
+
+carried_open : (k : Kept) (T : Tables) (m : ℕ) (v : Verdict) → IsOrdered T → CoversSweep k T m → IsShown k (swept m T) v → CarriesOutAs m T (restricted k T) v
+carried_open k T m (refused why ss) h covers shown =
+    record {
+      standing = λ r. (open_kept k T).authorizations r.number;
+      authorizations = authorizations_stand k T m (refused why ss) h tt;
+      ends = orders_end k T m (refused why ss);
+      shows = λ index. refl;
+    }
+carried_open k T m (key_taken account) h covers shown =
+    record {
+      standing = λ r. (open_kept k T).authorizations r.number;
+      authorizations = authorizations_stand k T m (key_taken account) h tt;
+      ends = orders_end k T m (key_taken account);
+      shows = λ index. refl;
+    }
+carried_open k T m (answers what) h covers shown =
+    record {
+      standing = λ r. (open_kept k T).authorizations r.number;
+      authorizations = authorizations_stand k T m (answers what) h tt;
+      ends = orders_end k T m (answers what);
+      shows = λ index. ap (λ P. reply_of P what) (swept_open k T m covers) ∙ shown;
+    }
+carried_open k T m _ h covers shown = absurd shown
+
+records_open : (k : Kept) (T : Tables) (m : ℕ) (v : Verdict) → IsOrdered T → CoversSweep k T m → IsShown k (swept m T) v → (n : ℕ) (fresh : List ℕ) →
+    recorded_changes m (restricted k T) (spent n ∷ issued fresh ∷ entries_of v) ≡ recorded_changes m T (spent n ∷ issued fresh ∷ entries_of v)
+records_open k T m (refused why ss) h covers shown n fresh = nonces_open k T m n fresh h covers
+records_open k T m (key_taken account) h covers shown n fresh = nonces_open k T m n fresh h covers
+records_open k T m (answers what) h covers shown n fresh = nonces_open k T m n fresh h covers
+records_open k T m _ h covers shown n fresh = absurd shown
+
+pub passes_open : (k : Kept) (T : Tables) (m : ℕ) (s : Signed) → IsOrdered T → target_needs_listed s.target ≡ false → CoversSweep k T m →
+    KeepsNamed k T (ask.Signed s) → PassesAs m s T (restricted k T)
+passes_open k T m s h e covers kept =
+    let named : KeepsNamed k (swept m T) (ask.Signed s) = swept_names k T m (ask.Signed s) kept in
+    record {
+      nonce = ap (λ P. open_nonce P s.nonce) (swept_open k T m covers) ∙ nonce_same k (swept m T) s named.nonce;
+      issues = record { records = λ r. issued_open k T m r h covers };
+      judged = λ r. ap (λ P. signed_verdict P r s) (swept_open k T m covers) ∙ signed_same k (swept m T) r s named;
+      verdict = λ r. carried_open k T m (signed_verdict (swept m T) r s) h covers (signed_shown k (swept m T) r s e named);
+      records = λ r n fresh. records_open k T m (signed_verdict (swept m T) r s) h covers (signed_shown k (swept m T) r s e named) n fresh;
+    }

@@ -1,0 +1,184 @@
+-- A part that keeps what a request names gives the same verdict.
+use Rattle.std.proofs.Common.{◌≡◌, ℕ, List, [], Option, Some, None, refl, ap, ◌∙◌, true, false, Bool, Result, Ok, Err}
+use Rattle.std.specs.Prelude.{◌==◌, ◌&&◌, bytes_eq, option_and_then}
+use Rattle.std.proofs.lemmas.Bool.{or_left}
+use Rattle.desk_model.specs.declared.refusal.Refusal.TheVariants as refusal
+use Rattle.desk_model.specs.Account.{is_valid as is_valid_account}
+use Rattle.desk_model.specs.Document.{account_url}
+use Rattle.desk_model.specs.Effect.{has_row}
+use Rattle.desk_model.specs.Lookup.{holds}
+use Rattle.desk_model.specs.Payload.{authorization_change, challenge_change, finalize, key_change, new_order}
+use Rattle.desk_model.specs.declared.payload.KeyChange.{KeyChange}
+use Rattle.desk_model.specs.declared.payload.Identifier.{Identifier}
+use Rattle.desk_model.specs.Questions.{account_on, account_with_key, authorization_on, order_on, owner_on, challenge_of}
+use Rattle.desk_model.specs.Rules.{certificate_verdict, certify_verdict, challenge_verdict, authorization_verdict, fail_verdict}
+use Rattle.desk_model.specs.Rules.{finalize_verdict, finding_verdict, if_spelled, key_verdict}
+use Rattle.desk_model.specs.Rules.{nothing, office_verdict, open_nonce, open_nonce_in}
+use Rattle.desk_model.specs.Rules.{own, report_verdict, revoke_account, revoke_authorization, signed_verdict}
+use Rattle.desk_model.specs.Rules.{key_change_verdict, rekey_verdict, target_verdict, names_asked, new_order_verdict}
+use Rattle.desk_model.specs.Tables.{Tables}
+use Rattle.desk_model.specs.Tokens.{NonceText, nonce_in}
+use Rattle.desk_model.specs.Kept.{EachOf, Kept, restricted}
+use Rattle.desk_model.specs.Verdict.{check, given}
+use Rattle.desk_model.specs.declared.verdict.Verdict.TheVariants.{Answers as answers, Refused as refused}
+use Rattle.desk_model.specs.declared.verdict.Verdict.{Verdict}
+use Rattle.desk_model.specs.declared.call.Ask.TheVariants as ask
+use Rattle.desk_model.specs.declared.call.OfficeAsk.{OfficeAsk}
+use Rattle.desk_model.specs.declared.call.OfficeAsk.TheVariants as office
+use Rattle.desk_model.specs.declared.call.BadKey.{BadKey}
+use Rattle.desk_model.specs.declared.call.Finding.{Finding}
+use Rattle.desk_model.specs.declared.call.Signed.{Signed}
+use Rattle.desk_model.specs.declared.call.Target.{Target}
+use Rattle.desk_model.specs.declared.call.Target.TheVariants as to
+use Rattle.desk_model.specs.declared.objects.Nonce.{Nonce}
+use Rattle.desk_model.specs.declared.rows.AccountRow.{AccountRow}
+use Rattle.desk_model.specs.declared.rows.AuthorizationRow.{AuthorizationRow}
+use Rattle.desk_model.specs.declared.rows.OrderRow.{OrderRow}
+use Rattle.desk_model.specs.declared.verdict.Shows.TheVariants as show
+use Rattle.model_laws.proofs.Local.{find_kept, find_part}
+use Rattle.model_laws.proofs.Finds.{each_found, found_passes}
+use Rattle.desk_model.specs.Asked.{carries, target_new_key, target_order, target_authorization, target_owner, target_names}
+use Rattle.model_lives.proofs.Grown.{KeepsNamed}
+use Rattle.model_lives.proofs.Lists.{same_number}
+use Rattle.model_lives.proofs.Reusing.{KeepsAsked, new_order_same}
+use Rattle.model_laws.proofs.Basics.{each}
+
+-- ---- look-ups
+
+pub account_same : (k : Kept) (S : Tables) (n : ℕ) → k.accounts n ≡ true → account_on (restricted k S) n ≡ account_on S n
+account_same k S n h = find_kept (λ (a : AccountRow). a.number) k.accounts n S.accounts h
+
+pub order_same : (k : Kept) (S : Tables) (n : ℕ) → k.orders n ≡ true → order_on (restricted k S) n ≡ order_on S n
+order_same k S n h = find_kept (λ (o : OrderRow). o.number) k.orders n S.orders h
+
+pub authorization_same : (k : Kept) (S : Tables) (n : ℕ) → k.authorizations n ≡ true → authorization_on (restricted k S) n ≡ authorization_on S n
+authorization_same k S n h = find_kept (λ (a : AuthorizationRow). a.number) k.authorizations n S.authorizations h
+
+pub owner_same : (k : Kept) (S : Tables) (n : ℕ) → EachOf (λ r. has_row n r ≡ true → k.authorizations r.number ≡ true) S.authorizations →
+    owner_on (restricted k S) n ≡ owner_on S n
+owner_same k S n h = find_part (has_row n) (λ a. k.authorizations a.number) S.authorizations h
+
+pub key_same : (k : Kept) (S : Tables) (key : List ℕ) → EachOf (λ x. bytes_eq x.key key ≡ true → k.accounts x.number ≡ true) S.accounts →
+    account_with_key (restricted k S) key ≡ account_with_key S key
+key_same k S key h = find_part (λ a. bytes_eq a.key key) (λ a. k.accounts a.number) S.accounts h
+
+-- ---- the nonce
+
+pub nonce_same : (k : Kept) (S : Tables) (s : Signed) → ((n : ℕ) → carries (ask.Signed s) n ≡ true → k.nonces n ≡ true) →
+    open_nonce (restricted k S) s.nonce ≡ open_nonce S s.nonce
+nonce_same k S s h = by (option_and_then nonce_in s.nonce) h
+  where
+    by : (t : Option NonceText) → ((n : ℕ) → holds (λ (x : NonceText). n == x.serial) t ≡ true → k.nonces n ≡ true)
+        → open_nonce_in (restricted k S) t ≡ open_nonce_in S t
+    by None f = refl
+    by (Some t) f = ap (if_spelled t) (find_kept (λ (n : Nonce). n.serial) k.nonces t.serial S.nonces (f t.serial (same_number t.serial)))
+
+-- ---- signed requests
+
+-- a key change, where the account and the one that has the new key are kept
+key_change_same : (k : Kept) (S : Tables) (n : ℕ) (p : List ℕ) → k.accounts n ≡ true →
+    EachOf (λ x. target_new_key to.KeyChange p x.key ≡ true → k.accounts x.number ≡ true) S.accounts →
+    given (key_change p) refusal.Malformed (key_change_verdict (restricted k S) n) ≡ given (key_change p) refusal.Malformed (key_change_verdict S n)
+unfolding given
+key_change_same k S n p kept free = by (key_change p) free
+  where
+    rekeyed : (o : Option (List ℕ)) → EachOf (λ x. holds (bytes_eq x.key) o ≡ true → k.accounts x.number ≡ true) S.accounts →
+        given o refusal.BadPublicKey (λ key. rekey_verdict n key (account_with_key (restricted k S) key))
+        ≡ given o refusal.BadPublicKey (λ key. rekey_verdict n key (account_with_key S key))
+    rekeyed None h = refl
+    rekeyed (Some key) h = ap (rekey_verdict n key) (key_same k S key h)
+
+    by : (q : Option KeyChange) → EachOf (λ x. holds (bytes_eq x.key) (option_and_then (λ c. c.new_key) q) ≡ true → k.accounts x.number ≡ true) S.accounts →
+        given q refusal.Malformed (key_change_verdict (restricted k S) n) ≡ given q refusal.Malformed (key_change_verdict S n)
+    by None h = refl
+    by (Some c) h =
+        λ i. check (bytes_eq c.account (account_url S.meta.policy n) && holds (λ key. holds (λ a. bytes_eq a.key key) (account_same k S n kept i)) c.old_key)
+        refusal.Malformed (rekeyed c.new_key h i)
+
+target_same : (k : Kept) (S : Tables) (r : List ℕ) (n : ℕ) (p : List ℕ) (t : Target) → k.accounts n ≡ true →
+    EachOf (λ x. target_new_key t p x.key ≡ true → k.accounts x.number ≡ true) S.accounts →
+    ((j : ℕ) → target_order t j ≡ true → k.orders j ≡ true) →
+    ((j : ℕ) → target_authorization t j ≡ true → k.authorizations j ≡ true) →
+    EachOf (λ a. target_owner t a ≡ true → k.authorizations a.number ≡ true) S.authorizations →
+    KeepsAsked k S.authorizations n (target_names t p) →
+    target_verdict (restricted k S) r n p t ≡ target_verdict S r n p t
+unfolding given
+target_same k S r n p to.NewAccount y f o a c w = refl
+target_same k S r n p to.KeyChange y f o a c w = key_change_same k S n p y f
+target_same k S r n p to.NewOrder y f o a c w = by (new_order p) w
+  where
+    by : (asked : Option (List Identifier)) → KeepsAsked k S.authorizations n (option_and_then names_asked asked) →
+        given asked refusal.Malformed (new_order_verdict (restricted k S) r n) ≡ given asked refusal.Malformed (new_order_verdict S r n)
+    by None h = refl
+    by (Some ids) h = new_order_same k S r n ids h
+target_same k S r n p (to.Account j) y f o a c w = refl
+target_same k S r n p (to.Orders j) y f o a c w = refl
+target_same k S r n p (to.Order j) y f o a c w =
+    ap (λ x. given (own (λ (y : OrderRow). y.account) n x) refusal.NotFound
+    (λ y. check (nothing p) refusal.Malformed (answers (show.Order j)))) (order_same k S j (o j (same_number j)))
+target_same k S r n p (to.Finalize j) y f o a c w =
+    ap (λ x. given (own (λ (y : OrderRow). y.account) n x) refusal.NotFound
+    (λ y. given (finalize p) refusal.Malformed (finalize_verdict j y))) (order_same k S j (o j (same_number j)))
+target_same k S r n p (to.Cert j) y f o a c w =
+    ap (λ x. given (own (λ (y : OrderRow). y.account) n x) refusal.NotFound
+    (λ y. check (nothing p) refusal.Malformed (certificate_verdict j y))) (order_same k S j (o j (same_number j)))
+target_same k S r n p (to.Authz j) y f o a c w =
+    ap (λ x. given (own (λ (y : AuthorizationRow). y.account) n x) refusal.NotFound
+    (λ y. given (authorization_change p) refusal.Malformed (authorization_verdict j y))) (authorization_same k S j (a j (same_number j)))
+target_same k S r n p (to.Chall j) y f o a c w =
+    ap (λ x. given (own (λ (y : AuthorizationRow). y.account) n x) refusal.NotFound
+    (λ y. given (challenge_change p) refusal.Malformed (challenge_verdict j y))) (owner_same k S j c)
+
+keyed_same : (k : Kept) (S : Tables) (r key p : List ℕ) (t : Target) →
+    EachOf (λ x. bytes_eq x.key key ≡ true → k.accounts x.number ≡ true) S.accounts →
+    EachOf (λ x. target_new_key t p x.key ≡ true → k.accounts x.number ≡ true) S.accounts →
+    ((j : ℕ) → target_order t j ≡ true → k.orders j ≡ true) →
+    ((j : ℕ) → target_authorization t j ≡ true → k.authorizations j ≡ true) →
+    EachOf (λ a. target_owner t a ≡ true → k.authorizations a.number ≡ true) S.authorizations →
+    EachOf (λ x. bytes_eq x.key key ≡ true → KeepsAsked k S.authorizations x.number (target_names t p)) S.accounts →
+    key_verdict (restricted k S) r key p t (account_with_key (restricted k S) key) ≡ key_verdict S r key p t (account_with_key S key)
+keyed_same k S r key p t h f o a c w = ap (key_verdict (restricted k S) r key p t) (key_same k S key h) ∙ by (account_with_key S key) refl
+  where
+    by : (x : Option AccountRow) → account_with_key S key ≡ x → key_verdict (restricted k S) r key p t x ≡ key_verdict S r key p t x
+    by None is = refl
+    by (Some y) is =
+        let passes : bytes_eq y.key key ≡ true = found_passes (λ x. bytes_eq x.key key) S.accounts y is in
+        ap (check (is_valid_account y.status) refusal.Unauthorized)
+        (target_same k S r y.number p t (each_found _ (λ x. bytes_eq x.key key) S.accounts y h is passes) f o a c
+        (each_found _ (λ x. bytes_eq x.key key) S.accounts y w is passes))
+
+-- the verdict by the request's key
+abbrev pub verdict_by : Tables → List ℕ → Signed → Result (List ℕ) BadKey → Verdict
+verdict_by T r s key = elim key [ Err e ↦ refused refusal.BadPublicKey [] | Ok mine ↦ key_verdict T r mine s.payload s.target (account_with_key T mine) ]
+
+abbrev pub is_key : Result (List ℕ) BadKey → List ℕ → Bool
+is_key key text = elim key [ Err e ↦ false | Ok mine ↦ bytes_eq text mine ]
+
+pub signed_same : (k : Kept) (S : Tables) (r : List ℕ) (s : Signed) → KeepsNamed k S (ask.Signed s) → signed_verdict (restricted k S) r s ≡ signed_verdict S r s
+signed_same k S r s h = by s.key h.key (each _ _ S.accounts (λ x f yes. f (or_left _ _ yes)) h.asked)
+  where
+    by : (key : Result (List ℕ) BadKey) → EachOf (λ x. is_key key x.key ≡ true → k.accounts x.number ≡ true) S.accounts →
+        EachOf (λ x. is_key key x.key ≡ true → KeepsAsked k S.authorizations x.number (target_names s.target s.payload)) S.accounts →
+        verdict_by (restricted k S) r s key ≡ verdict_by S r s key
+    by (Err e) f w = refl
+    by (Ok key) f w = keyed_same k S r key s.payload s.target f h.new_key h.order h.authorization h.owner w
+
+-- ---- the other asks
+
+pub report_same : (k : Kept) (S : Tables) (n : ℕ) (finding : Finding) → KeepsNamed k S (ask.Office (office.Report n finding)) →
+    report_verdict (restricted k S) n finding ≡ report_verdict S n finding
+report_same k S n finding h =
+    ap (λ x. given x refusal.NotFound (λ a. given (challenge_of n a) refusal.NotFound (finding_verdict n finding a))) (owner_same k S n h.owner)
+
+pub office_same : (k : Kept) (S : Tables) (a : OfficeAsk) → KeepsNamed k S (ask.Office a) → office_verdict (restricted k S) a ≡ office_verdict S a
+office_same k S office.Directory h = refl
+office_same k S (office.Report n finding) h = report_same k S n finding h
+office_same k S (office.Certify n bytes) h = ap (λ x. given x refusal.NotFound (certify_verdict n bytes)) (order_same k S n (h.order n (same_number n)))
+office_same k S (office.FailOrder n problem) h = ap (λ x. given x refusal.NotFound (fail_verdict n problem)) (order_same k S n (h.order n (same_number n)))
+office_same k S (office.RevokeAuthz n) h =
+    ap (λ x. given x refusal.NotFound (revoke_authorization n)) (authorization_same k S n (h.authorization n (same_number n)))
+office_same k S (office.RevokeAccount n) h = ap (λ x. given x refusal.NotFound (revoke_account n)) (account_same k S n (h.account n (same_number n)))
+office_same k S office.ChallengeWork h = refl
+office_same k S office.OrderWork h = refl
+office_same k S (office.KeyOf n) h = ap (λ x. given x refusal.NotFound (λ (y : AccountRow). answers (show.Key n)))
+    (account_same k S n (h.account n (same_number n)))

@@ -1,0 +1,56 @@
+-- The few rows that are enough for a call, as look-ups find them, one after the other.
+use Rattle.std.specs.Prelude.{ℕ, ◌++◌, ◌&&◌, not, List, [], if◌then◌else◌}
+use Rattle.std.specs.List.{flat_map}
+use Rattle.model_laws.specs.Placing.{puts}
+use Rattle.desk_model.specs.Asked.{asked_names, asks_authorizations, asks_orders}
+use Rattle.desk_model.specs.Tables.{Tables}
+use Rattle.desk_model.specs.declared.call.Ask.{Ask}
+use Rattle.desk_model.specs.declared.rows.AccountRow.{AccountRow}
+use Rattle.desk_model.specs.declared.rows.AuthorizationRow.{AuthorizationRow}
+use Rattle.desk_model.specs.declared.rows.OrderRow.{OrderRow}
+use Rattle.model_lives.specs.Few.{needs_listed, restates}
+use Rattle.model_lives.specs.Loaded.{accounts_once, authorizations_asked_of, authorizations_once, found_nonces, listed_authorizations}
+use Rattle.model_lives.specs.Loaded.{listing_orders, named_accounts, named_authorizations, named_orders, orders_once, past_authorizations, past_orders}
+use Rattle.model_lives.specs.LookUps.{accounts_numbered, authorizations_of, orders_of}
+
+-- the authorizations that are named, and those of the accounts that are named, where an account ends
+abbrev pub moved_authorizations : Tables → Ask → List AuthorizationRow
+moved_authorizations T a =
+    named_authorizations T a
+    ++ (if restates a && asks_authorizations a then flat_map (λ x. authorizations_of T x.number) (accounts_once (named_accounts T a)) else [])
+
+-- the accounts of these authorizations
+abbrev pub holders_of : Tables → List AuthorizationRow → List AccountRow
+holders_of T rows = flat_map (λ r. accounts_numbered T r.account) rows
+
+abbrev pub few_accounts : Tables → Ask → List AccountRow
+few_accounts T a = named_accounts T a ++ holders_of T (authorizations_once (moved_authorizations T a))
+
+abbrev pub restated_authorizations : Tables → ℕ → Ask → List AuthorizationRow
+restated_authorizations T m a = past_authorizations T m ++ (if restates a then authorizations_once (moved_authorizations T a) else [])
+
+abbrev pub opened_orders : Tables → ℕ → Ask → List OrderRow
+opened_orders T m a =
+    (past_orders T m ++ listing_orders T (authorizations_once (restated_authorizations T m a))) ++ (if needs_listed a then named_orders T a else [])
+
+abbrev pub few_orders : Tables → ℕ → Ask → List OrderRow
+few_orders T m a =
+    opened_orders T m a
+    ++ ((if not (needs_listed a) then named_orders T a else [])
+    ++ (if asks_orders a then flat_map (λ x. orders_of T x.number) (accounts_once (few_accounts T a)) else []))
+
+abbrev pub few_authorizations : Tables → ℕ → Ask → List AuthorizationRow
+few_authorizations T m a =
+    (restated_authorizations T m a ++ listed_authorizations T (orders_once (opened_orders T m a)))
+    ++ (authorizations_once (moved_authorizations T a) ++ authorizations_asked_of T (asked_names a) (accounts_once (few_accounts T a)))
+
+-- as tables
+abbrev pub few_loaded : Tables → ℕ → Ask → Tables
+few_loaded T m a =
+    record {
+      meta = T.meta;
+      nonces = puts (λ x. x.serial) (found_nonces T m a) [];
+      accounts = puts (λ x. x.number) (few_accounts T a) [];
+      authorizations = puts (λ r. r.number) (few_authorizations T m a) [];
+      orders = puts (λ o. o.number) (few_orders T m a) [];
+    }

@@ -1,0 +1,58 @@
+-- When rows are enough for a call, though they may lack what it touches.
+use Rattle.std.specs.Prelude.{◌≡◌, ◌&&◌, ℕ, max, [], Bool}
+use Rattle.std.specs.List.{filter, list_any}
+use Rattle.desk_model.specs.Kept.{Kept, restricted}
+use Rattle.desk_model.specs.Legal.{is_processing_challenge}
+use Rattle.desk_model.specs.Order.{is_processing}
+use Rattle.desk_model.specs.Tables.{Tables}
+use Rattle.desk_model.specs.Touched.{lists, only_meta}
+use Rattle.desk_model.specs.declared.call.Ask.{Ask}
+use Rattle.desk_model.specs.declared.call.Ask.TheVariants as ask
+use Rattle.desk_model.specs.declared.call.Call.{Call}
+use Rattle.desk_model.specs.declared.call.OfficeAsk.TheVariants as office
+use Rattle.desk_model.specs.declared.rows.AuthorizationRow.{AuthorizationRow}
+use Rattle.model_lives.specs.AnswersAs.{AnswersAs}
+use Rattle.model_lives.specs.Few.{few_rows}
+
+-- the part is cut from the whole, and answers the call as the whole does
+pub record IsEnoughFor (call : Call) (whole part : Tables) : Type 0 where
+  pub kept : Kept
+  pub cut : part ≡ restricted kept whole
+  pub answers : AnswersAs (max call.at whole.meta.counters.clock) call.ask whole part
+
+-- ---- the rows that are enough for each call
+
+-- one of its challenges waits for the validator, by what is stored
+abbrev pub has_work : AuthorizationRow → Bool
+has_work r = list_any (λ c. is_processing_challenge c.status) r.challenges
+
+-- an order that waits for its certificate, by what is stored, lists it
+abbrev pub is_worked_on : Tables → AuthorizationRow → Bool
+is_worked_on T r = list_any (λ o. is_processing o.status && lists o r.number) T.orders
+
+-- for the work of the validator: these authorizations, whose ends tell whether they are still pending
+abbrev pub challenge_work_rows : Tables → Tables
+challenge_work_rows T =
+    record { meta = T.meta; nonces = []; accounts = []; authorizations = filter has_work T.authorizations; orders = [] }
+
+-- for the work of the issuer: these orders, and the authorizations that they list, whose ends let an order fall
+abbrev pub order_work_rows : Tables → Tables
+order_work_rows T =
+    record {
+      meta = T.meta;
+      nonces = [];
+      accounts = [];
+      authorizations = filter (is_worked_on T) T.authorizations;
+      orders = filter (λ o. is_processing o.status) T.orders;
+    }
+
+-- the directory shows no row; for other calls: what they name, what falls, and what decides a status that may change
+abbrev pub enough_at : Tables → ℕ → Ask → Tables
+enough_at T m (ask.Office office.Directory) = only_meta T
+enough_at T m (ask.Office office.ChallengeWork) = challenge_work_rows T
+enough_at T m (ask.Office office.OrderWork) = order_work_rows T
+enough_at T m a = few_rows T m a
+
+-- at the moment at which the call acts
+abbrev pub enough : Tables → Call → Tables
+enough T call = enough_at T (max call.at T.meta.counters.clock) call.ask

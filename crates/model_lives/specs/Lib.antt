@@ -1,0 +1,10 @@
+pub mod Above
+pub mod AnswersAs
+pub mod CallLaws
+pub mod Few
+pub mod FewLoaded
+pub mod IsEnough
+pub mod IsPart
+pub mod Loaded
+pub mod LookUps
+pub mod PartsLaws

@@ -1,2 +1,0 @@
-pub mod NamesKept
-pub mod NamesRead

@@ -1,2 +1,0 @@
-pub mod Problems
-pub mod Replies

@@ -1,4 +1,0 @@
-pub mod Filter
-pub mod Listed
-pub mod Printed
-pub mod Reported

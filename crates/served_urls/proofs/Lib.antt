@@ -1,2 +1,0 @@
-pub mod AtPaths
-pub mod Members

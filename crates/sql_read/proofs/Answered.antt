@@ -1,0 +1,266 @@
+-- What a query of one table answers: its rows that pass tests, in the order of a number.
+use Rattle.std.proofs.Common.{◌≡◌, ℕ, ◌<◌, ◌+◌, pos, negsuc, ◌++◌, if◌then◌else◌, Bool, true, false, cond, List, [], ◌∷◌, map}
+use Rattle.std.proofs.Common.{filter, flat_map, Option, None, Some, Ordering, Less, Equal, Result, Ok, Err, refl, sym, ap, subst, ◌∙◌, arith, inl, inr}
+use Rattle.std.specs.List.{AllByRecursion, list_all}
+use Rattle.std.specs.List.Sorted.{IsPermutation, IsSorted, IsStrictlySortedBy}
+use Rattle.std.specs.Ordering.{ordering_then}
+use Rattle.std.proofs.lemmas.List.Sorted.{IsPermutation-map, IsPermutation-sym, IsPermutation-trans}
+use Rattle.std.proofs.lemmas.Simd.{map-map}
+use Rattle.sqlite.specs.declared.types.Value.TheVariants.{Null, Int}
+use Rattle.sqlite_value.specs.declared.keys.Collation.TheVariants.{Binary}
+use Rattle.sqlite_value.specs.declared.keys.Key.{Key}
+use Rattle.sqlite_value.specs.Order.{Row}
+use Rattle.sqlite_value.proofs.OrderLemmas.{value_cmp-Int}
+use Rattle.sqlite_trees.specs.Tree.{Trees}
+use Rattle.sqlite_sql.specs.Term.{Term, Env, lit, col, eval, holds}
+use Rattle.sqlite_sql.specs.Query.{Query, Output, inner, end, IsAnswer, as_count, limited, output, output_cmp}
+use Rattle.sqlite_sql.specs.Program.{overlay}
+use Rattle.sqlite_sql.proofs.QueryLemmas.{output_cmp_total}
+use Rattle.sqlite_schema.specs.declared.command.Command.{Command}
+use Rattle.sqlite_schema.specs.declared.command.Command.TheVariants.{Select}
+use Rattle.sqlite_schema.specs.declared.command.Returning.{Returning}
+use Rattle.sqlite_resolve.specs.Compile.{compiled}
+use Rattle.sqlite_resolve.specs.declared.compiled.Compiled.{Compiled}
+use Rattle.sqlite_resolve.specs.declared.error.CompileError.{CompileError}
+use Rattle.sqlite.specs.Listing.{understood, misses_table, reads_listing}
+use Rattle.sqlite.specs.State.{State, Shown}
+use Rattle.sqlite.proofs.Callers.{IsPlain, command_of, reads_as}
+use Rattle.store_book.proofs.SortedLists.{same_sorted}
+use Rattle.model_laws.specs.Ordered.{Ascends}
+use Rattle.sql_schema.specs.Schema.{desk_schema, first_schema}
+use Rattle.sqlite.specs.Schema.{Schema}
+use Rattle.sql_tables.proofs.Keyed.{ranked, three}
+use Rattle.sql_read.specs.Selecting.{IsQuery}
+
+-- ---- queries of one table
+
+-- in the order of a column
+abbrev pub by : ℕ → Term × Key
+by place = (col 1 place, record { collation = Binary; descending = false })
+
+-- all rows, and the first alone
+abbrev pub all_rows : Term
+all_rows = lit (Int (negsuc 0))
+
+abbrev pub first_row : Term
+first_row = lit (Int (pos 1))
+
+-- the rows of a tree that pass the tests, in an order, up to a limit
+abbrev pub picked_up_to : Term → ℕ → List Term → List Term → List (Term × Key) → Query
+picked_up_to limit tree tests project order = record {
+  from = inner tree end;
+  filter = tests;
+  group = None;
+  project = project;
+  distinct = false;
+  collations = [];
+  order = order;
+  limit = limit;
+  offset = lit (Int (pos 0));
+}
+
+-- all of them
+abbrev pub picked : ℕ → List Term → List Term → List (Term × Key) → Query
+picked = picked_up_to all_rows
+
+-- what a text was compiled to: its command, its RETURNING, and the formats in which it reads the time
+abbrev pub Made : Type 0
+Made = Command × Option Returning × List (List ℕ)
+
+abbrev pub made_of : Result Compiled CompileError → Option Made
+made_of (Ok c) = Some (c.command, c.returning, c.formats)
+made_of (Err e) = None
+
+-- where two such are the same, each there, so is what they hold
+some_same : (a b : Made) → Some a ≡ Some b → a ≡ b
+some_same a b same = cc same
+
+-- a text that was compiled to a command alone
+pub record IsCommand (schema : Schema) (text : List ℕ) (command : Command) : Type 0 where
+  pub is : command_of (understood schema text) ≡ command
+  pub plain : IsPlain (understood schema text)
+  pub unlisted : reads_listing schema text ≡ false
+
+-- what it was compiled to is what is understood, as it names no table that is missing
+pub compiled_alone : {schema : Schema} (text : List ℕ) (command : Command) → made_of (compiled schema text) ≡ Some (command, None, [])
+    → IsCommand schema text command
+unfolding understood
+compiled_alone {schema} text command means = go (compiled schema text) refl means
+  where
+    go : (r : Result Compiled CompileError) → compiled schema text ≡ r → made_of r ≡ Some (command, None, []) → IsCommand schema text command
+    go (Ok c) is made =
+        let unlisted : reads_listing schema text ≡ false = ap misses_table is in
+        let known : understood schema text ≡ Ok c = rw unlisted is in
+        let same = some_same (c.command, c.returning, c.formats) (command, None, []) made in
+        record {
+          is = ap command_of known ∙ ap (λ (m : Made). m.0) same;
+          plain = subst IsPlain (sym known) (ap (λ (m : Made). m.1) same, ap (λ (m : Made). m.2) same);
+          unlisted = unlisted;
+        }
+    go (Err e) is made = absurd (let x = made in cc)
+
+-- what a text means over a schema
+pub record IsReadingIn (schema : Schema) (limit : Term) (text : List ℕ) (tree : ℕ) (tests project : List Term) (order : List (Term × Key)) : Type 0 where
+  pub names : List (List ℕ)
+  pub means : made_of (compiled schema text) ≡ Some (Select (record { lets = []; body = picked_up_to limit tree tests project order }) names, None, [])
+  pub selecting : IsQuery text
+
+-- over that of a desk
+abbrev pub IsReadingUpTo : Term → List ℕ → ℕ → List Term → List Term → List (Term × Key) → Type 0
+IsReadingUpTo = IsReadingIn desk_schema
+
+-- a text that reads all rows
+abbrev pub IsReading : List ℕ → ℕ → List Term → List Term → List (Term × Key) → Type 0
+IsReading = IsReadingUpTo all_rows
+
+-- and reads them in format 1
+abbrev pub IsFirstReading : List ℕ → ℕ → List Term → List Term → List (Term × Key) → Type 0
+IsFirstReading = IsReadingIn first_schema all_rows
+
+-- a row passes the tests
+abbrev pub passes : List Term → Row → Row → Bool
+passes tests params r = list_all (holds (params ∷ r ∷ [])) tests
+
+-- ---- what is left, and what is shown of it
+
+-- the rows that the tests leave
+left : (tests : List Term) (params : Row) (rs : List Row)
+    → flat_map (λ r. if list_all (holds (params ∷ r ∷ [])) tests then (params ∷ r ∷ []) ∷ [] else []) rs
+    ≡ map (λ r. params ∷ r ∷ []) (filter (passes tests params) rs)
+left tests params [] = refl
+left tests params (r ∷ rs) = go (passes tests params r) (left tests params rs)
+  where
+    go : (b : Bool) {rest : List Env} → rest ≡ map (λ r. params ∷ r ∷ []) (filter (passes tests params) rs)
+        → (if b then (params ∷ r ∷ []) ∷ [] else []) ++ rest
+        ≡ map (λ r. params ∷ r ∷ []) (cond b (r ∷ filter (passes tests params) rs) (filter (passes tests params) rs))
+    go true more = ap (λ es. (params ∷ r ∷ []) ∷ es) more
+    go false more = more
+
+-- an answer before it is cut to what is shown: in this order, and in no other
+pub record IsOrderedAs (q : Query) (outputs : List Output) (rows : List Row) : Type 0 where
+  pub ordered : List Output
+  pub same : IsPermutation outputs ordered
+  pub sorted : IsSorted (output_cmp q) ordered
+  pub shown : rows ≡ map (λ (o : Output). o.1) ordered
+
+-- rows as the engine keeps them, of which the query tests and shows a part
+module _ {X Y : Type 0} (image : X → Row) (part : X → Y) (tree : ℕ) (tests project : List Term) (order : List (Term × Key)) (params : Row)
+    (test : Y → Bool) (shown : Y → Output)
+    (tests_are : (x : X) → passes tests params (image x) ≡ test (part x))
+    (shown_is : (x : X) → output (picked tree tests project order) (params ∷ image x ∷ []) ≡ shown (part x)) where
+  -- what is shown of the rows that are left
+  outputs : (xs : List X)
+      → map (output (picked tree tests project order)) (map (λ r. params ∷ r ∷ []) (filter (passes tests params) (map image xs)))
+      ≡ map shown (filter test (map part xs))
+  outputs [] = refl
+  outputs (x ∷ xs) = rw (tests_are x) (go (test (part x)) (outputs xs))
+    where
+      go : (b : Bool)
+          → map (output (picked tree tests project order)) (map (λ r. params ∷ r ∷ []) (filter (passes tests params) (map image xs)))
+          ≡ map shown (filter test (map part xs))
+          → map (output (picked tree tests project order)) (map (λ r. params ∷ r ∷ [])
+          (cond b (image x ∷ filter (passes tests params) (map image xs)) (filter (passes tests params) (map image xs))))
+          ≡ map shown (cond b (part x ∷ filter test (map part xs)) (filter test (map part xs)))
+      go true more = λ i. shown_is x i ∷ more i
+      go false more = more
+
+  -- the answer is cut from that of the rows which pass the model's test
+  pub answers_up_to : {schema : Schema} (limit : Term) (text : List ℕ) → IsReadingIn schema limit text tree tests project order
+      → ((db : Trees) → overlay db [] tree ≡ db tree)
+      → (old new : State) (xs : List X) (rows : List Row) → old.now.schema ≡ schema → old.now.trees tree ≡ map image xs
+      → Shown text params old new rows
+      → (all : List Row) × IsOrderedAs (picked tree tests project order) (map shown (filter test (map part xs))) all
+      × (rows ≡ limited (as_count (eval limit (params ∷ []))) all)
+  answers_up_to {schema} limit text is low old new xs rows there has h =
+      let q = picked_up_to limit tree tests project order in
+      let command = compiled_alone text _ is.means in
+      let read = reads_as text params old new schema there _ command.is command.plain command.unlisted rows h in
+      let a : IsAnswer q (overlay old.now.trees []) params rows = read.answer Null in
+      let staged : a.staged ≡ map (λ r. params ∷ r ∷ []) (filter (passes tests params) (old.now.trees tree)) =
+      a.grouped ∙ rw (low old.now.trees) (left tests params (old.now.trees tree)) in
+      let kept : a.kept ≡ map shown (filter test (map part xs)) =
+      a.distinct
+      ∙ ap (map (output q)) staged
+      ∙ ap (λ rs. map (output q) (map (λ r. params ∷ r ∷ []) (filter (passes tests params) rs))) has
+      ∙ outputs xs in (
+        map (λ (o : Output). o.1) a.ordered,
+        record { ordered = a.ordered; same = subst (λ os. IsPermutation os a.ordered) kept a.same; sorted = a.sorted; shown = refl },
+        a.shown,
+      )
+
+  -- of all rows
+  pub answers : {schema : Schema} (text : List ℕ) → IsReadingIn schema all_rows text tree tests project order → ((db : Trees) → overlay db [] tree ≡ db tree)
+      → (old new : State) (xs : List X) (rows : List Row) → old.now.schema ≡ schema → old.now.trees tree ≡ map image xs
+      → Shown text params old new rows
+      → IsOrderedAs (picked tree tests project order) (map shown (filter test (map part xs))) rows
+  answers text is low old new xs rows schema has h =
+      let it = answers_up_to all_rows text is low old new xs rows schema has h in
+      subst (λ rs. IsOrderedAs (picked tree tests project order) (map shown (filter test (map part xs))) rs) (sym it.2) it.1
+
+-- ---- in an order
+
+-- in some order
+pub shown_somehow : {Y : Type 0} (q : Query) (shown : Y → Output) (ys : List Y) (rows : List Row) → IsOrderedAs q (map shown ys) rows
+    → IsPermutation (map (λ y. (shown y).1) ys) rows
+shown_somehow q shown ys rows a =
+    subst (λ rs. IsPermutation rs rows) (map-map (λ (o : Output). o.1) shown ys)
+    (subst (λ rs. IsPermutation (map (λ (o : Output). o.1) (map shown ys)) rs) (sym a.shown)
+    (IsPermutation-map (λ (o : Output). o.1) (map shown ys) a.ordered a.same))
+
+-- SQL orders numbers as the model does
+pub less : (a b : ℕ) → a < b → three a b ≡ Less
+less a b low = elim (ranked a b) [
+  | inl below ↦ below.ranks
+  | inr (inl tied) ↦ absurd (omega (arith, low, tied.same))
+  | inr (inr more) ↦ absurd (omega (arith, low, more.high))
+]
+
+-- what holds of each item of a map
+all_map : {X Y : Type 0} (P : Y → Type 0) (f : X → Y) (xs : List X) → AllByRecursion (λ x. P (f x)) xs → AllByRecursion P (map f xs)
+all_map P f [] h = tt
+all_map P f (x ∷ xs) h = (h.0, all_map P f xs h.1)
+
+-- what is in strict order by what is shown of it
+strictly_shown : {Y : Type 0} (q : Query) (shown : Y → Output) (ys : List Y) → IsStrictlySortedBy (λ x y. output_cmp q (shown x) (shown y)) ys
+    → IsStrictlySortedBy (output_cmp q) (map shown ys)
+unfolding IsStrictlySortedBy
+strictly_shown q shown [] up = tt
+strictly_shown q shown (y ∷ ys) up = (all_map (λ o. output_cmp q (shown y) o ≡ Less) shown ys up.0, strictly_shown q shown ys up.1)
+
+-- the rows come in the one order that is strict
+pub shown_in_order : {Y : Type 0} (q : Query) (shown : Y → Output) (zs ys : List Y) (rows : List Row) → IsPermutation zs ys
+    → IsStrictlySortedBy (λ x y. output_cmp q (shown x) (shown y)) ys → IsOrderedAs q (map shown zs) rows → rows ≡ map (λ y. (shown y).1) ys
+shown_in_order q shown zs ys rows same up a =
+    let moved = IsPermutation-trans a.ordered (map shown zs) (map shown ys) (IsPermutation-sym (map shown zs) a.ordered a.same)
+    (IsPermutation-map shown zs ys same) in
+    a.shown
+    ∙ ap (map (λ (o : Output). o.1))
+    (same_sorted (output_cmp q) (output_cmp_total q) a.ordered (map shown ys) a.sorted (strictly_shown q shown ys up) moved)
+    ∙ map-map (λ (o : Output). o.1) shown ys
+
+-- ---- by one number
+
+module _ {Y : Type 0} (tree : ℕ) (tests project : List Term) (place : ℕ) (key : Y → ℕ) (row : Y → Row) where
+  -- a row beside the number that it is ordered by
+  abbrev pub beside : Y → Output
+  beside y = (Int (pos (key y)) ∷ [], row y)
+
+  -- how the query orders two rows
+  abbrev pub ranks : Y → Y → Ordering
+  ranks x y = output_cmp (picked tree tests project (by place ∷ [])) (beside x) (beside y)
+
+  -- a lower number comes first
+  below : (x y : Y) → key x < key y → ranks x y ≡ Less
+  below x y low = ap (λ o. ordering_then o Equal) (value_cmp-Int (pos (key x)) (pos (key y)) ∙ less (key x) (key y) low)
+
+  -- and so before all that ascend from it
+  all_below : (x : Y) (n : ℕ) (ys : List Y) → key x < n → Ascends key n ys → AllByRecursion (λ y. ranks x y ≡ Less) ys
+  all_below x n [] low up = tt
+  all_below x n (y ∷ ys) low up =
+      (below x y (omega (arith, low, up.0)), all_below x (key y + 1) ys (omega (arith, low, up.0)) up.1)
+
+  -- numbers that ascend are in strict order
+  pub strictly : (n : ℕ) (ys : List Y) → Ascends key n ys → IsStrictlySortedBy ranks ys
+  unfolding IsStrictlySortedBy
+  strictly n [] up = tt
+  strictly n (y ∷ ys) up = (all_below y (key y + 1) ys (omega arith) up.1, strictly (key y + 1) ys up.1)

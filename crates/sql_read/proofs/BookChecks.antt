@@ -1,0 +1,126 @@
+-- Tables that are checked one after the other.
+use Rattle.std.proofs.Common.{◌≡◌, inl, inr, ℕ, List, map, Bool, true, false, Result, Ok, Err, IfErr, IfOk, IsErrAnd, OnOk, refl, sym, ap, subst, ◌∙◌, arith}
+use Rattle.std.proofs.lemmas.Result.{IfOk-from_err}
+use Rattle.std.specs.Prelude.{◌⊎◌, IsErr, IsTrue}
+use Rattle.sqlite.specs.Effect.{Database}
+use Rattle.sqlite.specs.Held.{Held, state}
+use Rattle.sqlite.specs.Order.{Row}
+use Rattle.sqlite.specs.State.{HasCleanDisk, IsUnchanged}
+use Rattle.sqlite.specs.Store.{Ghosts}
+use Rattle.sqlite.specs.declared.error.Error.{Error}
+use Rattle.sqlite.proofs.Callers.{unchanged_then}
+use Rattle.desk_model.specs.Tables.{Tables}
+use Rattle.sql_read.specs.AllTables.{FailsAtFirst, FailsAtTable}
+use Rattle.sql_read.specs.BookShown.{Checks}
+use Rattle.sql_read.specs.Checking.{ShowsTable}
+use Rattle.sql_read.specs.Failures.{FailsHere, HasTexts, IsMet, IsOutOfMemory, MayRead}
+use Rattle.sql_read.proofs.Failing.{may_read_still}
+use Rattle.sql_read.proofs.MetFaults.{met_behind}
+use Rattle.sql_read.proofs.Results.{failed_as, fails_then}
+use Rattle.sql_schema.specs.Failing.{IsFailure}
+use Rattle.sql_schema.specs.Stays.{Asks}
+use Rattle.sql_schema.proofs.StaysLemmas.{asks_then}
+use Rattle.sql_tables.specs.Holds.{Holds}
+
+module _ {S : Type 0} (g : Ghosts S) where
+  -- a reading that failed over a database failed wherever it stood as that
+  here_still : (old mid : Held S) (text : List ℕ) (Fits : Row → Type 0) (e : Error) → (state g mid).now ≡ (state g old).now → FailsHere g mid text Fits e
+      → FailsHere g old text Fits e
+  here_still old mid text Fits e is h = record { before = h.before; after = h.after; same = h.same ∙ is; fails = h.fails }
+
+  -- whichever table it was of
+  pub first_still : (old mid : Held S) (e : Error) → (state g mid).now ≡ (state g old).now → FailsAtFirst g mid e → FailsAtFirst g old e
+  first_still old mid e is (inr challenges) = inr (here_still old mid _ _ e is challenges)
+  first_still old mid e is (inl (inr authorizations)) = inl (inr (here_still old mid _ _ e is authorizations))
+  first_still old mid e is (inl (inl (inr listed))) = inl (inl (inr (here_still old mid _ _ e is listed)))
+  first_still old mid e is (inl (inl (inl (inr orders)))) = inl (inl (inl (inr (here_still old mid _ _ e is orders))))
+  first_still old mid e is (inl (inl (inl (inl (inr accounts))))) = inl (inl (inl (inl (inr (here_still old mid _ _ e is accounts)))))
+  first_still old mid e is (inl (inl (inl (inl (inl (inr nonces)))))) = inl (inl (inl (inl (inl (inr (here_still old mid _ _ e is nonces))))))
+  first_still old mid e is (inl (inl (inl (inl (inl (inl metas)))))) = inl (inl (inl (inl (inl (inl (here_still old mid _ _ e is metas))))))
+
+  -- of those of both formats, or of the keys
+  pub table_still : (old mid : Held S) (e : Error) → (state g mid).now ≡ (state g old).now → FailsAtTable g mid e → FailsAtTable g old e
+  table_still old mid e is (inl first) = inl (first_still old mid e is first)
+  table_still old mid e is (inr keys) = inr (here_still old mid _ _ e is keys)
+
+  -- a reading that failed so failed at its table
+  pub at_table : (here : Held S) (text : List ℕ) (Fits : Row → Type 0) (e : Error) → (FailsHere g here text Fits e → FailsAtTable g here e)
+      → IsOutOfMemory e ⊎ FailsHere g here text Fits e → IsOutOfMemory e ⊎ FailsAtTable g here e
+  at_table here text Fits e is (inl memory) = inl memory
+  at_table here text Fits e is (inr fails) = inr (is fails)
+
+  -- the reading of a table failed
+  pub checks_failed : (Readable : Type 0) (P : Database → Type 0) (old new : Held S) (e : Error) (r : Result Bool Error) → IsErr r → IsErrAnd r (λ x. x ≡ e)
+      → ((T : Tables) → Holds (state g old).now T → HasTexts T → Readable)
+      → (HasCleanDisk (state g new) → MayRead (state g old) → Readable → IsFailure e)
+      → (HasCleanDisk (state g new) → IsOutOfMemory e ⊎ FailsAtTable g old e)
+      → (HasCleanDisk (state g new) → IsMet (state g old) (state g new) e) → Asks (state g old) (state g new) → Checks g old new P r
+  checks_failed Readable P old new e r is_err same readable fails refused met asks = record {
+    known = λ clean. IfOk-from_err r _ is_err;
+    fails = λ clean T has may texts. failed_as r e IsFailure (fails clean may (readable T has texts)) same;
+    refused = λ clean. failed_as r e (λ e. IsOutOfMemory e ⊎ FailsAtTable g old e) (refused clean) same;
+    met = λ clean. failed_as r e (IsMet (state g old) (state g new)) (met clean) same;
+    unchanged = λ clean. IfOk-from_err r _ is_err;
+    asks = asks;
+  }
+
+  -- a row did not pass
+  pub checks_stopped : (P : Database → Type 0) (old new : Held S) → (HasCleanDisk (state g new) → IsUnchanged (state g old) (state g new))
+      → Asks (state g old) (state g new) → Checks g old new P (Ok false)
+  checks_stopped P old new same asks = record {
+    known = λ clean is. absurd (cc is);
+    fails = λ clean T has may texts. tt;
+    refused = λ clean. tt;
+    met = λ clean. tt;
+    unchanged = same;
+    asks = asks;
+  }
+
+  -- all rows of the last table passed
+  pub checks_last : (P : Database → Type 0) (old new : Held S) → (HasCleanDisk (state g new) → P (state g old).now)
+      → (HasCleanDisk (state g new) → IsUnchanged (state g old) (state g new)) → Asks (state g old) (state g new) → Checks g old new P (Ok true)
+  checks_last P old new known same asks = record {
+    known = λ clean _. known clean;
+    fails = λ clean T has may texts. tt;
+    refused = λ clean. tt;
+    met = λ clean. tt;
+    unchanged = same;
+    asks = asks;
+  }
+
+  -- all rows of this table passed, and then those below it are checked
+  pub checks_then : (P Q : Database → Type 0) (old mid new : Held S) (r : Result Bool Error)
+      → (HasCleanDisk (state g mid) → Q (state g old).now → P (state g old).now)
+      → (HasCleanDisk (state g mid) → IsUnchanged (state g old) (state g mid)) → Asks (state g old) (state g mid) → Checks g mid new Q r → Checks g old new P r
+  checks_then P Q old mid new r so same asks rest = record {
+    known = λ clean. told r (honest clean) (rest.known clean);
+    fails = λ clean T has may texts.
+        let still = same (honest clean) in
+        rest.fails clean T (subst (λ db. Holds db T) (sym still.0.now_is) has) (may_read_still (state g old) (state g mid) still asks may) texts;
+    refused = λ clean. fails_then r (rest.refused clean) (λ e fails. elim fails [
+      | inl memory ↦ inl memory
+      | inr at ↦ inr (table_still old mid e (same (honest clean)).0.now_is at)
+    ]);
+    met = λ clean. fails_then r (rest.met clean) (λ e is. met_behind (state g old) (state g mid) (state g new) e asks is);
+    unchanged = λ clean. unchanged r (honest clean) (rest.unchanged clean);
+    asks = asks_then (state g old) (state g mid) (state g new) asks rest.asks;
+  }
+    where
+      honest : HasCleanDisk (state g new) → HasCleanDisk (state g mid)
+      honest clean = omega (arith, clean, rest.asks.survives.clean)
+
+      told : (r : Result Bool Error) → HasCleanDisk (state g mid) → IfOk r (λ known. IsTrue known → Q (state g mid).now)
+          → IfOk r (λ known. IsTrue known → P (state g old).now)
+      told (Ok known) clean q = λ is. so clean (subst Q (same clean).0.now_is (q is))
+      told (Err e) clean q = tt
+
+      unchanged : (r : Result Bool Error) → HasCleanDisk (state g mid) → OnOk r (IsUnchanged (state g mid) (state g new))
+          → OnOk r (IsUnchanged (state g old) (state g new))
+      unchanged (Ok known) clean is = unchanged_then (state g old) (state g mid) (state g new) (same clean) is
+      unchanged (Err e) clean is = tt
+
+-- a table of which more is known
+pub table_as : {S C R : Type 0} {g : Ghosts S} {text : List ℕ} {spelled : Row → C} {write : R → C} {IsStored : R → Type 0} {db : Database}
+    {P Q : List R → Type 0}
+    → (table : ShowsTable g text spelled write IsStored db P) → ((rows : List R) → P rows → Q rows) → ShowsTable g text spelled write IsStored db Q
+table_as table so = record { rows = table.rows; shown = table.shown; stored = table.stored; is = so table.rows table.is }

@@ -1,0 +1,134 @@
+-- A query of a desk's tables fails for memory or the disk alone.
+use Rattle.std.proofs.Common.{◌≡◌, inl, inr, ℕ, true, List, [], ◌∷◌, length, IsTrue, IsSome, None, Option, Ok, Err, Result, All}
+use Rattle.std.proofs.Common.{refl, sym, ap, subst, ◌∙◌, arith}
+use Rattle.sqlite_value.specs.Order.{Row}
+use Rattle.sqlite_trees.specs.declared.error.StoreError.{StoreError}
+use Rattle.sqlite_trees.specs.declared.error.StoreError.TheVariants as store
+use Rattle.sqlite_schema.specs.declared.command.Command.{Command}
+use Rattle.sqlite_schema.specs.declared.command.Command.TheVariants.{Select}
+use Rattle.sqlite_resolve.specs.declared.compiled.Compiled.{Compiled}
+use Rattle.sqlite_resolve.specs.declared.error.CompileError.{CompileError}
+use Rattle.sqlite_typing.specs.Types.{accepts_program}
+use Rattle.sqlite_sql.specs.Term.{Term}
+use Rattle.sqlite_sql.specs.Query.{inner, end}
+use Rattle.sqlite_sql.specs.Program.{overlay}
+use Rattle.sqlite_sql.proofs.QueryLemmas.{no_fold_overflows}
+use Rattle.sqlite_value.specs.declared.keys.Key.{Key}
+use Rattle.sqlite.specs.Clock.{timed}
+use Rattle.sqlite.specs.Effect.{Database, RefusesToRead}
+use Rattle.sqlite.specs.Listing.{understood, reads_listing, IsSourceOf}
+use Rattle.sqlite.specs.State.{State, store_error, IsNoStatement, HasCause, FailsToQuery, FailsToShow, IsNotRun, IsUnchanged, Shown}
+use Rattle.sqlite.specs.declared.error.Error.{Error}
+use Rattle.sqlite.proofs.Callers.{IsPlain, command_of}
+use Rattle.sql_schema.specs.Failing.{IsFailure}
+use Rattle.sql_schema.specs.Schema.{desk_schema, first_schema}
+use Rattle.sqlite.specs.Schema.{Schema}
+use Rattle.sql_schema.specs.Stays.{Asks}
+use Rattle.sql_read.specs.Failures.{FailsToRead, MayRead}
+use Rattle.sql_read.proofs.Answered.{IsCommand, IsReadingIn, all_rows, compiled_alone, picked}
+
+-- ---- the engine
+
+-- how long the statement is that was understood
+abbrev pub tail_of : Result Compiled CompileError → ℕ
+tail_of (Ok c) = c.tail
+tail_of (Err e) = 0
+
+-- the names of its parameters
+abbrev pub names_of : Result Compiled CompileError → List (List ℕ)
+names_of (Ok c) = c.names
+names_of (Err e) = []
+
+-- the text is one statement without parameters, and compares no values of other kinds
+pub record IsSureIn (schema : Schema) (text : List ℕ) (tree : ℕ) (project : List Term) (order : List (Term × Key)) : Type 0 where
+  pub long : tail_of (understood schema text) ≡ length text
+  pub nameless : names_of (understood schema text) ≡ []
+  pub typed : accepts_program schema [] (picked tree [] project order) [] ≡ true
+
+-- over the schema of a desk, and over that of format 1
+abbrev pub IsSure : List ℕ → ℕ → List Term → List (Term × Key) → Type 0
+IsSure = IsSureIn desk_schema
+
+abbrev pub IsFirstSure : List ℕ → ℕ → List Term → List (Term × Key) → Type 0
+IsFirstSure = IsSureIn first_schema
+
+-- a failure of an open store
+failed : (old new : State) (e : Error) (cause : StoreError) → IsTrue old.is_open → e ≡ store_error cause → HasCause old new ⊥ cause → IsFailure e
+failed old new e store.OutOfMemory is_open is why = inl is
+failed old new e store.Io is_open is why = inr (inl is)
+failed old new e store.Corrupt is_open is why = inr (inr (inl is))
+failed old new e store.Full is_open is why = inr (inr (inr is))
+failed old new e store.Broken is_open is why = absurd (let x = sym is_open ∙ why in cc)
+failed old new e store.Unstorable is_open is why = absurd why
+
+module _ {schema : Schema} (text : List ℕ) (tree : ℕ) (project : List Term) (order : List (Term × Key))
+    (is : IsReadingIn schema all_rows text tree [] project order)
+    (sure : IsSureIn schema text tree project order) (old new : State) (has : old.now.schema ≡ schema) (e : Error) where
+  -- what the text means
+  meant : IsCommand schema text (Select (record { lets = []; body = picked tree [] project order }) is.names)
+  meant = compiled_alone text _ is.means
+
+  -- what is understood over the schema
+  known : (c : Compiled) → understood old.now.schema text ≡ Ok c → understood schema text ≡ Ok c
+  known c h = ap (λ s. understood s text) (sym has) ∙ h
+
+  -- the text is understood
+  no_error : (fault : CompileError) → understood old.now.schema text ≡ Err fault → ⊥
+  no_error fault h =
+      let there : understood schema text ≡ Err fault = ap (λ s. understood s text) (sym has) ∙ h in
+      let nothing = sym meant.is ∙ ap command_of there in
+      absurd (cc)
+
+  -- and is one statement
+  never_none : IsNoStatement old text [] e → ⊥
+  never_none (inl (fault, h, why)) = no_error fault h
+  never_none (inr (c, h, inl cut)) =
+      let tail : c.tail ≡ length text = sym (ap tail_of (known c h)) ∙ sure.long in
+      cut.0 (omega (arith, tail))
+  never_none (inr (c, h, inr (inl given))) =
+      let names : c.names ≡ [] = sym (ap names_of (known c h)) ∙ sure.nameless in
+      given.0 (ap length (sym names))
+  never_none (inr (c, h, inr (inr clock))) = clock.0 (subst IsPlain (known c h) meant.plain).1
+
+  -- the query is not refused
+  refused : (limit : Option ℕ) → limit ≡ None → (command : Command) (params : Row) (db : Database)
+      → command ≡ Select (record { lets = []; body = picked tree [] project order }) is.names → params ≡ [] → db ≡ old.now
+      → RefusesToRead limit command db params e → ⊥
+  refused limit unlimited command params db same bare source h =
+      let query = Select (record { lets = []; body = picked tree [] project order }) is.names in
+      let h2 : RefusesToRead limit query old.now [] e =
+      subst (λ d. RefusesToRead limit query d [] e) source (subst (λ p. RefusesToRead limit query db p e) bare
+      (subst (λ k. RefusesToRead limit k db params e) same h)) in
+      go h2
+    where
+      go : RefusesToRead limit (Select (record { lets = []; body = picked tree [] project order }) is.names) old.now [] e → ⊥
+      go (inl mismatch) =
+          absurd (let x = sym (ap (λ s. accepts_program s [] (picked tree [] project order) []) has ∙ sure.typed) ∙ mismatch.1 in cc)
+      go (inr (inl (why, inl none))) = none
+      go (inr (inl (why, inr folds))) = no_fold_overflows (overlay old.now.trees []) (inner tree end) ([] ∷ []) refl folds
+      go (inr (inr stopped)) = absurd (let x = subst (λ (l : Option ℕ). IsSome l) unlimited stopped.1 in cc)
+
+  -- so it fails for memory or the disk alone
+  pub query_fails : MayRead old → FailsToQuery text [] old new e → IsFailure e
+  unfolding FailsToQuery IsNotRun
+  query_fails may (inl (inl none)) = absurd (never_none none.0)
+  query_fails may (inl (inr fails)) = failed old new e fails.0 may.is_open fails.1 fails.2
+  query_fails may (inr (c, it, h)) =
+      let k = known c it.is in
+      let plain = subst IsPlain k meant.plain in
+      let shown : FailsToShow old new text c (timed [] c.formats it.now) e None = subst (FailsToShow old new text c (timed [] c.formats it.now) e) plain.0 h in
+      let db : shown.0 ≡ old.now = subst (λ b. IsSourceOf b old.now shown.0) (ap (λ s. reads_listing s text) has ∙ meant.unlisted) shown.1 in
+      let bare : timed [] c.formats it.now ≡ [] = ap (λ f. timed [] f it.now) plain.1 in
+      absurd (refused old.step_limit may.unlimited c.command (timed [] c.formats it.now) shown.0 (sym (ap command_of k) ∙ meant.is) bare db shown.2)
+
+  -- and so does a reading, where the rows that it shows fit
+  pub reading_fails : (Fits : Row → Type 0) → MayRead old → ((rows : List Row) → Shown text [] old new rows → All Fits rows)
+      → FailsToRead text [] old new Fits e → IsFailure e
+  reading_fails Fits may fit (inl query) = query_fails may query
+  reading_fails Fits may fit (inr (rows, shown, memory)) = inl (memory (fit rows shown))
+
+-- ---- one reading after another
+
+-- a reading that was answered leaves the connection open, and sets no limit
+pub may_read_still : (a b : State) → IsUnchanged a b → Asks a b → MayRead a → MayRead b
+may_read_still a b same asks may = record { is_open = same.0.is_open; unlimited = asks.survives.limit ∙ may.unlimited }

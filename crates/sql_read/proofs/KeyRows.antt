@@ -1,0 +1,132 @@
+-- Under the number of each challenge that was answered stands the key of its answer, and no other.
+use Rattle.std.proofs.Common.{◌≡◌, ◌≢◌, ℕ, List, [], ◌∷◌, map, filter, cond, Option, Some, None, IfOk, Result, refl, sym, ap, subst, ◌∙◌}
+use Rattle.std.specs.List.{cons_option}
+use Rattle.std.specs.Prelude.{◌==◌, nat_lt, option_map}
+use Rattle.std.proofs.lemmas.Bool.{eq-eqb, ne_eqb}
+use Rattle.std.proofs.lemmas.Option.{same_Some}
+use Rattle.std.proofs.lemmas.Simd.{map-map}
+use Rattle.store_columns.specs.Flat.{answer_key, bare, bare_row, challenge_rows, key_rows}
+use Rattle.store_columns.specs.declared.flat_rows.AnswerKey.{AnswerKey}
+use Rattle.store_columns.specs.declared.flat_rows.BareChallenge.{BareChallenge}
+use Rattle.store_columns.specs.declared.flat_rows.Owned.{Owned}
+use Rattle.model_laws.proofs.Basics.{each, each-map, each_both}
+use Rattle.model_laws.proofs.Keeps.{each-filter}
+use Rattle.model_laws.specs.Distinct.{Distinct}
+use Rattle.desk_model.specs.Kept.{EachOf}
+use Rattle.desk_model.specs.Tables.{Tables}
+use Rattle.desk_model.specs.declared.objects.Answer.{Answer}
+use Rattle.desk_model.specs.declared.rows.ChallengeRow.{ChallengeRow}
+use Rattle.model_lives.specs.Above.{challenges_above, first_of}
+use Rattle.sql_tables.specs.Sorted.{sorted_by}
+use Rattle.sql_tables.proofs.Sorting.{each_sorted}
+use Rattle.sql_read.specs.Keys.{HasItsKey, keys_of}
+use Rattle.sql_read.specs.Under.{rows_under}
+use Rattle.sql_read.proofs.AboveRows.{first_challenge}
+use Rattle.sql_read.proofs.Lists.{each-first}
+use Rattle.sql_read.proofs.Results.{read_then}
+
+-- the number of a challenge
+abbrev number : Owned ChallengeRow → ℕ
+number c = c.row.number
+
+-- a challenge with this answer
+abbrev answered_so : Owned ChallengeRow → Option Answer → Owned ChallengeRow
+answered_so c o = record c { row = record c.row { answered = o } }
+
+-- keys under a number
+abbrev under : ℕ → List AnswerKey → List AnswerKey
+under n keys = filter (λ (k : AnswerKey). k.challenge == n) keys
+
+-- other challenges have no key of this number
+keys_other : (k : ℕ) (rows : List (Owned ChallengeRow)) → EachOf (λ c. k ≢ number c) rows → under k (key_rows rows) ≡ []
+keys_other k [] apart = refl
+keys_other k (c ∷ cs) apart = by c.row.answered (keys_other k cs apart.1)
+  where
+    by : (a : Option Answer) → under k (key_rows cs) ≡ [] → under k (cons_option (answer_key (answered_so c a).row) (key_rows cs)) ≡ []
+    by None rest = rest
+    by (Some a) rest =
+        ap (λ b. cond b ((record { challenge = c.row.number; thumb = a.thumb }) ∷ under k (key_rows cs)) (under k (key_rows cs)))
+        (ne_eqb c.row.number k (λ same. apart.0 (sym same)))
+        ∙ rest
+
+-- the key of a challenge is the one under its number
+abbrev IsOwn : List (Owned ChallengeRow) → ChallengeRow → Type 0
+IsOwn rows c = (k : AnswerKey) → answer_key c ≡ Some k → under c.number (key_rows rows) ≡ k ∷ []
+
+-- that of the first
+own_first : (c : Owned ChallengeRow) (cs : List (Owned ChallengeRow)) → EachOf (λ d. number c ≢ number d) cs → IsOwn (c ∷ cs) c.row
+own_first c cs apart = by c.row.answered
+  where
+    by : (a : Option Answer) (k : AnswerKey) → answer_key (answered_so c a).row ≡ Some k
+        → under c.row.number (cons_option (answer_key (answered_so c a).row) (key_rows cs)) ≡ k ∷ []
+    by None k is = absurd (let x = is in cc)
+    by (Some a) k is =
+        let own : AnswerKey = record { challenge = c.row.number; thumb = a.thumb } in
+        let rest : under c.row.number (key_rows cs) ≡ [] = keys_other c.row.number cs apart in
+        let same : own ≡ k = same_Some own k is in
+        ap (λ b. cond b (own ∷ under c.row.number (key_rows cs)) (under c.row.number (key_rows cs))) (eq-eqb c.row.number c.row.number refl)
+        ∙ (λ i. same i ∷ rest i)
+
+-- the key of another challenge is not looked at
+own_behind : (c : Owned ChallengeRow) (cs : List (Owned ChallengeRow)) (d : ChallengeRow) → c.row.number ≢ d.number → IsOwn cs d → IsOwn (c ∷ cs) d
+own_behind c cs d apart own k is = by c.row.answered ∙ own k is
+  where
+    by : (a : Option Answer) → under d.number (cons_option (answer_key (answered_so c a).row) (key_rows cs)) ≡ under d.number (key_rows cs)
+    by None = refl
+    by (Some a) =
+        ap (λ b. cond b ((record { challenge = c.row.number; thumb = a.thumb }) ∷ under d.number (key_rows cs)) (under d.number (key_rows cs)))
+        (ne_eqb c.row.number d.number apart)
+
+-- those of all
+pub keys_own : (rows : List (Owned ChallengeRow)) → Distinct number rows → EachOf (λ c. IsOwn rows c.row) rows
+keys_own [] apart = tt
+keys_own (c ∷ cs) apart = (
+  own_first c cs apart.0,
+  each _ _ cs (λ d both. own_behind c cs d.row both.0 both.1) (each_both _ _ cs apart.0 (keys_own cs apart.1)),
+)
+
+-- ---- what was found
+
+-- the answer of this moment with the key that was found is the challenge's own
+pub answered_found : {E : Type 0} (r : Result (Option Answer) E) (T : Tables) (c : ChallengeRow) (date : ℕ) → HasItsKey T c
+    → option_map (λ (a : Answer). a.date) c.answered ≡ Some date
+    → ((key : AnswerKey) → keys_of T c.number ≡ key ∷ [] → IfOk r (λ found. found ≡ Some (record { date = date; thumb = key.thumb })))
+    → IfOk r (λ found. found ≡ c.answered)
+answered_found {E} r T c date own is read = by c.answered own is
+  where
+    by : (o : Option Answer)
+        → ((k : AnswerKey) → option_map (λ (a : Answer). record { challenge = c.number; thumb = a.thumb }) o ≡ Some k → keys_of T c.number ≡ k ∷ [])
+        → option_map (λ (a : Answer). a.date) o ≡ Some date → IfOk r (λ found. found ≡ o)
+    by None own is = absurd (let x = is in cc)
+    by (Some a) own is =
+        let key : AnswerKey = record { challenge = c.number; thumb = a.thumb } in
+        let same : a.date ≡ date = same_Some a.date date is in
+        read_then r (read key (own key refl)) (λ found it. it ∙ (λ i. Some (record a { date = sym same i })))
+
+-- ---- in the tables of a desk
+
+-- the bare challenges of one authorization
+pub bare_under : (n : ℕ) (rows : List (Owned ChallengeRow))
+    → map (λ (b : Owned BareChallenge). b.row) (map bare_row (filter (λ c. c.owner == n) rows)) ≡ map bare (rows_under n rows)
+bare_under n rows =
+    let own = filter (λ (c : Owned ChallengeRow). c.owner == n) rows in
+    map-map (λ (b : Owned BareChallenge). b.row) bare_row own ∙ sym (map-map bare (λ (c : Owned ChallengeRow). c.row) own)
+
+module _ (T : Tables) (apart : Distinct number (challenge_rows T.authorizations)) where
+  -- each challenge of an authorization has its key
+  pub keys_under : (n : ℕ) → EachOf (HasItsKey T) (rows_under n (challenge_rows T.authorizations))
+  keys_under n =
+      let all = challenge_rows T.authorizations in
+      each-map (HasItsKey T) (λ (c : Owned ChallengeRow). c.row) (filter (λ c. c.owner == n) all)
+      (each-filter (λ (c : Owned ChallengeRow). HasItsKey T c.row) (λ c. c.owner == n) all (keys_own all apart))
+
+  -- so has the first above a number
+  pub keys_above : (n : ℕ) → EachOf (HasItsKey T) (first_of (challenges_above T n))
+  keys_above n =
+      let P = λ (c : Owned ChallengeRow). HasItsKey T c.row in
+      let rows = challenge_rows T.authorizations in
+      let all = sorted_by number rows in
+      let above = filter (λ (c : Owned ChallengeRow). nat_lt n c.row.number) all in
+      subst (EachOf (HasItsKey T)) (first_challenge T n apart)
+      (each-map (HasItsKey T) (λ (c : Owned ChallengeRow). c.row) (first_of above)
+      (each-first P above (each-filter P (λ c. nat_lt n c.row.number) all (each_sorted number P rows (keys_own rows apart)))))

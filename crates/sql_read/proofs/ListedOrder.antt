@@ -1,0 +1,150 @@
+-- What orders list stands by order, then by place; what a look-up finds of it.
+use Rattle.std.proofs.Common.{◌≡◌, inl, inr, ℕ, ◌+◌, ◌<◌, pos, Bool, List, [], ◌∷◌, ◌++◌, map, filter, Ordering, Less, Equal, refl, sym, ap, subst, ◌∙◌, arith}
+use Rattle.std.specs.Prelude.{◌==◌}
+use Rattle.std.specs.List.{AllByRecursion}
+use Rattle.std.specs.List.Sorted.{IsStrictlySortedBy}
+use Rattle.std.specs.Ordering.{ordering_then}
+use Rattle.std.proofs.lemmas.List.Kept.{IsStrictlySortedBy-filter}
+use Rattle.sqlite.specs.declared.types.Value.TheVariants.{Int}
+use Rattle.sqlite_value.specs.Order.{Row, value_cmp}
+use Rattle.sqlite_value.proofs.OrderLemmas.{value_cmp-Int}
+use Rattle.sqlite_trees.proofs.ListLemmas.{IsPermutation-filter}
+use Rattle.sqlite_sql.specs.Query.{Output, output_cmp}
+use Rattle.sqlite_sql.specs.Term.{Term}
+use Rattle.sqlite.specs.State.{State, Shown}
+use Rattle.store_columns.specs.Columns.{listed_columns}
+use Rattle.store_columns.specs.Flat.{listed_rows, owned_by}
+use Rattle.store_columns.specs.Limits.{IsStoredListed}
+use Rattle.store_columns.specs.declared.flat_rows.Owned.{Owned}
+use Rattle.store_columns.proofs.RowsApart.{listed-apart, table-apart}
+use Rattle.model_laws.proofs.Keeps.{each-filter}
+use Rattle.model_laws.specs.Ordered.{Ascends}
+use Rattle.desk_model.specs.Kept.{EachOf}
+use Rattle.desk_model.specs.Tables.{Tables}
+use Rattle.desk_model.specs.declared.rows.Listed.{Listed}
+use Rattle.desk_model.specs.declared.rows.OrderRow.{OrderRow}
+use Rattle.sql_tables.specs.Hidden.{hidden, row_of}
+use Rattle.sql_tables.specs.Holds.{Holds}
+use Rattle.sql_tables.specs.Images.{listed_cells, listed_params}
+use Rattle.sql_tables.proofs.Keyed.{ranked, three}
+use Rattle.sql_read.specs.Bounded.{bounded}
+use Rattle.sql_read.specs.Spelled.{listed_in}
+use Rattle.store_book.specs.IsBook.{IsStoredBook}
+use Rattle.sql_schema.specs.declared.listed.TheConstants as ord_authz
+use Rattle.sql_read.proofs.Answered.{IsReading, answers, by, less, passes, picked, shown_in_order}
+use Rattle.sql_read.proofs.FoundRows.{filter-each}
+use Rattle.sql_read.proofs.KeyedReadings.{columns_of}
+use Rattle.sql_read.proofs.LookUpReadings.{is_equal, listed_by_reading, listing_reading}
+use Rattle.sql_read.proofs.Tests.{number_test, same_bounded}
+use Rattle.sql_read.proofs.Told.{listed_back, listed_project}
+
+-- ---- by order, then by place
+
+-- a row beside its order and its place
+abbrev placed : Owned Listed → Output
+placed l = (Int (pos l.owner) ∷ Int (pos l.row.place) ∷ [], listed_cells l)
+
+-- how a query orders two rows
+abbrev ranks : List Term → Owned Listed → Owned Listed → Ordering
+ranks tests l k = output_cmp (picked 6 tests listed_project (by 1 ∷ by 2 ∷ [])) (placed l) (placed k)
+
+-- a lower order comes first
+lower_order : (tests : List Term) (l k : Owned Listed) → l.owner < k.owner → ranks tests l k ≡ Less
+lower_order tests l k low =
+    ap (λ o. ordering_then o (ordering_then (value_cmp (Int (pos l.row.place)) (Int (pos k.row.place))) Equal))
+    (value_cmp-Int (pos l.owner) (pos k.owner) ∙ less l.owner k.owner low)
+
+-- a number is as high as itself
+tied : (a : ℕ) → three a a ≡ Equal
+tied a = elim (ranked a a) [
+  | inl below ↦ absurd (omega (arith, below.low))
+  | inr (inl same) ↦ same.ranks
+  | inr (inr above) ↦ absurd (omega (arith, above.high))
+]
+
+-- and in one order a lower place
+lower_place : (tests : List Term) (n : ℕ) (l k : Listed) → l.place < k.place
+    → ranks tests (record { owner = n; row = l }) (record { owner = n; row = k }) ≡ Less
+lower_place tests n l k low =
+    ap (λ o. ordering_then o (ordering_then (value_cmp (Int (pos l.place)) (Int (pos k.place))) Equal)) (value_cmp-Int (pos n) (pos n) ∙ tied n)
+    ∙ ap (λ o. ordering_then o Equal) (value_cmp-Int (pos l.place) (pos k.place) ∙ less l.place k.place low)
+
+-- rows of higher orders
+abbrev AreAbove : ℕ → List (Owned Listed) → Type 0
+AreAbove n rows = AllByRecursion (λ k. n < k.owner) rows
+
+-- what an order lists from a place on, and then higher orders, is behind a lower place
+all_behind : (tests : List Term) (n p : ℕ) (l : Listed) (ls : List Listed) (rest : List (Owned Listed)) → l.place < p → Ascends (λ k. k.place) p ls
+    → AreAbove n rest
+    → AllByRecursion (λ k. ranks tests (record { owner = n; row = l }) k ≡ Less) (owned_by n ls ++ rest)
+all_behind tests n p l [] [] low up above = tt
+all_behind tests n p l [] (k ∷ rest) low up above =
+    (lower_order tests (record { owner = n; row = l }) k above.0, all_behind tests n p l [] rest low up above.1)
+all_behind tests n p l (k ∷ ls) rest low up above =
+    (lower_place tests n l k (omega (arith, low, up.0)), all_behind tests n (k.place + 1) l ls rest (omega (arith, low, up.0)) up.1 above)
+
+-- what an order lists, and then what higher orders list, is in strict order
+order_first : (tests : List Term) (n p : ℕ) (ls : List Listed) (rest : List (Owned Listed)) → Ascends (λ k. k.place) p ls → AreAbove n rest
+    → IsStrictlySortedBy (ranks tests) rest → IsStrictlySortedBy (ranks tests) (owned_by n ls ++ rest)
+unfolding IsStrictlySortedBy
+order_first tests n p [] rest up above sorted = sorted
+order_first tests n p (l ∷ ls) rest up above sorted =
+    (all_behind tests n (l.place + 1) l ls rest (omega arith) up.1 above, order_first tests n (l.place + 1) ls rest up.1 above sorted)
+
+-- what orders list whose numbers ascend is above a lower number
+listed_above : (k n : ℕ) (os : List OrderRow) → k < n → Ascends (λ o. o.number) n os → AreAbove k (listed_rows os)
+listed_above k n [] low up = tt
+listed_above k n (o ∷ os) low up = own o.listed (listed_above k (o.number + 1) os (omega (arith, low, up.0)) up.1)
+  where
+    own : (ls : List Listed) → AreAbove k (listed_rows os) → AreAbove k (owned_by o.number ls ++ listed_rows os)
+    own [] rest = rest
+    own (l ∷ ls) rest = (omega (arith, low, up.0), own ls rest)
+
+-- what orders list is in strict order, where their numbers ascend, and the places of each
+listed_strictly : (tests : List Term) (n : ℕ) (os : List OrderRow) → Ascends (λ o. o.number) n os → EachOf (λ o. Ascends (λ l. l.place) 1 o.listed) os
+    → IsStrictlySortedBy (ranks tests) (listed_rows os)
+unfolding IsStrictlySortedBy
+listed_strictly tests n [] up places = tt
+listed_strictly tests n (o ∷ os) up places =
+    order_first tests o.number 1 o.listed (listed_rows os) places.0 (listed_above o.number (o.number + 1) os (omega arith) up.1)
+    (listed_strictly tests (o.number + 1) os up.1 places.1)
+
+-- ---- look-ups
+
+module _ (old new : State) (T : Tables) (rows : List Row) (values : Row) (has : Holds old.now T) (book : IsStoredBook T)
+    (found : List (Owned Listed)) (kept : EachOf IsStoredListed found) (spells : map listed_in rows ≡ map listed_columns found) where
+  -- those that a text picks
+  listed : (text : List ℕ) (tests : List Term) (params : Row) (sql test : Owned Listed → Bool)
+      → IsReading text 6 tests listed_project (by 1 ∷ by 2 ∷ [])
+      → ((t : ℕ × Owned Listed) → passes tests params (hidden listed_cells t) ≡ sql t.1)
+      → ((x : Owned Listed) → IsStoredListed x → sql x ≡ test x)
+      → values ≡ params → Shown text values old new rows → found ≡ filter test (listed_rows T.orders)
+  listed text tests params sql test reading tests_are agree given h =
+      let order = by 1 ∷ by 2 ∷ [] in
+      let ts = has.listed.numbered in
+      let ls = listed_rows T.orders in
+      let shown = subst (λ v. Shown text v old new rows) given h in
+      let answered = answers (hidden listed_cells) row_of 6 tests listed_project order params sql placed tests_are (λ _. refl)
+      text reading (λ _. refl) old new ts rows has.schema has.listed.has shown in
+      let same = IsPermutation-filter sql (map row_of ts) ls has.listed.same in
+      let up = IsStrictlySortedBy-filter (ranks tests) sql ls (listed_strictly tests 0 T.orders has.rising.orders book.book.in_order.places) in
+      let rows_are = shown_in_order (picked 6 tests listed_project order) placed (filter sql (map row_of ts)) (filter sql ls) rows same up answered in
+      let columns = columns_of listed_in listed_params listed_columns listed_back (filter sql ls) rows rows_are in
+      table-apart listed_columns IsStoredListed listed-apart found (filter sql ls) kept (each-filter IsStoredListed sql ls book.stored.listed)
+      (sym spells ∙ columns)
+      ∙ filter-each IsStoredListed sql test agree ls book.stored.listed
+
+  -- what an order lists
+  pub listed_by_found : (n : ℕ) → values ≡ Int (pos (bounded n)) ∷ [] → Shown ord_authz.SELECT_OF.now values old new rows
+      → found ≡ filter (λ l. l.owner == n) (listed_rows T.orders)
+  listed_by_found n given h =
+      listed ord_authz.SELECT_OF.now (is_equal 1) (Int (pos (bounded n)) ∷ []) (λ l. l.owner == bounded n) (λ l. l.owner == n) listed_by_reading
+      (λ t. number_test t.1.owner (bounded n)) (λ l k. same_bounded l.owner n k.order.1) given h
+
+  -- what lists an authorization
+  pub listing_found : (n : ℕ) → values ≡ Int (pos (bounded n)) ∷ [] → Shown ord_authz.SELECT_LISTING.now values old new rows
+      → found ≡ filter (λ l. l.row.authorization == n) (listed_rows T.orders)
+  listing_found n given h =
+      listed ord_authz.SELECT_LISTING.now (is_equal 3) (Int (pos (bounded n)) ∷ []) (λ l. l.row.authorization == bounded n)
+      (λ l. l.row.authorization == n) listing_reading
+      (λ t. number_test t.1.row.authorization (bounded n)) (λ l k. same_bounded l.row.authorization n k.authorization.1) given h

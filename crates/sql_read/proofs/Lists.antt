@@ -1,0 +1,75 @@
+-- Lists: maps, filters and their order.
+use Rattle.std.proofs.Common.{◌≡◌, ℕ, List, [], ◌∷◌, ◌++◌, map, filter, Bool, true, false, cond, Option, Some, None, refl, sym, ap, subst}
+use Rattle.std.specs.List.{cons_option, filter_map, flat_map}
+use Rattle.std.specs.List.Sorted.{IsPermutation}
+use Rattle.std.proofs.lemmas.List.Sorted.{IsPermutation-map, IsPermutation-refl}
+use Rattle.sqlite_trees.proofs.ListLemmas.{IsPermutation-flat_map}
+use Rattle.model_laws.proofs.Basics.{each-map, each_of_map}
+use Rattle.model_laws.specs.Distinct.{Distinct}
+use Rattle.desk_model.specs.Kept.{EachOf}
+use Rattle.model_lives.specs.Above.{first_of}
+use Rattle.sql_tables.specs.Sorted.{sorted_by}
+use Rattle.sql_tables.proofs.Sorting.{each_sorted, sorted_moves}
+
+-- maps that agree
+pub map-same : {A B : Type 0} (f g : A → B) (xs : List A) → ((x : A) → f x ≡ g x) → map f xs ≡ map g xs
+map-same f g [] same = refl
+map-same f g (x ∷ xs) same = λ i. same x i ∷ map-same f g xs same i
+
+-- a test that holds always
+pub filter-all : {A : Type 0} (xs : List A) → filter (λ _. true) xs ≡ xs
+filter-all [] = refl
+filter-all (x ∷ xs) = ap (λ ys. x ∷ ys) (filter-all xs)
+
+-- a test of what a map gives
+pub filter-map : {A B : Type 0} (p : B → Bool) (f : A → B) (xs : List A) → filter p (map f xs) ≡ map f (filter (λ x. p (f x)) xs)
+filter-map p f [] = refl
+filter-map {A} p f (x ∷ xs) = by (p (f x)) (filter-map p f xs)
+  where
+    by : (b : Bool) → filter p (map f xs) ≡ map f (filter (λ x. p (f x)) xs)
+        → cond b (f x ∷ filter p (map f xs)) (filter p (map f xs)) ≡ map f (cond b (x ∷ filter (λ x. p (f x)) xs) (filter (λ x. p (f x)) xs))
+    by true ih = ap (λ ys. f x ∷ ys) ih
+    by false ih = ih
+
+-- equal lists are permutations
+pub as_it_is : {X : Type 0} (xs ys : List X) → xs ≡ ys → IsPermutation xs ys
+as_it_is xs ys same = subst (λ zs. IsPermutation xs zs) same (IsPermutation-refl xs)
+
+-- ---- the first item
+
+-- of a map
+pub first-map : {A B : Type 0} (f : A → B) (xs : List A) → first_of (map f xs) ≡ map f (first_of xs)
+first-map f [] = refl
+first-map f (x ∷ xs) = refl
+
+-- what holds of each item holds of the first
+pub each-first : {A : Type 0} (P : A → Type 0) (xs : List A) → EachOf P xs → EachOf P (first_of xs)
+each-first P [] h = tt
+each-first P (x ∷ xs) h = (h.0, tt)
+
+-- ---- rows by number
+
+-- what holds of what a map gives of each row holds of what it gives of each sorted
+pub each_map_sorted : {A B : Type 0} (key : A → ℕ) (f : A → B) (P : B → Type 0) (xs : List A) → EachOf P (map f xs) → EachOf P (map f (sorted_by key xs))
+each_map_sorted key f P xs h = each-map P f (sorted_by key xs) (each_sorted key (λ x. P (f x)) xs (each_of_map P f xs h))
+
+-- what a map gives of sorted rows of different numbers is what it gives of these rows, in some order
+pub map_moved : {A B : Type 0} (key : A → ℕ) (f : A → B) (xs : List A) (all : List B) → Distinct key xs → all ≡ map f (sorted_by key xs)
+    → IsPermutation all (map f xs)
+map_moved key f xs all apart are =
+    subst (λ ys. IsPermutation ys (map f xs)) (sym are) (IsPermutation-map f (sorted_by key xs) xs (sorted_moves key xs apart))
+
+-- what is made of some items
+picked_flat : {X Y : Type 0} (h : X → Option Y) (xs : List X) → flat_map (λ x. cons_option (h x) []) xs ≡ filter_map h xs
+picked_flat h [] = refl
+picked_flat {X} {Y} h (x ∷ xs) = by (h x) (picked_flat h xs)
+  where
+    by : (o : Option Y) → flat_map (λ x. cons_option (h x) []) xs ≡ filter_map h xs
+        → cons_option o [] ++ flat_map (λ x. cons_option (h x) []) xs ≡ cons_option o (filter_map h xs)
+    by None same = same
+    by (Some y) same = ap (λ l. y ∷ l) same
+
+-- moves with them
+pub picked_moved : {X Y : Type 0} (h : X → Option Y) (xs ys : List X) → IsPermutation xs ys → IsPermutation (filter_map h xs) (filter_map h ys)
+picked_moved h xs ys moved =
+    rw (sym (picked_flat h xs), sym (picked_flat h ys)) (IsPermutation-flat_map (λ x. cons_option (h x) []) xs ys moved)

@@ -1,0 +1,51 @@
+use Rattle.std.proofs.Common.{◌≡◌, map, ap, arith, refl, subst, ◌∙◌}
+use Rattle.sqlite.proofs.Callers.{unchanged_then}
+use Rattle.sqlite.specs.Held.{state}
+use Rattle.sqlite.specs.State.{HasCleanDisk}
+use Rattle.store_columns.specs.Flat.{bare, challenge_rows}
+use Rattle.desk_model.specs.Kept.{EachOf}
+use Rattle.desk_model.specs.declared.rows.AuthorizationRow.{AuthorizationRow}
+use Rattle.sql_schema.proofs.StaysLemmas.{asks_then}
+use Rattle.sql_tables.proofs.Holding.{holds_still}
+use Rattle.sql_read.specs.Keys.{HasItsKey}
+use Rattle.sql_read.specs.Under.{rows_under}
+use Rattle.sql_read.proofs.KeyRows.{bare_under, keys_under}
+use Rattle.sql_read.proofs.LookUpRows.{challenges_of_found}
+use Rattle.sql_read.proofs.LookUpReadings.{challenges_of_reading}
+use Rattle.sql_read.proofs.authorizations.AuthorizationRowParent.nest.Goals as goal
+
+pub find_owned-requires : goal.find_owned-requires
+find_owned-requires g c = challenges_of_reading.selecting
+
+pub returns-clause-found : goal.returns-clause-found
+returns-clause-found g c clean T has book whole own bare_is =
+    let before = state g.S.Store c.args.conn.now in
+    let one = state g.S.Store c.find_owned.new.conn in
+    let clean_one : HasCleanDisk one = omega (arith, clean, c.in_ok-challenges.ensures.asks.survives.clean) in
+    let it = c.in_ok-heads.ensures.read clean_one in
+    let same = c.in_ok-heads.ensures.unchanged clean_one in
+    let row = c.args.self.now in
+    let found = challenges_of_found before one T it.0 _ has book it.1 it.3 it.4 row.number refl it.2 in
+    let number = ap (λ (a : AuthorizationRow). a.number) bare_is in
+    let all = challenge_rows T.authorizations in
+    let heads : c.in_ok-heads.heads.items ≡ map bare whole.challenges =
+    it.5 ∙ ap (map (λ r. r.row)) found ∙ bare_under row.number all
+    ∙ ap (λ n. map bare (rows_under n all)) number ∙ ap (map bare) own in
+    let keys : EachOf (HasItsKey T) whole.challenges = subst (EachOf (HasItsKey T)) own (keys_under T has.rising.challenges whole.number) in
+    let read = c.in_ok-challenges.ensures.found clean T (holds_still before one T same has) book same.0.is_open whole.challenges keys (c.deref.ensures.value
+    ∙ heads) in
+    let challenges = c.new.ensures ∙ read in
+    λ i. record (bare_is i) { challenges = challenges i }
+
+pub returns-clause-unchanged : goal.returns-clause-unchanged
+returns-clause-unchanged g c clean =
+    let before = state g.S.Store c.args.conn.now in
+    let one = state g.S.Store c.find_owned.new.conn in
+    let clean_one : HasCleanDisk one = omega (arith, clean, c.in_ok-challenges.ensures.asks.survives.clean) in
+    let same = c.in_ok-heads.ensures.unchanged clean_one in
+    unchanged_then before one (state g.S.Store c.with_answers.new.conn) same (c.in_ok-challenges.ensures.unchanged clean same.0.is_open)
+
+pub returns-clause-asks : goal.returns-clause-asks
+returns-clause-asks g c =
+    asks_then (state g.S.Store c.args.conn.now) (state g.S.Store c.find_owned.new.conn) (state g.S.Store c.with_answers.new.conn)
+    c.in_ok-heads.ensures.asks c.in_ok-challenges.ensures.asks

@@ -1,0 +1,38 @@
+use Rattle.std.proofs.Common.{arith, refl, ◌∙◌}
+use Rattle.sqlite.specs.Held.{state}
+use Rattle.sqlite.specs.State.{HasCleanDisk}
+use Rattle.model_lives.specs.Above.{challenges_above, first_of}
+use Rattle.sql_schema.proofs.StaysLemmas.{asks_then}
+use Rattle.sql_tables.proofs.Holding.{holds_still}
+use Rattle.sql_read.proofs.AboveRows.{challenge_above_found, challenge_above_reading}
+use Rattle.sql_read.proofs.KeyRows.{keys_above}
+use Rattle.sql_read.proofs.Results.{unchanged_after}
+use Rattle.sql_read.proofs.authorizations.challenge_above.Goals as goal
+
+pub find_owned-requires : goal.find_owned-requires
+find_owned-requires g c = challenge_above_reading.selecting
+
+pub returns-clause-found : goal.returns-clause-found
+returns-clause-found g c clean T has book =
+    let before = state g.S.Store c.args.conn.now in
+    let one = state g.S.Store c.find_owned.new.conn in
+    let clean_one : HasCleanDisk one = omega (arith, clean, c.with_answers.ensures.asks.survives.clean) in
+    let it = c.in_ok-heads.ensures.read clean_one in
+    let same = c.in_ok-heads.ensures.unchanged clean_one in
+    let n = c.args.number in
+    c.with_answers.ensures.found clean T (holds_still before one T same has) book same.0.is_open (first_of (challenges_above T n))
+    (keys_above T has.rising.challenges n)
+    (c.deref.ensures.value ∙ it.5 ∙ challenge_above_found before one T it.0 _ has book n refl it.1 it.3 it.4 it.2)
+
+pub returns-clause-unchanged : goal.returns-clause-unchanged
+returns-clause-unchanged g c clean =
+    let before = state g.S.Store c.args.conn.now in
+    let one = state g.S.Store c.find_owned.new.conn in
+    let clean_one : HasCleanDisk one = omega (arith, clean, c.with_answers.ensures.asks.survives.clean) in
+    unchanged_after c.with_answers.result before one (state g.S.Store c.with_answers.new.conn) (c.in_ok-heads.ensures.unchanged clean_one)
+    (c.with_answers.ensures.unchanged clean)
+
+pub returns-clause-asks : goal.returns-clause-asks
+returns-clause-asks g c =
+    asks_then (state g.S.Store c.args.conn.now) (state g.S.Store c.find_owned.new.conn) (state g.S.Store c.with_answers.new.conn)
+    c.in_ok-heads.ensures.asks c.with_answers.ensures.asks

@@ -1,0 +1,15 @@
+use Rattle.std.proofs.Common.{[], ◌∷◌, ap, ◌∙◌}
+use Rattle.sqlite.specs.declared.types.Value.TheVariants.{Text}
+use Rattle.sqlite.specs.Held.{state}
+use Rattle.sql_read.proofs.EarliestRows.{authorization_end_found, authorization_end_reading}
+use Rattle.sql_read.proofs.Results.{read_then}
+use Rattle.sql_read.proofs.authorizations.earliest_authorization_end.Goals as goal
+
+pub earliest-requires : goal.earliest-requires
+earliest-requires g c = authorization_end_reading.selecting
+
+pub returns-clause-found : goal.returns-clause-found
+returns-clause-found g c clean T has =
+    read_then c.earliest.result (c.earliest.ensures.shown clean) (λ found it.
+    authorization_end_found (state g.S.Store c.args.conn.now) (state g.S.Store c.earliest.new.conn) T it.0 _ found has it.2 c.args.status
+    (c.text_param-params.ensures ∙ ap (λ t. Text t ∷ []) c.as_str.ensures) it.1)

@@ -1,0 +1,67 @@
+use Rattle.std.proofs.Common.{[], IsTrue, sym, ◌∙◌}
+use Rattle.sqlite.specs.Held.{state}
+use Rattle.sql_read.proofs.FormatLemmas.{first_never_newer, later_fails, later_is_newer, never_newer}
+use Rattle.sql_read.proofs.Readings.{format_reading}
+use Rattle.sql_schema.specs.Failing.{IsFailure}
+use Rattle.sql_read.specs.Format.{FailsToShowFormat}
+use Rattle.sql_read.proofs.Results.{failed_as, not_true}
+use Rattle.sql_read.proofs.FirstTables as first
+use Rattle.sql_read.proofs.TableFailures.{format_fails}
+use Rattle.sql_read.proofs.format.is_newer.Goals as goal
+
+pub all_rows-requires : goal.all_rows-requires
+all_rows-requires g c = format_reading.selecting
+
+pub returns-clause-newer : goal.returns-clause-newer
+returns-clause-newer g c clean told = (_, c.in_ok-rows.ensures.shown clean, rw (c.deref.ensures.value) at (c.is_newer_row.ensures.0 told))
+
+pub returns-clause-desk : goal.returns-clause-desk
+returns-clause-desk g c clean T has =
+    not_true c.is_newer_row.result (λ told.
+    never_newer (state g.S.Store c.args.conn.now) (state g.S.Store c.all_rows.new.conn) T _ has (c.in_ok-rows.ensures.shown clean)
+    (rw (c.deref.ensures.value) at (c.is_newer_row.ensures.0 told)))
+
+pub returns-clause-known : goal.returns-clause-known
+returns-clause-known g c clean not_told = (
+  _,
+  c.in_ok-rows.ensures.shown clean,
+  λ newer.
+      let told : IsTrue c.is_newer_row.result = c.is_newer_row.ensures.1 (rw (← c.deref.ensures.value) at newer) in
+      absurd (let e = sym told ∙ not_told in cc),
+)
+
+pub returns-in_err-rows-clause-fails : goal.returns-in_err-rows-clause-fails
+returns-in_err-rows-clause-fails g c clean T has may =
+    failed_as c.from_residual.result c.in_err-rows.field-0.0 IsFailure
+    (format_fails (state g.S.Store c.args.conn.now) (state g.S.Store c.all_rows.new.conn) T c.in_err-rows.field-0.0 has may (c.in_err-rows.ensures.err clean))
+    c.from_residual.ensures.1
+
+pub returns-clause-first : goal.returns-clause-first
+returns-clause-first g c clean T has =
+    not_true c.is_newer_row.result (λ told.
+    first_never_newer (state g.S.Store c.args.conn.now) (state g.S.Store c.all_rows.new.conn) T _ has (c.in_ok-rows.ensures.shown clean)
+    (rw (c.deref.ensures.value) at (c.is_newer_row.ensures.0 told)))
+
+pub returns-in_err-rows-clause-first_fails : goal.returns-in_err-rows-clause-first_fails
+returns-in_err-rows-clause-first_fails g c clean T has may =
+    failed_as c.from_residual.result c.in_err-rows.field-0.0 IsFailure
+    (first.format_fails (state g.S.Store c.args.conn.now) (state g.S.Store c.all_rows.new.conn) T c.in_err-rows.field-0.0 has may
+    (c.in_err-rows.ensures.err clean))
+    c.from_residual.ensures.1
+
+pub returns-clause-later : goal.returns-clause-later
+returns-clause-later g c clean later =
+    c.is_newer_row.ensures.1 (rw (← c.deref.ensures.value) at
+    (later_is_newer (state g.S.Store c.args.conn.now) (state g.S.Store c.all_rows.new.conn) _ later (c.in_ok-rows.ensures.shown clean)))
+
+pub returns-in_err-rows-clause-later_fails : goal.returns-in_err-rows-clause-later_fails
+returns-in_err-rows-clause-later_fails g c clean later may =
+    failed_as c.from_residual.result c.in_err-rows.field-0.0 IsFailure
+    (later_fails (state g.S.Store c.args.conn.now) (state g.S.Store c.all_rows.new.conn) c.in_err-rows.field-0.0 later may (c.in_err-rows.ensures.err clean))
+    c.from_residual.ensures.1
+
+pub returns-in_err-rows-clause-refused : goal.returns-in_err-rows-clause-refused
+returns-in_err-rows-clause-refused g c clean =
+    failed_as c.from_residual.result c.in_err-rows.field-0.0
+    (FailsToShowFormat (state g.S.Store c.args.conn.now) (state g.S.Store c.all_rows.new.conn)) (c.in_err-rows.ensures.err clean)
+    c.from_residual.ensures.1

@@ -1,0 +1,21 @@
+use Rattle.std.proofs.Common.{map, ap, refl, ◌∙◌}
+use Rattle.sqlite.specs.Held.{state}
+use Rattle.store_columns.specs.Flat.{listed_rows}
+use Rattle.desk_model.specs.declared.rows.OrderRow.{OrderRow}
+use Rattle.sql_read.specs.Under.{rows_under}
+use Rattle.sql_read.proofs.ListedOrder.{listed_by_found}
+use Rattle.sql_read.proofs.LookUpReadings.{listed_by_reading}
+use Rattle.sql_read.proofs.orders.OrderRowParent.nest.Goals as goal
+
+pub find_owned-requires : goal.find_owned-requires
+find_owned-requires g c = listed_by_reading.selecting
+
+pub returns-clause-found : goal.returns-clause-found
+returns-clause-found g c clean T has book whole own bare =
+    let it = c.in_ok-listed.ensures.read clean in
+    let row = c.args.self.now in
+    let found = listed_by_found (state g.S.Store c.args.conn.now) (state g.S.Store c.find_owned.new.conn)
+    T it.0 _ has book it.1 it.3 it.4 row.number refl it.2 in
+    let listed = c.new.ensures ∙ it.5 ∙ ap (map (λ r. r.row)) found
+    ∙ ap (λ (o : OrderRow). rows_under o.number (listed_rows T.orders)) bare ∙ own in
+    λ i. record (bare i) { listed = listed i }

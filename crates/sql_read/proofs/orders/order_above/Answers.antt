@@ -1,0 +1,18 @@
+use Rattle.sqlite.specs.Held.{state}
+use Rattle.model_laws.proofs.Keeps.{each-filter}
+use Rattle.model_lives.specs.Above.{first_of, orders_above}
+use Rattle.sql_read.proofs.AboveRows.{order_above_found, order_above_reading}
+use Rattle.sql_read.proofs.Lists.{each-first}
+use Rattle.sql_read.proofs.UnderLemmas.{orders_have}
+use Rattle.sql_read.proofs.orders.order_above.Goals as goal
+
+pub find_parents-requires : goal.find_parents-requires
+find_parents-requires g c = order_above_reading.selecting
+
+pub returns-clause-found : goal.returns-clause-found
+returns-clause-found g c clean T has book =
+    c.find_parents.ensures.found clean T has book (first_of (orders_above T c.args.number))
+    (each-first _ _ (each-filter _ _ T.orders (orders_have 0 T.orders has.rising.orders)))
+    (λ new shown heads h kept spells.
+    order_above_found (state g.S.Store c.args.conn.now) (state g.S.Store new) T shown _ has book c.args.number
+    c.number_param-params.ensures heads kept spells h)

@@ -1,0 +1,32 @@
+-- What is known of a table whose rows were checked one after the other.
+use Rattle.std.specs.Prelude.{◌≡◌, ◌++◌, ℕ, List, [], map}
+use Rattle.sqlite.specs.Effect.{Database}
+use Rattle.sqlite.specs.Given.{HasGiven}
+use Rattle.sqlite.specs.Held.{Held, state}
+use Rattle.sqlite.specs.Order.{Row}
+use Rattle.sqlite.specs.State.{IsUnchanged}
+use Rattle.sqlite.specs.Store.{Ghosts}
+use Rattle.desk_model.specs.Kept.{EachOf}
+use Rattle.sql_read.specs.Shown.{IsShown}
+
+module _ {S C R : Type 0} (g : Ghosts S) (text : List ℕ) (spelled : Row → C) (write : R → C) (IsStored : R → Type 0) where
+  -- over this database the query showed the columns of rows in their limits, of which this is so
+  pub record ShowsTable (db : Database) (P : List R → Type 0) : Type 0 where
+    pub rows : List R
+    pub shown : (conn : Held S) → (state g conn).now ≡ db → IsShown g text spelled conn (map write rows)
+    pub stored : EachOf IsStored rows
+    pub is : P rows
+
+  -- the query has given the columns of rows in their limits, of which this is so, and changed nothing
+  pub record HasGivenRows (old now : Held S) (P : List R → Type 0) : Type 0 where
+    pub given : List Row
+    pub rows : List R
+    pub gives : HasGiven g text [] now given
+    pub same : IsUnchanged (state g old) (state g now)
+    pub columns : map spelled given ≡ map write rows
+    pub stored : EachOf IsStored rows
+    pub is : P rows
+
+-- a check that stood so goes on by these rows, from wherever it began
+abbrev pub GoesOn : {K R : Type 0} → (Passed : K → K → List R → Type 0) → K → K → List R → Type 0
+GoesOn {K} {R} Passed before after more = (first : K) (rows : List R) → Passed first before rows → Passed first after (rows ++ more)

@@ -1,0 +1,128 @@
+-- The columns that a row of an answer spells.
+use Rattle.std.specs.Prelude.{ℕ, ℤ, pos, List, [], Option, None, Some}
+use Rattle.sqlite.specs.declared.types.Value.{Value}
+use Rattle.sqlite.specs.declared.types.Value.TheVariants.{Int, Text, Blob}
+use Rattle.sqlite.specs.Order.{Row, column}
+use Rattle.store_columns.specs.declared.columns.AccountColumns.{AccountColumns}
+use Rattle.store_columns.specs.declared.columns.AuthzColumns.{AuthzColumns}
+use Rattle.store_columns.specs.declared.columns.ChallColumns.{ChallColumns}
+use Rattle.store_columns.specs.declared.columns.ChallKeyColumns.{ChallKeyColumns}
+use Rattle.store_columns.specs.declared.columns.MetaColumns.{MetaColumns}
+use Rattle.store_columns.specs.declared.columns.NonceColumns.{NonceColumns}
+use Rattle.store_columns.specs.declared.columns.OrderAuthzColumns.{OrderAuthzColumns}
+use Rattle.store_columns.specs.declared.columns.OrderColumns.{OrderColumns}
+
+-- ---- values
+
+-- the number that a value is; any other value counts as 0
+abbrev pub number_in : Value → ℤ
+number_in (Int n) = n
+number_in _ = pos 0
+
+-- the bytes of a text or of a blob; any other value counts as none
+abbrev pub bytes_in : Value → List ℕ
+bytes_in (Text t) = t
+bytes_in (Blob b) = b
+bytes_in _ = []
+
+-- a number, or none for NULL
+abbrev pub number_or_none : Value → Option ℤ
+number_or_none (Int n) = Some n
+number_or_none _ = None
+
+-- a text or a blob, or none for NULL
+abbrev pub bytes_or_none : Value → Option (List ℕ)
+bytes_or_none (Text t) = Some t
+bytes_or_none (Blob b) = Some b
+bytes_or_none _ = None
+
+-- ---- rows
+
+-- of `meta`
+abbrev pub meta_in : Row → MetaColumns
+meta_in r =
+    record {
+      id = number_in (column r 0);
+      format = number_in (column r 1);
+      base = bytes_in (column r 2);
+      nonce_life = number_in (column r 3);
+      order_life = number_in (column r 4);
+      authz_life = number_in (column r 5);
+      clock = number_in (column r 6);
+      nonces = number_in (column r 7);
+      accounts = number_in (column r 8);
+      orders = number_in (column r 9);
+      authzs = number_in (column r 10);
+      challs = number_in (column r 11);
+    }
+
+-- of `nonce`
+abbrev pub nonce_in : Row → NonceColumns
+nonce_in r = record { serial = number_in (column r 0); random = bytes_in (column r 1); issued = number_in (column r 2) }
+
+-- of `account`
+abbrev pub account_in : Row → AccountColumns
+account_in r =
+    record {
+      num = number_in (column r 0);
+      jwk = bytes_in (column r 1);
+      contacts = bytes_in (column r 2);
+      opened = number_in (column r 3);
+      ended = number_or_none (column r 4);
+      end_kind = bytes_or_none (column r 5);
+      status = bytes_in (column r 6);
+    }
+
+-- of `ord`
+abbrev pub order_in : Row → OrderColumns
+order_in r =
+    record {
+      num = number_in (column r 0);
+      account = number_in (column r 1);
+      made = number_in (column r 2);
+      expires = number_in (column r 3);
+      finalized = number_or_none (column r 4);
+      csr = bytes_or_none (column r 5);
+      certified = number_or_none (column r 6);
+      cert = bytes_or_none (column r 7);
+      failed = number_or_none (column r 8);
+      problem = bytes_or_none (column r 9);
+      status = bytes_in (column r 10);
+    }
+
+-- of `authz`
+abbrev pub authorization_in : Row → AuthzColumns
+authorization_in r =
+    record {
+      num = number_in (column r 0);
+      account = number_in (column r 1);
+      name = bytes_in (column r 2);
+      wildcard = number_in (column r 3);
+      made = number_in (column r 4);
+      expires = number_in (column r 5);
+      ended = number_or_none (column r 6);
+      end_kind = bytes_or_none (column r 7);
+      status = bytes_in (column r 8);
+    }
+
+-- of `ord_authz`
+abbrev pub listed_in : Row → OrderAuthzColumns
+listed_in r = record { ord = number_in (column r 0); place = number_in (column r 1); authz = number_in (column r 2) }
+
+-- of `chall`
+abbrev pub challenge_in : Row → ChallColumns
+challenge_in r =
+    record {
+      num = number_in (column r 0);
+      authz = number_in (column r 1);
+      kind = bytes_in (column r 2);
+      token = bytes_in (column r 3);
+      answered = number_or_none (column r 4);
+      reported = number_or_none (column r 5);
+      outcome = bytes_or_none (column r 6);
+      status = bytes_in (column r 7);
+    }
+
+-- of `chall_key`
+abbrev pub key_in : Row → ChallKeyColumns
+key_in r = record { chall = number_in (column r 0); thumb = bytes_in (column r 1) }

@@ -1,0 +1,38 @@
+//! The rows of a desk, read from the tables of its database.
+#![tactic(auto)]
+
+mod accounts;
+mod answers;
+mod authorizations;
+mod checked;
+mod checking;
+mod columns;
+mod earliest;
+mod fault;
+mod first;
+mod format;
+mod meta;
+mod nonces;
+mod orders;
+mod owned;
+mod params;
+mod parents;
+mod query;
+mod rows;
+mod stored;
+mod tables;
+mod values;
+
+pub use accounts::{account_above, find_accounts};
+pub use authorizations::{
+    authorization_above, challenge_above, earliest_authorization_end, find_authorizations,
+    owners_of, owners_processing,
+};
+pub use checked::has_book_rows;
+pub use fault::ReadFault;
+pub use first::load_first;
+pub use format::is_newer;
+pub use meta::meta_row;
+pub use nonces::{earliest_issue, find_nonces};
+pub use orders::{earliest_order_end, find_orders, order_above, orders_listing};
+pub use stored::load_stored;

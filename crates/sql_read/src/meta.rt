@@ -1,0 +1,78 @@
+//! The row of the desk.
+ghost use Rattle.std.specs.Prelude.{◌≡◌, [], ◌∷◌, IfOk, OnOk};
+ghost use Rattle.sqlite.specs.State.{HasCleanDisk, IsUnchanged};
+ghost use Rattle.sqlite.specs.Held.{state};
+ghost use Rattle.desk_model.specs.declared.rows.Meta.{Meta as MetaRow};
+ghost use Rattle.sql_schema.specs.Stays.{Asks};
+ghost use Rattle.sql_read.specs.Fitting.{FitsMeta};
+ghost use Rattle.sql_read.specs.Held.{ForHeld};
+ghost use Rattle.sql_read.specs.Spelled.{meta_in};
+ghost use Rattle.store_book.specs.IsBook.{IsStoredBook};
+
+use crate::columns::Selected;
+use crate::fault::ReadFault;
+use crate::rows::find_rows;
+use crate::values::{numbers, text};
+use desk_model::Meta;
+use sql_schema::meta;
+use sqlite::{Alter, Connection, Error, Row};
+use std::alloc::Global;
+use store_columns::MetaColumns;
+
+impl Selected for MetaColumns {
+    ghost spelled = { meta_in };
+
+    ghost Fits = { FitsMeta };
+
+    fn of(row: &Row) -> Result<MetaColumns, Error> {
+        let [
+            id,
+            format,
+            nonce_life,
+            order_life,
+            authz_life,
+            clock,
+            nonces,
+            accounts,
+            orders,
+            authzs,
+            challs,
+        ] = numbers(row, [0, 1, 3, 4, 5, 6, 7, 8, 9, 10, 11])?;
+        let base = text(row, 2)?;
+        Ok(MetaColumns {
+            id,
+            format,
+            base,
+            nonce_life,
+            order_life,
+            authz_life,
+            clock,
+            nonces,
+            accounts,
+            orders,
+            authzs,
+            challs,
+        })
+    }
+}
+
+// The last row; of a desk it is the only one.
+fn last_row(mut rows: Vec<Meta>) -> Result<Meta, ReadFault>
+    ensures { (row : MetaRow) → rows.items ≡ row ∷ [] → IfOk result (λ found. found ≡ row) }
+{
+    rows.pop().ok_or(ReadFault::NotARow)
+}
+
+/// The row of the desk.
+///
+/// # Errors
+///
+/// The engine's, and `NotARow` where no row of a desk is there; nothing is changed.
+pub fn meta_row<S: Alter>(alloc: Global, conn: &mut Connection<S>) -> Result<Meta, ReadFault>
+    ensures found { ForHeld (state S.Store conn.old) (state S.Store conn.new) (λ T. IsStoredBook T → IfOk result (λ meta. meta ≡ T.meta)) }
+    ensures unchanged { HasCleanDisk (state S.Store conn.new) → OnOk result (IsUnchanged (state S.Store conn.old) (state S.Store conn.new)) }
+    ensures asks { Asks (state S.Store conn.old) (state S.Store conn.new) }
+{
+    let rows = find_rows::<S, MetaColumns>(alloc, conn, meta::SELECT, &[])?;
+    last_row(rows)
+}

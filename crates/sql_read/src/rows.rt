@@ -1,0 +1,82 @@
+//! The rows of a desk that an answer spells.
+ghost use Rattle.std.specs.Prelude.{◌≡◌, ◌≢◌, map, List, IfOk, MatchResult, OnOk};
+ghost use Rattle.sqlite.specs.Order.{Row as SqlRow};
+ghost use Rattle.sqlite.specs.State.{HasCleanDisk, IsUnchanged, Shown};
+ghost use Rattle.sqlite.specs.Values.{bound};
+ghost use Rattle.sqlite.specs.Held.{state};
+ghost use Rattle.desk_model.specs.Kept.{EachOf};
+ghost use Rattle.sql_schema.specs.Stays.{Asks};
+ghost use Rattle.sql_read.specs.Queries.{bound_by};
+ghost use Rattle.sql_read.specs.Selecting.{IsQuery};
+ghost use Rattle.sql_read.specs.declared.fault.ReadFault.TheVariants.{NotARow};
+
+use crate::columns::Selected;
+use crate::fault::ReadFault;
+use crate::params::Params;
+use crate::query::read_query;
+use desk_model::Sequence;
+use sqlite::types::ValueRef;
+use sqlite::{Alter, Connection};
+use std::alloc::Global;
+use store_columns::{Columns, read_table};
+
+/// The rows of these columns.
+///
+/// # Errors
+///
+/// `NotARow` where no row in its limits has some of them.
+pub(crate) fn rows_of<C: Columns>(alloc: Global, all: Sequence<C>) -> Result<Vec<C::Row>, ReadFault>
+    ensures { MatchResult result
+        (λ rows. EachOf C.IsStored rows.items × (all ≡ map C.write rows.items))
+        (λ fault. fault ≡ NotARow → (rows : List C.Row) → EachOf C.IsStored rows → all ≢ map C.write rows) }
+{
+    match read_table(alloc, all)? {
+        Some(rows) => Ok(rows.into_vec()),
+        None => Err(ReadFault::NotARow),
+    }
+}
+
+/// The rows that a query shows.
+///
+/// # Errors
+///
+/// The engine's, and `NotARow`.
+pub(crate) fn find_rows<S: Alter, C: Selected>(
+    alloc: Global,
+    conn: &mut Connection<S>,
+    text: &str,
+    params: &[ValueRef<'_>],
+) -> Result<Vec<C::Row>, ReadFault>
+    requires { IsQuery text.now }
+    ensures read { HasCleanDisk (state S.Store conn.new)
+        → IfOk result (λ found. (rows : List SqlRow)
+        × Shown text.now (bound params.now) (state S.Store conn.old) (state S.Store conn.new) rows × EachOf C.Columns.IsStored found.items
+        × (map C.spelled rows ≡ map C.Columns.write found.items)) }
+    ensures unchanged { HasCleanDisk (state S.Store conn.new) → OnOk result (IsUnchanged (state S.Store conn.old) (state S.Store conn.new)) }
+    ensures asks { Asks (state S.Store conn.old) (state S.Store conn.new) }
+{
+    let columns = read_query::<S, C>(alloc, conn, text, params)?;
+    rows_of(alloc, columns)
+}
+
+/// The rows that the statement of a query shows. It fails as `find_rows` does.
+pub(crate) fn find_rows_by<S: Alter, C: Selected>(
+    alloc: Global,
+    conn: &mut Connection<S>,
+    text: &str,
+    params: Params<'_>,
+) -> Result<Vec<C::Row>, ReadFault>
+    requires { IsQuery text.now }
+    ensures read { HasCleanDisk (state S.Store conn.new)
+        → IfOk result (λ found. (rows : List SqlRow)
+        × Shown text.now (bound_by params.entry) (state S.Store conn.old) (state S.Store conn.new) rows × EachOf C.Columns.IsStored found.items
+        × (map C.spelled rows ≡ map C.Columns.write found.items)) }
+    ensures unchanged { HasCleanDisk (state S.Store conn.new) → OnOk result (IsUnchanged (state S.Store conn.old) (state S.Store conn.new)) }
+    ensures asks { Asks (state S.Store conn.old) (state S.Store conn.new) }
+{
+    match params {
+        Params::None => find_rows::<S, C>(alloc, conn, text, &[]),
+        Params::One(value) => find_rows::<S, C>(alloc, conn, text, &[value]),
+        Params::Two(value, other) => find_rows::<S, C>(alloc, conn, text, &[value, other]),
+    }
+}

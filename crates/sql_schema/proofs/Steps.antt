@@ -1,0 +1,61 @@
+-- Each statement in its turn.
+use Rattle.std.proofs.Common.{◌<◌, ◌+◌, inl, inr, ℕ, zero, suc, [], Ok, arith}
+use Rattle.sqlite.specs.Effect.{Database}
+use Rattle.sqlite.specs.State.{State, Survives}
+use Rattle.sql_schema.specs.Advances.{Advances, Performs}
+use Rattle.sql_schema.specs.Defined.{AddsKeyTable, Defines}
+use Rattle.sql_schema.specs.declared.keys.TheConstants as chall_key
+use Rattle.sql_schema.specs.Definitions.{definition_at}
+use Rattle.sql_schema.specs.Schema.{schema_at}
+use Rattle.sql_schema.proofs.AdvanceLemmas.{advances_then, performs_advances}
+use Rattle.sql_schema.proofs.Making.{Makes, MovesOn, makes, widens}
+use Rattle.sql_schema.proofs.Meanings.{create_meta_makes, create_nonce_makes, create_account_makes, create_ord_makes}
+use Rattle.sql_schema.proofs.Meanings.{create_authz_makes, create_ord_authz_makes, create_chall_makes, create_nonce_issued_makes}
+use Rattle.sql_schema.proofs.Meanings.{create_ord_account_makes, create_ord_status_expires_makes}
+use Rattle.sql_schema.proofs.Meanings.{create_authz_account_name_makes, create_authz_status_expires_makes}
+use Rattle.sql_schema.proofs.Meanings.{create_ord_authz_authz_makes, create_chall_authz_makes, create_chall_status_makes, create_chall_key_makes}
+
+-- what the statement at each place makes
+each_makes : (step : ℕ) → step < 16 → Makes (schema_at step) (schema_at (step + 1)) (definition_at step)
+each_makes zero low = inl create_meta_makes
+each_makes (suc zero) low = inl create_nonce_makes
+each_makes (suc (suc zero)) low = inl create_account_makes
+each_makes (suc (suc (suc zero))) low = inl create_ord_makes
+each_makes (suc (suc (suc (suc zero)))) low = inl create_authz_makes
+each_makes (suc (suc (suc (suc (suc zero))))) low = inl create_ord_authz_makes
+each_makes (suc (suc (suc (suc (suc (suc zero)))))) low = inl create_chall_makes
+each_makes (suc (suc (suc (suc (suc (suc (suc zero))))))) low = inr create_nonce_issued_makes
+each_makes (suc (suc (suc (suc (suc (suc (suc (suc zero)))))))) low = inr create_ord_account_makes
+each_makes (suc (suc (suc (suc (suc (suc (suc (suc (suc zero))))))))) low = inr create_ord_status_expires_makes
+each_makes (suc (suc (suc (suc (suc (suc (suc (suc (suc (suc zero)))))))))) low = inr create_authz_account_name_makes
+each_makes (suc (suc (suc (suc (suc (suc (suc (suc (suc (suc (suc zero))))))))))) low = inr create_authz_status_expires_makes
+each_makes (suc (suc (suc (suc (suc (suc (suc (suc (suc (suc (suc (suc zero)))))))))))) low = inr create_ord_authz_authz_makes
+each_makes (suc (suc (suc (suc (suc (suc (suc (suc (suc (suc (suc (suc (suc zero))))))))))))) low = inr create_chall_authz_makes
+each_makes (suc (suc (suc (suc (suc (suc (suc (suc (suc (suc (suc (suc (suc (suc zero)))))))))))))) low = inr create_chall_status_makes
+each_makes (suc (suc (suc (suc (suc (suc (suc (suc (suc (suc (suc (suc (suc (suc (suc zero))))))))))))))) low = inl create_chall_key_makes
+each_makes (suc (suc (suc (suc (suc (suc (suc (suc (suc (suc (suc (suc (suc (suc (suc (suc n)))))))))))))))) low = absurd (omega arith)
+
+-- one more definition, where there was nothing before the first
+defines_next : (step : ℕ) (first old new : Database) → Defines step first old → MovesOn (schema_at step) (schema_at (step + 1)) old new
+    → Defines (step + 1) first new
+defines_next step first old new before on none =
+    let was = before none in
+    let it = on was.schema was.empty in
+    record { schema = it.0; empty = it.1 }
+
+-- one more statement of the transaction
+pub defines_more : (first old new : State) (step count : ℕ) → step < 16 → Survives old new (λ _. ⊥) → Advances first old (Defines step)
+    → Performs (definition_at step) [] old new (Ok count)
+    → Advances first new (Defines (step + 1))
+defines_more first old new step count low on before ran =
+    let Next = MovesOn (schema_at step) (schema_at (step + 1)) in
+    let last = performs_advances (definition_at step) [] old new count Next
+    (makes (schema_at step) (schema_at (step + 1)) (definition_at step) (each_makes step low) old new count) ran in
+    advances_then first old new (Defines step) Next (Defines (step + 1)) (defines_next step first.now old.now new.now) on before last
+
+-- the table that format 1 lacks, made where there is format 1
+pub adds_key_table : (old new : State) (count : ℕ) → Performs chall_key.CREATE.now [] old new (Ok count) → Advances old new AddsKeyTable
+adds_key_table old new count ran =
+    performs_advances chall_key.CREATE.now [] old new count AddsKeyTable (λ executes has.
+    let wide = widens (schema_at 15) (schema_at 16) chall_key.CREATE.now create_chall_key_makes old new count executes has in
+    record { sound = wide.sound; schema = wide.schema_is; empty = wide.empty; kept = wide.kept }) ran

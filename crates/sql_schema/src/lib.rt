@@ -1,0 +1,16 @@
+//! The schema of a desk's file, format 2, and that of format 1: its tables and indexes, and what the statements that make them do. The
+//! texts of all statements on a table stand in its module, once: code and definitions take them from there.
+#![tactic(auto)]
+
+pub mod accounts;
+pub mod authorizations;
+pub mod challenges;
+pub mod keys;
+pub mod listed;
+pub mod meta;
+mod names;
+pub mod nonces;
+pub mod orders;
+mod texts;
+
+pub use names::{has_indexes, uses_key_table, uses_names};

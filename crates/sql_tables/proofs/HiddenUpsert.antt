@@ -1,0 +1,176 @@
+-- INSERT .. ON CONFLICT (columns) DO UPDATE of one row, over a table whose row number is hidden.
+use Rattle.std.specs.Prelude.{◌+ℤ◌, slice_get, unwrap_or}
+use Rattle.std.specs.Ordering.{is_eq}
+use Rattle.std.proofs.Common.{◌≡◌, ◌≢◌, inl, inr, ℕ, ◌+◌, ℤ, pos, ◌++◌, List, [], ◌∷◌, map, fold, length, ◌/◌, Bool, true, false}
+use Rattle.std.proofs.Common.{Some, Ok, refl, sym, ap, subst, ◌∙◌}
+use Rattle.sqlite.specs.declared.types.Value.TheVariants.{Int, Null}
+use Rattle.sqlite_value.specs.Order.{Row, column}
+use Rattle.sqlite_trees.specs.Tree.{Trees, rowid}
+use Rattle.sqlite_sql.specs.Term.{Term, eval_all}
+use Rattle.sqlite_sql.specs.Program.{overlay}
+use Rattle.sqlite_schema.specs.declared.command.Upsert.{Upsert}
+use Rattle.sqlite_schema.specs.declared.command.Conflict.TheVariants.{Abort}
+use Rattle.sqlite_schema.specs.declared.command.Source.TheVariants.{Values}
+use Rattle.sqlite_rules.specs.declared.error.Rowids.TheVariants.{Given}
+use Rattle.sqlite_rules.specs.Edit.{edit_of, taken_by, with_rowid, next_rowid, id_in, Applies, IsNoIndex}
+use Rattle.sqlite_rules.specs.Keys.{AreConflicts, conflicts}
+use Rattle.sqlite_rules.specs.Cast.{cast_row}
+use Rattle.sqlite_rules.specs.Calls.{ids_of}
+use Rattle.sqlite_rules.specs.Lists.{Has}
+use Rattle.sqlite.specs.Rows.{Task, Written, Clears, Meets, Updates, Upserts, TriesEach, InsertsOr, stamped, count_of, nothing, rowids_for, shown}
+use Rattle.sqlite.specs.Effect.{value_rows}
+use Rattle.sqlite.proofs.Callers.{one_step}
+use Rattle.desk_model.specs.Change.{put}
+use Rattle.sql_tables.specs.Hidden.{hidden, next, number, IsPlaced}
+use Rattle.sql_tables.specs.Layouts.{IsRising}
+use Rattle.sql_tables.proofs.Keyed.{one_with, with_key, three}
+use Rattle.sql_tables.proofs.Found.{by_key, answered}
+use Rattle.sql_tables.proofs.Inserts.{NoWorks}
+use Rattle.sql_tables.proofs.Upsert.{inserted, edited_as, row_behind, uncounts, tried}
+use Rattle.sql_schema.proofs.Making.{same_value, went}
+use Rattle.std.proofs.lemmas.Bool.{false_from_ne_true}
+
+-- what is in a list is in the mapped one
+pub has_map : {A B : Type 0} (f : A → B) (xs : List A) (x : A) → Has xs x → Has (map f xs) (f x)
+has_map f [] x h = h
+has_map f (y ∷ ys) x (inl here) = inl (ap f here)
+has_map f (y ∷ ys) x (inr there) = inr (has_map f ys x there)
+
+-- a row without a number gets the next one
+chosen_of : (task : Task) (top : ℤ) (rows : List Row) (c : Row) → task.table.is_counted ≡ false
+    → with_rowid (rowids_for task.table top) rows (Null ∷ c) ≡ Int (next_rowid rows) ∷ c
+chosen_of task top rows c none = rw none refl
+
+-- the engine's next number
+next_from : {X : Type 0} (cells : X → Row) (n : ℕ) (ts : List (ℕ × X))
+    → fold (λ _ r. id_in (rowid r) +ℤ pos 1) (pos n) (map (hidden cells) ts) ≡ pos (fold (λ _ t. t.0 + 1) n ts)
+next_from cells n [] = refl
+next_from cells n (t ∷ ts) = next_from cells (t.0 + 1) ts
+
+-- so a row without a number gets the next one of the list
+pub numbered_next : {X : Type 0} (cells : X → Row) (task : Task) (top : ℤ) (rows : List Row) (ts : List (ℕ × X)) (x : X) → task.table.is_counted ≡ false
+    → rows ≡ map (hidden cells) ts → cast_row task.table (Null ∷ cells x) ≡ Null ∷ cells x
+    → with_rowid (rowids_for task.table top) rows (cast_row task.table (Null ∷ cells x)) ≡ hidden cells (next ts, x)
+numbered_next cells task top rows ts x uncounted has cast_new =
+    ap (with_rowid (rowids_for task.table top) rows) cast_new
+    ∙ chosen_of task top rows (cells x) uncounted
+    ∙ ap (λ i. Int i ∷ cells x) (ap next_rowid has ∙ next_from cells 1 ts)
+
+-- the row that has a number is in the list
+with_has : {X : Type 0} (ts : List (ℕ × X)) (k : ℕ) (t : ℕ × X) → with_key number k ts ≡ t ∷ [] → Has ts t
+with_has [] k t e = let bad = e in cc
+with_has (s ∷ ts) k t e = go (is_eq (three s.0 k)) refl (with_has ts k t)
+  where
+    go : (b : Bool) → is_eq (three s.0 k) ≡ b → (with_key number k ts ≡ t ∷ [] → Has ts t) → Has (s ∷ ts) t
+    go true is more = let first : s ∷ with_key number k ts ≡ t ∷ [] = rw is at e in inl (sym (ap (λ l. unwrap_or (slice_get l 0) s) first))
+    go false is more = inr (more (rw is at e))
+
+-- ON CONFLICT (columns) DO UPDATE
+abbrev pub clause_on : List ℕ → ℕ → ℕ → List Term → Upsert
+clause_on places tree at project = record { target = Some places; update = Some (record { lets = []; body = by_key tree at project }) }
+
+-- the table has the row in its place, and every other tree is as it was
+pub record IsHiddenPut {X : Type 0} (cells : X → Row) (same : X → X → Bool) (task : Task) (db : Trees) (ts : List (ℕ × X)) (x : X)
+    (next_db : Trees) : Type 0 where
+  pub after : List (ℕ × X)
+  pub placed : IsPlaced same x ts after
+  pub has : next_db task.table.tree ≡ map (hidden cells) after
+  pub others : (t : ℕ) → t ≢ task.table.tree → IsNoIndex task.schema t → next_db t ≡ db t
+
+module _ {X : Type 0} (cells : X → Row) (same : X → X → Bool) (places : List ℕ)
+    (task : Task) (calm : NoWorks task) (casts : (t : ℕ × X) → cast_row task.table (hidden cells t) ≡ hidden cells t)
+    (low : (db : Trees) → overlay db [] task.table.tree ≡ db task.table.tree) (at : ℕ) (project : List Term) where
+  -- what the update is given: the parameters, the number of the row that is there, and the row that is not inserted
+  abbrev given_to : ℕ → ℕ → X → Row
+  given_to k n x = task.params ++ Int (pos k) ∷ shown task.table (hidden cells (n, x))
+
+  -- a row that is the same is updated, or else the new one is inserted
+  upserts_hidden : (db : Trees) (ts : List (ℕ × X)) (x : X) (w : Written) → db task.table.tree ≡ map (hidden cells) ts → IsRising number ts
+      → ((n : ℕ) (t : ℕ × X) → conflicts (Some places) task.schema.indexes task.table (hidden cells (n, x)) (hidden cells t) ≡ same x t.1)
+      → ((k n : ℕ) → column (given_to k n x) at ≡ Int (pos k))
+      → ((k n : ℕ) (y : X) → same x y ≡ true → eval_all project (given_to k n x ∷ hidden cells (k, y) ∷ []) ≡ Int (pos k) ∷ hidden cells (k, x))
+      → Upserts task Abort (hidden cells (next ts, x)) db (clause_on places task.table.tree at project ∷ []) (Ok w)
+      → IsHiddenPut cells same task db ts x w.trees
+  upserts_hidden db ts x w has up clash given sets h = go h.0 h.1 h.2
+    where
+      fresh : ((t : ℕ × X) → Has ts t → same x t.1 ≡ false) → (found : List Row) → Clears task Abort (hidden cells (next ts, x)) db found (Ok w)
+          → IsHiddenPut cells same task db ts x w.trees
+      fresh none [] h =
+          let it = inserted number (hidden cells) (λ _. refl) task calm casts low at project db ts (next ts, x) w has h in
+          record { after = put number (next ts, x) ts; placed = inr (none, refl); has = it.0; others = it.1 }
+      fresh none (there ∷ more) h =
+          let it = inserted number (hidden cells) (λ _. refl) task calm casts low at project db ts (next ts, x) w has h in
+          record { after = put number (next ts, x) ts; placed = inr (none, refl); has = it.0; others = it.1 }
+
+      over : (t : ℕ × X) → Has ts t → same x t.1 ≡ true → with_key number t.0 ts ≡ t ∷ []
+          → Updates task (record { lets = []; body = by_key task.table.tree at project }) (given_to t.0 (next ts) x) db (Ok w)
+          → IsHiddenPut cells same task db ts x w.trees
+      over t inside tied one h =
+          let on = went h in
+          let tree = low db ∙ has in
+          let rows : on.0 ≡ (Int (pos t.0) ∷ hidden cells (t.0, x)) ∷ [] =
+          answered number (hidden cells) (λ _. refl) (overlay db []) (given_to t.0 (next ts) x) task.table.tree at t.0 project ts on.0
+          (given t.0 (next ts)) tree t one (on.1.answer Null)
+          ∙ ap (λ r. r ∷ []) (sets t.0 (next ts) t.1 tied) in
+          let did = went on.2 in
+          let edit = edit_of db task.table (ids_of on.0) Given 1 on.0 in
+          let a = one_step task.schema task.keys db did.0 edit (calm (taken_by db edit) edit.news) did.1 in
+          let same_trees : did.0 ≡ w.trees = sym (ap (λ (it : Written). it.trees) (same_value did.2)) in
+          let b = subst (Applies task.schema task.keys db edit) same_trees a in
+          record {
+            after = put number (t.0, x) ts;
+            placed = inl (t, inside, tied, refl);
+            has = b.rows ∙ edited_as number (hidden cells) (λ _. refl) task calm casts low at project db ts (t.0, x) t.0 on.0 refl has up rows;
+            others = b.others;
+          }
+
+      go : (found : List Row) → AreConflicts (Some places) task.schema.indexes task.table (db task.table.tree) (hidden cells (next ts, x)) found
+          → Meets task (Upserts task Abort (hidden cells (next ts, x)) db []) (hidden cells (next ts, x)) db
+          (clause_on places task.table.tree at project) found (Ok w)
+          → IsHiddenPut cells same task db ts x w.trees
+      go [] none h =
+          let stands = λ (t : ℕ × X) (in_it : Has ts t). subst (λ rows. Has rows (hidden cells t)) (sym has) (has_map (hidden cells) ts t in_it) in
+          fresh (λ t in_it. false_from_ne_true (same x t.1) (λ tied. none.complete (hidden cells t) (stands t in_it) (clash (next ts) t ∙ tied))) h.0 h.2
+      go (there ∷ more) some h =
+          let it = some.sound there (inl refl) in
+          let inside : Has (map (hidden cells) ts) it.0 = subst (λ rows. Has rows it.0) has it.1 in
+          let from = row_behind (hidden cells) ts it.0 inside in
+          let id : rowid it.0 ≡ Int (pos from.0.0) = ap rowid from.1 in
+          let one = one_with number (hidden cells) (λ _. refl) from.0.0 0 ts up it.0 inside id in
+          let tied : same x one.0.1 ≡ true = sym (clash (next ts) one.0)
+          ∙ ap (conflicts (Some places) task.schema.indexes task.table (hidden cells (next ts, x))) (sym one.3) ∙ it.2 in
+          let read : rowid there ≡ Int (pos one.0.0) = ap rowid it.3 ∙ ap rowid one.3 in
+          let alone = subst (λ k. with_key number k ts ≡ one.0 ∷ []) (sym one.1) one.2 in
+          over one.0 (with_has ts one.0.0 one.0 alone) tied alone
+          (subst (λ v. Updates task (record { lets = []; body = by_key task.table.tree at project })
+          (task.params ++ v ∷ shown task.table (hidden cells (next ts, x))) db (Ok w)) read h)
+
+  -- the whole statement
+  pub puts_hidden : (db : Trees) (ts : List (ℕ × X)) (x : X) (terms : List Term) (width : ℕ) (done : Written) → task.table.is_counted ≡ false
+      → db task.table.tree ≡ map (hidden cells) ts → IsRising number ts
+      → ((n : ℕ) (t : ℕ × X) → conflicts (Some places) task.schema.indexes task.table (hidden cells (n, x)) (hidden cells t) ≡ same x t.1)
+      → ((k n : ℕ) → column (given_to k n x) at ≡ Int (pos k))
+      → ((k n : ℕ) (y : X) → same x y ≡ true → eval_all project (given_to k n x ∷ hidden cells (k, y) ∷ []) ≡ Int (pos k) ∷ hidden cells (k, x))
+      → cast_row task.table (Null ∷ cells x) ≡ Null ∷ cells x
+      → value_rows (stamped task.table task.params) width (length terms / width) terms ≡ (Null ∷ cells x) ∷ []
+      → InsertsOr task Abort (clause_on places task.table.tree at project ∷ []) (Values terms width) db (Ok done)
+      → IsHiddenPut cells same task db ts x done.trees
+  puts_hidden db ts x terms width done uncounted has up clash given sets cast_new source h =
+      let rows = went h in
+      let counter = went rows.2 in
+      let all = went counter.2 in
+      let counts = went all.2 in
+      let one =
+      went (subst
+      (λ rs. TriesEach task Abort (clause_on places task.table.tree at project ∷ []) rs (count_of counter.0) (nothing db) (Ok all.0))
+      (rows.1.1 ∙ source) all.1) in
+      let top = count_of counter.0 in
+      let is_new : with_rowid (rowids_for task.table top) (db task.table.tree) (cast_row task.table (Null ∷ cells x)) ≡ hidden cells (next ts, x) =
+      numbered_next cells task top (db task.table.tree) ts x uncounted has cast_new in
+      let met = subst (λ new. Upserts task Abort new db (clause_on places task.table.tree at project ∷ []) (Ok one.0)) is_new
+      (tried task (clause_on places task.table.tree at project ∷ []) _ db one.0 one.1) in
+      let is_put = upserts_hidden db ts x one.0 has up clash given sets met in
+      let last : done.trees ≡ counts.0 = ap (λ (it : Written). it.trees) (same_value counts.2) in
+      let after : counts.0 ≡ all.0.0.trees = uncounts task all.0.0.trees counter.0 all.0.1 counts.0 uncounted counts.1 in
+      let written : all.0.0.trees ≡ one.0.trees = ap (λ (p : Written × ℤ). p.0.trees) (same_value one.2) in
+      subst (IsHiddenPut cells same task db ts x) (sym (last ∙ after ∙ written)) is_put

@@ -1,0 +1,89 @@
+-- What a statement makes of the tables.
+use Rattle.std.specs.Prelude.{◌≡◌, ◌≢◌, ◌&&◌, ◌==◌, ℕ, ℤ, pos, Bool, List, None, find}
+use Rattle.sqlite.specs.Effect.{Database, IsDatabase}
+use Rattle.sqlite.specs.Order.{Row}
+use Rattle.sqlite_rules.specs.Edit.{IsNoIndex}
+use Rattle.sqlite_rules.specs.Lists.{Has}
+use Rattle.store_columns.specs.Columns.{listed_columns}
+use Rattle.store_columns.specs.declared.columns.OrderAuthzColumns.{OrderAuthzColumns}
+use Rattle.store_columns.specs.declared.flat_rows.Owned.{Owned}
+use Rattle.desk_model.specs.Change.{put, remove}
+use Rattle.desk_model.specs.declared.rows.Listed.{Listed}
+use Rattle.sql_schema.specs.Schema.{desk_schema}
+use Rattle.sql_tables.specs.Hidden.{IsPlaced, next, number}
+use Rattle.sql_tables.specs.Layouts.{HasRows, Layout, listed_layout}
+
+-- every other table is as it was
+abbrev pub KeepsOthers : ℕ → Database → Database → Type 0
+KeepsOthers tree old new = (t : ℕ) → t ≢ tree → IsNoIndex desk_schema t → new.trees t ≡ old.trees t
+
+-- the table has these rows then, and every other table is as it was
+pub record BecomesRows {X : Type 0} (L : Layout X) (rows : List X) (old new : Database) : Type 0 where
+  pub sound : IsDatabase new
+  pub has : HasRows L new rows
+  pub others : KeepsOthers L.table.tree old new
+
+-- whatever rows the table has, they become those
+abbrev pub Becomes : {X : Type 0} → Layout X → (List X → List X) → Database → Database → Type 0
+Becomes {X} L change old new = (rows : List X) → HasRows L old rows → BecomesRows L (change rows) old new
+
+-- the row stands in the place of the one with its key
+abbrev pub Puts : {X : Type 0} → Layout X → X → Database → Database → Type 0
+Puts L row = Becomes L (put L.key row)
+
+-- the row stands in the place of the one with its key, where there is one of which it keeps these columns
+abbrev pub Renews : {X : Type 0} → Layout X → (X → Row) → X → Database → Database → Type 0
+Renews {X} L kept row old new =
+    (rows : List X) → HasRows L old rows → (there : X) → Has rows there → L.key there ≡ L.key row → kept there ≡ kept row
+    → BecomesRows L (put L.key row rows) old new
+
+-- the row is there then, and none had its key
+abbrev pub Adds : {X : Type 0} → Layout X → X → Database → Database → Type 0
+Adds {X} L row old new =
+    (rows : List X) → HasRows L old rows → (find (λ r. L.key r == L.key row) rows ≡ None) × BecomesRows L (put L.key row rows) old new
+
+-- the row of this key is gone
+abbrev pub Removes : {X : Type 0} → Layout X → ℕ → Database → Database → Type 0
+Removes L key = Becomes L (remove L.key key)
+
+-- a row of these columns is put
+abbrev pub PutsColumns : {X C : Type 0} → Layout X → (X → C) → C → Database → Database → Type 0
+PutsColumns {X} L columns_of columns old new = (row : X) → columns_of row ≡ columns → Puts L row old new
+
+-- a row of these columns is renewed, which keeps these
+abbrev pub RenewsColumns : {X C : Type 0} → Layout X → (C → Row) → (X → C) → C → Database → Database → Type 0
+RenewsColumns {X} L kept columns_of columns old new = (row : X) → columns_of row ≡ columns → Renews L (λ x. kept (columns_of x)) row old new
+
+-- a row of these columns is added
+abbrev pub AddsColumns : {X C : Type 0} → Layout X → (X → C) → C → Database → Database → Type 0
+AddsColumns {X} L columns_of columns old new = (row : X) → columns_of row ≡ columns → Adds L row old new
+
+-- the row of this key, as SQL has numbers, is gone
+abbrev pub RemovesNumbered : {X : Type 0} → Layout X → ℤ → Database → Database → Type 0
+RemovesNumbered L number old new = (key : ℕ) → pos key ≡ number → Removes L key old new
+
+-- ---- what orders list
+
+-- one place of one order
+abbrev pub is_same_place : Owned Listed → Owned Listed → Bool
+is_same_place a b = (a.owner == b.owner) && (a.row.place == b.row.place)
+
+-- the row stands in the place of the one of its order and place, under the same hidden number, or under the next one
+abbrev pub Places : Owned Listed → Database → Database → Type 0
+Places row old new =
+    (before : List (ℕ × Owned Listed)) → HasRows listed_layout old before →
+    (after : List (ℕ × Owned Listed)) × IsPlaced is_same_place row before after × BecomesRows listed_layout after old new
+
+-- a row of these columns is put
+abbrev pub PlacesColumns : OrderAuthzColumns → Database → Database → Type 0
+PlacesColumns columns old new = (row : Owned Listed) → listed_columns row ≡ columns → Places row old new
+
+-- the row is there then, under the next hidden number
+abbrev pub Appends : Owned Listed → Database → Database → Type 0
+Appends row old new =
+    (before : List (ℕ × Owned Listed)) → HasRows listed_layout old before
+    → BecomesRows listed_layout (put number (next before, row) before) old new
+
+-- a row of these columns is appended
+abbrev pub AppendsColumns : OrderAuthzColumns → Database → Database → Type 0
+AppendsColumns columns old new = (row : Owned Listed) → listed_columns row ≡ columns → Appends row old new

@@ -1,0 +1,67 @@
+-- When a database is that of a desk with these tables.
+use Rattle.std.specs.Prelude.{◌≡◌, ℕ, List, [], ◌∷◌, map, false}
+use Rattle.std.specs.List.Sorted.{IsPermutation}
+use Rattle.sqlite.specs.Effect.{Database, IsDatabase}
+use Rattle.sqlite.specs.Order.{Row}
+use Rattle.store_columns.specs.declared.flat_rows.Owned.{Owned}
+use Rattle.model_laws.specs.Distinct.{Distinct}
+use Rattle.desk_model.specs.Kept.{EachOf}
+use Rattle.desk_model.specs.Tables.{Tables}
+use Rattle.desk_model.specs.declared.rows.Listed.{Listed}
+use Rattle.sql_schema.specs.Schema.{desk_schema, first_schema}
+use Rattle.store_columns.specs.Columns.{first_format}
+use Rattle.store_columns.specs.Flat.{challenge_rows, key_rows, listed_rows}
+use Rattle.sql_tables.specs.Effects.{is_same_place}
+use Rattle.sql_tables.specs.Hidden.{hidden, number, row_of}
+use Rattle.sql_tables.specs.Images.{account_image, authorization_image, challenge_image, formatted_image, key_image}
+use Rattle.sql_tables.specs.Images.{listed_cells, meta_image, nonce_image, order_image}
+use Rattle.sql_tables.specs.Layouts.{IsRising, account_layout, authorization_layout, challenge_layout, key_layout, nonce_layout, order_layout}
+use Rattle.sql_tables.specs.Sorted.{sorted_by}
+
+-- no place of an order stands twice
+abbrev pub AreApart : List (Owned Listed) → Type 0
+AreApart [] = Unit {0}
+AreApart (l ∷ ls) = EachOf (λ k. is_same_place l k ≡ false) ls × AreApart ls
+
+-- numbers rise, no challenge's stands twice, and no place does
+pub record AreRising (T : Tables) : Type 0 where
+  pub nonces : IsRising nonce_layout.key T.nonces
+  pub accounts : IsRising account_layout.key T.accounts
+  pub orders : IsRising order_layout.key T.orders
+  pub authorizations : IsRising authorization_layout.key T.authorizations
+  pub challenges : Distinct challenge_layout.key (challenge_rows T.authorizations)
+  pub listed : AreApart (listed_rows T.orders)
+
+-- the tree has these rows, in any order, under hidden numbers that rise
+pub record HoldsListed (tree : List Row) (listed : List (Owned Listed)) : Type 0 where
+  pub numbered : List (ℕ × Owned Listed)
+  pub has : tree ≡ map (hidden listed_cells) numbered
+  pub rising : IsRising number numbered
+  pub same : IsPermutation (map row_of numbered) listed
+
+-- the tables and indexes of format 2 and no other object, with exactly the rows of these tables
+pub record Holds (db : Database) (T : Tables) : Type 0 where
+  pub sound : IsDatabase db
+  pub schema : db.schema ≡ desk_schema
+  pub meta : db.trees 0 ≡ meta_image T.meta ∷ []
+  pub nonces : db.trees 1 ≡ map nonce_image T.nonces
+  pub accounts : db.trees 2 ≡ map account_image T.accounts
+  pub orders : db.trees 4 ≡ map order_image T.orders
+  pub authorizations : db.trees 5 ≡ map authorization_image T.authorizations
+  pub listed : HoldsListed (db.trees 6) (listed_rows T.orders)
+  pub challenges : db.trees 8 ≡ map challenge_image (sorted_by challenge_layout.key (challenge_rows T.authorizations))
+  pub keys : db.trees 17 ≡ map key_image (sorted_by key_layout.key (key_rows (challenge_rows T.authorizations)))
+  pub rising : AreRising T
+
+-- the same of format 1, which tells no keys of answers: whatever keys these tables have, they are not looked at
+pub record HoldsFirst (db : Database) (T : Tables) : Type 0 where
+  pub sound : IsDatabase db
+  pub schema : db.schema ≡ first_schema
+  pub meta : db.trees 0 ≡ formatted_image (first_format, T.meta) ∷ []
+  pub nonces : db.trees 1 ≡ map nonce_image T.nonces
+  pub accounts : db.trees 2 ≡ map account_image T.accounts
+  pub orders : db.trees 4 ≡ map order_image T.orders
+  pub authorizations : db.trees 5 ≡ map authorization_image T.authorizations
+  pub listed : HoldsListed (db.trees 6) (listed_rows T.orders)
+  pub challenges : db.trees 8 ≡ map challenge_image (sorted_by challenge_layout.key (challenge_rows T.authorizations))
+  pub rising : AreRising T

@@ -1,0 +1,263 @@
+-- What is known to stand in the tables, behind changes.
+use Rattle.std.specs.Bool.{then_some}
+use Rattle.std.specs.Option.{option_or}
+use Rattle.std.specs.Prelude.{find, cond, option_copied, option_map, IfSome, ◌==◌}
+use Rattle.std.proofs.Common.{◌≡◌, ◌≢◌, inl, inr, ℕ, ◌+◌, ◌<◌, ◌≤◌, ◌++◌, List, [], ◌∷◌, Option, Some, None, Bool, true, false, Bor, refl, sym, ap, subst}
+use Rattle.std.proofs.Common.{◌∙◌, arith, add-one, get_or, length, take}
+use Rattle.std.proofs.Math.Seq.{take-suc}
+use Rattle.std.proofs.lemmas.Bool.{eqb-true, ne_eqb}
+use Rattle.sqlite_rules.specs.Lists.{Has}
+use Rattle.model_laws.proofs.RowLists.{put_before, put_instead, put_past}
+use Rattle.model_laws.proofs.Basics.{each, each-append}
+use Rattle.model_laws.proofs.Recorded.{applied-append}
+use Rattle.desk_model.specs.Change.{applied, applied_one, put}
+use Rattle.desk_model.specs.Kept.{EachOf}
+use Rattle.desk_model.specs.Questions.{account_on, authorization_on, order_on}
+use Rattle.desk_model.specs.Tables.{Tables}
+use Rattle.desk_model.specs.declared.rows.AccountRow.{AccountRow}
+use Rattle.desk_model.specs.declared.rows.AuthorizationRow.{AuthorizationRow}
+use Rattle.desk_model.specs.declared.rows.Change.{Change}
+use Rattle.desk_model.specs.declared.rows.Change.TheVariants.{PutMeta, PutNonce, RemoveNonce, PutAccount, PutAuthorization, PutOrder}
+use Rattle.desk_model.specs.declared.rows.Meta.{Meta}
+use Rattle.desk_model.specs.declared.rows.OrderRow.{OrderRow}
+use Rattle.sql_write.specs.Highest.{IsAbove, PutsNone}
+use Rattle.sql_write.specs.declared.standing.Highest.{Highest}
+use Rattle.sql_write.specs.Standing.{IsPartIn, Stand, StandsIn, known_account, known_after, known_authorization, known_order}
+use Rattle.sql_tables.proofs.Keyed.{ranked}
+
+-- ---- look-ups
+
+module _ {X : Type 0} (key : X → ℕ) where
+  -- the row of this number
+  abbrev at : ℕ → List X → Option X
+  at n rows = find (λ r. key r == n) rows
+
+  -- one of two rows is found, if any, since they have not one number
+  apart : (n : ℕ) (x y : X) → key y ≢ key x → (o : Option X)
+      → cond (key y == n) (Some y) (cond (key x == n) (Some x) o) ≡ cond (key x == n) (Some x) (cond (key y == n) (Some y) o)
+  apart n x y differ o = go (key x == n) refl
+    where
+      go : (b : Bool) → (key x == n) ≡ b → cond (key y == n) (Some y) (cond b (Some x) o) ≡ cond b (Some x) (cond (key y == n) (Some y) o)
+      go true e =
+          let other : (key y == n) ≡ false = ne_eqb (key y) n (λ same. differ (same ∙ sym (eqb-true (key x) n e))) in
+          ap (λ c. cond c (Some y) (Some x)) other
+      go false e = refl
+
+  -- a row that was put is found by its number, and the others as before
+  pub find_put : (n : ℕ) (x : X) (rows : List X) → at n (put key x rows) ≡ cond (key x == n) (Some x) (at n rows)
+  find_put n x [] = refl
+  find_put n x (y ∷ ys) = elim (ranked (key y) (key x)) [
+    | inl less ↦
+        ap (at n) (put_past key x y ys less.low)
+        ∙ ap (cond (key y == n) (Some y)) (find_put n x ys)
+        ∙ apart n x y (λ e. omega (arith, e, less.low)) (at n ys)
+    | inr (inl tied) ↦ ap (at n) (put_instead key x y ys tied.same) ∙ instead tied.same (key x == n) refl
+    | inr (inr more) ↦ ap (at n) (put_before key x y ys more.high)
+  ]
+    where
+      instead : key y ≡ key x → (b : Bool) → (key x == n) ≡ b → cond b (Some x) (at n ys) ≡ cond b (Some x) (cond (key y == n) (Some y) (at n ys))
+      instead same true e = refl
+      instead same false e = sym (ap (λ c. cond c (Some y) (at n ys)) (ap (λ k. k == n) same ∙ e))
+
+  -- what is found by a number is a row, and has it
+  pub found_has : (n : ℕ) (rows : List X) (x : X) → at n rows ≡ Some x → Has rows x × (key x ≡ n)
+  found_has n [] x is = absurd (cc is)
+  found_has n (z ∷ zs) x is = go (key z == n) refl (λ found. found_has n zs x found)
+    where
+      go : (b : Bool) → (key z == n) ≡ b → (at n zs ≡ Some x → Has zs x × (key x ≡ n)) → Has (z ∷ zs) x × (key x ≡ n)
+      go true e rest =
+          let here : Some z ≡ Some x = sym (ap (λ b. cond b (Some z) (at n zs)) e) ∙ is in
+          let same : z ≡ x = cc here in
+          (inl (sym same), ap key (sym same) ∙ eqb-true (key z) n e)
+      go false e rest =
+          let it = rest (sym (ap (λ b. cond b (Some z) (at n zs)) e) ∙ is) in
+          (inr it.0, it.1)
+
+  -- ---- rows of a part
+
+  -- the row that was put, or what was found
+  abbrev put_or : X → Option X → Bool → Option X
+  put_or x o b = cond b (Some x) o
+
+  -- with one more in both
+  pub stand_put : (x : X) (part rows : List X) → Stand key part rows → Stand key (put key x part) (put key x rows)
+  stand_put x part rows stand n =
+      subst (λ o. IfSome o (λ z. at n (put key x rows) ≡ Some z)) (sym (find_put n x part))
+      (subst (λ o. IfSome (put_or x (at n part) (key x == n)) (λ z. o ≡ Some z)) (sym (find_put n x rows))
+      (go (key x == n) (at n part) (stand n)))
+    where
+      go : (b : Bool) (o : Option X) → IfSome o (λ z. at n rows ≡ Some z) → IfSome (put_or x o b) (λ z. put_or x (at n rows) b ≡ Some z)
+      go true o h = refl
+      go false o h = h
+
+  -- what is found of the part is a row of the tables
+  pub stands_there : (n : ℕ) (rows : List X) (o : Option X) → IfSome o (λ x. at n rows ≡ Some x) → IfSome o (λ x. Has rows x × (key x ≡ n))
+  stands_there n rows None h = tt
+  stands_there n rows (Some x) h = found_has n rows x h
+
+-- ---- behind changes
+
+-- behind one
+stands_on : (c : Change) (part T : Tables) → StandsIn part T → StandsIn (applied_one c part) (applied_one c T)
+stands_on (PutMeta x) part T h = record { meta = refl; accounts = h.accounts; authorizations = h.authorizations; orders = h.orders }
+stands_on (PutNonce x) part T h = record { meta = h.meta; accounts = h.accounts; authorizations = h.authorizations; orders = h.orders }
+stands_on (RemoveNonce n) part T h = record { meta = h.meta; accounts = h.accounts; authorizations = h.authorizations; orders = h.orders }
+stands_on (PutAccount x) part T h = record {
+  meta = h.meta;
+  accounts = stand_put (λ (a : AccountRow). a.number) x part.accounts T.accounts h.accounts;
+  authorizations = h.authorizations;
+  orders = h.orders;
+}
+stands_on (PutAuthorization x) part T h = record {
+  meta = h.meta;
+  accounts = h.accounts;
+  authorizations = stand_put (λ (a : AuthorizationRow). a.number) x part.authorizations T.authorizations h.authorizations;
+  orders = h.orders;
+}
+stands_on (PutOrder x) part T h = record {
+  meta = h.meta;
+  accounts = h.accounts;
+  authorizations = h.authorizations;
+  orders = stand_put (λ (o : OrderRow). o.number) x part.orders T.orders h.orders;
+}
+
+-- behind all
+stands_after : (cs : List Change) (part T : Tables) → StandsIn part T → StandsIn (applied cs part) (applied cs T)
+stands_after [] part T h = h
+stands_after (c ∷ cs) part T h = stands_after cs (applied_one c part) (applied_one c T) (stands_on c part T h)
+
+-- what is known stands behind all changes
+pub known_stands : (cs : List Change) (known : Option Tables) (T : Tables) → IsPartIn known T → IsPartIn (known_after known cs) (applied cs T)
+known_stands cs None T h = tt
+known_stands cs (Some part) T h = stands_after cs part T h
+
+-- behind none it is what it is
+pub known_first : (known : Option Tables) → known_after known [] ≡ known
+known_first None = refl
+known_first (Some part) = refl
+
+-- behind one, and then behind the others
+pub known_next : (c : Change) (cs : List Change) (known : Option Tables) → known_after (option_map (applied_one c) known) cs ≡ known_after known (c ∷ cs)
+known_next c cs None = refl
+known_next c cs (Some part) = refl
+
+-- ---- what is found of it is a row of the tables
+
+-- an account
+pub account_stands : (known : Option Tables) (n : ℕ) (T : Tables) → IsPartIn known T
+    → IfSome (known_account known n) (λ a. Has T.accounts a × (a.number ≡ n))
+account_stands None n T h = tt
+account_stands (Some part) n T h = stands_there (λ (a : AccountRow). a.number) n T.accounts _ (h.accounts n)
+
+-- an authorization
+pub authorization_stands : (known : Option Tables) (n : ℕ) (T : Tables) → IsPartIn known T
+    → IfSome (known_authorization known n) (λ a. Has T.authorizations a × (a.number ≡ n))
+authorization_stands None n T h = tt
+authorization_stands (Some part) n T h = stands_there (λ (a : AuthorizationRow). a.number) n T.authorizations _ (h.authorizations n)
+
+-- an order, which is found there, too
+pub order_stands : (known : Option Tables) (n : ℕ) (T : Tables) → IsPartIn known T
+    → IfSome (known_order known n) (λ o. find (λ (r : OrderRow). r.number == n) T.orders ≡ Some o)
+order_stands None n T h = tt
+order_stands (Some part) n T h = h.orders n
+
+-- ---- the last that was put
+
+-- one more change
+pub take_more : (cs : List Change) (i : ℕ) (c : Change) → i < length cs → c ≡ get_or cs i c → take (i + 1) cs ≡ take i cs ++ c ∷ []
+take_more cs i c low is = ap (λ k. take k cs) (add-one i) ∙ take-suc cs i c low ∙ ap (λ x. take i cs ++ x ∷ []) (sym is)
+
+-- behind it
+pub applied_more : (cs : List Change) (i : ℕ) (c : Change) (T : Tables) → i < length cs → c ≡ get_or cs i c
+    → applied (take (i + 1) cs) T ≡ applied_one c (applied (take i cs) T)
+applied_more cs i c T low is =
+    ap (λ xs. applied xs T) (take_more cs i c low is) ∙ applied-append (take i cs) (c ∷ []) T
+
+-- what is found is this, or else that
+pub known_or : {X : Type 0} (a b : Option (Bor X)) → option_copied (option_or a b) ≡ option_or (option_copied a) (option_copied b)
+known_or None b = refl
+known_or (Some x) b = refl
+
+-- the row that was put, where it has the number
+pub put_then : {X : Type 0} (key : X → ℕ) (n : ℕ) (x : X) (rows : List X)
+    → find (λ r. key r == n) (put key x rows) ≡ option_or (then_some (key x == n) x) (find (λ r. key r == n) rows)
+put_then key n x rows = find_put key n x rows ∙ go (key x == n) (find (λ r. key r == n) rows)
+  where
+    go : (b : Bool) (o : Option _) → cond b (Some x) o ≡ option_or (then_some b x) o
+    go true o = refl
+    go false o = refl
+
+-- another change puts no account
+pub no_account : (c : Change) (T : Tables) (n : ℕ) → ((x : AccountRow) → c ≢ PutAccount x) → account_on (applied_one c T) n ≡ account_on T n
+no_account (PutMeta x) T n never = refl
+no_account (PutNonce x) T n never = refl
+no_account (RemoveNonce k) T n never = refl
+no_account (PutAccount x) T n never = absurd (never x refl)
+no_account (PutAuthorization x) T n never = refl
+no_account (PutOrder x) T n never = refl
+
+-- another puts no order
+pub no_order : (c : Change) (T : Tables) (n : ℕ) → ((x : OrderRow) → c ≢ PutOrder x) → order_on (applied_one c T) n ≡ order_on T n
+no_order (PutMeta x) T n never = refl
+no_order (PutNonce x) T n never = refl
+no_order (RemoveNonce k) T n never = refl
+no_order (PutAccount x) T n never = refl
+no_order (PutAuthorization x) T n never = refl
+no_order (PutOrder x) T n never = absurd (never x refl)
+
+-- another puts no authorization
+pub no_authorization : (c : Change) (T : Tables) (n : ℕ) → ((x : AuthorizationRow) → c ≢ PutAuthorization x)
+    → authorization_on (applied_one c T) n ≡ authorization_on T n
+no_authorization (PutMeta x) T n never = refl
+no_authorization (PutNonce x) T n never = refl
+no_authorization (RemoveNonce k) T n never = refl
+no_authorization (PutAccount x) T n never = refl
+no_authorization (PutAuthorization x) T n never = absurd (never x refl)
+no_authorization (PutOrder x) T n never = refl
+
+-- another leaves the row of `meta`
+pub no_meta : (c : Change) (T : Tables) → ((x : Meta) → c ≢ PutMeta x) → (applied_one c T).meta ≡ T.meta
+no_meta (PutMeta x) T never = absurd (never x refl)
+no_meta (PutNonce x) T never = refl
+no_meta (RemoveNonce k) T never = refl
+no_meta (PutAccount x) T never = refl
+no_meta (PutAuthorization x) T never = refl
+no_meta (PutOrder x) T never = refl
+
+-- one row, lent or not
+pub lent_some : {X : Type 0} (b : Bool) (x : Bor X) → option_copied (then_some b x) ≡ then_some b x.now
+lent_some true x = refl
+lent_some false x = refl
+
+-- what each of some changes leaves, all of them leave
+pub left_by_all : {X : Type 0} (on : Tables → ℕ → Option X) (n : ℕ) (cs : List Change) (T : Tables)
+    → EachOf (λ c. (T : Tables) → on (applied_one c T) n ≡ on T n) cs → on (applied cs T) n ≡ on T n
+left_by_all on n [] T all = refl
+left_by_all on n (c ∷ cs) T all = left_by_all on n cs (applied_one c T) all.1 ∙ all.0 T
+
+-- of rows above the highest
+pub none_above : {X : Type 0} (on : Tables → ℕ → Option X) (highest n : ℕ) (cs : List Change) → EachOf (PutsNone on highest) cs → highest < n
+    → EachOf (λ c. (T : Tables) → on (applied_one c T) n ≡ on T n) cs
+none_above on highest n cs all high = each _ _ cs (λ c none T. none T n high) all
+
+-- a row that is put is not above its number
+pub put_below : {X : Type 0} (key : X → ℕ) (x : X) (highest : ℕ) → key x ≤ highest → (rows : List X) (n : ℕ) → highest < n
+    → find (λ r. key r == n) (put key x rows) ≡ find (λ r. key r == n) rows
+put_below key x highest low rows n high =
+    let other : (key x == n) ≡ false = ne_eqb (key x) n (λ same. omega (arith, same, low, high)) in
+    find_put key n x rows ∙ ap (λ b. cond b (Some x) (find (λ r. key r == n) rows)) other
+
+-- a higher number does, too
+pub none_higher : {X : Type 0} (on : Tables → ℕ → Option X) (a b : ℕ) (cs : List Change) → a ≤ b → EachOf (PutsNone on a) cs → EachOf (PutsNone on b) cs
+none_higher on a b cs low all = each _ _ cs (λ c none T n high. none T n (omega (arith, low, high))) all
+
+-- above higher numbers no change puts a row, where one more puts none
+pub above_more : (old new : Highest) (cs : List Change) (c : Change) → old.accounts ≤ new.accounts → old.authorizations ≤ new.authorizations
+    → old.orders ≤ new.orders → PutsNone account_on new.accounts c → PutsNone authorization_on new.authorizations c → PutsNone order_on new.orders c
+    → IsAbove old cs → IsAbove new (cs ++ c ∷ [])
+above_more old new cs c accounts authorizations orders a b o all = record {
+  accounts = each-append (PutsNone account_on new.accounts) cs (c ∷ []) (none_higher account_on old.accounts new.accounts cs accounts all.accounts) (a, tt);
+  authorizations = each-append (PutsNone authorization_on new.authorizations) cs (c ∷ [])
+      (none_higher authorization_on old.authorizations new.authorizations cs authorizations all.authorizations) (b, tt);
+  orders = each-append (PutsNone order_on new.orders) cs (c ∷ []) (none_higher order_on old.orders new.orders cs orders all.orders) (o, tt);
+}

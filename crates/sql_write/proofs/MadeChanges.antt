@@ -1,0 +1,310 @@
+-- What each change makes of a desk's database.
+use Rattle.std.specs.Prelude.{IfSome, find, option_map, ◌==◌}
+use Rattle.std.specs.List.Sorted.{IsPermutation}
+use Rattle.std.proofs.Common.{◌≡◌, inl, ℕ, ℤ, List, [], ◌∷◌, map, Option, Some, None, refl, sym, ap, subst, ◌∙◌, arith}
+use Rattle.std.proofs.lemmas.List.Sorted.{IsPermutation-append_left, IsPermutation-trans}
+use Rattle.sqlite.specs.Effect.{Database}
+use Rattle.sqlite_rules.specs.Lists.{Has}
+use Rattle.store_columns.specs.Columns.{known_format, order_columns}
+use Rattle.store_columns.specs.Flat.{challenge_rows, key_rows, listed_rows, owned_by}
+use Rattle.model_laws.specs.Distinct.{Distinct}
+use Rattle.model_laws.specs.News.{KeepChallenges, KeepsChildren}
+use Rattle.model_laws.specs.Placing.{puts}
+use Rattle.desk_model.specs.Change.{put}
+use Rattle.desk_model.specs.Tables.{Tables}
+use Rattle.desk_model.specs.declared.objects.Nonce.{Nonce}
+use Rattle.desk_model.specs.declared.rows.AccountRow.{AccountRow}
+use Rattle.desk_model.specs.declared.rows.AuthorizationRow.{AuthorizationRow}
+use Rattle.desk_model.specs.declared.rows.Meta.{Meta}
+use Rattle.desk_model.specs.declared.rows.OrderRow.{OrderRow}
+use Rattle.desk_model.specs.declared.rows.Change.TheVariants.{PutMeta, PutNonce, RemoveNonce, PutAccount, PutAuthorization, PutOrder}
+use Rattle.sql_write.specs.Makes.{AppendsAll, Makes, PlacesAll, PutsOver, SetsAuthorization, SetsMeta, SetsOrder, WritesOrder, appended}
+use Rattle.sql_write.specs.Standing.{IsPartIn, known_account, known_authorization, known_meta, known_order}
+use Rattle.sql_write.specs.declared.write.Write.{Write}
+use Rattle.sql_write.specs.declared.write.Write.TheVariants.{Upsert, Insert, Update}
+use Rattle.sql_write.proofs.ChallengeNumbers.{keys_owned}
+use Rattle.sql_write.proofs.ChildrenStanding.{challenges_stand, keys_stand}
+use Rattle.sql_write.proofs.KeyRows.{keys_flat, keys_within}
+use Rattle.sql_write.proofs.ListedAfter.{added as added_listed, found_in, listed_after}
+use Rattle.sql_write.proofs.NestedRows.{children_put, own_apart}
+use Rattle.sql_write.proofs.Numbered.{AreWithin, within_same}
+use Rattle.sql_write.proofs.PlacedRows.{appended_rows}
+use Rattle.sql_write.proofs.KnownRows.{account_stands, authorization_stands, found_has, order_stands}
+use Rattle.sql_tables.specs.Effects.{Adds, Puts, Removes, Renews}
+use Rattle.sql_tables.specs.Hidden.{row_of}
+use Rattle.sql_tables.specs.Holds.{HoldsListed}
+use Rattle.sql_tables.specs.Images.{challenge_image, key_image, order_kept}
+use Rattle.sql_tables.specs.Layouts.{HasRows, account_layout, authorization_layout, challenge_layout, formatted_layout}
+use Rattle.sql_tables.specs.Layouts.{key_layout, listed_layout, nonce_layout, order_layout}
+use Rattle.sql_tables.specs.Sorted.{sorted_by}
+use Rattle.sql_tables.proofs.Holding.{accounts_held, authorizations_held, meta_held, nonces_held, orders_held}
+use Rattle.sql_tables.proofs.AnswerKeys.{keys_apart}
+use Rattle.sql_tables.proofs.NoIndexes.{no_index_account, no_index_authorization, no_index_challenge, no_index_key, no_index_listed}
+use Rattle.sql_tables.proofs.NoIndexes.{no_index_meta, no_index_nonce, no_index_order}
+use Rattle.sql_tables.proofs.Sorting.{sorted_rises}
+
+-- what orders list, in a table that is as it was
+listed_as : (old new : Database) (T : Tables) → new.trees 6 ≡ old.trees 6 → HoldsListed (old.trees 6) (listed_rows T.orders)
+    → HoldsListed (new.trees 6) (listed_rows T.orders)
+listed_as old new T is h = record { numbered = h.numbered; has = is ∙ h.has; rising = h.rising; same = h.same }
+
+-- ---- one row
+
+-- the row of `meta`
+pub makes_meta : (known : Option Tables) (x : Meta) (old new : Database) → SetsMeta (known_meta known) x old new → Makes known (PutMeta x) old new
+makes_meta known x old new sets T has stands fits =
+    let first = meta_held old T has in
+    let p = sets has.sound rows (record { schema = first.schema; rows_are = first.rows_are; rising = (omega arith, tt) })
+    (there known stands) in
+    record {
+      sound = p.sound;
+      schema = p.has.schema;
+      meta = p.has.rows_are;
+      nonces = p.others 1 (λ e. cc) no_index_nonce ∙ has.nonces;
+      accounts = p.others 2 (λ e. cc) no_index_account ∙ has.accounts;
+      orders = p.others 4 (λ e. cc) no_index_order ∙ has.orders;
+      authorizations = p.others 5 (λ e. cc) no_index_authorization ∙ has.authorizations;
+      listed = listed_as old new T (p.others 6 (λ e. cc) no_index_listed) has.listed;
+      challenges = p.others 8 (λ e. cc) no_index_challenge ∙ has.challenges;
+      keys = p.others 17 (λ e. cc) no_index_key ∙ has.keys;
+      rising = fits.rising;
+    }
+  where
+    rows : List (ℤ × Meta)
+    rows = (known_format, T.meta) ∷ []
+
+    there : (known : Option Tables) → IsPartIn known T
+        → IfSome (option_map (λ m. (known_format, m)) (known_meta known)) (λ y. Has rows y × (formatted_layout.key y ≡ formatted_layout.key (known_format, x)))
+    there None h = tt
+    there (Some part) h = (inl (ap (λ m. (known_format, m)) h.meta), refl)
+
+-- a nonce
+pub makes_nonce : (known : Option Tables) (x : Nonce) (old new : Database) → Puts nonce_layout x old new → Makes known (PutNonce x) old new
+makes_nonce known x old new puts T has stands fits =
+    let p = puts T.nonces (nonces_held old T has) in
+    record {
+      sound = p.sound;
+      schema = p.has.schema;
+      meta = p.others 0 (λ e. cc) no_index_meta ∙ has.meta;
+      nonces = p.has.rows_are;
+      accounts = p.others 2 (λ e. cc) no_index_account ∙ has.accounts;
+      orders = p.others 4 (λ e. cc) no_index_order ∙ has.orders;
+      authorizations = p.others 5 (λ e. cc) no_index_authorization ∙ has.authorizations;
+      listed = listed_as old new T (p.others 6 (λ e. cc) no_index_listed) has.listed;
+      challenges = p.others 8 (λ e. cc) no_index_challenge ∙ has.challenges;
+      keys = p.others 17 (λ e. cc) no_index_key ∙ has.keys;
+      rising = fits.rising;
+    }
+
+-- the removal of a nonce
+pub makes_removal : (known : Option Tables) (n : ℕ) (old new : Database) → Removes nonce_layout n old new → Makes known (RemoveNonce n) old new
+makes_removal known n old new removes T has stands fits =
+    let p = removes T.nonces (nonces_held old T has) in
+    record {
+      sound = p.sound;
+      schema = p.has.schema;
+      meta = p.others 0 (λ e. cc) no_index_meta ∙ has.meta;
+      nonces = p.has.rows_are;
+      accounts = p.others 2 (λ e. cc) no_index_account ∙ has.accounts;
+      orders = p.others 4 (λ e. cc) no_index_order ∙ has.orders;
+      authorizations = p.others 5 (λ e. cc) no_index_authorization ∙ has.authorizations;
+      listed = listed_as old new T (p.others 6 (λ e. cc) no_index_listed) has.listed;
+      challenges = p.others 8 (λ e. cc) no_index_challenge ∙ has.challenges;
+      keys = p.others 17 (λ e. cc) no_index_key ∙ has.keys;
+      rising = fits.rising;
+    }
+
+-- an account
+pub makes_account : (known : Option Tables) (x : AccountRow) (old new : Database) → PutsOver account_layout (known_account known x.number) x old new
+    → Makes known (PutAccount x) old new
+makes_account known x old new puts T has stands fits =
+    let p = puts has.sound T.accounts (accounts_held old T has) (account_stands known x.number T stands) in
+    record {
+      sound = p.sound;
+      schema = p.has.schema;
+      meta = p.others 0 (λ e. cc) no_index_meta ∙ has.meta;
+      nonces = p.others 1 (λ e. cc) no_index_nonce ∙ has.nonces;
+      accounts = p.has.rows_are;
+      orders = p.others 4 (λ e. cc) no_index_order ∙ has.orders;
+      authorizations = p.others 5 (λ e. cc) no_index_authorization ∙ has.authorizations;
+      listed = listed_as old new T (p.others 6 (λ e. cc) no_index_listed) has.listed;
+      challenges = p.others 8 (λ e. cc) no_index_challenge ∙ has.challenges;
+      keys = p.others 17 (λ e. cc) no_index_key ∙ has.keys;
+      rising = fits.rising;
+    }
+
+-- ---- a row with its children
+
+-- what stood in the place of an authorization
+abbrev Stood : Tables → AuthorizationRow → AuthorizationRow → Type 0
+Stood T x a = find (λ (a : AuthorizationRow). a.number == x.number) T.authorizations ≡ Some a
+
+-- kept its challenges
+stood_kept : (T : Tables) (x a : AuthorizationRow) → KeepsChildren T (PutAuthorization x) → Stood T x a → KeepChallenges a.challenges x.challenges
+stood_kept T x a kept found = subst (λ o. IfSome o (λ (a : AuthorizationRow). KeepChallenges a.challenges x.challenges)) found kept
+
+-- the numbers of its challenges are those that come
+pub numbers_within : (T : Tables) (x : AuthorizationRow) → KeepsChildren T (PutAuthorization x) → (a : AuthorizationRow) → Stood T x a
+    → AreWithin (map challenge_layout.key (owned_by a.number a.challenges)) (map challenge_layout.key (owned_by x.number x.challenges))
+numbers_within T x kept a found =
+    within_same _ _ (keys_owned a.number a.challenges ∙ (stood_kept T x a kept found).numbers ∙ sym (keys_owned x.number x.challenges))
+
+-- the keys of answers that come take the places of those that are there
+keys_put : (T : Tables) (x : AuthorizationRow) → KeepsChildren T (PutAuthorization x)
+    → Distinct challenge_layout.key (challenge_rows (put authorization_layout.key x T.authorizations))
+    → puts key_layout.key (key_rows (owned_by x.number x.challenges)) (sorted_by key_layout.key (key_rows (challenge_rows T.authorizations)))
+    ≡ sorted_by key_layout.key (key_rows (challenge_rows (put authorization_layout.key x T.authorizations)))
+keys_put T x kept apart =
+    let after = put authorization_layout.key x T.authorizations in
+    let own = key_rows (owned_by x.number x.challenges) in
+    let all = subst (Distinct key_layout.key) (keys_flat after) (keys_apart (challenge_rows after) apart) in
+    ap (λ ks. puts key_layout.key own (sorted_by key_layout.key ks)) (keys_flat T.authorizations)
+    ∙ children_put (λ a. a.number) (λ a. key_rows (owned_by a.number a.challenges)) key_layout.key x T.authorizations
+    (λ a found. keys_within a.number x.number a.challenges x.challenges (stood_kept T x a kept found)) all
+    ∙ sym (ap (sorted_by key_layout.key) (keys_flat after))
+
+-- an authorization, then its challenges and the keys of their answers, over those that are known
+pub makes_authorization : (known : Option Tables) (x : AuthorizationRow) (old new : Database)
+    → SetsAuthorization (known_authorization known x.number) x old new
+    → Makes known (PutAuthorization x) old new
+makes_authorization known x old new sets T has stands fits =
+    let stood = known_authorization known x.number in
+    let there = authorization_stands known x.number T stands in
+    let rows = challenge_rows T.authorizations in
+    let challenges = sorted_by challenge_layout.key rows in
+    let keys = sorted_by key_layout.key (key_rows rows) in
+    let own = own_apart (λ (a : AuthorizationRow). a.number) (λ a. owned_by a.number a.challenges) challenge_layout.key x T.authorizations
+    fits.rising.challenges in
+    let p = sets.1 has.sound T.authorizations (authorizations_held old T has) there in
+    let between : HasRows challenge_layout sets.0 challenges =
+    record { schema = p.has.schema; rows_are = p.others 8 (λ e. cc) no_index_challenge ∙ has.challenges; rising = sorted_rises challenge_layout.key rows } in
+    let q = sets.2.1 p.sound challenges between (challenges_stand stood x.number x.challenges T.authorizations has.rising.challenges there) own in
+    let behind : HasRows key_layout sets.2.0 keys =
+    record {
+      schema = q.has.schema;
+      rows_are = q.others 17 (λ e. cc) no_index_key ∙ p.others 17 (λ e. cc) no_index_key ∙ has.keys;
+      rising = sorted_rises key_layout.key (key_rows rows);
+    } in
+    let r = sets.2.2 q.sound keys behind (keys_stand stood x.number x.challenges T.authorizations has.rising.challenges there)
+    (keys_apart (owned_by x.number x.challenges) own) in
+    let children = children_put (λ a. a.number) (λ a. owned_by a.number a.challenges) challenge_layout.key x T.authorizations
+    (numbers_within T x fits.children) fits.rising.challenges in
+    record {
+      sound = r.sound;
+      schema = r.has.schema;
+      meta = r.others 0 (λ e. cc) no_index_meta ∙ q.others 0 (λ e. cc) no_index_meta ∙ p.others 0 (λ e. cc) no_index_meta ∙ has.meta;
+      nonces = r.others 1 (λ e. cc) no_index_nonce ∙ q.others 1 (λ e. cc) no_index_nonce ∙ p.others 1 (λ e. cc) no_index_nonce ∙ has.nonces;
+      accounts = r.others 2 (λ e. cc) no_index_account ∙ q.others 2 (λ e. cc) no_index_account ∙ p.others 2 (λ e. cc) no_index_account ∙ has.accounts;
+      orders = r.others 4 (λ e. cc) no_index_order ∙ q.others 4 (λ e. cc) no_index_order ∙ p.others 4 (λ e. cc) no_index_order ∙ has.orders;
+      authorizations = r.others 5 (λ e. cc) no_index_authorization ∙ q.others 5 (λ e. cc) no_index_authorization ∙ p.has.rows_are;
+      listed = listed_as old new T
+          (r.others 6 (λ e. cc) no_index_listed ∙ q.others 6 (λ e. cc) no_index_listed ∙ p.others 6 (λ e. cc) no_index_listed) has.listed;
+      challenges = r.others 8 (λ e. cc) no_index_challenge ∙ q.has.rows_are ∙ ap (map challenge_image) children;
+      keys = r.has.rows_are ∙ ap (map key_image) (keys_put T x fits.children fits.rising.challenges);
+      rising = fits.rising;
+    }
+
+-- an order, then what it lists
+makes_order : (known : Option Tables) (x : OrderRow) (old mid new : Database) → Puts order_layout x old mid → PlacesAll (owned_by x.number x.listed) mid new
+    → Makes known (PutOrder x) old new
+makes_order known x old mid new first last T has stands fits =
+    let p = first T.orders (orders_held old T has) in
+    let between : HasRows listed_layout mid has.listed.numbered =
+    record { schema = p.has.schema; rows_are = p.others 6 (λ e. cc) no_index_listed ∙ has.listed.has; rising = has.listed.rising } in
+    let placed = last p.sound has.listed.numbered between in
+    let q = placed.2 in
+    record {
+      sound = q.sound;
+      schema = q.has.schema;
+      meta = q.others 0 (λ e. cc) no_index_meta ∙ p.others 0 (λ e. cc) no_index_meta ∙ has.meta;
+      nonces = q.others 1 (λ e. cc) no_index_nonce ∙ p.others 1 (λ e. cc) no_index_nonce ∙ has.nonces;
+      accounts = q.others 2 (λ e. cc) no_index_account ∙ p.others 2 (λ e. cc) no_index_account ∙ has.accounts;
+      orders = q.others 4 (λ e. cc) no_index_order ∙ p.has.rows_are;
+      authorizations = q.others 5 (λ e. cc) no_index_authorization ∙ p.others 5 (λ e. cc) no_index_authorization ∙ has.authorizations;
+      listed = record {
+        numbered = placed.0;
+        has = q.has.rows_are;
+        rising = q.has.rising;
+        same = listed_after x T.orders has.listed.numbered placed.0 has.rising.orders has.listed.rising has.listed.same has.rising.listed fits.rising.listed
+            fits.children
+            placed.1;
+      };
+      challenges = q.others 8 (λ e. cc) no_index_challenge ∙ p.others 8 (λ e. cc) no_index_challenge ∙ has.challenges;
+      keys = q.others 17 (λ e. cc) no_index_key ∙ p.others 17 (λ e. cc) no_index_key ∙ has.keys;
+      rising = fits.rising;
+    }
+
+-- a new order, then what it lists
+makes_new_order : (known : Option Tables) (x : OrderRow) (old mid new : Database) → Adds order_layout x old mid → AppendsAll (owned_by x.number x.listed)
+    mid new
+    → Makes known (PutOrder x) old new
+makes_new_order known x old mid new first last T has stands fits =
+    let added = first T.orders (orders_held old T has) in
+    let p = added.1 in
+    let ls = owned_by x.number x.listed in
+    let between : HasRows listed_layout mid has.listed.numbered =
+    record { schema = p.has.schema; rows_are = p.others 6 (λ e. cc) no_index_listed ∙ has.listed.has; rising = has.listed.rising } in
+    let q = last p.sound has.listed.numbered between in
+    record {
+      sound = q.sound;
+      schema = q.has.schema;
+      meta = q.others 0 (λ e. cc) no_index_meta ∙ p.others 0 (λ e. cc) no_index_meta ∙ has.meta;
+      nonces = q.others 1 (λ e. cc) no_index_nonce ∙ p.others 1 (λ e. cc) no_index_nonce ∙ has.nonces;
+      accounts = q.others 2 (λ e. cc) no_index_account ∙ p.others 2 (λ e. cc) no_index_account ∙ has.accounts;
+      orders = q.others 4 (λ e. cc) no_index_order ∙ p.has.rows_are;
+      authorizations = q.others 5 (λ e. cc) no_index_authorization ∙ p.others 5 (λ e. cc) no_index_authorization ∙ has.authorizations;
+      listed = record {
+        numbered = appended ls has.listed.numbered;
+        has = q.has.rows_are;
+        rising = q.has.rising;
+        same = subst (λ rows. IsPermutation rows (listed_rows (put order_layout.key x T.orders)))
+            (sym (appended_rows ls has.listed.numbered has.listed.rising))
+            (IsPermutation-trans _ _ _ (IsPermutation-append_left ls _ _ has.listed.same) (added_listed x T.orders added.0));
+      };
+      challenges = q.others 8 (λ e. cc) no_index_challenge ∙ p.others 8 (λ e. cc) no_index_challenge ∙ has.challenges;
+      keys = q.others 17 (λ e. cc) no_index_key ∙ p.others 17 (λ e. cc) no_index_key ∙ has.keys;
+      rising = fits.rising;
+    }
+
+-- an order that is known to be there, which keeps what it lists
+makes_renewed_order : (known : Option Tables) (x there : OrderRow) → known_order known x.number ≡ Some there
+    → order_kept (order_columns there) ≡ order_kept (order_columns x) → (old new : Database)
+    → Renews order_layout (λ o. order_kept (order_columns o)) x old new → Makes known (PutOrder x) old new
+makes_renewed_order known x there is keeps old new renews T has stands fits =
+    let found = subst (λ o. IfSome o (λ (o : OrderRow). find (λ (r : OrderRow). r.number == x.number) T.orders ≡ Some o)) is
+    (order_stands known x.number T stands) in
+    let stood = found_has order_layout.key x.number T.orders there found in
+    let kept = subst (λ o. IfSome o (λ (o : OrderRow). o.listed ≡ x.listed)) found fits.children in
+    let p = renews T.orders (orders_held old T has) there stood.0 stood.1 keeps in
+    record {
+      sound = p.sound;
+      schema = p.has.schema;
+      meta = p.others 0 (λ e. cc) no_index_meta ∙ has.meta;
+      nonces = p.others 1 (λ e. cc) no_index_nonce ∙ has.nonces;
+      accounts = p.others 2 (λ e. cc) no_index_account ∙ has.accounts;
+      orders = p.has.rows_are;
+      authorizations = p.others 5 (λ e. cc) no_index_authorization ∙ has.authorizations;
+      listed = record {
+        numbered = has.listed.numbered;
+        has = p.others 6 (λ e. cc) no_index_listed ∙ has.listed.has;
+        rising = has.listed.rising;
+        same = subst (IsPermutation (map row_of has.listed.numbered)) (sym (found_in 0 x T.orders there has.rising.orders found kept).0) has.listed.same;
+      };
+      challenges = p.others 8 (λ e. cc) no_index_challenge ∙ has.challenges;
+      keys = p.others 17 (λ e. cc) no_index_key ∙ has.keys;
+      rising = fits.rising;
+    }
+
+-- an order, by how it was written
+pub makes_set_order : (known : Option Tables) (x : OrderRow) (old new : Database) → SetsOrder (known_order known x.number) x old new
+    → Makes known (PutOrder x) old new
+makes_set_order known x old new (write, writes, keeps) = go write writes keeps
+  where
+    go : (m : Write) → WritesOrder m x old new
+        → (m ≡ Update → (there : OrderRow) × (known_order known x.number ≡ Some there) × (order_kept (order_columns there) ≡ order_kept (order_columns x)))
+        → Makes known (PutOrder x) old new
+    go Upsert w keeps = makes_order known x old w.0 new w.1 w.2
+    go Insert w keeps = makes_new_order known x old w.0 new w.1 w.2
+    go Update w keeps =
+        let it = keeps refl in
+        subst (λ db. Makes known (PutOrder x) old db) (sym w.2) (makes_renewed_order known x it.0 it.1 it.2 old w.0 w.1)

@@ -1,0 +1,79 @@
+-- Changes fit where no two children of the tables with all of them are one.
+use Rattle.std.specs.Prelude.{◌==◌}
+use Rattle.std.proofs.Common.{◌≡◌, ◌≢◌, ℕ, ◌+◌, ◌<◌, ◌≤◌, ◌++◌, ◌&&◌, List, [], ◌∷◌, Bool, true, false, refl, arith}
+use Rattle.std.proofs.lemmas.Bool.{ne_eqb}
+use Rattle.store_columns.specs.Flat.{listed_rows, owned_by}
+use Rattle.store_columns.specs.declared.flat_rows.Owned.{Owned}
+use Rattle.model_laws.proofs.Basics.{each, each-append, each-map, each_all}
+use Rattle.model_laws.proofs.RowLists.{ascends_above}
+use Rattle.model_laws.specs.Ordered.{Ascends}
+use Rattle.desk_model.specs.Kept.{EachOf}
+use Rattle.desk_model.specs.Change.{applied}
+use Rattle.desk_model.specs.declared.rows.Listed.{Listed}
+use Rattle.desk_model.specs.declared.rows.OrderRow.{OrderRow}
+use Rattle.sql_write.specs.Fitting.{OrderedChangesFit}
+use Rattle.sql_write.proofs.ChallengeNumbers.{challenges_differ_under}
+use Rattle.sql_write.proofs.PlacedRows.{owners_apart}
+use Rattle.sql_tables.specs.Effects.{is_same_place}
+use Rattle.sql_tables.specs.Holds.{AreApart}
+
+-- ---- places
+
+-- two places of one order
+places_apart : (a b : Owned Listed) → a.row.place ≢ b.row.place → is_same_place a b ≡ false
+places_apart a b apart = none (a.owner == b.owner) (ne_eqb a.row.place b.row.place apart)
+  where
+    none : (c : Bool) {d : Bool} → d ≡ false → (c && d) ≡ false
+    none true is = is
+    none false is = refl
+
+-- what an order lists at rising places is apart
+apart_own : (n m : ℕ) (ls : List Listed) → Ascends (λ l. l.place) m ls → AreApart (owned_by n ls)
+apart_own n m [] up = tt
+apart_own n m (l ∷ ls) up =
+    let row : Owned Listed = record { owner = n; row = l } in
+    let above = ascends_above (λ (l : Listed). l.place) l.place (l.place + 1) ls (omega arith) up.1 in (
+      each-map (λ k. is_same_place row k ≡ false) (λ (k : Listed). record { owner = n; row = k }) ls
+          (each _ _ ls (λ k low. places_apart row (record { owner = n; row = k }) (λ e. omega (arith, e, low))) above),
+      apart_own n (l.place + 1) ls up.1,
+    )
+
+-- a row of a lower order is apart from those of orders that rise above it
+apart_later : (m : ℕ) (os : List OrderRow) (l : Owned Listed) → l.owner < m → Ascends (λ o. o.number) m os
+    → EachOf (λ k. is_same_place l k ≡ false) (listed_rows os)
+apart_later m [] l low up = tt
+apart_later m (o ∷ os) l low up =
+    let first : m ≤ o.number = up.0 in
+    each-append (λ k. is_same_place l k ≡ false) (owned_by o.number o.listed) (listed_rows os)
+    (each-map (λ k. is_same_place l k ≡ false) (λ (k : Listed). record { owner = o.number; row = k }) o.listed
+    (each_all _ o.listed (λ k. owners_apart l (record { owner = o.number; row = k }) (λ e. omega (arith, e, low, first)))))
+    (apart_later (o.number + 1) os l (omega arith) up.1)
+
+-- what an order lists, before the lists of orders that rise above it
+apart_joined : (n m : ℕ) (ls : List Listed) (os : List OrderRow) → n < m → Ascends (λ o. o.number) m os → AreApart (owned_by n ls) → AreApart (listed_rows os)
+    → AreApart (owned_by n ls ++ listed_rows os)
+apart_joined n m [] os low up a b = b
+apart_joined n m (l ∷ ls) os low up a b = (
+  each-append (λ k. is_same_place (record { owner = n; row = l }) k ≡ false) (owned_by n ls) (listed_rows os) a.0
+      (apart_later m os (record { owner = n; row = l }) low up),
+  apart_joined n m ls os low up a.1 b,
+)
+
+-- what orders that rise list at rising places is apart
+apart_listed : (m : ℕ) (os : List OrderRow) → Ascends (λ o. o.number) m os → EachOf (λ o. Ascends (λ l. l.place) 1 o.listed) os → AreApart (listed_rows os)
+apart_listed m [] up places = tt
+apart_listed m (o ∷ os) up places =
+    apart_joined o.number (o.number + 1) o.listed os (omega arith) up.1 (apart_own o.number 1 o.listed places.0)
+    (apart_listed (o.number + 1) os up.1 places.1)
+
+-- ---- tables
+
+-- changes that keep children fit where the tables with all of them stand by number, and their challenges differ
+pub ordered_fit : OrderedChangesFit
+ordered_fit T changes kept stand = record {
+  kept = kept;
+  in_order = record {
+    challenges = challenges_differ_under (applied changes T).authorizations stand.challenges;
+    listed = apart_listed 1 (applied changes T).orders stand.orders stand.places;
+  };
+}

@@ -1,0 +1,184 @@
+-- Rows put over those that are known to stand in their places.
+use Rattle.std.specs.Prelude.{option_map, IfSome}
+use Rattle.std.proofs.Common.{◌≡◌, ◌≢◌, inl, inr, ℕ, ◌++◌, List, [], ◌∷◌, Option, Some, None, Bool, true, false, Result, Ok, refl, sym, ap, subst}
+use Rattle.std.proofs.Common.{◌∙◌, arith}
+use Rattle.sqlite.specs.Effect.{Database}
+use Rattle.sqlite.specs.Order.{Row}
+use Rattle.sqlite_rules.specs.Lists.{Has}
+use Rattle.store_columns.specs.declared.flat_rows.Owned.{Owned}
+use Rattle.model_laws.proofs.Basics.{each, each_parts}
+use Rattle.model_laws.proofs.Distinctness.{distinct_parts}
+use Rattle.model_laws.proofs.RowLists.{put_before, put_instead, put_past, puts_append}
+use Rattle.model_laws.specs.Distinct.{Distinct}
+use Rattle.model_laws.specs.Placing.{puts}
+use Rattle.desk_model.specs.Change.{put}
+use Rattle.desk_model.specs.Kept.{EachOf}
+use Rattle.sqlite.specs.Held.{Held, state}
+use Rattle.sqlite.specs.Store.{Ghosts}
+use Rattle.sql_write.proofs.Written.{nothing_written, written_as, written_with}
+use Rattle.sql_write.specs.Makes.{PutsAllOver, PutsOver, Sets, StandUnder, Writes}
+use Rattle.sql_write.specs.Write.{write}
+use Rattle.sql_write.specs.Refusals.{HasWritten}
+use Rattle.sql_write.specs.Statements.{Sql, of_some}
+use Rattle.sql_write.specs.declared.fault.SaveFault.{SaveFault}
+use Rattle.sql_write.specs.declared.write.Write.{Write}
+use Rattle.sql_write.specs.declared.write.Difference.{Difference}
+use Rattle.sql_write.specs.declared.write.Difference.TheVariants.{Same, Moved, Other}
+use Rattle.sql_tables.specs.Effects.{BecomesRows}
+use Rattle.sql_tables.specs.Layouts.{HasRows, Layout}
+use Rattle.sql_tables.specs.Sorted.{sorted_by}
+use Rattle.sql_tables.proofs.Keyed.{put_ascends, ranked}
+use Rattle.sql_tables.proofs.Unmoved.{put_as_it_is}
+
+-- ---- rows that stay
+
+module _ {X : Type 0} (key : X → ℕ) where
+  -- the row that was put is there
+  pub has_own : (x : X) (rows : List X) → Has (put key x rows) x
+  has_own x [] = inl refl
+  has_own x (y ∷ ys) = elim (ranked (key y) (key x)) [
+    | inl less ↦ subst (λ rs. Has rs x) (sym (put_past key x y ys less.low)) (inr (has_own x ys))
+    | inr (inl tied) ↦ subst (λ rs. Has rs x) (sym (put_instead key x y ys tied.same)) (inl refl)
+    | inr (inr more) ↦ subst (λ rs. Has rs x) (sym (put_before key x y ys more.high)) (inl refl)
+  ]
+
+  -- and one with another number still is
+  pub has_other : (x z : X) (rows : List X) → key z ≢ key x → Has rows z → Has (put key x rows) z
+  has_other x z [] differ h = absurd h
+  has_other x z (y ∷ ys) differ h = elim (ranked (key y) (key x)) [
+    | inl less ↦
+        subst (λ rs. Has rs z) (sym (put_past key x y ys less.low)) (elim h [
+          | inl here ↦ inl here
+          | inr there ↦ inr (has_other x z ys differ there)
+        ])
+    | inr (inl tied) ↦
+        subst (λ rs. Has rs z) (sym (put_instead key x y ys tied.same)) (elim h [
+          | inl here ↦ absurd (differ (ap key here ∙ tied.same))
+          | inr there ↦ inr there
+        ])
+    | inr (inr more) ↦ subst (λ rs. Has rs z) (sym (put_before key x y ys more.high)) (inr h)
+  ]
+
+  -- behind several with other numbers, too
+  has_others : (xs : List X) (z : X) (rows : List X) → EachOf (λ x. key z ≢ key x) xs → Has rows z → Has (puts key xs rows) z
+  has_others [] z rows differ h = h
+  has_others (x ∷ xs) z rows differ h = has_others xs z (put key x rows) differ.1 (has_other x z rows differ.0 h)
+
+  -- rows that differ in number are all among the sorted ones
+  pub has_sorted : (xs : List X) (z : X) → Distinct key xs → Has xs z → Has (sorted_by key xs) z
+  has_sorted [] z differ h = absurd h
+  has_sorted (x ∷ xs) z differ (inl here) = subst (Has (sorted_by key (x ∷ xs))) (sym here) (has_own x (sorted_by key xs))
+  has_sorted (x ∷ xs) z differ (inr there) =
+      has_other x z (sorted_by key xs) (λ same. of_each xs z differ.0 there (sym same)) (has_sorted xs z differ.1 there)
+    where
+      of_each : (ys : List X) (w : X) → EachOf (λ y. key x ≢ key y) ys → Has ys w → key x ≢ key w
+      of_each [] w all h same = absurd h
+      of_each (y ∷ ys) w all (inl is) same = all.0 (same ∙ ap key is)
+      of_each (y ∷ ys) w all (inr in_it) same = of_each ys w all.1 in_it same
+
+-- ---- one row
+
+-- what was written by how a row differs from the one that is known puts it over that
+pub over_known : {X : Type 0} (L : Layout X) (kept : X → Row) (diff : X → Difference) (row : X) (new : Bool) (known : Option X)
+    → ((old : X) → known ≡ Some old → diff old ≡ Moved → kept old ≡ kept row)
+    → ((old : X) → known ≡ Some old → L.key old ≡ L.key row → diff old ≡ Same → L.image old ≡ L.image row)
+    → (a b : Database) → Sets L kept (write (option_map diff known) new) row a b → PutsOver L known row a b
+over_known L kept diff row true None moved same a b adds = λ sound rows has stands. (adds rows has).1
+over_known L kept diff row false None moved same a b put_it = λ sound rows has stands. put_it rows has
+over_known L kept diff row new (Some old) moved same a b sets = go (diff old) refl sets
+  where
+    go : (d : Difference) → diff old ≡ d → Sets L kept (write (Some d) new) row a b → PutsOver L (Some old) row a b
+    go Same is unmoved = λ sound rows has stands.
+        subst (BecomesRows L (put L.key row rows) a) (sym unmoved) (record {
+          sound = sound;
+          has = record {
+            schema = has.schema;
+            rows_are = has.rows_are ∙ sym (put_as_it_is L row old 0 rows has.rising stands.0 stands.1 (same old refl stands.1 is));
+            rising = put_ascends L.key 0 row rows (omega arith) has.rising;
+          };
+          others = λ t other none. refl;
+        })
+    go Moved is renews = λ sound rows has stands. renews rows has old stands.0 stands.1 (moved old refl is)
+    go Other is put_it = λ sound rows has stands. put_it rows has
+
+-- ---- several rows
+
+module _ {X : Type 0} (L : Layout X) (known : X → Option X) where
+  -- what stands under rows still does behind others
+  stands_behind : (xs ys : List X) (rows : List X) → EachOf (λ x. EachOf (λ y. L.key x ≢ L.key y) ys) xs → StandUnder L known rows ys
+      → StandUnder L known (puts L.key xs rows) ys
+  stands_behind xs [] rows differ h = tt
+  stands_behind xs (y ∷ ys) rows differ h =
+      (here (known y) h.0, stands_behind xs ys rows (each _ _ xs (λ x p. p.1) differ) h.1)
+    where
+      here : (o : Option X) → IfSome o (λ z. Has rows z × (L.key z ≡ L.key y)) → IfSome o (λ z. Has (puts L.key xs rows) z × (L.key z ≡ L.key y))
+      here None it = tt
+      here (Some z) it = (has_others L.key xs z rows (each _ _ xs (λ x p same. p.0 (sym same ∙ it.1)) differ) it.0, it.1)
+
+  -- none
+  pub over_none : (a : Database) → PutsAllOver L known [] a a
+  over_none a sound rows has stands differ = record { sound = sound; has = has; others = λ t other none. refl }
+
+  -- one
+  pub over_one : (x : X) (a b : Database) → PutsOver L (known x) x a b → PutsAllOver L known (x ∷ []) a b
+  over_one x a b it sound rows has stands differ = it sound rows has stands.0
+
+  -- some, and then others
+  pub over_both : (xs ys : List X) (a b c : Database) → PutsAllOver L known xs a b → PutsAllOver L known ys b c → PutsAllOver L known (xs ++ ys) a c
+  over_both xs ys a b c first last sound rows has stands differ =
+      let stand = each_parts _ xs ys stands in
+      let parts = distinct_parts L.key xs ys differ in
+      let one = first sound rows has stand.0 parts.0 in
+      let two = last one.sound (puts L.key xs rows) one.has (stands_behind xs ys rows parts.1 stand.1) parts.2 in
+      record {
+        sound = two.sound;
+        has = subst (HasRows L c) (sym (puts_append L.key xs ys rows)) two.has;
+        others = λ t other none. two.others t other none ∙ one.others t other none;
+      }
+
+-- ---- what a call wrote of one row
+
+module _ {S : Type 0} (g : Ghosts S) {X : Type 0} (L : Layout X) (kept : X → Row) (diff : X → Difference) (row : X) (new : Bool) (known : Option X)
+    (moved : (old : X) → known ≡ Some old → diff old ≡ Moved → kept old ≡ kept row)
+    (same : (old : X) → known ≡ Some old → L.key old ≡ L.key row → diff old ≡ Same → L.image old ≡ L.image row)
+    (of : Write → List Sql) where
+  -- those of the row, by how it differs
+  abbrev statements : List Sql
+  statements = of_some of (write (option_map diff known) new)
+
+  -- a row that is written in this write
+  pub set_some : {R : Type 0} (a b : Held S) (r : Result R SaveFault) (m : Write) → write (option_map diff known) new ≡ Some m
+      → HasWritten g (of m) (Writes L kept m row) a b r → HasWritten g statements (PutsOver L known row) a b r
+  set_some a b r m is it =
+      written_with g (of m) statements (PutsOver L known row) a b r (sym (ap (of_some of) is))
+      (written_as g (of m) (Writes L kept m row) (PutsOver L known row) a b r
+      (λ did. over_known L kept diff row new known moved same (state g a).now (state g b).now
+      (subst (λ o. Sets L kept o row (state g a).now (state g b).now) (sym is) did)) it)
+
+  -- and one that is not
+  pub set_none : {R : Type 0} (a : Held S) (u : R) → write (option_map diff known) new ≡ None
+      → HasWritten g statements (PutsOver L known row) a a (Ok u)
+  set_none a u is =
+      written_with g [] statements (PutsOver L known row) a a (Ok u) (sym (ap (of_some of) is))
+      (nothing_written g (PutsOver L known row) a u
+      (over_known L kept diff row new known moved same (state g a).now (state g a).now
+      (subst (λ o. Sets L kept o row (state g a).now (state g a).now) (sym is) refl)))
+
+-- ---- what is known, under an owner
+
+-- a difference of what is known is not of its owner
+pub differs_under : {T D : Type 0} (n : ℕ) (diff : T → D) (o : Option T)
+    → option_map (λ (x : Owned T). diff x.row) (option_map (λ t. record { owner = n; row = t }) o) ≡ option_map diff o
+differs_under n diff None = refl
+differs_under n diff (Some t) = refl
+
+-- the owner is this one
+pub owner_is : {T : Type 0} (n : ℕ) (o : Option T) (x : Owned T) → option_map (λ t. record { owner = n; row = t }) o ≡ Some x → x.owner ≡ n
+owner_is n None x is = absurd (cc is)
+owner_is {T} n (Some t) x is = let same : record { owner = n; row = t } ≡ x = cc is in sym (ap (λ (y : Owned T). y.owner) same)
+
+-- nor of what stands beside it
+pub differs_beside : {F T D : Type 0} (f : F) (diff : T → D) (o : Option T) → option_map (λ (x : F × T). diff x.1) (option_map (λ t. (f, t)) o) ≡ option_map
+    diff o
+differs_beside f diff None = refl
+differs_beside f diff (Some t) = refl

@@ -1,0 +1,267 @@
+-- Rows of one table, and changes, made one after the other inside a transaction.
+use Rattle.std.proofs.Common.{zero, suc, arith, ◌≡◌, ◌≢◌, Result, Ok, Err, ℕ, ◌+◌, ◌<◌, ◌++◌, List, [], ◌∷◌, Option, Some, None, take, drop, get_or}
+use Rattle.std.proofs.Common.{length, refl, sym, ap, subst, ◌∙◌, add-one, append-nil}
+use Rattle.std.specs.List.{cons_option}
+use Rattle.std.specs.Prelude.{ℤ, IfErr, IsOk, option_map, option_to_list, pos}
+use Rattle.std.proofs.Math.Seq.{take-suc}
+use Rattle.std.proofs.lemmas.List.{append_assoc, map-append, take-append-drop}
+use Rattle.std.proofs.lemmas.List.Elements.{filter_map-append}
+use Rattle.sqlite.specs.Effect.{Database}
+use Rattle.sqlite.specs.State.{State}
+use Rattle.store_columns.specs.Columns.{known_format, listed_columns}
+use Rattle.store_columns.specs.Flat.{answer_key, key_rows, owned_by}
+use Rattle.store_columns.specs.declared.flat_rows.AnswerKey.{AnswerKey}
+use Rattle.store_columns.specs.declared.flat_rows.Owned.{Owned}
+use Rattle.desk_model.specs.Change.{applied, applied_one, put}
+use Rattle.desk_model.specs.Kept.{EachOf}
+use Rattle.desk_model.specs.Tables.{Tables}
+use Rattle.desk_model.specs.declared.rows.ChallengeRow.{ChallengeRow}
+use Rattle.desk_model.specs.declared.rows.Change.{Change}
+use Rattle.desk_model.specs.declared.rows.Counters.{Counters}
+use Rattle.desk_model.specs.declared.rows.Listed.{Listed}
+use Rattle.desk_model.specs.declared.rows.Meta.{Meta}
+use Rattle.sql_schema.proofs.AdvanceLemmas.{advances_as}
+use Rattle.sql_schema.specs.Advances.{Advances}
+use Rattle.sql_write.specs.Fitting.{AreFit, IsFit}
+use Rattle.model_laws.specs.Placing.{puts}
+use Rattle.sql_write.specs.Makes.{AddsOrPuts, AppendsAll, AppendsOrPlaces, ArePlaced, Makes, MakesAll, PlacesAll, PutsAll, PutsAllOver, PutsOver}
+use Rattle.sql_write.specs.Makes.{RenewsOrPuts, Writes, WritesListed, appended}
+use Rattle.sql_write.specs.Standing.{known_after, last_given}
+use Rattle.sql_write.specs.Statements.{save_statements, statements_from, statements_of}
+use Rattle.sql_write.specs.declared.write.Write.{Write}
+use Rattle.sql_write.specs.declared.write.Write.TheVariants.{Upsert, Insert, Update}
+use Rattle.sql_write.proofs.Numbered.{puts_snoc}
+use Rattle.sql_write.proofs.Over.{over_both, over_one}
+use Rattle.sql_write.proofs.KnownRows.{known_first, known_next, known_stands}
+use Rattle.sql_tables.specs.Effects.{Appends, Places, Puts, Removes, RemovesNumbered, is_same_place}
+use Rattle.sql_tables.specs.Hidden.{IsPlaced, next, number}
+use Rattle.sql_tables.specs.Holds.{Holds}
+use Rattle.sql_tables.specs.Images.{formatted_columns, meta_kept}
+use Rattle.sql_tables.specs.Layouts.{HasRows, Layout, formatted_layout, key_layout, listed_layout, nonce_layout}
+use Rattle.sql_tables.proofs.InsertStatement.{added_puts}
+use Rattle.model_laws.proofs.Recorded.{applied-append}
+
+-- ---- one row
+
+-- one that may be added is put
+pub puts_added : {X C : Type 0} (L : Layout X) (columns_of : X → C) (row : X) (write : Write) (a b : Database)
+    → AddsOrPuts L columns_of write (columns_of row) a b → Puts L row a b
+puts_added L columns_of row Insert a b does = added_puts L row a b (does row refl)
+puts_added L columns_of row Upsert a b does = does row refl
+puts_added L columns_of row Update a b does = does row refl
+
+-- which keeps nothing where it is renewed
+pub writes_added : {X C : Type 0} (L : Layout X) (columns_of : X → C) (row : X) (write : Write) (a b : Database)
+    → AddsOrPuts L columns_of write (columns_of row) a b → Writes L (λ _. []) write row a b
+writes_added L columns_of row Insert a b does = does row refl
+writes_added L columns_of row Upsert a b does = does row refl
+writes_added L columns_of row Update a b does = λ rows has there in_it same kept. does row refl rows has
+
+-- the row of `meta`
+pub writes_meta_row : (row : Meta) (write : Write) (a b : Database) → write ≢ Insert
+    → RenewsOrPuts formatted_layout meta_kept formatted_columns write (formatted_columns (known_format, row)) a b
+    → Writes formatted_layout (λ x. meta_kept (formatted_columns x)) write (known_format, row) a b
+writes_meta_row row Upsert a b old does = does (known_format, row) refl
+writes_meta_row row Update a b old does = does (known_format, row) refl
+writes_meta_row row Insert a b old does = absurd (old refl)
+
+-- columns that were written have no fault
+pub written_whole : {A E : Type 0} (written : Result A E) (P : E → Type 0) → IsOk written → IfErr written P
+written_whole (Ok columns) P is = tt
+written_whole (Err why) P is = cc
+
+-- the nonce of a serial, by the number of its column
+pub removes_numbered : (column : ℤ) (serial : ℕ) (old new : State) → column ≡ pos serial → Advances old new (RemovesNumbered nonce_layout column)
+    → Advances old new (Removes nonce_layout serial)
+removes_numbered column serial old new are =
+    advances_as old new (RemovesNumbered nonce_layout column) (Removes nonce_layout serial) (λ does. does serial (sym are))
+
+-- ---- several rows
+
+-- one more
+one_more_put : {X : Type 0} (L : Layout X) (ys : List X) (y : X) (a b c : Database) → PutsAll L ys a b → Puts L y b c → PutsAll L (ys ++ y ∷ []) a c
+one_more_put L ys y a b c before last sound rows has =
+    let one = before sound rows has in
+    let two = last (puts L.key ys rows) one.has in
+    record {
+      sound = two.sound;
+      has = subst (HasRows L c) (sym (puts_snoc L.key ys y rows)) two.has;
+      others = λ t other none. two.others t other none ∙ one.others t other none;
+    }
+
+-- the rows of one owner, and one more
+owned_snoc : {T : Type 0} (n : ℕ) (xs : List T) (i : ℕ) (d : T) → i < length xs
+    → owned_by n (take (i + 1) xs) ≡ owned_by n (take i xs) ++ (record { owner = n; row = get_or xs i d }) ∷ []
+owned_snoc n xs i d low =
+    ap (λ k. owned_by n (take k xs)) (add-one i) ∙ ap (owned_by n) (take-suc xs i d low) ∙ map-append _ (take i xs) (get_or xs i d ∷ [])
+
+-- what holds of all rows of an owner holds of the one at a place
+pub each_owned : {X : Type 0} (P : Owned X → Type 0) (n : ℕ) (xs : List X) (i : ℕ) (d : X) → i < length xs → EachOf P (owned_by n xs)
+    → P (record { owner = n; row = get_or xs i d })
+each_owned P n [] i d low all = absurd (omega (arith, low))
+each_owned P n (x ∷ xs) zero d low all = all.0
+each_owned P n (x ∷ xs) (suc i) d low all = each_owned P n xs i d (omega (arith, low)) all.1
+
+-- none
+pub put_none : {X : Type 0} (L : Layout X) (a : Database) → PutsAll L [] a a
+put_none L a = λ sound rows has. record { sound = sound; has = has; others = λ t other none. refl }
+
+-- one more row
+pub put_more : {X : Type 0} (L : Layout X) (xs : List X) (i : ℕ) (d : X) (a b c : Database) → i < length xs → PutsAll L (take i xs) a b
+    → Puts L (get_or xs i d) b c → PutsAll L (take (i + 1) xs) a c
+put_more L xs i d a b c low before last =
+    subst (λ ys. PutsAll L ys a c) (sym (ap (λ k. take k xs) (add-one i) ∙ take-suc xs i d low)) (one_more_put L (take i xs) (get_or xs i d) a b c before last)
+
+-- one more row of an owner, over those that are known
+pub over_more : {T : Type 0} (L : Layout (Owned T)) (known : Owned T → Option (Owned T)) (n : ℕ) (xs : List T) (i : ℕ) (d : T) (a b c : Database)
+    → i < length xs → PutsAllOver L known (owned_by n (take i xs)) a b
+    → PutsOver L (known (record { owner = n; row = get_or xs i d })) (record { owner = n; row = get_or xs i d }) b c
+    → PutsAllOver L known (owned_by n (take (i + 1) xs)) a c
+over_more {T} L known n xs i d a b c low before last =
+    let row : Owned T = record { owner = n; row = get_or xs i d } in
+    subst (λ ys. PutsAllOver L known ys a c) (sym (owned_snoc n xs i d low))
+    (over_both L known (owned_by n (take i xs)) (row ∷ []) a b c before (over_one L known row b c last))
+
+-- the keys of one more
+keys_snoc : (n : ℕ) (xs : List ChallengeRow) (i : ℕ) (d : ChallengeRow) → i < length xs
+    → key_rows (owned_by n (take (i + 1) xs)) ≡ key_rows (owned_by n (take i xs)) ++ option_to_list (answer_key (get_or xs i d))
+keys_snoc n xs i d low =
+    let row : Owned ChallengeRow = record { owner = n; row = get_or xs i d } in
+    ap key_rows (owned_snoc n xs i d low)
+    ∙ filter_map-append (λ (c : Owned ChallengeRow). answer_key c.row) (owned_by n (take i xs)) (row ∷ [])
+    ∙ ap (λ ks. key_rows (owned_by n (take i xs)) ++ ks) (alone (answer_key (get_or xs i d)))
+  where
+    alone : (o : Option AnswerKey) → cons_option o [] ≡ option_to_list o
+    alone None = refl
+    alone (Some k) = refl
+
+-- the key of one more challenge, over those that are known
+pub keys_more : (known : AnswerKey → Option AnswerKey) (n : ℕ) (xs : List ChallengeRow) (i : ℕ) (d : ChallengeRow) (a b c : Database)
+    → i < length xs → PutsAllOver key_layout known (key_rows (owned_by n (take i xs))) a b
+    → PutsAllOver key_layout known (option_to_list (answer_key (get_or xs i d))) b c
+    → PutsAllOver key_layout known (key_rows (owned_by n (take (i + 1) xs))) a c
+keys_more known n xs i d a b c low before last =
+    subst (λ ys. PutsAllOver key_layout known ys a c) (sym (keys_snoc n xs i d low))
+    (over_both key_layout known (key_rows (owned_by n (take i xs))) (option_to_list (answer_key (get_or xs i d))) a b c before last)
+
+-- what holds of all rows holds of the one at a place
+pub each_at : {X : Type 0} (P : X → Type 0) (xs : List X) (i : ℕ) (d : X) → i < length xs → EachOf P xs → P (get_or xs i d)
+each_at P [] i d low all = absurd (omega (arith, low))
+each_at P (x ∷ xs) zero d low all = all.0
+each_at P (x ∷ xs) (suc i) d low all = each_at P xs i d (omega (arith, low)) all.1
+
+-- ---- what an order lists
+
+-- one more after several
+placed_snoc : (ls : List (Owned Listed)) (l : Owned Listed) (before mid after : List (ℕ × Owned Listed)) → ArePlaced ls before mid
+    → IsPlaced is_same_place l mid after
+    → ArePlaced (ls ++ l ∷ []) before after
+placed_snoc [] l before mid after same placed = (after, subst (λ m. IsPlaced is_same_place l m after) same placed, refl)
+placed_snoc (k ∷ ks) l before mid after first placed = (first.0, first.1, placed_snoc ks l first.0 mid after first.2 placed)
+
+-- one more
+one_more_placed : (ls : List (Owned Listed)) (l : Owned Listed) (a b c : Database) → PlacesAll ls a b → Places l b c → PlacesAll (ls ++ l ∷ []) a c
+one_more_placed ls l a b c first last sound before has =
+    let one = first sound before has in
+    let two = last one.0 one.2.has in (
+      two.0,
+      placed_snoc ls l before one.0 two.0 one.1 two.1,
+      record { sound = two.2.sound; has = two.2.has; others = λ t other none. two.2.others t other none ∙ one.2.others t other none },
+    )
+
+-- rows that are appended, and one more
+appended_snoc : (ls : List (Owned Listed)) (l : Owned Listed) (before : List (ℕ × Owned Listed))
+    → appended (ls ++ l ∷ []) before ≡ put number (next (appended ls before), l) (appended ls before)
+appended_snoc [] l before = refl
+appended_snoc (k ∷ ks) l before = appended_snoc ks l (put number (next before, k) before)
+
+-- one more
+one_more_appended : (ls : List (Owned Listed)) (l : Owned Listed) (a b c : Database) → AppendsAll ls a b → Appends l b c → AppendsAll (ls ++ l ∷ []) a c
+one_more_appended ls l a b c first last sound before has =
+    let one = first sound before has in
+    let two = last (appended ls before) one.has in
+    record {
+      sound = two.sound;
+      has = subst (HasRows listed_layout c) (sym (appended_snoc ls l before)) two.has;
+      others = λ t other none. two.others t other none ∙ one.others t other none;
+    }
+
+-- none
+pub listed_none : (write : Write) (a : Database) → WritesListed write [] a a
+listed_none Insert a = λ sound before has. record { sound = sound; has = has; others = λ t other none. refl }
+listed_none Upsert a = λ sound before has. (before, refl, record { sound = sound; has = has; others = λ t other none. refl })
+listed_none Update a = λ sound before has. (before, refl, record { sound = sound; has = has; others = λ t other none. refl })
+
+-- one more row of an order
+pub listed_more : (write : Write) (n : ℕ) (xs : List Listed) (i : ℕ) (d : Listed) (a b c : Database) → i < length xs
+    → WritesListed write (owned_by n (take i xs)) a b → AppendsOrPlaces write (listed_columns (record { owner = n; row = get_or xs i d })) b c
+    → WritesListed write (owned_by n (take (i + 1) xs)) a c
+listed_more write n xs i d a b c low before last =
+    subst (λ ls. WritesListed write ls a c) (sym (owned_snoc n xs i d low)) (go write before last)
+  where
+    row : Owned Listed
+    row = record { owner = n; row = get_or xs i d }
+
+    go : (m : Write) → WritesListed m (owned_by n (take i xs)) a b → AppendsOrPlaces m (listed_columns row) b c
+        → WritesListed m (owned_by n (take i xs) ++ row ∷ []) a c
+    go Insert before last = one_more_appended (owned_by n (take i xs)) row a b c before (last row refl)
+    go Upsert before last = one_more_placed (owned_by n (take i xs)) row a b c before (last row refl)
+    go Update before last = one_more_placed (owned_by n (take i xs)) row a b c before (last row refl)
+
+-- ---- changes
+
+-- several that fit, and the last
+fit_snoc : (cs : List Change) (c : Change) (T : Tables) → AreFit T (cs ++ c ∷ []) → AreFit T cs × IsFit (applied cs T) c
+fit_snoc [] c T h = (tt, h.0)
+fit_snoc (d ∷ ds) c T h = let rest = fit_snoc ds c (applied_one d T) h.1 in ((h.0, rest.0), rest.1)
+
+-- one more
+one_more_made : (known : Option Tables) (cs : List Change) (c : Change) (a b d : Database) → MakesAll known cs a b → Makes (known_after known cs) c b d
+    → MakesAll known (cs ++ c ∷ []) a d
+one_more_made known cs c a b d before last T has stands fits =
+    let parts = fit_snoc cs c T fits in
+    subst (Holds d) (sym (applied-append cs (c ∷ []) T)) (last (applied cs T) (before T has stands parts.0) (known_stands cs known T stands) parts.1)
+
+-- one more change
+pub made_more : (known : Option Tables) (cs : List Change) (i : ℕ) (d : Change) (a b c : Database) → i < length cs → MakesAll known (take i cs) a b
+    → Makes (known_after known (take i cs)) (get_or cs i d) b c → MakesAll known (take (i + 1) cs) a c
+made_more known cs i d a b c low before last =
+    subst (λ all. MakesAll known all a c) (sym (ap (λ k. take k cs) (add-one i) ∙ take-suc cs i d low))
+    (one_more_made known (take i cs) (get_or cs i d) a b c before last)
+
+-- ---- the statements of changes
+
+-- of some, and then of others
+from_append : (last : Counters) (xs ys : List Change) (known : Option Tables)
+    → statements_from last known (xs ++ ys) ≡ statements_from last known xs ++ statements_from last (known_after known xs) ys
+from_append last [] ys known = ap (λ k. statements_from last k ys) (sym (known_first known))
+from_append last (x ∷ xs) ys known =
+    ap (λ all. statements_of known last x ++ all)
+    (from_append last xs ys (option_map (applied_one x) known)
+    ∙ ap (λ k. statements_from last (option_map (applied_one x) known) xs ++ statements_from last k ys) (known_next x xs known))
+    ∙ sym (append_assoc (statements_of known last x) (statements_from last (option_map (applied_one x) known) xs)
+    (statements_from last (known_after known (x ∷ xs)) ys))
+
+-- of one more
+pub from_more : (last : Counters) (cs : List Change) (i : ℕ) (d : Change) (known : Option Tables) → i < length cs
+    → statements_from last known (take (i + 1) cs)
+    ≡ statements_from last known (take i cs) ++ statements_of (known_after known (take i cs)) last (get_or cs i d)
+from_more last cs i d known low =
+    let c = get_or cs i d in
+    ap (statements_from last known) (ap (λ k. take k cs) (add-one i) ∙ take-suc cs i d low)
+    ∙ from_append last (take i cs) (c ∷ []) known
+    ∙ ap (λ all. statements_from last known (take i cs) ++ all) (append-nil (statements_of (known_after known (take i cs)) last c))
+
+-- those of some, and of the next, begin those of all
+pub from_begins : (last : Counters) (cs : List Change) (i : ℕ) (d : Change) (known : Option Tables) → i < length cs
+    → (statements_from last known (take i cs) ++ statements_of (known_after known (take i cs)) last (get_or cs i d))
+    ++ statements_from last (known_after known (take (i + 1) cs)) (drop (i + 1) cs) ≡ statements_from last known cs
+from_begins last cs i d known low =
+    ap (λ all. all ++ statements_from last (known_after known (take (i + 1) cs)) (drop (i + 1) cs)) (sym (from_more last cs i d known low))
+    ∙ sym (from_append last (take (i + 1) cs) (drop (i + 1) cs) known)
+    ∙ ap (statements_from last known) (take-append-drop (i + 1) cs)
+
+-- by the last numbers that are known they are those of a save
+pub of_save : (known : Option Tables) (changes : List Change) → statements_from (last_given known) known changes ≡ save_statements known changes
+unfolding save_statements
+of_save known changes = refl

@@ -1,0 +1,216 @@
+-- Statements run one after the other, and the one that was refused.
+use Rattle.std.proofs.Common.{◌≡◌, ℕ, zero, suc, ◌+◌, ◌-◌, ◌<◌, List, [], ◌∷◌, ◌++◌, Result, Ok, Err, IfErr, IsOk, refl, sym, ap, subst, ◌∙◌, arith}
+use Rattle.std.proofs.Common.{◌⊎◌, inl, inr, add-one, append-nil, drop, get_or, length, take}
+use Rattle.std.specs.Prelude.{IsErrAnd, MatchResult}
+use Rattle.std.specs.List.{flat_map}
+use Rattle.std.specs.Result.{result_and}
+use Rattle.std.proofs.Math.Seq.{take-suc}
+use Rattle.std.proofs.lemmas.Grind.{flat_map-append}
+use Rattle.std.proofs.lemmas.List.{append_assoc, take-append-drop}
+use Rattle.sqlite.specs.Held.{Held, state}
+use Rattle.sqlite.specs.Order.{Row}
+use Rattle.sqlite.specs.State.{HasCleanDisk, Survives}
+use Rattle.sqlite.specs.Steps.{FailsToCommit}
+use Rattle.sqlite.specs.Store.{Ghosts}
+use Rattle.sqlite.specs.declared.error.Error.{Error}
+use Rattle.sql_schema.specs.Definitions.{definition_at}
+use Rattle.sql_schema.proofs.StaysLemmas.{asks_nothing}
+use Rattle.sql_write.proofs.Exits.{survives_both}
+use Rattle.sql_write.specs.Refusals.{FailedCommit, HaveBegun, HaveRun, IsCause, IsRun, Ran, Refuses, Runs, Stops, begun}
+use Rattle.sql_write.specs.Committing.{IsBeforeCommit}
+use Rattle.sql_write.specs.Numbers.{IsNotTooLarge}
+use Rattle.sql_write.specs.Statements.{Sql, defines, defines_before}
+use Rattle.sql_write.specs.declared.fault.SaveFault.{SaveFault}
+use Rattle.sql_write.specs.declared.fault.SaveFault.TheVariants as save
+use Rattle.sql_write.specs.declared.fault.WriteFault.TheVariants as writefault
+
+-- a result with a fault in the place of its error
+abbrev pub IsTold : Result (Unit {0}) SaveFault → Result (Unit {0}) Error → Type 0
+IsTold q s = MatchResult s (λ x. q ≡ Ok x) (λ e. IsErrAnd q (λ why. why ≡ save.Statement e))
+
+-- a result with a fault of the commit in the place of its error
+abbrev IsCommitted : Result (Unit {0}) SaveFault → Result (Unit {0}) Error → Type 0
+IsCommitted q r = MatchResult r (λ x. q ≡ Ok x) (λ e. IsErrAnd q (λ why. why ≡ save.Commit e))
+
+-- the statements of one more row
+pub one_more : {X : Type 0} (of : X → List Sql) (rows : List X) (i : ℕ) (d : X) → i < length rows
+    → flat_map of (take (i + 1) rows) ≡ flat_map of (take i rows) ++ of (get_or rows i d)
+one_more of rows i d low =
+    ap (λ k. flat_map of (take k rows)) (add-one i) ∙ ap (flat_map of) (take-suc rows i d low) ∙ flat_map-append of (take i rows) (get_or rows i d ∷ [])
+    ∙ ap (λ last. flat_map of (take i rows) ++ last) (append-nil (of (get_or rows i d)))
+
+module _ {S : Type 0} (g : Ghosts S) where
+  -- the parameters are these, too
+  pub runs_with : (text : List ℕ) (old new : Held S) (answer : Result ℕ Error) (params wanted : Row) → params ≡ wanted
+      → Runs g (record { text = text; params = params }) old new answer → Runs g (record { text = text; params = wanted }) old new answer
+  runs_with text old new answer params wanted same = subst (λ row. Runs g (record { text = text; params = row }) old new answer) same
+
+  -- the answer of a statement that a call keeps
+  pub is_run : (sql : Sql) (old new : Held S) (r : Result ℕ Error) (u : Unit {0}) (s : Result (Unit {0}) Error) (q : Result (Unit {0}) SaveFault)
+      → s ≡ result_and r (Ok u) → IsTold q s → Runs g sql old new r → IsRun g sql old new q
+  is_run sql old new (Ok count) u s q is told ran = subst (IsRun g sql old new) (sym (subst (IsTold q) is told)) (count, ran)
+  is_run sql old new (Err error) u s (Ok v) is told ran = absurd (subst (IsTold (Ok v)) is told)
+  is_run sql old new (Err error) u s (Err why) is told ran = (error, subst (IsTold (Err why)) is told, ran)
+
+  -- none was run
+  pub none_begun : (all : List Sql) (now : Held S) → HaveBegun g all now now
+  none_begun all now = record { ran = []; rest = all; are = refl; have_run = refl }
+
+  -- ---- one after the other
+
+  -- all were run, and then all of those
+  pub run_both : (xs ys : List Sql) (a b c : Held S) → HaveRun g xs a b → HaveRun g ys b c → HaveRun g (xs ++ ys) a c
+  run_both [] ys a b c first last = subst (λ h. HaveRun g ys h c) first last
+  run_both (x ∷ xs) ys a b c first last = (first.0, first.1, first.2, run_both xs ys first.0 b c first.3 last)
+
+  -- what stops some stops them with more behind them
+  pub stops_some : (xs ys : List Sql) (a b : Held S) (why : SaveFault) → Stops g xs a b why → Stops g (xs ++ ys) a b why
+  stops_some xs ys a b (save.Row why) it = record {
+    ran = it.ran;
+    rest = it.rest ++ ys;
+    are = ap (λ all. all ++ ys) it.are ∙ append_assoc it.ran it.rest ys;
+    have_run = it.have_run;
+  }
+  stops_some xs ys a b (save.Statement error) it = record {
+    ran = it.ran;
+    sql = it.sql;
+    rest = it.rest ++ ys;
+    are = ap (λ all. all ++ ys) it.are ∙ append_assoc it.ran (it.sql ∷ it.rest) ys;
+    before = it.before;
+    have_run = it.have_run;
+    refused = it.refused;
+  }
+  stops_some xs ys a b (save.Commit error) it = it
+
+  -- and behind others that were run
+  pub stops_behind : (xs ys : List Sql) (a b c : Held S) (why : SaveFault) → HaveRun g xs a b → Stops g ys b c why → Stops g (xs ++ ys) a c why
+  stops_behind xs ys a b c (save.Row why) first it = record {
+    ran = xs ++ it.ran;
+    rest = it.rest;
+    are = ap (λ all. xs ++ all) it.are ∙ sym (append_assoc xs it.ran it.rest);
+    have_run = run_both xs it.ran a b c first it.have_run;
+  }
+  stops_behind xs ys a b c (save.Statement error) first it = record {
+    ran = xs ++ it.ran;
+    sql = it.sql;
+    rest = it.rest;
+    are = ap (λ all. xs ++ all) it.are ∙ sym (append_assoc xs it.ran (it.sql ∷ it.rest));
+    before = it.before;
+    have_run = run_both xs it.ran a b it.before first it.have_run;
+    refused = it.refused;
+  }
+  stops_behind xs ys a b c (save.Commit error) first it = it
+
+  -- a call behind others
+  pub ran_behind : {X : Type 0} (xs ys : List Sql) (a b c : Held S) (r : Result X SaveFault) → HaveRun g xs a b → Ran g ys b c r → Ran g (xs ++ ys) a c r
+  ran_behind xs ys a b c (Ok x) first last = run_both xs ys a b c first last
+  ran_behind xs ys a b c (Err why) first last = stops_behind xs ys a b c why first last
+
+  -- ---- the rows of a list
+
+  -- the one that was refused
+  pub stops_at : {X : Type 0} (of : X → List Sql) (rows : List X) (i : ℕ) (d : X) (a b c : Held S) (why : SaveFault) → i < length rows
+      → HaveRun g (flat_map of (take i rows)) a b → Stops g (of (get_or rows i d)) b c why → Stops g (flat_map of rows) a c why
+  stops_at of rows i d a b c why low first last =
+      let here = stops_behind (flat_map of (take i rows)) (of (get_or rows i d)) a b c why first last in
+      let begins = sym (flat_map-append of (take (i + 1) rows) (drop (i + 1) rows)) ∙ ap (flat_map of) (take-append-drop (i + 1) rows) in
+      subst (λ all. Stops g all a c why) (ap (λ all. all ++ flat_map of (drop (i + 1) rows)) (sym (one_more of rows i d low)) ∙ begins)
+      (stops_some _ (flat_map of (drop (i + 1) rows)) a c why here)
+
+-- those of the first steps begin those of more
+begin_with : (step more : ℕ) → (rest : List Sql) × (defines_before (more + step) ≡ defines_before step ++ rest)
+begin_with step zero =
+    let same : zero + step ≡ step = omega arith in
+    ([], ap defines_before same ∙ sym (append-nil (defines_before step)))
+begin_with step (suc more) =
+    let before = begin_with step more in
+    let same : suc more + step ≡ suc (more + step) = omega arith in (
+      before.0 ++ defines (more + step),
+      ap defines_before same ∙ ap (λ all. all ++ defines (more + step)) before.1 ∙ append_assoc (defines_before step) before.0 (defines (more + step)),
+    )
+
+module _ {S : Type 0} (g : Ghosts S) where
+  -- ---- definitions
+
+  -- one more
+  pub run_defined : (step count : ℕ) (a b c : Held S) → HaveRun g (defines_before step) a b
+      → Runs g (record { text = definition_at step; params = [] }) b c (Ok count) → HaveRun g (defines_before (step + 1)) a c
+  run_defined step count a b c first last =
+      subst (λ n. HaveRun g (defines_before n) a c) (sym (add-one step)) (run_both g (defines_before step) (defines step) a b c first (c, count, last, refl))
+
+  -- the one that was refused
+  pub stops_defining : (step all : ℕ) → step < all → (error : Error) (a b c : Held S) → HaveRun g (defines_before step) a b
+      → Runs g (record { text = definition_at step; params = [] }) b c (Err error) → Stops g (defines_before all) a c (save.Statement error)
+  stops_defining step all low error a b c first last =
+      let alone : Stops g (defines step) b c (save.Statement error) =
+      record { ran = []; sql = record { text = definition_at step; params = [] }; rest = []; are = refl; before = b; have_run = refl; refused = last } in
+      let here = stops_behind g (defines_before step) (defines step) a b c (save.Statement error) first alone in
+      let whole = begin_with (suc step) (all - suc step) in
+      let count : all - suc step + suc step ≡ all = omega (arith, low) in
+      subst (λ sqls. Stops g sqls a c (save.Statement error)) (sym whole.1 ∙ ap defines_before count)
+      (stops_some g (defines_before (suc step)) whole.0 a c (save.Statement error) here)
+
+-- ---- the end of a transaction
+
+-- what failed behind statements that were all run is the commit
+pub commit_told : {S : Type 0} (g : Ghosts S) (last after : Held S) (done : Result (Unit {0}) SaveFault) (u : Unit {0}) → done ≡ Ok u
+    → (r : Result (Unit {0}) Error) (q : Result (Unit {0}) SaveFault) → IsCommitted q r
+    → (HasCleanDisk (state g after) → IfErr r (FailsToCommit (state g last) (state g after)))
+    → IfErr q (λ why. (done ≡ Err why) ⊎ (IsOk done × FailedCommit g last after why))
+commit_told g last after done u is r (Ok v) told fails = tt
+commit_told g last after done u is (Ok v) (Err why) told fails = absurd (cc told)
+commit_told g last after done u is (Err error) (Err why) told fails =
+    inr (subst IsOk (sym is) refl, record { error = error; is = told; fails = fails })
+
+module _ {S : Type 0} (g : Ghosts S) (Fits : Type 0) (all : List Sql) (old : Held S) where
+  -- what stopped the statements, or the commit behind them, is the cause
+  pub caused : (first last after : Held S) → first ≡ begun old → (done result : Result (Unit {0}) SaveFault) → Ran g all first last done
+      → IfErr result (λ why. (done ≡ Err why) ⊎ (IsOk done × FailedCommit g last after why))
+      → IfErr result (λ why. IsBeforeCommit why → Survives (state g last) (state g after) (λ _. ⊥))
+      → (Fits → IfErr result IsNotTooLarge) → IfErr result (IsCause g Fits all old after)
+  caused first last after begins done (Ok u) ran why early fits = tt
+  caused first last after begins done (Err fault) ran (inl is) early fits =
+      stopped fault (subst (λ d. Ran g all first last d) is ran) early fits
+    where
+      stopped : (why : SaveFault) → Stops g all first last why → (IsBeforeCommit why → Survives (state g last) (state g after) (λ _. ⊥))
+          → (Fits → IsNotTooLarge why) → IsCause g Fits all old after why
+      stopped (save.Row why) stops early fits =
+          (last, subst (λ h. HaveBegun g all h last) begins stops, early tt, λ large all_fit. fits all_fit (ap save.Row large))
+      stopped (save.Statement error) stops early fits = (last, subst (λ h. Refuses g all h last error) begins stops, early tt)
+      stopped (save.Commit error) stops early fits = absurd stops
+  caused first last after begins done (Err fault) ran (inr it) early fits =
+      subst (IsCause g Fits all old after) (sym it.1.is) (
+        last,
+        after,
+        subst (λ h. HaveRun g all h last) begins (whole done ran it.0),
+        it.1.fails,
+        (asks_nothing (state g after)).survives,
+      )
+    where
+      whole : (d : Result (Unit {0}) SaveFault) → Ran g all first last d → IsOk d → HaveRun g all first last
+      whole (Ok u) ran is = ran
+      whole (Err why) ran is = absurd (cc is)
+
+  -- that there was no memory for what is to be written, before a transaction, is one
+  pub nothing_begun : IsCause g Fits all old old (save.Row writefault.Memory)
+  nothing_begun =
+      let same = (asks_nothing (state g old)).survives in (
+        begun old,
+        none_begun g all (begun old),
+        record {
+          clean = same.clean;
+          shield = same.shield;
+          counts = same.counts;
+          limit = same.limit;
+          closes = same.closes;
+          crash = same.crash;
+        },
+        λ large. absurd (cc large),
+      )
+
+  -- it is so behind calls that commit nothing
+  pub cause_then : (mid new : Held S) (why : SaveFault) → IsCause g Fits all old mid why → Survives (state g mid) (state g new) (λ _. ⊥)
+      → IsCause g Fits all old new why
+  cause_then mid new (save.Row why) it on = (it.0, it.1, survives_both (state g it.0) (state g mid) (state g new) it.2 on, it.3)
+  cause_then mid new (save.Statement error) it on = (it.0, it.1, survives_both (state g it.0) (state g mid) (state g new) it.2 on)
+  cause_then mid new (save.Commit error) it on = (it.0, it.1, it.2, it.3, survives_both (state g it.1) (state g mid) (state g new) it.4 on)

@@ -1,0 +1,62 @@
+-- What makes format 2 of format 1.
+use Rattle.sqlite.specs.Held.{Held, state}
+use Rattle.sqlite.specs.Store.{Ghosts}
+use Rattle.sql_schema.proofs.Steps.{adds_key_table}
+use Rattle.sql_schema.specs.declared.keys.TheConstants as chall_key
+use Rattle.sql_write.proofs.Written.{run_written}
+use Rattle.sql_write.specs.Refusals.{HasWritten, IsRun}
+use Rattle.sql_write.specs.Statements.{defines}
+use Rattle.sql_write.specs.declared.fault.SaveFault.{SaveFault}
+use Rattle.std.proofs.Common.{◌≡◌, ℕ, List, [], ◌∷◌, map, Result, refl, sym, ap, subst, ◌∙◌, arith}
+use Rattle.sqlite.specs.Effect.{Database}
+use Rattle.store_columns.specs.Columns.{first_format, known_format}
+use Rattle.store_columns.specs.Flat.{challenge_rows, key_rows}
+use Rattle.store_columns.specs.declared.flat_rows.AnswerKey.{AnswerKey}
+use Rattle.model_laws.specs.Placing.{puts}
+use Rattle.desk_model.specs.declared.rows.Meta.{Meta}
+use Rattle.sql_schema.specs.Defined.{AddsKeyTable}
+use Rattle.sql_write.specs.Upgrading.{Fills, Upgrades}
+use Rattle.sql_tables.specs.Images.{formatted_image, key_image}
+use Rattle.sql_tables.specs.Layouts.{HasRows, formatted_layout, key_layout}
+use Rattle.sql_tables.proofs.AnswerKeys.{keys_apart}
+use Rattle.sql_tables.proofs.NoIndexes.{no_index_account, no_index_authorization, no_index_challenge, no_index_key, no_index_listed}
+use Rattle.sql_tables.proofs.NoIndexes.{no_index_meta, no_index_nonce, no_index_order}
+use Rattle.sql_tables.proofs.Sorting.{puts_sorted}
+
+-- the table that format 1 lacks, then its rows, then the row of `meta`
+pub upgrades : (meta : Meta) (keys : List AnswerKey) (old mid new : Database) → AddsKeyTable old mid → Fills meta keys mid new → Upgrades meta keys old new
+upgrades meta keys old mid new adds fills T has same are =
+    let late = fills.0 in
+    let k = adds has.schema in
+    let none : HasRows key_layout mid [] = record { schema = k.schema; rows_are = k.empty; rising = tt } in
+    let q = fills.1 k.sound [] none in
+    let first : HasRows formatted_layout late ((first_format, T.meta) ∷ []) =
+    record { schema = q.has.schema; rows_are = q.others 0 (λ e. cc) no_index_meta ∙ k.kept.0 ∙ has.meta; rising = (omega arith, tt) } in
+    let p = fills.2 ((first_format, T.meta) ∷ []) first in
+    let all = key_rows (challenge_rows T.authorizations) in
+    let there = puts_sorted key_layout.key all (keys_apart (challenge_rows T.authorizations) has.rising.challenges) in
+    record {
+      sound = p.sound;
+      schema = p.has.schema;
+      meta = p.has.rows_are ∙ ap (λ m. formatted_image (known_format, m) ∷ []) (sym same);
+      nonces = p.others 1 (λ e. cc) no_index_nonce ∙ q.others 1 (λ e. cc) no_index_nonce ∙ k.kept.1.0 ∙ has.nonces;
+      accounts = p.others 2 (λ e. cc) no_index_account ∙ q.others 2 (λ e. cc) no_index_account ∙ k.kept.1.1.0 ∙ has.accounts;
+      orders = p.others 4 (λ e. cc) no_index_order ∙ q.others 4 (λ e. cc) no_index_order ∙ k.kept.1.1.1.0 ∙ has.orders;
+      authorizations = p.others 5 (λ e. cc) no_index_authorization ∙ q.others 5 (λ e. cc) no_index_authorization ∙ k.kept.1.1.1.1.0 ∙ has.authorizations;
+      listed = record {
+        numbered = has.listed.numbered;
+        has = p.others 6 (λ e. cc) no_index_listed ∙ q.others 6 (λ e. cc) no_index_listed ∙ k.kept.1.1.1.1.1.0 ∙ has.listed.has;
+        rising = has.listed.rising;
+        same = has.listed.same;
+      };
+      challenges = p.others 8 (λ e. cc) no_index_challenge ∙ q.others 8 (λ e. cc) no_index_challenge ∙ k.kept.1.1.1.1.1.1.0 ∙ has.challenges;
+      keys = p.others 17 (λ e. cc) no_index_key ∙ q.has.rows_are ∙ ap (λ ks. map key_image (puts key_layout.key ks [])) (sym are) ∙ ap (map key_image) there;
+      rising = has.rising;
+    }
+
+-- the table of keys, by a call that runs its text
+pub key_table_defined : {S : Type 0} (g : Ghosts S) (text : List ℕ) (a b : Held S) (r : Result (Unit {0}) SaveFault) → text ≡ chall_key.CREATE.now
+    → IsRun g (record { text = text; params = [] }) a b r → HasWritten g (defines 15) AddsKeyTable a b r
+key_table_defined g text a b r is ran =
+    run_written g chall_key.CREATE.now [] [] AddsKeyTable a b r refl (subst (λ t. IsRun g (record { text = t; params = [] }) a b r) is ran)
+    (adds_key_table (state g a) (state g b))

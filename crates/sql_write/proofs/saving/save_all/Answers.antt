@@ -1,0 +1,69 @@
+use Rattle.std.proofs.Common.{◌∙◌, ap, rules, subst}
+use Rattle.std.specs.Prelude.{option_copied}
+use Rattle.sqlite.specs.Held.{state}
+use Rattle.sql_write.specs.Fitting.{Saves}
+use Rattle.sql_write.specs.Makes.{MakesAll}
+use Rattle.sql_write.proofs.BackFits.{saves_by}
+use Rattle.sql_write.proofs.Leaving.{committed_by, left_by, spared_by, undone_by}
+use Rattle.sql_write.proofs.RowsInTurn.{of_save}
+use Rattle.sql_write.proofs.Told.{caused}
+use Rattle.sql_write.specs.Refusals.{Ran}
+use Rattle.sql_write.specs.Statements.{save_statements, statements_from}
+use Rattle.desk_model.specs.declared.rows.Counters.{Counters}
+use Rattle.desk_model.specs.Kept.{EachOf}
+use Rattle.sql_write.specs.Numbers.{FitsColumns}
+use Rattle.sql_write.proofs.saving.save_all.Goals as goal
+
+pub returns-clause-ok : goal.returns-clause-ok
+returns-clause-ok g c =
+    let old = c.args.conn.now in
+    let last = c.make_changes-made.new.tx.conn.now in
+    let changes = c.args.changes.now in
+    let means = saves_by (option_copied c.args.known) changes (state g.S.Store old).now (state g.S.Store last).now in
+    let whole = committed_by g.S.Store old c.transaction-tx.result.conn.now last c.end.new.tx.0 c.transaction-tx.ensures.begun
+    c.make_changes-made.result c.end.result
+    (MakesAll (option_copied c.args.known) changes) (Saves (option_copied c.args.known) changes) means c.make_changes-made.ensures.writes.does
+    c.end.ensures.left c.end.ensures.done
+    c.end.ensures.ok in
+    search (rules, whole)
+
+pub returns-clause-err : goal.returns-clause-err
+returns-clause-err g c =
+    let whole = undone_by g.S.Store c.args.conn.now c.transaction-tx.result.conn.now c.make_changes-made.new.tx.conn.now c.end.new.tx.0
+    c.transaction-tx.ensures.begun
+    c.make_changes-made.result c.end.result (MakesAll (option_copied c.args.known) c.args.changes.now) c.make_changes-made.ensures.writes.does
+    c.make_changes-made.ensures.writes.kept
+    c.end.ensures.left c.end.ensures.err in
+    search (rules, whole)
+
+pub returns-clause-before : goal.returns-clause-before
+returns-clause-before g c =
+    let whole = spared_by g.S.Store c.args.conn.now c.transaction-tx.result.conn.now c.make_changes-made.new.tx.conn.now c.end.new.tx.0
+    c.transaction-tx.ensures.begun
+    c.make_changes-made.result c.end.result c.make_changes-made.ensures.writes.survives c.end.ensures.before in
+    search (rules, whole)
+
+pub returns-clause-left : goal.returns-clause-left
+returns-clause-left g c =
+    let old = c.args.conn.now in
+    let last = c.make_changes-made.new.tx.conn.now in
+    let changes = c.args.changes.now in
+    let means = saves_by (option_copied c.args.known) changes (state g.S.Store old).now (state g.S.Store last).now in
+    let whole = left_by g.S.Store old c.transaction-tx.result.conn.now last c.end.new.tx.0 c.transaction-tx.ensures.begun c.make_changes-made.result
+    (MakesAll (option_copied c.args.known) changes) (Saves (option_copied c.args.known) changes) means c.make_changes-made.ensures.writes.survives
+    c.make_changes-made.ensures.writes.does
+    c.end.ensures.left in
+    search (rules, whole)
+
+pub returns-clause-cause : goal.returns-clause-cause
+returns-clause-cause g c =
+    let known = option_copied c.args.known in
+    let changes = c.args.changes.now in
+    let first = c.transaction-tx.result.conn.now in
+    let made = c.make_changes-made in
+    let same = ap (λ (last : Counters). statements_from last known changes) c.last_given-last.ensures ∙ of_save known changes in
+    let told = subst (λ sqls. Ran g.S.Store sqls first made.new.tx.conn.now made.result) same made.ensures.writes.told in
+    let whole = caused g.S.Store (EachOf FitsColumns changes) (save_statements known changes) c.args.conn.now first
+    made.new.tx.conn.now c.end.new.tx.0 c.transaction-tx.ensures.begun made.result c.end.result told c.end.ensures.cause c.end.ensures.before
+    (λ all. c.end.ensures.fits (made.ensures.fits all)) in
+    search (rules, whole)

@@ -1,0 +1,14 @@
+pub mod Bound
+pub mod Committing
+pub mod Differences
+pub mod Fits
+pub mod Fitting
+pub mod Highest
+pub mod Makes
+pub mod Making
+pub mod Write
+pub mod Numbers
+pub mod Refusals
+pub mod Standing
+pub mod Statements
+pub mod Upgrading

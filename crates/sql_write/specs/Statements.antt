@@ -1,0 +1,225 @@
+-- The statements that a transaction runs, by what it is to do.
+use Rattle.std.specs.Prelude.{ℕ, zero, suc, pos, List, [], ◌∷◌, ◌++◌, nat_lt, Bool, false, ◌||◌, Option, Some, None, is_some, option_map}
+use Rattle.std.specs.List.{flat_map}
+use Rattle.sqlite.specs.Order.{Row}
+use Rattle.sqlite.specs.declared.types.Value.TheVariants.{Int}
+use Rattle.store_columns.specs.Columns.{account_columns, authorization_columns, challenge_columns, key_columns, known_format}
+use Rattle.store_columns.specs.Columns.{listed_columns, nonce_columns, order_columns}
+use Rattle.store_columns.specs.Flat.{answer_key, bare_row}
+use Rattle.store_columns.specs.declared.columns.AccountColumns.{AccountColumns}
+use Rattle.store_columns.specs.declared.columns.AuthzColumns.{AuthzColumns}
+use Rattle.store_columns.specs.declared.columns.ChallColumns.{ChallColumns}
+use Rattle.store_columns.specs.declared.columns.ChallKeyColumns.{ChallKeyColumns}
+use Rattle.store_columns.specs.declared.columns.MetaColumns.{MetaColumns}
+use Rattle.store_columns.specs.declared.columns.NonceColumns.{NonceColumns}
+use Rattle.store_columns.specs.declared.columns.OrderAuthzColumns.{OrderAuthzColumns}
+use Rattle.store_columns.specs.declared.columns.OrderColumns.{OrderColumns}
+use Rattle.store_columns.specs.declared.flat_rows.AnswerKey.{AnswerKey}
+use Rattle.desk_model.specs.declared.objects.Nonce.{Nonce}
+use Rattle.desk_model.specs.declared.rows.AccountRow.{AccountRow}
+use Rattle.desk_model.specs.declared.rows.AuthorizationRow.{AuthorizationRow}
+use Rattle.desk_model.specs.declared.rows.ChallengeRow.{ChallengeRow}
+use Rattle.desk_model.specs.declared.rows.Change.{Change}
+use Rattle.desk_model.specs.declared.rows.Change.TheVariants.{PutMeta, PutNonce, RemoveNonce, PutAccount, PutAuthorization, PutOrder}
+use Rattle.desk_model.specs.declared.rows.Listed.{Listed}
+use Rattle.desk_model.specs.declared.rows.Meta.{Meta}
+use Rattle.desk_model.specs.declared.rows.OrderRow.{OrderRow}
+use Rattle.desk_model.specs.Change.{applied_one}
+use Rattle.desk_model.specs.Tables.{Tables}
+use Rattle.desk_model.specs.declared.rows.Counters.{Counters}
+use Rattle.sql_write.specs.Differences.{account_difference, authorization_difference, challenge_difference, key_difference, meta_difference, order_difference}
+use Rattle.sql_write.specs.Write.{write}
+use Rattle.sql_write.specs.Standing.{known_account, known_authorization, known_challenge, known_key, known_meta, known_order, last_given}
+use Rattle.sql_write.specs.declared.write.Write.{Write}
+use Rattle.sql_write.specs.declared.write.Write.TheVariants.{Upsert, Insert, Update}
+use Rattle.sql_schema.specs.declared.accounts.TheConstants as account
+use Rattle.sql_schema.specs.declared.authorizations.TheConstants as authz
+use Rattle.sql_schema.specs.declared.challenges.TheConstants as chall
+use Rattle.sql_schema.specs.declared.keys.TheConstants as chall_key
+use Rattle.sql_schema.specs.declared.meta.TheConstants as meta
+use Rattle.sql_schema.specs.declared.nonces.TheConstants as nonce
+use Rattle.sql_schema.specs.declared.orders.TheConstants as ord
+use Rattle.sql_schema.specs.declared.listed.TheConstants as ord_authz
+use Rattle.sql_schema.specs.Definitions.{definition_at}
+use Rattle.sql_tables.specs.Images.{account_moved, account_params, authorization_moved, authorization_params, challenge_moved, challenge_params}
+use Rattle.sql_tables.specs.Images.{formatted_columns, key_params, listed_params, meta_moved, meta_params, nonce_params, order_moved, order_params}
+
+-- a statement, with its parameters
+pub record Sql : Type 0 where
+  pub text : List ℕ
+  pub params : Row
+
+-- ---- of the columns of a row, by how it is written
+
+abbrev pub meta_sql : Write → MetaColumns → Sql
+meta_sql Update c = record { text = meta.UPDATE.now; params = meta_moved c }
+meta_sql Upsert c = record { text = meta.UPSERT.now; params = meta_params c }
+meta_sql Insert c = record { text = meta.UPSERT.now; params = meta_params c }
+
+abbrev pub nonce_sql : Write → NonceColumns → Sql
+nonce_sql Insert c = record { text = nonce.INSERT.now; params = nonce_params c }
+nonce_sql Upsert c = record { text = nonce.UPSERT.now; params = nonce_params c }
+nonce_sql Update c = record { text = nonce.UPSERT.now; params = nonce_params c }
+
+abbrev pub account_sql : Write → AccountColumns → Sql
+account_sql Upsert c = record { text = account.UPSERT.now; params = account_params c }
+account_sql Insert c = record { text = account.INSERT.now; params = account_params c }
+account_sql Update c = record { text = account.UPDATE.now; params = account_moved c }
+
+abbrev pub order_sql : Write → OrderColumns → Sql
+order_sql Upsert c = record { text = ord.UPSERT.now; params = order_params c }
+order_sql Insert c = record { text = ord.INSERT.now; params = order_params c }
+order_sql Update c = record { text = ord.UPDATE.now; params = order_moved c }
+
+abbrev pub authorization_sql : Write → AuthzColumns → Sql
+authorization_sql Upsert c = record { text = authz.UPSERT.now; params = authorization_params c }
+authorization_sql Insert c = record { text = authz.INSERT.now; params = authorization_params c }
+authorization_sql Update c = record { text = authz.UPDATE.now; params = authorization_moved c }
+
+abbrev pub listed_sql : Write → OrderAuthzColumns → Sql
+listed_sql Insert c = record { text = ord_authz.INSERT.now; params = listed_params c }
+listed_sql Upsert c = record { text = ord_authz.UPSERT.now; params = listed_params c }
+listed_sql Update c = record { text = ord_authz.UPSERT.now; params = listed_params c }
+
+abbrev pub challenge_sql : Write → ChallColumns → Sql
+challenge_sql Upsert c = record { text = chall.UPSERT.now; params = challenge_params c }
+challenge_sql Insert c = record { text = chall.INSERT.now; params = challenge_params c }
+challenge_sql Update c = record { text = chall.UPDATE.now; params = challenge_moved c }
+
+abbrev pub key_sql : Write → ChallKeyColumns → Sql
+key_sql Insert c = record { text = chall_key.INSERT.now; params = key_params c }
+key_sql Upsert c = record { text = chall_key.UPSERT.now; params = key_params c }
+key_sql Update c = record { text = chall_key.UPSERT.now; params = key_params c }
+
+-- ---- of a row
+
+abbrev pub writes_meta : Write → Meta → List Sql
+writes_meta write row = meta_sql write (formatted_columns (known_format, row)) ∷ []
+
+abbrev pub writes_nonce : Write → Nonce → List Sql
+writes_nonce write row = nonce_sql write (nonce_columns row) ∷ []
+
+abbrev pub removes_nonce : ℕ → List Sql
+removes_nonce serial = record { text = nonce.DELETE.now; params = Int (pos serial) ∷ [] } ∷ []
+
+abbrev pub writes_account : Write → AccountRow → List Sql
+writes_account write row = account_sql write (account_columns row) ∷ []
+
+abbrev pub writes_order : Write → OrderRow → List Sql
+writes_order write row = order_sql write (order_columns row) ∷ []
+
+abbrev pub writes_authorization : Write → AuthorizationRow → List Sql
+writes_authorization write row = authorization_sql write (authorization_columns row) ∷ []
+
+abbrev pub writes_listed : Write → ℕ → Listed → List Sql
+writes_listed write order row = listed_sql write (listed_columns (record { owner = order; row = row })) ∷ []
+
+abbrev pub writes_challenge : Write → ℕ → ChallengeRow → List Sql
+writes_challenge write authorization row =
+    challenge_sql write (challenge_columns (bare_row (record { owner = authorization; row = row }))) ∷ []
+
+abbrev pub writes_key : Write → AnswerKey → List Sql
+writes_key write row = key_sql write (key_columns row) ∷ []
+
+-- ---- of a row, by what is known to stand in its place
+
+-- those of what is there, none where nothing is
+abbrev pub of_some : {X : Type 0} → (X → List Sql) → Option X → List Sql
+of_some of None = []
+of_some of (Some x) = of x
+
+abbrev pub sets_meta : Option Meta → Meta → List Sql
+sets_meta known row = of_some (λ m. writes_meta m row) (write (option_map (λ old. meta_difference old row) known) false)
+
+-- one whose serial is above the last that was given is new
+abbrev pub sets_nonce : ℕ → Nonce → List Sql
+sets_nonce last row = of_some (λ m. writes_nonce m row) (write None (nat_lt last row.serial))
+
+abbrev pub sets_account : Option AccountRow → ℕ → AccountRow → List Sql
+sets_account known last row =
+    of_some (λ m. writes_account m row) (write (option_map (λ old. account_difference old row) known) (nat_lt last row.number))
+
+-- how an order is written
+abbrev pub order_manner : Option OrderRow → ℕ → OrderRow → Option Write
+order_manner known last row = write (option_map (λ old. order_difference old row) known) (nat_lt last row.number)
+
+-- what it lists is not written where it is renewed, as it keeps that
+abbrev pub lists : Write → OrderRow → List Sql
+lists Update row = []
+lists Upsert row = flat_map (writes_listed Upsert row.number) row.listed
+lists Insert row = flat_map (writes_listed Insert row.number) row.listed
+
+abbrev pub sets_order : Option OrderRow → ℕ → OrderRow → List Sql
+sets_order known last row = of_some (λ m. writes_order m row ++ lists m row) (order_manner known last row)
+
+abbrev pub sets_challenge : Option AuthorizationRow → ℕ → ℕ → ChallengeRow → List Sql
+sets_challenge known last authorization row =
+    of_some (λ m. writes_challenge m authorization row)
+    (write (option_map (λ old. challenge_difference old row) (known_challenge known row.number)) (nat_lt last row.number))
+
+-- whether no key stands in the place of that of this challenge: it is known, and has none, or it is new
+abbrev pub lacks_key : Option ChallengeRow → ℕ → ℕ → Bool
+lacks_key known last number = is_some known || nat_lt last number
+
+-- the key of an answer
+abbrev pub sets_key : Option AuthorizationRow → ℕ → AnswerKey → List Sql
+sets_key known last key =
+    of_some (λ m. writes_key m key)
+    (write (option_map (λ old. key_difference old key) (known_key known key.challenge))
+    (lacks_key (known_challenge known key.challenge) last key.challenge))
+
+-- that of a challenge's answer, if there is one
+abbrev pub sets_answer : Option AuthorizationRow → ℕ → ChallengeRow → List Sql
+sets_answer known last row = of_some (sets_key known last) (answer_key row)
+
+-- the challenges of an authorization, then the keys of their answers
+abbrev pub sets_challenges : Option AuthorizationRow → ℕ → ℕ → List ChallengeRow → List Sql
+sets_challenges known last authorization rows = flat_map (sets_challenge known last authorization) rows ++ flat_map (sets_answer known last) rows
+
+-- an authorization, without its challenges
+abbrev pub sets_bare_authorization : Option AuthorizationRow → ℕ → AuthorizationRow → List Sql
+sets_bare_authorization known last row =
+    of_some (λ m. writes_authorization m row)
+    (write (option_map (λ old. authorization_difference old row) known) (nat_lt last row.number))
+
+-- and then its challenges
+abbrev pub sets_authorization : Option AuthorizationRow → Counters → AuthorizationRow → List Sql
+sets_authorization known last row =
+    sets_bare_authorization known last.authorizations row ++ sets_challenges known last.challenges row.number row.challenges
+
+-- ---- of all
+
+-- a change behind others, by rows that were known before all of them, and the last number of each kind then
+abbrev pub statements_of : Option Tables → Counters → Change → List Sql
+statements_of known last (PutMeta row) = sets_meta (known_meta known) row
+statements_of known last (PutNonce row) = sets_nonce last.nonces row
+statements_of known last (RemoveNonce serial) = removes_nonce serial
+statements_of known last (PutAccount row) = sets_account (known_account known row.number) last.accounts row
+statements_of known last (PutAuthorization row) = sets_authorization (known_authorization known row.number) last row
+statements_of known last (PutOrder row) = sets_order (known_order known row.number) last.orders row
+
+-- changes, in their order: what is known changes with each
+abbrev pub statements_from : Counters → Option Tables → List Change → List Sql
+statements_from last known [] = []
+statements_from last known (c ∷ cs) = statements_of known last c ++ statements_from last (option_map (applied_one c) known) cs
+
+-- by what is known before all of them
+unfoldable pub save_statements : Option Tables → List Change → List Sql
+save_statements known changes = statements_from (last_given known) known changes
+
+-- the table or the index that this step defines
+abbrev pub defines : ℕ → List Sql
+defines step = record { text = definition_at step; params = [] } ∷ []
+
+-- so many tables and indexes
+abbrev pub defines_before : ℕ → List Sql
+defines_before zero = []
+defines_before (suc step) = defines_before step ++ defines step
+
+-- the tables and indexes of a desk, and its row of `meta`
+unfoldable pub make_statements : Meta → List Sql
+make_statements meta = defines_before 16 ++ writes_meta Upsert meta
+
+-- the table that format 1 lacks, the keys of answers, and the row of `meta`
+unfoldable pub upgrade_statements : Meta → List AnswerKey → List Sql
+upgrade_statements meta keys = defines 15 ++ (flat_map (writes_key Upsert) keys ++ writes_meta Upsert meta)

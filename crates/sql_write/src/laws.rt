@@ -1,0 +1,13 @@
+//! Which changes may be saved, and what a stop leaves.
+ghost use Rattle.sql_write.specs.Committing.{LeftTablesAreFound};
+ghost use Rattle.sql_write.specs.Fitting.{OrderedChangesFit};
+
+/// Changes that keep children may be saved where the tables with all of them stand by number.
+pub fn ordered_changes_fit()
+    ensures { OrderedChangesFit }
+{}
+
+/// The tables that a stop left are those that the next opening finds.
+pub fn left_tables_are_found()
+    ensures { LeftTablesAreFound }
+{}

@@ -1,0 +1,111 @@
+//! The row of `meta`, written into its table.
+ghost use Rattle.std.specs.Prelude.{◌≡◌, IfErr, IfOk, IsOk};
+ghost use Rattle.sqlite.specs.Values.{bound};
+ghost use Rattle.store_columns.specs.Columns.{known_format, meta_columns};
+ghost use Rattle.sql_write.specs.Bound.{AreMetaNumbers};
+ghost use Rattle.sql_write.specs.Fits.{FitsMeta};
+ghost use Rattle.sql_write.specs.Makes.{RenewsOrPuts};
+ghost use Rattle.sql_write.specs.Numbers.{IsNotTooLarge};
+ghost use Rattle.sql_write.specs.Refusals.{HasWritten};
+ghost use Rattle.sql_write.specs.Statements.{writes_meta};
+ghost use Rattle.sql_tables.specs.Images.{formatted_columns, meta_kept, meta_moved, meta_params};
+ghost use Rattle.sql_tables.specs.Layouts.{formatted_layout};
+
+use crate::fault::{SaveFault, WriteFault};
+use crate::numbers::number_column;
+use crate::statements::run;
+use crate::values::text;
+use crate::write::Write;
+use desk_model::Meta;
+use sql_schema::meta;
+use sqlite::types::ValueRef;
+use sqlite::{Alter, Transaction};
+use store_columns::FORMAT;
+
+// The numbers of the row, as columns.
+#[derive(Clone, Copy)]
+struct MetaNumbers {
+    nonce_life: i64,
+    order_life: i64,
+    authz_life: i64,
+    clock: i64,
+    nonces: i64,
+    accounts: i64,
+    orders: i64,
+    authzs: i64,
+    challs: i64,
+}
+
+// The numbers of the row.
+fn meta_numbers(row: &Meta) -> Result<MetaNumbers, WriteFault>
+    ensures numbers { IfOk result (AreMetaNumbers (meta_columns row.now)) }
+    ensures fits { FitsMeta row.now → IsOk result }
+{
+    let counters = &row.counters;
+    Ok(MetaNumbers {
+        nonce_life: number_column(row.policy.nonce_life())?,
+        order_life: number_column(row.policy.order_life())?,
+        authz_life: number_column(row.policy.authz_life())?,
+        clock: number_column(counters.clock.moment())?,
+        nonces: number_column(counters.nonces)?,
+        accounts: number_column(counters.accounts)?,
+        orders: number_column(counters.orders)?,
+        authzs: number_column(counters.authorizations)?,
+        challs: number_column(counters.challenges)?,
+    })
+}
+
+// The parameters for the row, of which these are the numbers.
+fn meta_values<'a>(row: &'a Meta, numbers: &MetaNumbers) -> [ValueRef<'a>; 12]
+    requires { AreMetaNumbers (meta_columns row.now) numbers.now }
+    ensures { bound result ≡ meta_params (meta_columns row.now) }
+{
+    [
+        ValueRef::Int(1),
+        ValueRef::Int(FORMAT),
+        text(row.policy.base()),
+        ValueRef::Int(numbers.nonce_life),
+        ValueRef::Int(numbers.order_life),
+        ValueRef::Int(numbers.authz_life),
+        ValueRef::Int(numbers.clock),
+        ValueRef::Int(numbers.nonces),
+        ValueRef::Int(numbers.accounts),
+        ValueRef::Int(numbers.orders),
+        ValueRef::Int(numbers.authzs),
+        ValueRef::Int(numbers.challs),
+    ]
+}
+
+// The parameters that renew the row, of which these are the numbers.
+fn moved_meta<'a>(row: &'a Meta, numbers: &MetaNumbers) -> [ValueRef<'a>; 7]
+    requires { AreMetaNumbers (meta_columns row.now) numbers.now }
+    ensures { bound result ≡ meta_moved (meta_columns row.now) }
+{
+    [
+        ValueRef::Int(1),
+        ValueRef::Int(numbers.clock),
+        ValueRef::Int(numbers.nonces),
+        ValueRef::Int(numbers.accounts),
+        ValueRef::Int(numbers.orders),
+        ValueRef::Int(numbers.authzs),
+        ValueRef::Int(numbers.challs),
+    ]
+}
+
+/// Writes the row of `meta`, in the place of one in whatever format unless it is renewed.
+pub(crate) fn write_meta<S: Alter>(
+    tx: &mut Transaction<'_, S>,
+    write: Write,
+    row: &Meta,
+) -> Result<(), SaveFault>
+    ensures same_reference { tx.new.conn.ghost_name ≡ tx.old.conn.ghost_name }
+    ensures writes { HasWritten S.Store (writes_meta write row.now) (RenewsOrPuts formatted_layout meta_kept formatted_columns write
+        (formatted_columns (known_format, row.now))) tx.old.conn.now tx.new.conn.now result }
+    ensures fits { FitsMeta row.now → IfErr result IsNotTooLarge }
+{
+    let numbers = meta_numbers(row)?;
+    match write {
+        Write::Upsert | Write::Insert => run(tx, meta::UPSERT, &meta_values(row, &numbers)),
+        Write::Update => run(tx, meta::UPDATE, &moved_meta(row, &numbers)),
+    }
+}

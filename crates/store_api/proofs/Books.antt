@@ -1,0 +1,184 @@
+-- The rows of a book that a call touches are a book.
+use Rattle.std.proofs.Common.{◌≡◌, ◌≢◌, ℕ, ◌+◌, max, List, [], ◌∷◌, ◌++◌, filter, Some, refl, ap, ◌∙◌, true, false, Bool, cond}
+use Rattle.std.specs.Prelude.{◌==◌, ◌&&◌, find, is_some, IsSome}
+use Rattle.std.specs.List.{flat_map}
+use Rattle.std.proofs.lemmas.Bool.{and_from, or_left, or_right}
+use Rattle.store_book.specs.IsBook.{HaveReferences, IsBook}
+use Rattle.desk_model.specs.Questions.{account_on}
+use Rattle.desk_model.specs.Tables.{Tables}
+use Rattle.desk_model.specs.Kept.{EachOf}
+use Rattle.desk_model.specs.declared.call.Ask.{Ask}
+use Rattle.desk_model.specs.declared.call.Ask.TheVariants as ask
+use Rattle.desk_model.specs.declared.call.OfficeAsk.TheVariants as office
+use Rattle.desk_model.specs.declared.call.Call.{Call}
+use Rattle.desk_model.specs.declared.rows.AccountRow.{AccountRow}
+use Rattle.desk_model.specs.declared.rows.Listed.{Listed}
+use Rattle.model_laws.specs.Distinct.{Distinct}
+use Rattle.model_laws.proofs.Basics.{each, each_both, each-append, list_any-map}
+use Rattle.model_laws.proofs.Recorded.{below_filter}
+use Rattle.model_laws.proofs.RowLists.{ascends_filter}
+use Rattle.model_laws.proofs.Finds.{found_passes}
+use Rattle.desk_model.specs.Touched.{is_first_authorization, is_named_account, is_touched_account, is_touched_authorization}
+use Rattle.desk_model.specs.Touched.{is_touched_nonce, is_touched_order, lists, only_meta, touched, touched_at, touched_rows}
+use Rattle.model_lives.proofs.Lists.{each_member, filtered_each, turned}
+
+-- ---- lists
+
+-- what is found and passes is found among what passes
+some_filter : {X : Type 0} (p test : X → Bool) (xs : List X) → IsSome (find p xs) →
+    ((x : X) → find p xs ≡ Some x → test x ≡ true) → IsSome (find p (filter test xs))
+some_filter p test [] h f = h
+some_filter p test (x ∷ xs) h f = by (p x) refl (test x) refl h f (some_filter p test xs)
+  where
+    by : (b : Bool) → p x ≡ b → (c : Bool) → test x ≡ c → IsSome (cond b (Some x) (find p xs)) →
+        ((y : _) → cond b (Some x) (find p xs) ≡ Some y → test y ≡ true) →
+        (IsSome (find p xs) → ((y : _) → find p xs ≡ Some y → test y ≡ true) → IsSome (find p (filter test xs))) →
+        IsSome (find p (cond c (x ∷ filter test xs) (filter test xs)))
+    by true e true r k g ih = ap (λ b. is_some (cond b (Some x) (find p (filter test xs)))) e
+    by true e false r k g ih = let yes : test x ≡ true = g x refl in cc
+    by false e true r k g ih = ap (λ b. is_some (cond b (Some x) (find p (filter test xs)))) e ∙ ih k g
+    by false e false r k g ih = ih k g
+
+-- values that stand once do so among the items that pass
+distinct_filter : {X Y : Type 0} (value : X → Y) (p : X → Bool) (xs : List X) → Distinct value xs → Distinct value (filter p xs)
+distinct_filter value p [] h = tt
+distinct_filter value p (x ∷ xs) h = by (p x) (distinct_filter value p xs h.1)
+  where
+    by : (b : Bool) → Distinct value (filter p xs) → Distinct value (cond b (x ∷ filter p xs) (filter p xs))
+    by true k = (filtered_each _ p xs (each _ _ xs (λ y f yes. f) h.0), k)
+    by false k = k
+
+-- what holds of the parts of all items holds of the parts of those that pass
+flat_filtered : {X Y : Type 0} (P : Y → Type 0) (f : X → List Y) (p : X → Bool) (xs : List X) → EachOf P (flat_map f xs) → EachOf P (flat_map f (filter p xs))
+flat_filtered P f p [] h = tt
+flat_filtered P f p (x ∷ xs) h = by (p x) (flat_filtered P f p xs (back (f x) h))
+  where
+    back : (ys : List _) → EachOf P (ys ++ flat_map f xs) → EachOf P (flat_map f xs)
+    back [] k = k
+    back (y ∷ ys) k = back ys k.1
+
+    front : (ys : List _) → EachOf P (ys ++ flat_map f xs) → EachOf P ys
+    front [] k = tt
+    front (y ∷ ys) k = (k.0, front ys k.1)
+
+    by : (b : Bool) → EachOf P (flat_map f (filter p xs)) → EachOf P (flat_map f (cond b (x ∷ filter p xs) (filter p xs)))
+    by true k = each-append P (f x) (flat_map f (filter p xs)) (front (f x) h) k
+    by false k = k
+
+-- values that stand once in the parts of all items do so in those of the items that pass
+distinct_flat : {X Y Z : Type 0} (value : Y → Z) (f : X → List Y) (p : X → Bool) (xs : List X) → Distinct value (flat_map f xs) →
+    Distinct value (flat_map f (filter p xs))
+distinct_flat value f p [] h = tt
+distinct_flat value f p (x ∷ xs) h = by (p x) (distinct_flat value f p xs (back (f x) h))
+  where
+    back : (ys : List _) → Distinct value (ys ++ flat_map f xs) → Distinct value (flat_map f xs)
+    back [] k = k
+    back (y ∷ ys) k = back ys k.1
+
+    front : (ys : List _) (y : _) → EachOf (λ z. value y ≢ value z) (ys ++ flat_map f xs) →
+        EachOf (λ z. value y ≢ value z) ys × EachOf (λ z. value y ≢ value z) (flat_map f xs)
+    front [] y k = (tt, k)
+    front (z ∷ ys) y k = let rest = front ys y k.1 in ((k.0, rest.0), rest.1)
+
+    join : (ys : List _) → Distinct value (ys ++ flat_map f xs) → Distinct value (flat_map f (filter p xs)) → Distinct value (ys ++ flat_map f (filter p xs))
+    join [] k d = d
+    join (y ∷ ys) k d =
+        let parts = front ys y k.0 in
+        (each-append _ ys (flat_map f (filter p xs)) parts.0 (flat_filtered (λ z. value y ≢ value z) f p xs parts.1), join ys k.1 d)
+
+    by : (b : Bool) → Distinct value (flat_map f (filter p xs)) → Distinct value (flat_map f (cond b (x ∷ filter p xs) (filter p xs)))
+    by true d = join (f x) h d
+    by false d = d
+
+-- ---- references
+
+-- the account of a row that is touched is touched
+holder_found : (T : Tables) (m : ℕ) (a : Ask) (n : ℕ) → IsSome (account_on T n) →
+    ((x : AccountRow) → (n == x.number) ≡ true → is_touched_account T m a x ≡ true) →
+    IsSome (account_on (touched_rows T m a) n)
+holder_found T m a n there touches =
+    some_filter (λ x. x.number == n) (is_touched_account T m a) T.accounts there
+    (λ x found. touches x (turned x.number n (found_passes (λ x. x.number == n) T.accounts x found)))
+
+-- each reference of a touched row is found among the touched rows
+rows_refer : (T : Tables) (m : ℕ) (a : Ask) → HaveReferences T → HaveReferences (touched_rows T m a)
+rows_refer T m a h =
+    record {
+      authorizations = filtered_each _ (is_touched_authorization T m a) T.authorizations
+          (each _ _ T.authorizations (λ r p yes. holder_found T m a r.account p.0 (λ x same.
+          or_right (is_named_account a x) _ (or_right _ _ (p.1 (λ y. is_touched_authorization T m a y && (y.account == x.number)) (and_from _ _ yes same)))))
+          (each_both _ _ T.authorizations h.authorizations (each_member T.authorizations)));
+      orders = filtered_each _ (is_touched_order T m a) T.orders
+          (each _ _ T.orders (λ o p yes. holder_found T m a o.account p.0 (λ x same.
+          or_right (is_named_account a x) _ (or_left _ _ (p.1 (λ y. is_touched_order T m a y && (y.account == x.number)) (and_from _ _ yes same)))))
+          (each_both _ _ T.orders h.orders (each_member T.orders)));
+      listed = filtered_each _ (is_touched_order T m a) T.orders
+          (each _ _ T.orders
+          (λ o p yes. each _ _ o.listed (λ l q. some_filter (λ r. r.number == l.authorization) (is_touched_authorization T m a) T.authorizations q.0
+          (λ r found. or_right (is_first_authorization T m a r) _ (or_left _ _ (p.1 (λ y. is_touched_order T m a y && lists y r.number)
+          (and_from _ _ yes (list_any-map (λ j. j == r.number) (λ (k : Listed). k.authorization) o.listed
+          ∙ q.1 (λ k. k.authorization == r.number)
+          (turned r.number l.authorization (found_passes (λ y. y.number == l.authorization) T.authorizations r found))))))))
+          (each_both _ _ o.listed p.0 (each_member o.listed)))
+          (each_both _ _ T.orders h.listed (each_member T.orders)));
+    }
+
+-- ---- books
+
+-- the touched rows of a book are a book
+rows_book : (T : Tables) (m : ℕ) (a : Ask) → IsBook T → IsBook (touched_rows T m a)
+rows_book T m a b =
+    record {
+      in_order = record {
+        nonces = ascends_filter (λ n. n.serial) (is_touched_nonce T m a) 1 T.nonces b.in_order.nonces;
+        accounts = ascends_filter (λ a. a.number) (is_touched_account T m a) 1 T.accounts b.in_order.accounts;
+        authorizations = ascends_filter (λ a. a.number) (is_touched_authorization T m a) 1 T.authorizations b.in_order.authorizations;
+        challenges = filtered_each _ (is_touched_authorization T m a) T.authorizations (each _ _ T.authorizations (λ r f yes. f) b.in_order.challenges);
+        orders = ascends_filter (λ o. o.number) (is_touched_order T m a) 1 T.orders b.in_order.orders;
+        places = filtered_each _ (is_touched_order T m a) T.orders (each _ _ T.orders (λ o f yes. f) b.in_order.places);
+      };
+      sound = record {
+        counters = record {
+          nonces = below_filter (λ n. n.serial) (is_touched_nonce T m a) (T.meta.counters.nonces + 1) T.nonces b.sound.counters.nonces;
+          accounts = below_filter (λ a. a.number) (is_touched_account T m a) (T.meta.counters.accounts + 1) T.accounts b.sound.counters.accounts;
+          authorizations = below_filter (λ a. a.number) (is_touched_authorization T m a) (T.meta.counters.authorizations + 1)
+              T.authorizations b.sound.counters.authorizations;
+          challenges = filtered_each _ (is_touched_authorization T m a) T.authorizations (each _ _ T.authorizations (λ r f yes. f) b.sound.counters.challenges);
+          orders = below_filter (λ o. o.number) (is_touched_order T m a) (T.meta.counters.orders + 1) T.orders b.sound.counters.orders;
+        };
+        references = rows_refer T m a b.sound.references;
+        distinct = record {
+          keys = distinct_filter (λ a. a.key) (is_touched_account T m a) T.accounts b.sound.distinct.keys;
+          challenges = distinct_flat (λ c. c.number) (λ a. a.challenges) (is_touched_authorization T m a) T.authorizations b.sound.distinct.challenges;
+        };
+      };
+    }
+
+-- so is the desk's own row alone
+meta_book : (T : Tables) → IsBook (only_meta T)
+meta_book T =
+    record {
+      in_order = record { nonces = tt; accounts = tt; authorizations = tt; challenges = tt; orders = tt; places = tt };
+      sound = record {
+        counters = record { nonces = tt; accounts = tt; authorizations = tt; challenges = tt; orders = tt };
+        references = record { authorizations = tt; orders = tt; listed = tt };
+        distinct = record { keys = tt; challenges = tt };
+      };
+    }
+
+-- so is what any call touches
+pub touched_book : (T : Tables) (call : Call) → IsBook T → IsBook (touched T call)
+touched_book T call b = by call.ask
+  where
+    by : (a : Ask) → IsBook (touched_at T (max call.at T.meta.counters.clock) a)
+    by (ask.Office office.Directory) = meta_book T
+    by (ask.Office office.ChallengeWork) = b
+    by (ask.Office office.OrderWork) = b
+    by (ask.NewNonce head) = rows_book T (max call.at T.meta.counters.clock) (ask.NewNonce head) b
+    by (ask.Signed s) = rows_book T (max call.at T.meta.counters.clock) (ask.Signed s) b
+    by (ask.Office (office.Report n finding)) = rows_book T (max call.at T.meta.counters.clock) (ask.Office (office.Report n finding)) b
+    by (ask.Office (office.Certify n bytes)) = rows_book T (max call.at T.meta.counters.clock) (ask.Office (office.Certify n bytes)) b
+    by (ask.Office (office.FailOrder n problem)) = rows_book T (max call.at T.meta.counters.clock) (ask.Office (office.FailOrder n problem)) b
+    by (ask.Office (office.RevokeAuthz n)) = rows_book T (max call.at T.meta.counters.clock) (ask.Office (office.RevokeAuthz n)) b
+    by (ask.Office (office.RevokeAccount n)) = rows_book T (max call.at T.meta.counters.clock) (ask.Office (office.RevokeAccount n)) b
+    by (ask.Office (office.KeyOf n)) = rows_book T (max call.at T.meta.counters.clock) (ask.Office (office.KeyOf n)) b

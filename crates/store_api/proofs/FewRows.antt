@@ -1,0 +1,132 @@
+-- The rows that are enough for an ask, by what it needs.
+use Rattle.std.proofs.Common.{◌≡◌, ℕ, List, [], ◌∷◌, ◌++◌, ap, append_assoc, filter, map, refl, sym, ◌∙◌, Bool}
+use Rattle.std.proofs.lemmas.Grind.{flat_map-append}
+use Rattle.std.proofs.lemmas.List.Folds.{flat_map-map}
+use Rattle.model_laws.specs.Ordered.{IsOrdered}
+use Rattle.model_laws.specs.Placing.{puts}
+use Rattle.model_laws.proofs.RowLists.{puts_append}
+use Rattle.desk_model.specs.Touched.{is_named_account}
+use Rattle.model_lives.proofs.Found.{found_table}
+use Rattle.model_lives.proofs.Loading.{accounts_named, of_account, of_authorization}
+use Rattle.store_api.proofs.Missing.{missings_put}
+use Rattle.std.specs.List.{list_any}
+use Rattle.std.specs.Prelude.{◌||◌, bytes_eq}
+use Rattle.model_lives.specs.Loaded.{account_numbers, keys, new_keys}
+use Rattle.model_lives.specs.LookUps.{accounts_with_key}
+use Rattle.model_lives.proofs.Found.{IsFound, found_both, found_by, found_filter}
+use Rattle.store_api.specs.Needing.{keyed_accounts, missings, with_named}
+use Rattle.std.specs.Prelude.{◌&&◌, if◌then◌else◌, not}
+use Rattle.std.specs.List.{flat_map}
+use Rattle.desk_model.specs.Tables.{Tables}
+use Rattle.desk_model.specs.declared.call.Ask.{Ask}
+use Rattle.desk_model.specs.declared.rows.AccountRow.{AccountRow}
+use Rattle.desk_model.specs.declared.rows.AuthorizationRow.{AuthorizationRow}
+use Rattle.desk_model.specs.declared.rows.OrderRow.{OrderRow}
+use Rattle.desk_model.specs.Derived.{numbers_of}
+use Rattle.model_lives.specs.Few.{is_restated_authorization}
+use Rattle.model_lives.specs.Loaded.{listed_authorizations}
+use Rattle.model_lives.proofs.FewLoading.{restated_found}
+use Rattle.model_lives.specs.LookUps.{accounts_numbered}
+use Rattle.model_lives.specs.FewLoaded.{few_accounts, holders_of, moved_authorizations, opened_orders, restated_authorizations}
+use Rattle.model_lives.specs.Loaded.{accounts_once, authorizations_once, listing_orders, named_accounts, named_orders, past_authorizations, past_orders}
+use Rattle.model_lives.specs.LookUps.{authorizations_numbered, authorizations_of, orders_numbered, orders_of, owners_of}
+use Rattle.store_api.specs.Needing.{NeedsFor, alone_with, moved_by, opened_with, restated_by}
+use Rattle.store_api.specs.declared.needs.Needs.{Needs}
+use Rattle.desk_model.specs.Asked.{asks_orders}
+use Rattle.model_lives.specs.Few.{needs_listed}
+
+-- rows that lead to themselves alone
+pub themselves : {X : Type 0} (xs : List X) → flat_map (λ x. x ∷ []) xs ≡ xs
+themselves [] = refl
+themselves (x ∷ xs) = ap (λ l. x ∷ l) (themselves xs)
+
+-- the accounts that are named, those of a number put where they are missing
+pub named_missing : (T : Tables) (a : Ask) → IsOrdered T → with_named T a [] ≡ accounts_once (named_accounts T a)
+named_missing T a h =
+    ap (missings of_account (accounts_numbered T) (account_numbers a)) keyed
+    ∙ missings_put of_account T.accounts h.accounts.0 (account_numbers a) has_one
+    ∙ ap (puts of_account (flat_map (accounts_numbered T) (account_numbers a))) (sym keyed)
+    ∙ sym (puts_append of_account (keyed_accounts T a) (flat_map (accounts_numbered T) (account_numbers a)) [])
+    ∙ ap (λ rows. puts of_account rows []) (append_assoc (flat_map (accounts_with_key T) (keys a)) (flat_map (accounts_with_key T) (new_keys a))
+    (flat_map (accounts_numbered T) (account_numbers a)))
+  where
+    has_one : AccountRow → Bool
+    has_one x = list_any (λ k. bytes_eq x.key k) (keys a) || list_any (λ k. bytes_eq x.key k) (new_keys a)
+
+    by_keys : (texts : List (List ℕ)) → IsFound of_account (λ x. list_any (λ k. bytes_eq x.key k) texts) T.accounts (flat_map (accounts_with_key T) texts)
+    by_keys texts =
+        found_by of_account (λ k x. bytes_eq x.key k) (accounts_with_key T) T.accounts
+        (λ k. found_filter of_account (λ x. bytes_eq x.key k) 1 T.accounts h.accounts.0) texts
+
+    keyed : puts of_account (keyed_accounts T a) [] ≡ filter has_one T.accounts
+    keyed =
+        found_table of_account has_one 1 T.accounts (keyed_accounts T a) h.accounts.0
+        (found_both of_account _ _ T.accounts _ _ (by_keys (keys a)) (by_keys (new_keys a)))
+
+-- the accounts of the authorizations that are named, put where they are missing, make the accounts that are enough
+pub holders_missing : (T : Tables) (a : Ask) → IsOrdered T →
+    missings of_account (accounts_numbered T) (map (λ (r : AuthorizationRow). r.account) (authorizations_once (moved_authorizations T a)))
+    (accounts_once (named_accounts T a))
+    ≡ accounts_once (few_accounts T a)
+holders_missing T a h =
+    ap (missings of_account (accounts_numbered T) holders) named
+    ∙ missings_put of_account T.accounts h.accounts.0 holders (is_named_account a)
+    ∙ ap (puts of_account (flat_map (accounts_numbered T) holders)) (sym named)
+    ∙ ap (λ rows. puts of_account rows (accounts_once (named_accounts T a)))
+    (flat_map-map (accounts_numbered T) (λ (r : AuthorizationRow). r.account) (authorizations_once (moved_authorizations T a)))
+    ∙ sym (puts_append of_account (named_accounts T a) (holders_of T (authorizations_once (moved_authorizations T a))) [])
+  where
+    holders : List ℕ
+    holders = map (λ (r : AuthorizationRow). r.account) (authorizations_once (moved_authorizations T a))
+
+    named : accounts_once (named_accounts T a) ≡ filter (is_named_account a) T.accounts
+    named = found_table of_account (is_named_account a) 1 T.accounts (named_accounts T a) h.accounts.0 (accounts_named T a h)
+
+-- what these orders list, put where it is missing beside the authorizations whose statuses may change
+pub listed_missing : (T : Tables) (m : ℕ) (a : Ask) → IsOrdered T → (os : List OrderRow) →
+    missings of_authorization (authorizations_numbered T) (flat_map (λ o. numbers_of o.listed) os) (authorizations_once (restated_authorizations T m a))
+    ≡ puts of_authorization (restated_authorizations T m a ++ listed_authorizations T os) []
+listed_missing T m a h os =
+    ap (missings of_authorization (authorizations_numbered T) listed) restated
+    ∙ missings_put of_authorization T.authorizations h.authorizations.0 listed (is_restated_authorization T m a)
+    ∙ ap (puts of_authorization (flat_map (authorizations_numbered T) listed)) (sym restated)
+    ∙ ap (λ rows. puts of_authorization rows (authorizations_once (restated_authorizations T m a))) (nested os)
+    ∙ sym (puts_append of_authorization (restated_authorizations T m a) (listed_authorizations T os) [])
+  where
+    listed : List ℕ
+    listed = flat_map (λ o. numbers_of o.listed) os
+
+    restated : authorizations_once (restated_authorizations T m a) ≡ filter (is_restated_authorization T m a) T.authorizations
+    restated = found_table of_authorization (is_restated_authorization T m a) 1 T.authorizations (restated_authorizations T m a) h.authorizations.0
+        (restated_found T m a h)
+
+    nested : (xs : List OrderRow) → flat_map (authorizations_numbered T) (flat_map (λ o. numbers_of o.listed) xs) ≡ listed_authorizations T xs
+    nested [] = refl
+    nested (x ∷ xs) =
+        flat_map-append (authorizations_numbered T) (numbers_of x.listed) (flat_map (λ o. numbers_of o.listed) xs)
+        ∙ ap (λ l. flat_map (authorizations_numbered T) (numbers_of x.listed) ++ l) (nested xs)
+
+module _ (T : Tables) (m : ℕ) (a : Ask) (needs : Needs) (is : NeedsFor a m needs) where
+  pub moved_are : (accounts : List AccountRow) → accounts ≡ accounts_once (named_accounts T a) → moved_by T needs accounts ≡ moved_authorizations T a
+  moved_are accounts same = λ i.
+      (flat_map (authorizations_numbered T) (is.named.authorization i)
+      ++ flat_map (λ c. flat_map (authorizations_numbered T) (owners_of T c)) (is.named.challenge i))
+      ++ (if is.restated i && is.named.authorizations_asked i then flat_map (λ (x : AccountRow). authorizations_of T x.number) (same i) else [])
+
+  pub restated_are : (moved : List AuthorizationRow) → moved ≡ authorizations_once (moved_authorizations T a) →
+      restated_by T needs moved ≡ restated_authorizations T m a
+  restated_are moved same = λ i. past_authorizations T (is.moment i) ++ (if is.restated i then same i else [])
+
+  pub opened_are : (rows : List AuthorizationRow) → rows ≡ authorizations_once (restated_authorizations T m a) →
+      opened_with T needs rows ≡ opened_orders T m a
+  opened_are rows same = λ i.
+      (past_orders T (is.moment i) ++ listing_orders T (same i))
+      ++ (if is.listed i then flat_map (orders_numbered T) (is.named.order i) else [])
+
+  pub alone_are : (accounts : List AccountRow) → accounts ≡ accounts_once (few_accounts T a) →
+      alone_with T needs accounts
+      ≡ (if not (needs_listed a) then named_orders T a else [])
+      ++ (if asks_orders a then flat_map (λ (x : AccountRow). orders_of T x.number) (accounts_once (few_accounts T a)) else [])
+  alone_are accounts same = λ i.
+      (if not (is.listed i) then flat_map (orders_numbered T) (is.named.order i) else [])
+      ++ (if is.named.orders_asked i then flat_map (λ (x : AccountRow). orders_of T x.number) (same i) else [])

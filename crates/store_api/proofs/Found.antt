@@ -1,0 +1,81 @@
+-- Look-ups whose rows are put into tables, one after the other.
+use Rattle.std.proofs.Common.{◌≡◌, ℕ, Option, None, Some, List, [], ◌∷◌, Result, Ok, Err, IfErr, IfOk, IsErrAnd, OnOk, subst, ◌∙◌}
+use Rattle.std.specs.Prelude.{option_to_list}
+use Rattle.std.specs.Option.{MatchOption}
+use Rattle.std.proofs.lemmas.Result.{on_ok_weaker}
+use Rattle.model_laws.specs.Placing.{puts}
+use Rattle.store_api.specs.Finding.{Finds, LacksMemory}
+use Rattle.store_api.proofs.Gathered.{put_if_found}
+use Rattle.store_api.proofs.Readings.{reads_failing, reads_found, reads_then, stands_read}
+use Rattle.desk_model.specs.Tables.{Tables}
+use Rattle.store_api.specs.Sight.{ForTables, Reads, Sight}
+use Rattle.store_api.specs.declared.fault.StorageFault.{StorageFault}
+
+module _ {S C : Type 0} {v : Sight S C} where
+  -- what follows from what was found
+  pub finds_so : {A : Type 0} {old new : S} {P Q : Tables → Type 0} (r : Result A StorageFault) → Finds v old new r P → ((T : Tables) → P T → Q T) →
+      Finds v old new r Q
+  finds_so r finds so = record { reads = finds.reads; found = λ honest T held. on_ok_weaker r (so T) (finds.found honest T held) }
+
+  -- a look-up behind others
+  pub finds_then : {A B : Type 0} {old mid new : S} {a : B} {P Q R : Tables → Type 0} (r : Result A StorageFault) →
+      Finds v old mid (Ok a) P → Finds v mid new r Q → ((T : Tables) → P T → Q T → R T) →
+      Finds v old new r R
+  finds_then r first second both = record {
+    reads = reads_then r (stands_read first.reads) second.reads;
+    found = λ honest T held.
+        let so_far = second.reads.honest honest in
+        on_ok_weaker r (both T (first.found so_far T held)) (second.found honest T (first.reads.tables so_far T held));
+  }
+
+  -- what was found by both
+  pub finds_both : {A B : Type 0} {old mid new : S} {a : B} {P Q : Tables → Type 0} (r : Result A StorageFault) →
+      Finds v old mid (Ok a) P → Finds v mid new r Q →
+      Finds v old new r (λ T. P T × Q T)
+  finds_both r first second = finds_then r first second (λ T p q. (p, q))
+
+  -- a third one
+  pub finds_third : {A B D : Type 0} {s0 s1 s2 s3 : S} {b : B} {d : D} {P Q R Z : Tables → Type 0} (r : Result A StorageFault) →
+      Finds v s0 s1 (Ok b) P → Finds v s1 s2 (Ok d) Q → Finds v s2 s3 r R → ((T : Tables) → P T → Q T → R T → Z T) →
+      Finds v s0 s3 r Z
+  finds_third r first second third all = finds_then r (finds_both _ first second) third (λ T both. all T both.0 both.1)
+
+  -- a fourth one
+  pub finds_fourth : {A B D E : Type 0} {s0 s1 s2 s3 s4 : S} {b : B} {d : D} {e : E} {P Q R U Z : Tables → Type 0} (r : Result A StorageFault) →
+      Finds v s0 s1 (Ok b) P → Finds v s1 s2 (Ok d) Q → Finds v s2 s3 (Ok e) R → Finds v s3 s4 r U →
+      ((T : Tables) → P T → Q T → R T → U T → Z T) →
+      Finds v s0 s4 r Z
+  finds_fourth r first second third fourth all = finds_third r (finds_both _ first second) third fourth (λ T both. all T both.0 both.1)
+
+  -- the fault of a look-up is passed on
+  pub finds_failing : {A B : Type 0} {old new : S} {why : StorageFault} {P Q : Tables → Type 0} (r : Result A StorageFault) →
+      Finds v {A = B} old new (Err why) P → IsErrAnd r (λ e. e ≡ why) →
+      Finds v old new r Q
+  finds_failing (Ok a) finds failed = absurd failed
+  finds_failing (Err e) finds failed = record { reads = reads_failing (Err e) finds.reads failed; found = λ honest T held. tt }
+
+  -- and behind others
+  pub fails_behind : {A B D : Type 0} {old mid new : S} {why : StorageFault} {a : D} {P Q R : Tables → Type 0} (r : Result A StorageFault) →
+      Finds v old mid (Ok a) P → Finds v {A = B} mid new (Err why) Q → IsErrAnd r (λ e. e ≡ why) →
+      Finds v old new r R
+  fails_behind r first second failed = finds_then r first (finds_failing r second failed) (λ T p q. q)
+
+  -- a result that is another
+  pub finds_as : {A : Type 0} {old new : S} {P : Tables → Type 0} {r q : Result A StorageFault} → r ≡ q → Finds v old new r P → Finds v old new q P
+  finds_as {A} {old} {new} {P} same finds = subst (λ r. Finds v old new r P) same finds
+
+  -- what was found is put into a table
+  pub finds_put : {V X B : Type 0} {old new : S} (number : X → ℕ) (items : V → List X) (rows_of : Tables → List X) (rows later : List X)
+      (looked : Result V StorageFault) (r : Result B StorageFault) →
+      Reads v old new looked → ForTables v old new (λ T. IfOk looked (λ vs. items vs ≡ rows_of T)) →
+      IfOk looked (λ vs. OnOk r (later ≡ puts number (items vs) rows)) → IfOk looked (λ _. IfErr r LacksMemory) → IfErr looked (λ why. r ≡ Err why) →
+      Finds v old new r (λ T. later ≡ puts number (rows_of T) rows)
+  finds_put number items rows_of rows later looked r read are put_now lacks passed = record {
+    reads = reads_found looked r read lacks passed;
+    found = λ honest T held. put_if_found number items looked r (rows_of T) rows later put_now passed (are honest T held);
+  }
+
+-- an option as a slice
+pub listed_as : {X : Type 0} (o : Option X) (xs ys : List X) → MatchOption o (xs ≡ []) (λ x. xs ≡ x ∷ []) → option_to_list o ≡ ys → xs ≡ ys
+listed_as None xs ys is same = is ∙ same
+listed_as (Some x) xs ys is same = is ∙ same

@@ -1,0 +1,74 @@
+-- Rows that are looked up one number after the other, each put into its place.
+use Rattle.std.proofs.Common.{◌≡◌, ℕ, Bool, true, false, cond, refl, filter, List, [], ◌∷◌, ◌++◌}
+use Rattle.std.proofs.Common.{Result, Ok, Err, IfErr, IfOk, OnOk, ap, append-nil, subst, sym, ◌∙◌}
+use Rattle.std.specs.List.{flat_map}
+use Rattle.std.specs.Result.{result_and}
+use Rattle.model_laws.specs.Placing.{puts}
+use Rattle.model_laws.proofs.RowLists.{puts_append}
+
+-- the rows of the next one are put, and what is left to be put is what follows it
+pub gathered : {N X : Type 0} (number : X → ℕ) (rows_of : N → List X) (n : N) (before rest : List N) (found rows later all : List X) →
+    before ≡ n ∷ rest →
+    found ≡ rows_of n →
+    later ≡ puts number found rows →
+    puts number (flat_map rows_of before) rows ≡ all →
+    puts number (flat_map rows_of rest) later ≡ all
+gathered number rows_of n before rest found rows later all next looked put_now all_of =
+    ap (puts number (flat_map rows_of rest)) (put_now ∙ ap (λ r. puts number r rows) looked)
+    ∙ sym (puts_append number (rows_of n) (flat_map rows_of rest) rows)
+    ∙ ap (λ l. puts number (flat_map rows_of l) rows) (sym next)
+    ∙ all_of
+
+-- one more row is put, if it passes
+pub put_passed : {X : Type 0} (number : X → ℕ) (p : X → Bool) (row : X) (before rest table later all : List X) → before ≡ row ∷ rest →
+    later ≡ puts number (filter p (row ∷ [])) table → puts number (filter p before) table ≡ all → puts number (filter p rest) later ≡ all
+put_passed number p row before rest table later all next put_now so_far =
+    ap (puts number (filter p rest)) put_now
+    ∙ by (p row)
+    ∙ ap (λ l. puts number (filter p l) table) (sym next)
+    ∙ so_far
+  where
+    by : (b : Bool) → puts number (filter p rest) (puts number (cond b (row ∷ []) []) table) ≡ puts number (cond b (row ∷ filter p rest) (filter p rest)) table
+    by true = refl
+    by false = refl
+
+-- what was found is put, where there was no fault
+pub put_if_found : {F V B X : Type 0} (number : X → ℕ) (items : V → List X) (found : Result V F) (r : Result B F) (xs rows later : List X) →
+    IfOk found (λ vs. OnOk r (later ≡ puts number (items vs) rows)) → IfErr found (λ why. r ≡ Err why) → IfOk found (λ vs. items vs ≡ xs) →
+    OnOk r (later ≡ puts number xs rows)
+put_if_found number items (Ok vs) (Ok done) xs rows later put_now passed looked = put_now ∙ ap (λ l. puts number l rows) looked
+put_if_found number items (Ok vs) (Err why) xs rows later put_now passed looked = tt
+put_if_found number items (Err why) r xs rows later put_now passed looked = subst (λ q. OnOk q (later ≡ puts number xs rows)) (sym passed) tt
+
+-- rows are put, and then others
+pub put_then : {X : Type 0} (number : X → ℕ) (xs ys rows mid later : List X) → mid ≡ puts number xs rows → later ≡ puts number ys mid →
+    later ≡ puts number (xs ++ ys) rows
+put_then number xs ys rows mid later first second = second ∙ ap (puts number ys) first ∙ sym (puts_append number xs ys rows)
+
+-- what is put into an empty table
+pub put_into_none : {X : Type 0} (number : X → ℕ) (xs rows later : List X) → later ≡ puts number xs rows → rows ≡ [] → later ≡ puts number xs []
+put_into_none number xs rows later put_now none = put_now ∙ ap (puts number xs) none
+
+-- what is put by one value is put by its equal
+pub put_by : {X Y : Type 0} (number : X → ℕ) (rows_of : Y → List X) (y z : Y) (rows later : List X) → later ≡ puts number (rows_of y) rows → y ≡ z →
+    later ≡ puts number (rows_of z) rows
+put_by number rows_of y z rows later put_now same = put_now ∙ ap (λ v. puts number (rows_of v) rows) same
+
+-- what is put by two values is put by their equals
+pub put_by_both : {X Y Z : Type 0} (number : X → ℕ) (rows_of : Y → Z → List X) (y v : Y) (z w : Z) (rows later : List X) →
+    later ≡ puts number (rows_of y z) rows → y ≡ v → z ≡ w → later ≡ puts number (rows_of v w) rows
+put_by_both number rows_of y v z w rows later put_now same alike =
+    put_now ∙ ap (λ a. puts number (rows_of a z) rows) same ∙ ap (λ b. puts number (rows_of v b) rows) alike
+
+-- the rows of two, and of three
+pub of_two : {X Y : Type 0} (rows_of : Y → List X) (a b : Y) → flat_map rows_of (a ∷ b ∷ []) ≡ rows_of a ++ rows_of b
+of_two rows_of a b = ap (λ l. rows_of a ++ l) (append-nil (rows_of b))
+
+pub of_three : {X Y : Type 0} (rows_of : Y → List X) (a b c : Y) → flat_map rows_of (a ∷ b ∷ c ∷ []) ≡ rows_of a ++ (rows_of b ++ rows_of c)
+of_three rows_of a b c = ap (λ l. rows_of a ++ l) (of_two rows_of b c)
+
+-- what is made of what was put, where there was no fault
+pub made_of : {A B F : Type 0} (P : Type 0) (Q : B → Type 0) (x : B) (r : Result A F) (q : Result B F) → q ≡ result_and r (Ok x) → OnOk r P → (P → Q x) →
+    IfOk q Q
+made_of P Q x (Ok a) q is put_now so = subst (λ s. IfOk s Q) (sym is) (so put_now)
+made_of P Q x (Err why) q is put_now so = subst (λ s. IfOk s Q) (sym is) tt

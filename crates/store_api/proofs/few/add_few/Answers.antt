@@ -1,0 +1,75 @@
+use Rattle.std.proofs.Common.{ap, map, ◌∙◌, ◌++◌, []}
+use Rattle.model_laws.specs.Placing.{puts}
+use Rattle.store_api.proofs.FewRows.{alone_are, moved_are, opened_are, restated_are}
+use Rattle.store_api.proofs.Found.{fails_behind, finds_both, finds_failing, finds_fourth}
+use Rattle.store_api.proofs.Gathered.{put_into_none, put_then}
+use Rattle.std.specs.List.{flat_map}
+use Rattle.desk_model.specs.Derived.{numbers_of}
+use Rattle.store_api.proofs.FewRows.{holders_missing, listed_missing, named_missing}
+use Rattle.store_api.proofs.few.add_few.Goals as goal
+use Rattle.store_api.specs.Needing.{missings, with_named}
+use Rattle.model_lives.specs.LookUps.{accounts_numbered, authorizations_numbered}
+use Rattle.desk_model.specs.declared.objects.Nonce.{Nonce}
+use Rattle.desk_model.specs.declared.rows.AccountRow.{AccountRow}
+use Rattle.desk_model.specs.declared.rows.AuthorizationRow.{AuthorizationRow}
+use Rattle.desk_model.specs.declared.rows.OrderRow.{OrderRow}
+use Rattle.model_lives.specs.FewLoaded.{few_accounts, moved_authorizations, opened_orders, restated_authorizations}
+use Rattle.model_lives.specs.Loaded.{accounts_once, authorizations_asked_of, authorizations_once, found_nonces, listed_authorizations}
+
+pub returns : goal.returns
+returns g c =
+    finds_fourth c.add_alone.result (finds_both _ c.in_ok-add_nonces.ensures c.in_ok-add_holders.ensures) c.in_ok-add_statuses.ensures
+    c.in_ok-add_wanted.ensures c.add_alone.ensures
+    (λ T first statuses wanted alone ordered same none no_moved.
+    let ask = c.args.ask.now in
+    let needs = c.args.needs.now in
+    let m = needs.moment in
+    let is = c.requires in
+    let account = λ (x : AccountRow). x.number in
+    let authorization = λ (r : AuthorizationRow). r.number in
+    let order = λ (o : OrderRow). o.number in
+    let named = ap (with_named T ask) none.accounts ∙ named_missing T ask ordered in
+    let moved =
+    put_into_none authorization (moved_authorizations T ask) _ _
+    (first.1.0 ∙ ap (λ l. puts authorization l c.args.moved.now) (moved_are T m ask needs is _ named)) no_moved in
+    let accounts =
+    first.1.1
+    ∙ (λ i. missings account (accounts_numbered T) (map (λ (r : AuthorizationRow). r.account) (moved i)) (named i))
+    ∙ holders_missing T ask ordered in
+    let restated =
+    ap (λ rows. puts authorization rows c.args.rows.now.authorizations) (restated_are T m ask needs is _ moved)
+    ∙ ap (puts authorization (restated_authorizations T m ask)) none.authorizations in
+    let opens =
+    put_into_none order (opened_orders T m ask) _ _
+    (statuses.0 ∙ ap (λ l. puts order l c.args.rows.now.orders) (opened_are T m ask needs is _ restated)) none.orders in
+    let listed =
+    statuses.1
+    ∙ (λ i. missings authorization (authorizations_numbered T) (flat_map (λ (o : OrderRow). numbers_of o.listed) (opens i)) (restated i))
+    ∙ listed_missing T m ask ordered (puts order (opened_orders T m ask) []) in
+    record {
+      nonces = put_into_none (λ (n : Nonce). n.serial) (found_nonces T m ask) _ _ (first.0 same) none.nonces;
+      accounts = accounts;
+      authorizations =
+          put_then authorization (restated_authorizations T m ask ++ listed_authorizations T (puts order (opened_orders T m ask) []))
+          (authorizations_once (moved_authorizations T ask) ++ authorizations_asked_of T _ (accounts_once (few_accounts T ask))) [] _ _ listed
+          (wanted ∙ (λ i. puts authorization (moved i ++ authorizations_asked_of T (is.names i) (accounts i)) c.add_statuses.new.authorizations));
+      orders =
+          put_then order (opened_orders T m ask) _ [] _ _ opens
+          (alone ∙ ap (λ l. puts order l c.add_statuses.new.orders) (alone_are T m ask needs is _ accounts));
+    })
+
+pub returns-in_err-add_nonces : goal.returns-in_err-add_nonces
+returns-in_err-add_nonces g c = finds_failing _ c.in_err-add_nonces.ensures c.from_residual.ensures.1
+
+pub returns-in_err-add_holders : goal.returns-in_err-add_holders
+returns-in_err-add_holders g c = fails_behind _ c.in_ok-add_nonces.ensures c.in_err-add_holders.ensures c.from_residual-in_err-add_holders.ensures.1
+
+pub returns-in_err-add_statuses : goal.returns-in_err-add_statuses
+returns-in_err-add_statuses g c =
+    fails_behind _ (finds_both _ c.in_ok-add_nonces.ensures c.in_ok-add_holders.ensures) c.in_err-add_statuses.ensures
+    c.from_residual-in_err-add_statuses.ensures.1
+
+pub returns-in_err-add_wanted : goal.returns-in_err-add_wanted
+returns-in_err-add_wanted g c =
+    fails_behind _ (finds_both _ (finds_both _ c.in_ok-add_nonces.ensures c.in_ok-add_holders.ensures) c.in_ok-add_statuses.ensures)
+    c.in_err-add_wanted.ensures c.from_residual-in_err-add_wanted.ensures.1

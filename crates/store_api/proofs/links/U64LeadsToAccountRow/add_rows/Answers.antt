@@ -1,0 +1,9 @@
+use Rattle.store_api.proofs.Found.{finds_put}
+use Rattle.store_api.proofs.links.U64LeadsToAccountRow.add_rows.Goals as goal
+use Rattle.desk_model.specs.declared.rows.AccountRow.{AccountRow}
+use Rattle.model_lives.specs.LookUps.{accounts_numbered}
+
+pub returns : goal.returns
+returns g c =
+    finds_put (λ (x : AccountRow). x.number) (λ rows. rows.items) (λ T. accounts_numbered T c.args.self.now) _ _ c.find_accounts.result _
+    c.find_accounts.ensures.reads c.find_accounts.ensures.found c.add_found.ensures.put c.add_found.ensures.lacks c.add_found.ensures.fails

@@ -1,0 +1,73 @@
+use Rattle.std.proofs.Common.{◌≡◌, ℕ, true, filter, List, [], ap, ◌∙◌}
+use Rattle.model_laws.specs.Ordered.{Ascends}
+use Rattle.model_laws.specs.Placing.{puts}
+use Rattle.model_laws.proofs.RowLists.{puts_ascending}
+use Rattle.store_api.proofs.Found.{fails_behind, finds_as, finds_failing, finds_fourth, finds_put, finds_then}
+use Rattle.store_api.proofs.Gathered.{put_into_none}
+use Rattle.store_api.proofs.Pairs.{all_pass}
+use Rattle.store_api.proofs.touched.add_all_rows.Goals as goal
+use Rattle.desk_model.specs.declared.objects.Nonce.{Nonce}
+use Rattle.desk_model.specs.declared.rows.AccountRow.{AccountRow}
+use Rattle.desk_model.specs.declared.rows.AuthorizationRow.{AuthorizationRow}
+use Rattle.desk_model.specs.declared.rows.OrderRow.{OrderRow}
+use Rattle.model_lives.specs.LookUps.{accounts_where, authorizations_where, nonces_where, orders_where}
+use Rattle.model_lives.specs.declared.queries.AccountsWhere.TheVariants as accounts
+use Rattle.model_lives.specs.declared.queries.AuthorizationsWhere.TheVariants as authorizations
+use Rattle.model_lives.specs.declared.queries.NoncesWhere.TheVariants as nonces
+use Rattle.model_lives.specs.declared.queries.OrdersWhere.TheVariants as orders
+
+-- the rows of a table that are put into an empty one are the table
+all_put : {X : Type 0} (number : X → ℕ) (xs rows later : List X) → Ascends number 1 xs → later ≡ puts number (filter (λ x. true) xs) rows → rows ≡ [] →
+    later ≡ xs
+all_put number xs rows later ascends put_now none =
+    put_into_none number xs rows later (put_now ∙ ap (λ found. puts number found rows) (all_pass xs)) none ∙ puts_ascending number 1 xs ascends
+
+pub returns : goal.returns
+returns g c =
+    finds_fourth c.add_found-4.result
+    (finds_as c.in_ok-add_found.was
+    (finds_put (λ (n : Nonce). n.serial) (λ rows. rows.items) (λ T. nonces_where T nonces.Any) _ _ c.find_nonces.result _
+    c.find_nonces.ensures.reads c.find_nonces.ensures.found
+    c.add_found.ensures.put c.add_found.ensures.lacks c.add_found.ensures.fails))
+    (finds_as c.in_ok-add_found-2.was
+    (finds_put (λ (x : AccountRow). x.number) (λ rows. rows.items) (λ T. accounts_where T accounts.Any) _ _ c.find_accounts.result _
+    c.find_accounts.ensures.reads c.find_accounts.ensures.found c.add_found-2.ensures.put c.add_found-2.ensures.lacks c.add_found-2.ensures.fails))
+    (finds_as c.in_ok-add_found-3.was
+    (finds_put (λ (a : AuthorizationRow). a.number) (λ rows. rows.items) (λ T. authorizations_where T authorizations.Any) _ _ c.find_authorizations.result _
+    c.find_authorizations.ensures.reads c.find_authorizations.ensures.found c.add_found-3.ensures.put c.add_found-3.ensures.lacks c.add_found-3.ensures.fails))
+    (finds_put (λ (o : OrderRow). o.number) (λ rows. rows.items) (λ T. orders_where T orders.Any) _ _ c.find_orders.result _
+    c.find_orders.ensures.reads c.find_orders.ensures.found
+    c.add_found-4.ensures.put c.add_found-4.ensures.lacks c.add_found-4.ensures.fails)
+    (λ T nonces accounts authorizations orders ordered none. record {
+      nonces = all_put (λ (n : Nonce). n.serial) _ _ _ ordered.nonces.0 nonces none.nonces;
+      accounts = all_put (λ (x : AccountRow). x.number) _ _ _ ordered.accounts.0 accounts none.accounts;
+      authorizations = all_put (λ (a : AuthorizationRow). a.number) _ _ _ ordered.authorizations.0 authorizations none.authorizations;
+      orders = all_put (λ (o : OrderRow). o.number) _ _ _ ordered.orders.0 orders none.orders;
+    })
+
+pub returns-in_err-add_found : goal.returns-in_err-add_found
+returns-in_err-add_found g c = finds_failing _ (finds_as c.in_err-add_found.was
+    (finds_put (λ (n : Nonce). n.serial) (λ rows. rows.items) (λ T. nonces_where T nonces.Any) _ _ c.find_nonces.result _
+    c.find_nonces.ensures.reads c.find_nonces.ensures.found
+    c.add_found.ensures.put c.add_found.ensures.lacks c.add_found.ensures.fails)) c.from_residual.ensures.1
+
+pub returns-in_err-add_found-2 : goal.returns-in_err-add_found-2
+returns-in_err-add_found-2 g c = fails_behind _ (finds_as c.in_ok-add_found.was
+    (finds_put (λ (n : Nonce). n.serial) (λ rows. rows.items) (λ T. nonces_where T nonces.Any) _ _ c.find_nonces.result _
+    c.find_nonces.ensures.reads c.find_nonces.ensures.found
+    c.add_found.ensures.put c.add_found.ensures.lacks c.add_found.ensures.fails)) (finds_as c.in_err-add_found-2.was
+    (finds_put (λ (x : AccountRow). x.number) (λ rows. rows.items) (λ T. accounts_where T accounts.Any) _ _ c.find_accounts.result _
+    c.find_accounts.ensures.reads c.find_accounts.ensures.found c.add_found-2.ensures.put c.add_found-2.ensures.lacks c.add_found-2.ensures.fails))
+    c.from_residual-in_err-add_found-2.ensures.1
+
+pub returns-in_err-add_found-3 : goal.returns-in_err-add_found-3
+returns-in_err-add_found-3 g c = fails_behind _ (finds_then _ (finds_as c.in_ok-add_found.was
+    (finds_put (λ (n : Nonce). n.serial) (λ rows. rows.items) (λ T. nonces_where T nonces.Any) _ _ c.find_nonces.result _
+    c.find_nonces.ensures.reads c.find_nonces.ensures.found
+    c.add_found.ensures.put c.add_found.ensures.lacks c.add_found.ensures.fails)) (finds_as c.in_ok-add_found-2.was
+    (finds_put (λ (x : AccountRow). x.number) (λ rows. rows.items) (λ T. accounts_where T accounts.Any) _ _ c.find_accounts.result _
+    c.find_accounts.ensures.reads c.find_accounts.ensures.found c.add_found-2.ensures.put c.add_found-2.ensures.lacks c.add_found-2.ensures.fails))
+    (λ T first second. second)) (finds_as c.in_err-add_found-3.was
+    (finds_put (λ (a : AuthorizationRow). a.number) (λ rows. rows.items) (λ T. authorizations_where T authorizations.Any) _ _ c.find_authorizations.result _
+    c.find_authorizations.ensures.reads c.find_authorizations.ensures.found c.add_found-3.ensures.put c.add_found-3.ensures.lacks c.add_found-3.ensures.fails))
+    c.from_residual-in_err-add_found-3.ensures.1

@@ -1,0 +1,333 @@
+//! The rows that are enough for a call, the directory and the lists of work apart.
+ghost use Rattle.std.specs.Prelude.{◌≡◌, ◌++◌, [], IfOk, if◌then◌else◌, map, max, option_map, option_to_list};
+ghost use Rattle.model_laws.specs.Ordered.{IsOrdered};
+ghost use Rattle.model_laws.specs.Placing.{puts};
+ghost use Rattle.store_api.specs.Finding.{AreNone, AreRowsOf, Finds};
+ghost use Rattle.store_api.specs.Needing.{NeedsFor, alone_with, missings, moved_by, opened_with, orders_by, restated_by, with_named};
+ghost use Rattle.model_lives.specs.Few.{few_rows};
+ghost use Rattle.model_lives.specs.FewLoaded.{few_loaded};
+ghost use Rattle.model_lives.specs.LookUps.{accounts_numbered, authorizations_numbered};
+ghost use Rattle.std.specs.List.{flat_map};
+ghost use Rattle.desk_model.specs.Derived.{numbers_of};
+ghost use Rattle.model_lives.specs.Loaded.{authorizations_asked_of};
+ghost use Rattle.store_api.specs.Sight.{ForTables, Reads};
+
+use crate::asked::add_asked_names;
+use crate::fault::StorageFault;
+use crate::gathering::{add_each, add_linked, add_missing};
+use crate::look_ups::LookUps;
+use crate::named::named_in;
+use crate::needs::{Needs, needs_of};
+use crate::objects::{add_asked, add_keyed, add_new_keyed, add_owner};
+use crate::touched::{Rows, add_nonces};
+use desk_book::{Book, Table};
+use desk_model::{
+    AccountRow, Ask, AuthorizationRow, AuthzStatus, Call, Listed, OrderRow, OrderStatus, Policy,
+};
+use std::alloc::Global;
+
+// ---- accounts, and the authorizations that are named
+
+// Puts the account of a number into a table, if one is named and the table lacks it.
+fn add_missing_account<S: LookUps>(
+    alloc: Global,
+    source: &mut S,
+    accounts: &mut Table<AccountRow>,
+    number: Option<u64>,
+) -> Result<(), StorageFault>
+    ensures { Finds S.sight source.old source.new result (λ T.
+        accounts.new ≡ missings (λ x. x.number) (accounts_numbered T) (option_to_list number) accounts.old) }
+{
+    match number {
+        Some(number) => add_missing(alloc, source, accounts, number, &number),
+        None => Ok(()),
+    }
+}
+
+// Puts the accounts that are named into a table, by their keys, and by number where it lacks them.
+fn add_named_accounts<S: LookUps>(
+    alloc: Global,
+    source: &mut S,
+    accounts: &mut Table<AccountRow>,
+    ask: &Ask,
+) -> Result<(), StorageFault>
+    ensures { Finds S.sight source.old source.new result (λ T. accounts.new ≡ with_named T ask.now accounts.old) }
+{
+    let named = named_in(ask);
+    add_keyed(alloc, source, accounts, ask)?;
+    add_new_keyed(alloc, source, accounts, ask)?;
+    add_missing_account(alloc, source, accounts, named.account)
+}
+
+// Puts the authorizations that are named into a table, and those of these accounts, where an account ends.
+fn add_moved<S: LookUps>(
+    alloc: Global,
+    source: &mut S,
+    moved: &mut Table<AuthorizationRow>,
+    needs: &Needs,
+    accounts: &Table<AccountRow>,
+) -> Result<(), StorageFault>
+    ensures { Finds S.sight source.old source.new result (λ T. moved.new ≡ puts (λ r. r.number) (moved_by T needs.now accounts.now) moved.old) }
+{
+    add_each(alloc, source, moved, needs.named.authorization.as_slice())?;
+    add_owner(alloc, source, moved, needs.named.challenge)?;
+    add_asked(alloc, source, moved, accounts, needs.ends_account())
+}
+
+// Puts the accounts of authorizations into a table, those alone that it lacks.
+fn add_missing_holders<S: LookUps>(
+    alloc: Global,
+    source: &mut S,
+    accounts: &mut Table<AccountRow>,
+    rows: &Table<AuthorizationRow>,
+) -> Result<(), StorageFault>
+    ensures { Finds S.sight source.old source.new result (λ T.
+        accounts.new ≡ missings (λ x. x.number) (accounts_numbered T) (map (λ r. r.account) rows.now) accounts.old) }
+{
+    for row in rows.iter() {
+        add_missing(alloc, source, accounts, row.account, &row.account)?;
+    }
+    Ok(())
+}
+
+// Puts the accounts that are named into a table, the authorizations that are named into another, and their accounts into the
+// first.
+fn add_holders<S: LookUps>(
+    alloc: Global,
+    source: &mut S,
+    accounts: &mut Table<AccountRow>,
+    moved: &mut Table<AuthorizationRow>,
+    ask: &Ask,
+    needs: &Needs,
+) -> Result<(), StorageFault>
+    ensures { Finds S.sight source.old source.new result (λ T.
+        (moved.new ≡ puts (λ r. r.number) (moved_by T needs.now (with_named T ask.now accounts.old)) moved.old)
+        × (accounts.new ≡ missings (λ x. x.number) (accounts_numbered T) (map (λ r. r.account) moved.new) (with_named T ask.now accounts.old))) }
+{
+    add_named_accounts(alloc, source, accounts, ask)?;
+    add_moved(alloc, source, moved, needs, accounts)?;
+    add_missing_holders(alloc, source, accounts, moved)
+}
+
+// ---- what decides statuses
+
+// Puts the authorizations whose statuses may change into a table: those past their moment and, where the ask may change
+// them, those that are named.
+fn add_restated<S: LookUps>(
+    alloc: Global,
+    source: &mut S,
+    authorizations: &mut Table<AuthorizationRow>,
+    moved: &Table<AuthorizationRow>,
+    needs: &Needs,
+) -> Result<(), StorageFault>
+    ensures { Finds S.sight source.old source.new result (λ T.
+        authorizations.new ≡ puts (λ r. r.number) (restated_by T needs.now moved.now) authorizations.old) }
+{
+    let past = [
+        (AuthzStatus::Pending, needs.moment),
+        (AuthzStatus::Valid, needs.moment),
+    ];
+    add_each(alloc, source, authorizations, &past)?;
+    add_asked(alloc, source, authorizations, moved, needs.restates)
+}
+
+// Puts the order that is named into a table, where it is asked for.
+fn add_named_order<S: LookUps>(
+    alloc: Global,
+    source: &mut S,
+    orders: &mut Table<OrderRow>,
+    needs: &Needs,
+    asked: bool,
+) -> Result<(), StorageFault>
+    ensures { Finds S.sight source.old source.new result (λ T.
+        orders.new ≡ puts (λ o. o.number) (if asked then orders_by T needs.now else []) orders.old) }
+{
+    if asked {
+        add_each(alloc, source, orders, needs.named.order.as_slice())
+    } else {
+        Ok(())
+    }
+}
+
+// Puts the orders whose statuses may change into a table, and the one that is named, where what it lists is needed.
+fn add_opened<S: LookUps>(
+    alloc: Global,
+    source: &mut S,
+    orders: &mut Table<OrderRow>,
+    authorizations: &Table<AuthorizationRow>,
+    needs: &Needs,
+) -> Result<(), StorageFault>
+    ensures { Finds S.sight source.old source.new result (λ T.
+        orders.new ≡ puts (λ o. o.number) (opened_with T needs.now authorizations.now) orders.old) }
+{
+    let past = [
+        (OrderStatus::Pending, needs.moment),
+        (OrderStatus::Ready, needs.moment),
+        (OrderStatus::Processing, needs.moment),
+    ];
+    add_each(alloc, source, orders, &past)?;
+    add_linked(alloc, source, orders, authorizations)?;
+    add_named_order(alloc, source, orders, needs, needs.needs_listed)
+}
+
+// Puts the authorizations at these places into a table, those alone that it lacks.
+fn add_missing_places<S: LookUps>(
+    alloc: Global,
+    source: &mut S,
+    authorizations: &mut Table<AuthorizationRow>,
+    places: &[Listed],
+) -> Result<(), StorageFault>
+    ensures { Finds S.sight source.old source.new result (λ T.
+        authorizations.new ≡ missings (λ r. r.number) (authorizations_numbered T) (numbers_of places.now) authorizations.old) }
+{
+    for place in places {
+        add_missing(alloc, source, authorizations, place.authorization, place)?;
+    }
+    Ok(())
+}
+
+// Puts the authorizations that these orders list into a table, those alone that it lacks.
+fn add_missing_listed<S: LookUps>(
+    alloc: Global,
+    source: &mut S,
+    authorizations: &mut Table<AuthorizationRow>,
+    orders: &Table<OrderRow>,
+) -> Result<(), StorageFault>
+    ensures { Finds S.sight source.old source.new result (λ T.
+        authorizations.new ≡ missings (λ r. r.number) (authorizations_numbered T) (flat_map (λ o. numbers_of o.listed) orders.now) authorizations.old) }
+{
+    for order in orders.iter() {
+        add_missing_places(alloc, source, authorizations, order.listed.as_slice())?;
+    }
+    Ok(())
+}
+
+// Puts the authorizations and orders whose statuses may change into two tables, and what the orders list into the first.
+fn add_statuses<S: LookUps>(
+    alloc: Global,
+    source: &mut S,
+    authorizations: &mut Table<AuthorizationRow>,
+    orders: &mut Table<OrderRow>,
+    moved: &Table<AuthorizationRow>,
+    needs: &Needs,
+) -> Result<(), StorageFault>
+    ensures { Finds S.sight source.old source.new result (λ T.
+        (orders.new ≡ puts (λ o. o.number)
+        (opened_with T needs.now (puts (λ r. r.number) (restated_by T needs.now moved.now) authorizations.old)) orders.old)
+        × (authorizations.new ≡ missings (λ r. r.number) (authorizations_numbered T) (flat_map (λ o. numbers_of o.listed) orders.new)
+        (puts (λ r. r.number) (restated_by T needs.now moved.now) authorizations.old))) }
+{
+    add_restated(alloc, source, authorizations, moved, needs)?;
+    add_opened(alloc, source, orders, authorizations, needs)?;
+    add_missing_listed(alloc, source, authorizations, orders)
+}
+
+// ---- what leads to nothing more
+
+// Puts the authorizations that are named, and those that a new order asks for, into a table.
+fn add_wanted<S: LookUps>(
+    alloc: Global,
+    source: &mut S,
+    authorizations: &mut Table<AuthorizationRow>,
+    moved: &Table<AuthorizationRow>,
+    needs: &Needs,
+    accounts: &Table<AccountRow>,
+) -> Result<(), StorageFault>
+    ensures { Finds S.sight source.old source.new result (λ T. authorizations.new ≡ puts (λ r. r.number)
+        (moved.now ++ authorizations_asked_of T (option_map (λ v. v.items) needs.now.names) accounts.now) authorizations.old) }
+{
+    add_linked(alloc, source, authorizations, moved)?;
+    add_asked_names(alloc, source, authorizations, &needs.names, accounts)
+}
+
+// Puts the order that is named, where nothing that it lists is needed, and the orders of these accounts, where they are
+// asked for, into a table.
+fn add_alone<S: LookUps>(
+    alloc: Global,
+    source: &mut S,
+    orders: &mut Table<OrderRow>,
+    needs: &Needs,
+    accounts: &Table<AccountRow>,
+) -> Result<(), StorageFault>
+    ensures { Finds S.sight source.old source.new result (λ T.
+        orders.new ≡ puts (λ o. o.number) (alone_with T needs.now accounts.now) orders.old) }
+{
+    add_named_order(alloc, source, orders, needs, !needs.needs_listed)?;
+    add_asked(alloc, source, orders, accounts, needs.named.asks_orders)
+}
+
+// ---- all of them
+
+// Puts the rows that are enough for an ask into empty tables, those that are named into one of their own, too.
+fn add_few<S: LookUps>(
+    alloc: Global,
+    source: &mut S,
+    rows: &mut Rows,
+    moved: &mut Table<AuthorizationRow>,
+    policy: &Policy,
+    ask: &Ask,
+    needs: &Needs,
+) -> Result<(), StorageFault>
+    requires { NeedsFor ask.now needs.now.moment needs.now }
+    ensures { Finds S.sight source.old source.new result (λ T. IsOrdered T → policy.now ≡ T.meta.policy → AreNone rows.old → moved.old ≡ []
+        → AreRowsOf (few_loaded T needs.now.moment ask.now) rows.new) }
+{
+    add_nonces(alloc, source, &mut rows.nonces, policy, needs.moment, ask)?;
+    add_holders(alloc, source, &mut rows.accounts, moved, ask, needs)?;
+    add_statuses(
+        alloc,
+        source,
+        &mut rows.authorizations,
+        &mut rows.orders,
+        moved,
+        needs,
+    )?;
+    add_wanted(
+        alloc,
+        source,
+        &mut rows.authorizations,
+        moved,
+        needs,
+        &rows.accounts,
+    )?;
+    add_alone(alloc, source, &mut rows.orders, needs, &rows.accounts)
+}
+
+/// The book of the rows that are enough for a call that names rows.
+pub(crate) fn few_book<S: LookUps>(
+    alloc: Global,
+    source: &mut S,
+    call: &Call,
+) -> Result<Book, StorageFault>
+    ensures reads { Reads S.sight source.old source.new result }
+    ensures found { ForTables S.sight source.old source.new (λ T. IsOrdered T
+        → IfOk result (λ book. book ≡ few_rows T (max call.now.at T.meta.counters.clock) call.now.ask)) }
+{
+    let meta = source.meta_row(alloc)?;
+    let counters = meta.counters;
+    let moment = call.at.max(counters.clock.moment());
+    let needs = needs_of(alloc, &call.ask, moment)?;
+    let mut moved = Table::new(alloc);
+    let mut rows = Rows {
+        nonces: Table::new(alloc),
+        accounts: Table::new(alloc),
+        authorizations: Table::new(alloc),
+        orders: Table::new(alloc),
+    };
+    add_few(
+        alloc,
+        source,
+        &mut rows,
+        &mut moved,
+        &meta.policy,
+        &call.ask,
+        &needs,
+    )
+    .and(Ok(Book::of_tables(
+        meta,
+        rows.nonces,
+        rows.accounts,
+        rows.authorizations,
+        rows.orders,
+    )))
+}

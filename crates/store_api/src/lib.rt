@@ -1,0 +1,26 @@
+//! What a store of a desk's tables is, what is looked up in it, and the rows that a call touches.
+#![tactic(auto)]
+
+mod asked;
+mod book_source;
+mod enough;
+mod fault;
+mod few;
+mod gathering;
+mod laws;
+mod links;
+mod look_ups;
+mod named;
+mod needs;
+mod objects;
+mod rows_above;
+mod storage;
+mod touched;
+
+pub use enough::load_enough;
+pub use fault::StorageFault;
+pub use laws::touched_rows_are_a_book;
+pub use look_ups::LookUps;
+pub use rows_above::RowsAbove;
+pub use storage::Storage;
+pub use touched::{load_part, touched_book};

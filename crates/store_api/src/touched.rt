@@ -1,0 +1,208 @@
+//! The book of the rows that a call touches.
+ghost use Rattle.std.specs.Prelude.{◌≡◌, IfOk, option_map};
+ghost use Rattle.model_laws.specs.Ordered.{IsOrdered};
+ghost use Rattle.model_laws.specs.Placing.{puts};
+ghost use Rattle.store_api.specs.Finding.{AreNone, AreRowsOf, Finds};
+ghost use Rattle.desk_model.specs.Asked.{asked_names};
+ghost use Rattle.desk_model.specs.Touched.{touched};
+ghost use Rattle.model_lives.specs.Loaded.{found_nonces, loaded_at, loaded_rows};
+ghost use Rattle.store_api.specs.Sight.{ForTables, Reads};
+ghost use Rattle.store_api.specs.Storing.{Loads};
+
+use crate::fault::StorageFault;
+use crate::gathering::{add_each, add_found};
+use crate::look_ups::LookUps;
+use crate::named::{named_in, serial};
+use crate::objects::{
+    add_first_authorizations, add_first_orders, add_further, add_keyed, add_new_keyed,
+};
+use desk_book::{Book, Table};
+use desk_model::{
+    AccountRow, Ask, AuthorizationRow, Call, DnsName, Meta, Nonce, OfficeAsk, OrderRow, Policy,
+};
+use identifiers::asked_names;
+use model_lives::{AccountsWhere, AuthorizationsWhere, NoncesWhere, OrdersWhere};
+use std::alloc::Global;
+
+/// Rows of each table.
+#[derive(Drop)]
+pub(crate) struct Rows {
+    pub(crate) nonces: Table<Nonce>,
+    pub(crate) accounts: Table<AccountRow>,
+    pub(crate) authorizations: Table<AuthorizationRow>,
+    pub(crate) orders: Table<OrderRow>,
+}
+
+/// Puts the nonces that are touched into a table: the one that is carried, and those past their life.
+pub(crate) fn add_nonces<S: LookUps>(
+    alloc: Global,
+    source: &mut S,
+    nonces: &mut Table<Nonce>,
+    policy: &Policy,
+    moment: u64,
+    ask: &Ask,
+) -> Result<(), StorageFault>
+    ensures { Finds S.sight source.old source.new result (λ T. policy.now ≡ T.meta.policy
+        → nonces.new ≡ puts (λ x. x.serial) (found_nonces T moment ask.now) nonces.old) }
+{
+    add_each(alloc, source, nonces, serial(ask).as_slice())?;
+    add_found(
+        nonces,
+        source.find_nonces(
+            alloc,
+            NoncesWhere::IssuedBefore(policy.first_lasting(moment)),
+        ),
+    )
+}
+
+// Puts the rows that an ask touches at a moment into empty tables, the directory and the work lists apart.
+fn add_touched<S: LookUps>(
+    alloc: Global,
+    source: &mut S,
+    rows: &mut Rows,
+    policy: &Policy,
+    moment: u64,
+    ask: &Ask,
+    names: &Option<Vec<DnsName>>,
+) -> Result<(), StorageFault>
+    requires { option_map (λ v. v.items) names.now ≡ asked_names ask.now }
+    ensures { Finds S.sight source.old source.new result (λ T. policy.now ≡ T.meta.policy → AreNone rows.old
+        → AreRowsOf (loaded_rows T moment ask.now) rows.new) }
+{
+    let named = named_in(ask);
+    add_nonces(alloc, source, &mut rows.nonces, policy, moment, ask)?;
+    add_keyed(alloc, source, &mut rows.accounts, ask)?;
+    add_new_keyed(alloc, source, &mut rows.accounts, ask)?;
+    add_each(alloc, source, &mut rows.accounts, named.account.as_slice())?;
+    add_first_authorizations(
+        alloc,
+        source,
+        &mut rows.authorizations,
+        moment,
+        &named,
+        &rows.accounts,
+    )?;
+    add_first_orders(
+        alloc,
+        source,
+        &mut rows.orders,
+        moment,
+        &named,
+        &rows.accounts,
+    )?;
+    add_further(
+        alloc,
+        source,
+        &mut rows.accounts,
+        &mut rows.authorizations,
+        &mut rows.orders,
+        names,
+    )
+}
+
+// Puts all rows into empty tables.
+fn add_all_rows<S: LookUps>(
+    alloc: Global,
+    source: &mut S,
+    rows: &mut Rows,
+) -> Result<(), StorageFault>
+    ensures { Finds S.sight source.old source.new result (λ T. IsOrdered T → AreNone rows.old → AreRowsOf T rows.new) }
+{
+    add_found(
+        &mut rows.nonces,
+        source.find_nonces(alloc, NoncesWhere::Any),
+    )?;
+    add_found(
+        &mut rows.accounts,
+        source.find_accounts(alloc, AccountsWhere::Any),
+    )?;
+    add_found(
+        &mut rows.authorizations,
+        source.find_authorizations(alloc, AuthorizationsWhere::Any),
+    )?;
+    add_found(
+        &mut rows.orders,
+        source.find_orders(alloc, OrdersWhere::Any),
+    )
+}
+
+// Puts the rows that an ask touches at a moment into empty tables.
+fn add_rows_at<S: LookUps>(
+    alloc: Global,
+    source: &mut S,
+    rows: &mut Rows,
+    policy: &Policy,
+    moment: u64,
+    ask: &Ask,
+    names: &Option<Vec<DnsName>>,
+) -> Result<(), StorageFault>
+    requires { option_map (λ v. v.items) names.now ≡ asked_names ask.now }
+    ensures { Finds S.sight source.old source.new result (λ T. policy.now ≡ T.meta.policy → IsOrdered T → AreNone rows.old
+        → AreRowsOf (loaded_at T moment ask.now) rows.new) }
+{
+    match ask {
+        Ask::Office(OfficeAsk::Directory) => Ok(()),
+        Ask::Office(OfficeAsk::ChallengeWork) => add_all_rows(alloc, source, rows),
+        Ask::Office(OfficeAsk::OrderWork) => add_all_rows(alloc, source, rows),
+        _ => add_touched(alloc, source, rows, policy, moment, ask, names),
+    }
+}
+
+/// The book of the rows that a call touches: the desk's own row for the directory, all rows for the work lists, and
+/// what is named, what is past its end and what hangs on these for other calls.
+///
+/// # Errors
+///
+/// `Memory` where a growth was refused: the source then has the tables that it had. `Device` or `Reopen` where the tables
+/// could not be read: they may be out of reach, and a stop leaves no more than it did.
+pub fn touched_book<S: LookUps>(
+    alloc: Global,
+    source: &mut S,
+    call: &Call,
+) -> Result<Book, StorageFault>
+    ensures reads { Reads S.sight source.old source.new result }
+    ensures touched { ForTables S.sight source.old source.new (λ T. IsOrdered T → IfOk result (λ book. book ≡ touched T call.now)) }
+{
+    let names = asked_names(alloc, &call.ask)?;
+    let meta = source.meta_row(alloc)?;
+    let counters = meta.counters;
+    let moment = call.at.max(counters.clock.moment());
+    let mut rows = Rows {
+        nonces: Table::new(alloc),
+        accounts: Table::new(alloc),
+        authorizations: Table::new(alloc),
+        orders: Table::new(alloc),
+    };
+    add_rows_at(
+        alloc,
+        source,
+        &mut rows,
+        &meta.policy,
+        moment,
+        &call.ask,
+        &names,
+    )
+    .and(Ok(Book::of_tables(
+        meta,
+        rows.nonces,
+        rows.accounts,
+        rows.authorizations,
+        rows.orders,
+    )))
+}
+
+/// A part for the call, whatever legal history's picture the source has: the book of exactly the rows that it touches.
+///
+/// # Errors
+///
+/// As of `touched_book`.
+pub fn load_part<S: LookUps>(
+    alloc: Global,
+    source: &mut S,
+    call: &Call,
+) -> Result<Book, StorageFault>
+    ensures loads { Loads S.sight call.now source.old source.new result }
+    ensures touched { ForTables S.sight source.old source.new (λ T. IsOrdered T → IfOk result (λ book. book ≡ touched T call.now)) }
+{
+    touched_book(alloc, source, call)
+}

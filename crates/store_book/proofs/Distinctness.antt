@@ -1,0 +1,111 @@
+-- What a sort tells of repeated keys, and when the rows of these keys have different ones.
+use Rattle.std.proofs.Common.{◌≡◌, ℕ, ◌+◌, Bool, true, false, List, [], ◌∷◌, ◌++◌, map, get_or, refl, sym, ap, ◌∙◌, subst, arith}
+use Rattle.std.proofs.Common.{Ordering, is_lt, is_eq, nat_cmp}
+use Rattle.std.specs.Prelude.{◌≢◌, ◌↔◌, IsTrue}
+use Rattle.std.specs.Cmp.{IsTotalOrder}
+use Rattle.std.specs.List.{AllByRecursion, IsAllAdjacentAnswer, IsDistinct}
+use Rattle.std.specs.List.Sorted.{IsSorted, IsStrictlySortedBy, IsPermutation}
+use Rattle.std.specs.Ordering.{eq_by_cmp, ordering_reverse}
+use Rattle.std.proofs.lemmas.Bool.Decides.{nat_tests}
+use Rattle.std.proofs.lemmas.List.Sorted.{IsPermutation-sym}
+use Rattle.std.proofs.lemmas.Map.Keys.{IsDistinct-from_sorted, IsDistinct-IsPermutation, Less-from_sorted, sorted_from_all_adjacent}
+use Rattle.desk_model.specs.Kept.{EachOf}
+use Rattle.model_laws.specs.Distinct.{Distinct}
+use Rattle.store_book.proofs.Nests.{append-nil}
+use Rattle.store_book.proofs.SortedLists.{equal_flips, strictly-from_distinct}
+use Rattle.model_laws.proofs.Basics.{each-map}
+use Rattle.model_laws.proofs.Distinctness.{map-distinct}
+
+-- an order that says less
+less : (r : Ordering) → is_lt r ≡ true → r ≡ Ordering.Less
+less Ordering.Less h = refl
+less Ordering.Equal h = cc
+less Ordering.Greater h = cc
+
+-- an element is equal to itself
+pub equal_self : {X : Type 0} (c : X → X → Ordering) → IsTotalOrder c → (x : X) → is_eq (c x x) ≡ true
+equal_self c o x = by (c x x) (o.antisymm x x)
+  where
+    by : (r : Ordering) → r ≡ ordering_reverse r → is_eq r ≡ true
+    by Ordering.Less e = cc
+    by Ordering.Equal e = refl
+    by Ordering.Greater e = cc
+
+-- neighbours that each are below the next tell that no key stands twice
+rising : {X : Type 0} (c : X → X → Ordering) → IsTotalOrder c → (xs : List X) → IsAllAdjacentAnswer (λ x y b. b ≡ is_lt (c x y)) xs true
+    → IsStrictlySortedBy c xs
+unfolding IsStrictlySortedBy
+rising c o [] h = tt
+rising c o (x ∷ xs) h = sorted_from_all_adjacent o (x ∷ xs) x (λ k lt. less (c (get_or (x ∷ xs) k x) (get_or (x ∷ xs) (k + 1) x)) (sym (h k x lt)))
+
+-- two neighbours that are not tell that one does
+not_rising : {X : Type 0} (c : X → X → Ordering) → IsTotalOrder c → (xs : List X)
+    → IsAllAdjacentAnswer (λ x y b. b ≡ is_lt (c x y)) xs false → IsStrictlySortedBy c xs → ⊥
+not_rising c o [] h up = absurd (omega (arith, h.1))
+not_rising c o (x ∷ xs) h up =
+    let clash : false ≡ true = h.2 x ∙ ap is_lt (Less-from_sorted c (x ∷ xs) h.0 (h.0 + 1) x up (omega arith) h.1) in cc
+
+-- sorted keys tell whether one stands twice
+pub distinct-answer : {X : Type 0} (c : X → X → Ordering) → IsTotalOrder c → (xs ys : List X) → IsPermutation xs ys → IsSorted c ys → (r : Bool) →
+    IsAllAdjacentAnswer (λ x y b. b ≡ is_lt (c x y)) ys r → IsTrue r ↔ IsDistinct (eq_by_cmp c) xs
+distinct-answer c o xs ys moved up true h = (
+  λ _. IsDistinct-IsPermutation (eq_by_cmp c) (equal_flips c o) ys xs (IsPermutation-sym xs ys moved) (IsDistinct-from_sorted c ys (rising c o ys h)),
+  λ _. refl,
+)
+distinct-answer c o xs ys moved up false h = (
+  λ e. absurd (let clash : false ≡ true = e in cc),
+  λ apart. absurd (not_rising c o ys h (strictly-from_distinct c o ys up (IsDistinct-IsPermutation (eq_by_cmp c) (equal_flips c o) xs ys moved apart))),
+)
+
+-- ---- from keys to the rows that have them
+
+each-apart : {K Y : Type 0} (e : K → K → Bool) (value : K → Y) → ((k l : K) → value k ≡ value l → e k l ≡ true) → (k : K) (ls : List K) →
+    AllByRecursion (λ l. e k l ≡ false) ls → EachOf (λ l. value k ≢ value l) ls
+each-apart e value equal k [] h = tt
+each-apart e value equal k (l ∷ ls) h =
+    ((λ same. let clash : true ≡ false = sym (equal k l same) ∙ h.0 in cc), each-apart e value equal k ls h.1)
+
+all-apart : {K Y : Type 0} (e : K → K → Bool) (value : K → Y) → ((k l : K) → e k l ≡ true → value k ≡ value l) → (k : K) (ls : List K) →
+    EachOf (λ l. value k ≢ value l) ls → AllByRecursion (λ l. e k l ≡ false) ls
+all-apart e value same k [] h = tt
+all-apart e value same k (l ∷ ls) h = (by (e k l) refl, all-apart e value same k ls h.1)
+  where
+    by : (b : Bool) → e k l ≡ b → b ≡ false
+    by true is = absurd (h.0 (same k l is))
+    by false is = refl
+
+distinct-values : {K Y : Type 0} (e : K → K → Bool) (value : K → Y) → ((k l : K) → value k ≡ value l → e k l ≡ true) → (ks : List K)
+    → IsDistinct e ks → Distinct value ks
+unfolding IsDistinct
+distinct-values e value equal [] h = tt
+distinct-values e value equal (k ∷ ks) h = (each-apart e value equal k ks h.0, distinct-values e value equal ks h.1)
+
+pub values-distinct : {K Y : Type 0} (e : K → K → Bool) (value : K → Y) → ((k l : K) → e k l ≡ true → value k ≡ value l) → (ks : List K)
+    → Distinct value ks → IsDistinct e ks
+unfolding IsDistinct
+values-distinct e value same [] h = tt
+values-distinct e value same (k ∷ ks) h = (all-apart e value same k ks h.0, values-distinct e value same ks h.1)
+
+distinct-map : {X Y : Type 0} (value : X → Y) (xs : List X) → Distinct value xs → Distinct (λ y. y) (map value xs)
+distinct-map value [] h = tt
+distinct-map value (x ∷ xs) h = (each-map (λ y. value x ≢ y) value xs h.0, distinct-map value xs h.1)
+
+-- rows whose keys are these have different ones exactly where no key stands twice
+pub distinct-rows : {K X Y : Type 0} (c : K → K → Ordering) (key : K → Y) (value : X → Y) →
+    ((k l : K) → key k ≡ key l → is_eq (c k l) ≡ true) → ((k l : K) → is_eq (c k l) ≡ true → key k ≡ key l) →
+    (ks : List K) (xs : List X) → map key ks ≡ map value xs → (r : Bool) → IsTrue r ↔ IsDistinct (eq_by_cmp c) ks → IsTrue r ↔ Distinct value xs
+distinct-rows c key value equal same ks xs are r says = (
+  λ yes. map-distinct value xs (subst (Distinct (λ y. y)) are (distinct-map key ks (distinct-values (eq_by_cmp c) key equal ks (says.0 yes)))),
+  λ apart. says.1 (values-distinct (eq_by_cmp c) key same ks (map-distinct key ks (subst (Distinct (λ y. y)) (sym are) (distinct-map value xs apart)))),
+)
+
+-- numbers are equal exactly where the order says so
+pub equal-numbers : (m n : ℕ) → is_eq (nat_cmp m n) ≡ true → m ≡ n
+equal-numbers m n h = grind (arith, nat_tests)
+
+pub numbers-equal : (m n : ℕ) → m ≡ n → is_eq (nat_cmp m n) ≡ true
+numbers-equal m n h = grind (arith, nat_tests)
+
+-- nothing at the end
+pub ended : {X : Type 0} (xs ys zs : List X) → xs ++ ys ≡ zs → ys ≡ [] → xs ≡ zs
+ended xs ys zs all none = sym (append-nil xs) ∙ ap (λ l. xs ++ l) (sym none) ∙ all

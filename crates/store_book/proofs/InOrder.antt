@@ -1,0 +1,268 @@
+-- Rows in the order of their keys are those of a book.
+use Rattle.std.proofs.Common.{◌≡◌, ◌<◌, ◌≤◌, ◌+◌, ℕ, Bool, true, false, cond, List, [], ◌∷◌, ◌++◌, map, filter, Option, Some, None, refl, sym, ap, subst, ◌∙◌, arith, nat_cmp}
+use Rattle.std.specs.Prelude.{◌==◌, IsSome, option_map}
+use Rattle.std.specs.List.{cons_option}
+use Rattle.std.specs.List.Sorted.{IsPermutation}
+use Rattle.std.specs.Cmp.{nat_cmp_total}
+use Rattle.std.specs.Ordering.{eq_by_cmp}
+use Rattle.std.proofs.lemmas.Bool.{eqb-true}
+use Rattle.std.proofs.lemmas.List.Sorted.{IsPermutation-map, IsPermutation-refl}
+use Rattle.std.proofs.lemmas.Map.Keys.{IsDistinct-IsPermutation}
+use Rattle.store_columns.specs.Flat.{answer_key, bare_row, challenge_rows, key_rows, owned_by}
+use Rattle.store_columns.specs.Limits.{AreStored, IsStoredAuthorization, IsStoredListed, IsStoredOrder}
+use Rattle.store_columns.specs.declared.flat_rows.AnswerKey.{AnswerKey}
+use Rattle.store_columns.specs.declared.flat_rows.BareChallenge.{BareChallenge}
+use Rattle.store_columns.specs.declared.flat_rows.FlatRows.{FlatRows}
+use Rattle.store_columns.specs.declared.flat_rows.Owned.{Owned}
+use Rattle.model_laws.specs.Distinct.{Distinct}
+use Rattle.model_laws.specs.Ordered.{Ascends, Below}
+use Rattle.model_laws.proofs.Basics.{each, each-map, each_all, each_of_map}
+use Rattle.model_laws.proofs.Distinctness.{ascends_distinct, distinct-map, map-distinct}
+use Rattle.model_laws.proofs.RowLists.{ascends_filter, ascends_map}
+use Rattle.desk_model.specs.Kept.{EachOf}
+use Rattle.desk_model.specs.Questions.{account_on, authorization_on}
+use Rattle.desk_model.specs.Tables.{Tables}
+use Rattle.desk_model.specs.declared.rows.AccountRow.{AccountRow}
+use Rattle.desk_model.specs.declared.rows.AuthorizationRow.{AuthorizationRow}
+use Rattle.desk_model.specs.declared.rows.ChallengeRow.{ChallengeRow}
+use Rattle.desk_model.specs.declared.rows.Listed.{Listed}
+use Rattle.desk_model.specs.declared.rows.Meta.{Meta}
+use Rattle.desk_model.specs.declared.rows.OrderRow.{OrderRow}
+use Rattle.store_book.specs.FaultNumbers.{challenges_of}
+use Rattle.store_book.specs.IsBook.{AreDistinct, AreInOrder, HaveReferences, IsBookOf, KeepCounters, ListsFound}
+use Rattle.store_book.specs.Joining.{with_answer}
+use Rattle.store_book.specs.Nesting.{IsNestOf}
+use Rattle.store_book.proofs.Distinctness.{distinct-rows, equal-numbers, numbers-equal, values-distinct}
+use Rattle.store_book.proofs.SortedLists.{equal_flips}
+use Rattle.store_book.specs.BookRows.{AreBookRows, IsAmong, PlacesRise, RowsAreBooks, answered_numbers}
+use Rattle.store_book.proofs.Owners.{each_of_owner, found_among, is_of, nests_of, picked_of, rows_of, with_rows}
+
+-- ---- challenges with the keys of their answers
+
+-- challenges that have these rows, and these keys of their answers
+pub record Answered (cs : List (Owned BareChallenge)) (ks : List AnswerKey) : Type 0 where
+  pub rows : List (Owned ChallengeRow)
+  pub bare : map bare_row rows ≡ cs
+  pub keys : key_rows rows ≡ ks
+
+-- a bare challenge that was answered at this moment
+abbrev bare_so : Owned BareChallenge → Option ℕ → Owned BareChallenge
+bare_so c o = record c { row = record c.row { answered = o } }
+
+-- where there is a key for each that was answered, in their order, there are such
+pub answers : (cs : List (Owned BareChallenge)) (ks : List AnswerKey) → map (λ k. k.challenge) ks ≡ answered_numbers cs → Answered cs ks
+answers [] [] same = record { rows = []; bare = refl; keys = refl }
+answers [] (k ∷ ks) same = absurd (cc same)
+answers (c ∷ cs) ks same = by c.row.answered (answers cs) ks same
+  where
+    by : (o : Option ℕ) → ((ks : List AnswerKey) → map (λ k. k.challenge) ks ≡ answered_numbers cs → Answered cs ks) → (ks : List AnswerKey)
+        → map (λ k. k.challenge) ks ≡ cons_option (option_map (λ _. c.row.number) o) (answered_numbers cs)
+        → Answered (bare_so c o ∷ cs) ks
+    by None behind ks same =
+        let rest = behind ks same in
+        record { rows = with_answer (bare_so c None) None ∷ rest.rows; bare = λ i. bare_so c None ∷ rest.bare i; keys = rest.keys }
+    by (Some date) behind [] same = absurd (cc same)
+    by (Some date) behind (k ∷ ks) same =
+        let first : k.challenge ≡ c.row.number = cc same in
+        let others : map (λ k. k.challenge) ks ≡ answered_numbers cs = cc same in
+        let rest = behind ks others in
+        record {
+          rows = with_answer (bare_so c (Some date)) (Some (record { date = date; thumb = k.thumb })) ∷ rest.rows;
+          bare = λ i. bare_so c (Some date) ∷ rest.bare i;
+          keys = λ i. (record { challenge = sym first i; thumb = k.thumb }) ∷ rest.keys i;
+        }
+
+-- rows ascend as their images do
+unmapped_up : {X Y : Type 0} (f : X → Y) (key : Y → ℕ) (n : ℕ) (xs : List X) → Ascends key n (map f xs) → Ascends (λ x. key (f x)) n xs
+unmapped_up f key n [] up = tt
+unmapped_up f key n (x ∷ xs) up = (up.0, unmapped_up f key (key (f x) + 1) xs up.1)
+
+-- ---- the rows of one owner
+
+-- those of a table stand by number
+of_table : {T : Type 0} (number : T → ℕ) (n : ℕ) (rs : List (Owned T)) → Ascends (λ r. number r.row) 1 rs → Ascends number 1 (rows_of n rs)
+of_table number n rs up =
+    ascends_map (λ r. number r.row) number (λ r. r.row) (λ r. refl) 1 (filter (is_of n) rs) (ascends_filter (λ r. number r.row) (is_of n) 1 rs up)
+
+-- places of one order that rise ascend
+places_ascend : (n k : ℕ) (rs : List (Owned Listed)) → EachOf (λ r. r.owner ≡ n → k ≤ r.row.place) rs → PlacesRise rs → Ascends (λ l. l.place) k (rows_of n rs)
+places_ascend n k [] low up = tt
+places_ascend n k (r ∷ rs) low up = by (r.owner == n) refl (λ k low. places_ascend n k rs low up.1)
+  where
+    by : (b : Bool) → (r.owner == n) ≡ b
+        → ((k : ℕ) → EachOf (λ s. s.owner ≡ n → k ≤ s.row.place) rs → Ascends (λ l. l.place) k (rows_of n rs))
+        → Ascends (λ l. l.place) k (map (λ r. r.row) (cond b (r ∷ filter (is_of n) rs) (filter (is_of n) rs)))
+    by true e rest =
+        let same : r.owner ≡ n = eqb-true r.owner n e in (
+          low.0 same,
+          rest (r.row.place + 1)
+              (each (λ s. s.owner ≡ r.owner → r.row.place < s.row.place) (λ s. s.owner ≡ n → r.row.place + 1 ≤ s.row.place) rs
+              (λ s above is. let past = above (is ∙ sym same) in omega (arith, past)) up.0),
+        )
+    by false e rest = rest k low.1
+
+-- ---- numbers that differ in some order
+
+-- each for itself
+same_again : (xs : List ℕ) → map (λ n. n) xs ≡ xs
+same_again [] = refl
+same_again (x ∷ xs) = ap (λ l. x ∷ l) (same_again xs)
+
+-- they differ in any other
+distinct_moved : {X : Type 0} (number : X → ℕ) (xs ys : List X) → IsPermutation xs ys → Distinct number xs → Distinct number ys
+distinct_moved number xs ys moved apart =
+    let before = values-distinct (eq_by_cmp nat_cmp) (λ n. n) (λ m n e. equal-numbers m n e) (map number xs) (distinct-map (λ n. n) number xs apart) in
+    let after = IsDistinct-IsPermutation (eq_by_cmp nat_cmp) (equal_flips nat_cmp nat_cmp_total) (map number xs) (map number ys)
+    (IsPermutation-map number xs ys moved) before in
+    (distinct-rows nat_cmp (λ n. n) number (λ m n e. numbers-equal m n e) (λ m n e. equal-numbers m n e) (map number ys) ys (same_again (map number ys)) true
+    (λ _. after, λ _. refl)).0 refl
+
+-- the numbers of challenges, with or without their owner
+owned_numbers : (n : ℕ) (cs : List ChallengeRow) (rest : List (Owned ChallengeRow)) (more : List ChallengeRow)
+    → map (λ c. c.row.number) rest ≡ map (λ c. c.number) more
+    → map (λ c. c.row.number) (owned_by n cs ++ rest) ≡ map (λ c. c.number) (cs ++ more)
+owned_numbers n [] rest more same = same
+owned_numbers n (c ∷ cs) rest more same = ap (λ l. c.number ∷ l) (owned_numbers n cs rest more same)
+
+all_numbers : (rows : List AuthorizationRow) → map (λ c. c.row.number) (challenge_rows rows) ≡ map (λ c. c.number) (challenges_of rows)
+all_numbers [] = refl
+all_numbers (a ∷ rows) = owned_numbers a.number a.challenges (challenge_rows rows) (challenges_of rows) (all_numbers rows)
+
+-- ---- the book
+
+abbrev with_challenges : AuthorizationRow → List ChallengeRow → AuthorizationRow
+with_challenges a cs = record a { challenges = cs }
+
+abbrev with_listed : OrderRow → List Listed → OrderRow
+with_listed o ls = record o { listed = ls }
+
+-- the tables with these rows
+abbrev tables_of : Meta → FlatRows → List (Owned ChallengeRow) → Tables
+tables_of meta rows whole =
+    record {
+      meta = meta;
+      nonces = rows.nonces;
+      accounts = rows.accounts;
+      authorizations = map (with_rows (λ (a : AuthorizationRow). a.number) with_challenges whole) rows.authorizations;
+      orders = map (with_rows (λ (o : OrderRow). o.number) with_listed rows.listed) rows.orders;
+    }
+
+module _ (meta : Meta) (rows : FlatRows) (stored : AreStored rows) (are : AreBookRows meta rows) (has : Answered rows.challenges rows.keys) where
+  abbrev T : Tables
+  T = tables_of meta rows has.rows
+
+  -- the challenges stand by number
+  whole_ascends : Ascends (λ c. c.row.number) 1 has.rows
+  whole_ascends =
+      unmapped_up bare_row (λ c. c.row.number) 1 has.rows (subst (Ascends (λ (c : Owned BareChallenge). c.row.number) 1) (sym has.bare) are.challenges.table.0)
+
+  -- what holds of each as its table has it
+  each_whole : (P : Owned BareChallenge → Type 0) → EachOf P rows.challenges → EachOf (λ c. P (bare_row c)) has.rows
+  each_whole P h = each_of_map P bare_row has.rows (subst (EachOf P) (sym has.bare) h)
+
+  authorizations_nest : IsNestOf (λ (a : AuthorizationRow). a.number) (λ a. a.challenges) with_challenges (λ (c : ChallengeRow). c.number)
+      rows.authorizations has.rows T.authorizations
+  authorizations_nest =
+      nests_of (λ (a : AuthorizationRow). a.number) (λ a. a.challenges) with_challenges (λ (c : ChallengeRow). c.number)
+      (record { number_kept = λ p ts. refl; children_are = λ p ts. refl; last_are = λ p ts us. refl; same = λ p. refl })
+      rows.authorizations has.rows are.authorizations.table.0
+      (each IsStoredAuthorization (λ a. a.challenges ≡ []) rows.authorizations (λ a k. k.challenges) stored.authorizations)
+      (each_whole (λ c. IsAmong (map (λ a. a.number) rows.authorizations) c.owner) are.challenges.authorizations_found)
+      (λ n. of_table (λ (c : ChallengeRow). c.number) n has.rows whole_ascends)
+
+  orders_nest : IsNestOf (λ (o : OrderRow). o.number) (λ o. o.listed) with_listed (λ (l : Listed). l.place) rows.orders rows.listed T.orders
+  orders_nest =
+      nests_of (λ (o : OrderRow). o.number) (λ o. o.listed) with_listed (λ (l : Listed). l.place)
+      (record { number_kept = λ p ts. refl; children_are = λ p ts. refl; last_are = λ p ts us. refl; same = λ p. refl })
+      rows.orders rows.listed are.orders.table.0
+      (each IsStoredOrder (λ o. o.listed ≡ []) rows.orders (λ o k. k.listed) stored.orders)
+      are.listed.orders_found
+      (λ n. places_ascend n 1 rows.listed (each IsStoredListed (λ r. r.owner ≡ n → 1 ≤ r.row.place) rows.listed (λ r k _. k.place) stored.listed)
+      are.listed.places)
+
+  in_order : AreInOrder T
+  in_order = record {
+    nonces = are.nonces.0;
+    accounts = are.accounts.table.0;
+    authorizations = authorizations_nest.ascends;
+    challenges = authorizations_nest.children_ascend;
+    orders = orders_nest.ascends;
+    places = orders_nest.children_ascend;
+  }
+
+  counters : KeepCounters T
+  counters = record {
+    nonces = are.nonces.1;
+    accounts = are.accounts.table.1;
+    authorizations = each-map (λ a. a.number < meta.counters.authorizations + 1) (with_rows (λ (a : AuthorizationRow). a.number) with_challenges has.rows)
+        rows.authorizations are.authorizations.table.1;
+    challenges = each-map (λ a. Below (λ c. c.number) (meta.counters.challenges + 1) a.challenges)
+        (with_rows (λ (a : AuthorizationRow). a.number) with_challenges has.rows) rows.authorizations
+        (each_all (λ a. Below (λ c. c.number) (meta.counters.challenges + 1) (rows_of a.number has.rows)) rows.authorizations
+        (λ a. each_of_owner (λ c. c.number < meta.counters.challenges + 1) a.number has.rows
+        (each_whole (λ c. c.row.number < meta.counters.challenges + 1) are.challenges.table.1)));
+    orders = each-map (λ o. o.number < meta.counters.orders + 1) (with_rows (λ (o : OrderRow). o.number) with_listed rows.listed)
+        rows.orders are.orders.table.1;
+  }
+
+  -- an authorization whose number is among theirs is found
+  authorization_found : (n : ℕ) → IsAmong (map (λ a. a.number) rows.authorizations) n → IsSome (authorization_on T n)
+  authorization_found n among =
+      found_among (λ (a : AuthorizationRow). a.number) n T.authorizations (subst (λ ns. IsAmong ns n) (sym (numbers_kept rows.authorizations)) among)
+    where
+      numbers_kept : (rest : List AuthorizationRow)
+          → map (λ a. a.number) (map (with_rows (λ (a : AuthorizationRow). a.number) with_challenges has.rows) rest) ≡ map (λ a. a.number) rest
+      numbers_kept [] = refl
+      numbers_kept (a ∷ rest) = ap (λ l. a.number ∷ l) (numbers_kept rest)
+
+  references : HaveReferences T
+  references = record {
+    authorizations = each-map (λ a. IsSome (account_on T a.account)) (with_rows (λ (a : AuthorizationRow). a.number) with_challenges has.rows)
+        rows.authorizations
+        (each (λ a. IsAmong (map (λ a. a.number) rows.accounts) a.account) (λ a. IsSome (account_on T a.account)) rows.authorizations
+        (λ a. found_among (λ (a : AccountRow). a.number) a.account rows.accounts) are.authorizations.accounts_found);
+    orders = each-map (λ o. IsSome (account_on T o.account)) (with_rows (λ (o : OrderRow). o.number) with_listed rows.listed) rows.orders
+        (each (λ o. IsAmong (map (λ a. a.number) rows.accounts) o.account) (λ o. IsSome (account_on T o.account)) rows.orders
+        (λ o. found_among (λ (a : AccountRow). a.number) o.account rows.accounts) are.orders.accounts_found);
+    listed = each-map (ListsFound T) (with_rows (λ (o : OrderRow). o.number) with_listed rows.listed) rows.orders
+        (each_all (λ o. EachOf (λ l. IsSome (authorization_on T l.authorization)) (rows_of o.number rows.listed)) rows.orders
+        (λ o. each_of_owner (λ l. IsSome (authorization_on T l.authorization)) o.number rows.listed
+        (each (λ l. IsAmong (map (λ a. a.number) rows.authorizations) l.row.authorization) (λ l. IsSome (authorization_on T l.row.authorization)) rows.listed
+        (λ l. authorization_found l.row.authorization) are.listed.authorizations_found)));
+  }
+
+  distinct : AreDistinct T
+  distinct = record {
+    keys = are.accounts.keys;
+    challenges = map-distinct (λ (c : ChallengeRow). c.number) (challenges_of T.authorizations)
+        (subst (Distinct (λ n. n)) (all_numbers T.authorizations)
+        (distinct-map (λ n. n) (λ (c : Owned ChallengeRow). c.row.number) (challenge_rows T.authorizations)
+        (distinct_moved (λ (c : Owned ChallengeRow). c.row.number) has.rows (challenge_rows T.authorizations) authorizations_nest.rows_are
+        (ascends_distinct (λ (c : Owned ChallengeRow). c.row.number) 1 has.rows whole_ascends))));
+  }
+
+  book : IsBookOf rows T
+  book = record {
+    is_book = record { in_order = in_order; sound = record { counters = counters; references = references; distinct = distinct } };
+    has_rows = record {
+      metas = subst (IsPermutation rows.metas) are.metas (IsPermutation-refl rows.metas);
+      nonces = IsPermutation-refl rows.nonces;
+      accounts = IsPermutation-refl rows.accounts;
+      orders = orders_nest.parents_are;
+      authorizations = authorizations_nest.parents_are;
+      listed = orders_nest.rows_are;
+      challenges = subst (λ l. IsPermutation l (map bare_row (challenge_rows T.authorizations))) has.bare
+          (IsPermutation-map bare_row has.rows (challenge_rows T.authorizations) authorizations_nest.rows_are);
+      keys = subst (λ l. IsPermutation l (key_rows (challenge_rows T.authorizations))) has.keys
+          (picked_of (λ (a : AuthorizationRow). a.number) (λ a. a.challenges) with_challenges
+          (record { number_kept = λ p ts. refl; children_are = λ p ts. refl; last_are = λ p ts us. refl; same = λ p. refl })
+          (λ (c : Owned ChallengeRow). answer_key c.row) rows.authorizations has.rows are.authorizations.table.0
+          (each_whole (λ c. IsAmong (map (λ a. a.number) rows.authorizations) c.owner) are.challenges.authorizations_found));
+    };
+  }
+
+-- such rows in their limits are those of a book
+pub rows_are_books : RowsAreBooks
+rows_are_books meta rows stored are =
+    let has = answers rows.challenges rows.keys are.keys in
+    (T meta rows stored are has, book meta rows stored are has)

@@ -1,0 +1,174 @@
+-- One row more.
+use Rattle.std.proofs.Common.{◌≡◌, ◌<◌, ◌≤◌, ◌+◌, inl, inr, ℕ, Bool, List, [], ◌∷◌, ◌++◌, map, Option, None, Some, Result, Ok, Err, arith, refl, sym, ap, subst, ◌∙◌}
+use Rattle.std.specs.Prelude.{IfOk, option_to_list}
+use Rattle.std.specs.List.{cons_option}
+use Rattle.std.proofs.lemmas.List.Elements.{filter_map-append}
+use Rattle.store_columns.specs.declared.flat_rows.AnswerKey.{AnswerKey}
+use Rattle.store_columns.specs.declared.flat_rows.BareChallenge.{BareChallenge}
+use Rattle.store_columns.specs.declared.flat_rows.Owned.{Owned}
+use Rattle.desk_model.specs.Kept.{EachOf}
+use Rattle.desk_model.specs.declared.rows.Listed.{Listed}
+use Rattle.store_book.specs.BookRows.{IsAmong, PlacesRise, Rise, answered_number, answered_numbers}
+use Rattle.model_laws.specs.Ordered.{Ascends, Below, IsTable}
+use Rattle.model_laws.proofs.Basics.{each, each-append}
+use Rattle.store_book.specs.Passing.{Counts, IsPlacedNext, IsPlacedUpTo, IsUpTo, PlacedFrom}
+use Rattle.store_book.specs.declared.counter.Counter.{Counter}
+
+-- what ascends goes on with a number above all
+ascends_more : {X : Type 0} (number : X → ℕ) (n top : ℕ) (rows : List X) (row : X) → Ascends number n rows → Below number (top + 1) rows
+    → n ≤ number row → top < number row → Ascends number n (rows ++ row ∷ [])
+ascends_more number n top [] row up below from above = (from, tt)
+ascends_more number n top (x ∷ rows) row up below from above =
+    let low = below.0 in (up.0, ascends_more number (number x + 1) top rows row up.1 below.1 (omega arith) above)
+
+-- what holds of all holds of the last
+pub each_last : {X : Type 0} (P : X → Type 0) (rows : List X) (row : X) → EachOf P (rows ++ row ∷ []) → P row
+each_last P [] row h = h.0
+each_last P (x ∷ rows) row h = each_last P rows row h.1
+
+-- and of those before it
+pub each_before : {X : Type 0} (P : X → Type 0) (rows : List X) (row : X) → EachOf P (rows ++ row ∷ []) → EachOf P rows
+each_before P [] row h = tt
+each_before P (x ∷ rows) row h = (h.0, each_before P rows row h.1)
+
+-- of what ascends the last is above those before it
+above_before : {X : Type 0} (number : X → ℕ) (n : ℕ) (rows : List X) (row : X) → Ascends number n (rows ++ row ∷ [])
+    → (n ≤ number row) × Below number (number row) rows
+above_before number n [] row up = (up.0, tt)
+above_before number n (x ∷ rows) row up =
+    let later = above_before number (number x + 1) rows row up.1 in
+    let first = up.0 in
+    let above = later.0 in
+    (omega (arith, first, above), (omega (arith, above), later.1))
+
+-- a row of a table behind those so far counts on
+pub counts_on : {X : Type 0} (number : X → ℕ) (first now : Counter) (rows : List X) (row : X) → IsUpTo number first now rows
+    → IsTable number first.last (rows ++ row ∷ []) → (now.top < number row) × (number row ≤ now.last)
+counts_on number first now rows row up table =
+    let behind = above_before number 1 rows row table.0 in
+    let from = behind.0 in
+    let given = each_last (λ x. number x < first.last + 1) rows row table.1 in
+    let last = up.last in
+    (up.reached (number row) (omega (arith, from)) behind.1, omega (arith, given, last))
+
+-- the numbers of the rows so far and of the next
+pub up_to_more : {X : Type 0} (number : X → ℕ) (first old new : Counter) (rows : List X) (row : X) → Counts old (number row) new
+    → IsUpTo number first old rows → IsUpTo number first new (rows ++ row ∷ [])
+up_to_more number first old new rows row counts up =
+    let above = counts.above in
+    let top = counts.top in
+    record {
+      last = counts.last ∙ up.last;
+      top = omega (arith, counts.given, counts.top, counts.last);
+      ascends = ascends_more number 1 old.top rows row up.ascends up.below (omega arith) above;
+      below = each-append (λ x. number x < new.top + 1) rows (row ∷ [])
+          (each (λ x. number x < old.top + 1) (λ x. number x < new.top + 1) rows (λ x low. omega (arith, low, above, top)) up.below)
+          (omega (arith, top), tt);
+      reached = λ n some low. let next = each_last (λ x. number x < n) rows row low in omega (arith, top, next);
+    }
+
+-- rows behind the last one are a table
+pub whole_table : {X : Type 0} (number : X → ℕ) (first now : Counter) (rows : List X) → IsUpTo number first now rows → IsTable number first.last rows
+whole_table number first now rows up =
+    let top = up.top in
+    let last = up.last in
+    (up.ascends, each (λ x. number x < now.top + 1) (λ x. number x < first.last + 1) rows (λ x low. omega (arith, low, top, last)) up.below)
+
+-- what is kept of each row
+pub kept_more : {X Y : Type 0} (keep : X → Y) (rows : List X) (row : X) (before after : List Y) → after ≡ before ++ keep row ∷ [] → before ≡ map keep rows
+    → after ≡ map keep (rows ++ row ∷ [])
+kept_more keep rows row before after pushed kept = pushed ∙ ap (λ l. l ++ keep row ∷ []) kept ∙ sym (map_more keep rows row)
+  where
+    map_more : {X Y : Type 0} (keep : X → Y) (rows : List X) (row : X) → map keep (rows ++ row ∷ []) ≡ map keep rows ++ keep row ∷ []
+    map_more keep [] row = refl
+    map_more keep (x ∷ rows) row = ap (λ l. keep x ∷ l) (map_more keep rows row)
+
+-- what holds of each
+pub each_more : {X : Type 0} (P : X → Type 0) (rows : List X) (row : X) → EachOf P rows → P row → EachOf P (rows ++ row ∷ [])
+each_more P rows row h p = each-append P rows (row ∷ []) h (p, tt)
+
+-- the rows so far, each of one of these owners
+abbrev pub AreOwned : {X : Type 0} → (number owner : X → ℕ) (first now : Counter) (owners first_owners numbers : List ℕ) → List X → Type 0
+AreOwned number owner first now owners first_owners numbers rows =
+    IsUpTo number first now rows × (numbers ≡ map number rows) × (owners ≡ first_owners) × EachOf (λ x. IsAmong first_owners (owner x)) rows
+
+-- one more that is taken
+pub owned_more : {X E : Type 0} (number owner : X → ℕ) (row : X) (old new : Counter) (owners still before after : List ℕ) (taken : Result Bool E)
+    → IfOk taken (λ passes. passes ≡ Bool.true → Counts old (number row) new) → IfOk taken (λ passes. passes ≡ Bool.true → after ≡ before ++ number row ∷ [])
+    → IfOk taken (λ passes. passes ≡ Bool.true → IsAmong owners (owner row)) → still ≡ owners
+    → IfOk taken (λ passes. passes ≡ Bool.true → (first : Counter) (first_owners : List ℕ) (rows : List X)
+    → AreOwned number owner first old owners first_owners before rows → AreOwned number owner first new still first_owners after (rows ++ row ∷ []))
+owned_more number owner row old new owners still before after (Ok passes) counts pushed among same =
+    λ is first first_owners rows so_far. (
+      up_to_more number first old new rows row (counts is) so_far.0,
+      kept_more number rows row before after (pushed is) so_far.1,
+      same ∙ so_far.2,
+      each_more (λ x. IsAmong first_owners (owner x)) rows row so_far.3 (subst (λ l. IsAmong l (owner row)) so_far.2 (among is)),
+    )
+owned_more number owner row old new owners still before after (Err e) counts pushed among same = tt
+
+-- the numbers of answered challenges, and that of one more
+pub answered_more : (rows : List (Owned BareChallenge)) (row : Owned BareChallenge) (before after : List ℕ)
+    → after ≡ before ++ option_to_list (answered_number row) → before ≡ answered_numbers rows → after ≡ answered_numbers (rows ++ row ∷ [])
+answered_more rows row before after pushed are =
+    pushed ∙ ap (λ l. l ++ option_to_list (answered_number row)) are ∙ ap (λ l. answered_numbers rows ++ l) (as_list (answered_number row))
+    ∙ sym (filter_map-append answered_number rows (row ∷ []))
+  where
+    as_list : (o : Option ℕ) → option_to_list o ≡ cons_option o []
+    as_list None = refl
+    as_list (Some n) = refl
+
+-- places that rise, and one behind them
+pub places_more : (rows : List (Owned Listed)) (row : Owned Listed) (order place : ℕ) → IsPlacedNext order place row.owner row.row.place
+    → EachOf (IsPlacedUpTo order place) rows → PlacesRise rows → PlacesRise (rows ++ row ∷ [])
+places_more [] row order place next up rise = (tt, tt)
+places_more (r ∷ rows) row order place next up rise =
+    (each_more (λ s. s.owner ≡ r.owner → r.row.place < s.row.place) rows row rise.0 (λ same. above next up.0 same), places_more rows row order place next up.1 rise.1)
+  where
+    above : IsPlacedNext order place row.owner row.row.place → IsPlacedUpTo order place r → row.owner ≡ r.owner → r.row.place < row.row.place
+    above (inl later) (inl earlier) same = absurd (omega (arith, later, earlier, same))
+    above (inl later) (inr here) same = absurd (let is = here.0 in omega (arith, later, is, same))
+    above (inr next) (inl earlier) same = absurd (let is = next.0 in omega (arith, is, earlier, same))
+    above (inr next) (inr here) same = let low = here.1 in let high = next.1 in omega (arith, low, high)
+
+-- all are up to it
+pub placed_more : (rows : List (Owned Listed)) (row : Owned Listed) (order place : ℕ) → IsPlacedNext order place row.owner row.row.place
+    → EachOf (IsPlacedUpTo order place) rows → EachOf (IsPlacedUpTo row.owner row.row.place) (rows ++ row ∷ [])
+placed_more rows row order place next up =
+    each_more (IsPlacedUpTo row.owner row.row.place) rows row
+    (each (IsPlacedUpTo order place) (IsPlacedUpTo row.owner row.row.place) rows (λ r low. further r next low) up) (inr (refl, omega arith))
+  where
+    further : (r : Owned Listed) → IsPlacedNext order place row.owner row.row.place → IsPlacedUpTo order place r → IsPlacedUpTo row.owner row.row.place r
+    further r (inl later) (inl earlier) = inl (omega (arith, later, earlier))
+    further r (inl later) (inr here) = inl (let is = here.0 in omega (arith, later, is))
+    further r (inr next) (inl earlier) = inl (let is = next.0 in omega (arith, is, earlier))
+    further r (inr next) (inr here) = inr (here.0 ∙ sym next.0, let low = here.1 in let high = next.1 in omega (arith, low, high))
+
+-- what is placed behind those so far and one more is placed behind that
+pub placed_behind : (order place : ℕ) (rows : List (Owned Listed)) (row next : Owned Listed) → PlacedFrom order place ((rows ++ row ∷ []) ++ next ∷ [])
+    → IsPlacedNext row.owner row.row.place next.owner next.row.place
+placed_behind order place [] row next placed = placed.1.0
+placed_behind order place (r ∷ rows) row next placed = placed_behind r.owner r.row.place rows row next placed.1
+
+-- a row of a table behind those so far, of one of these owners, is taken
+pub owned_fine : {X E : Type 0} (number owner : X → ℕ) (row : X) (old : Counter) (owners numbers : List ℕ) (taken : Result Bool E)
+    → IfOk taken (λ passes. old.top < number row → number row ≤ old.last → Rise owners → IsAmong owners (owner row) → passes ≡ Bool.true)
+    → IfOk taken (λ passes. (first : Counter) (first_owners : List ℕ) (rows : List X) → AreOwned number owner first old owners first_owners numbers rows
+    → Rise first_owners → IsTable number first.last (rows ++ row ∷ []) → EachOf (λ x. IsAmong first_owners (owner x)) (rows ++ row ∷ []) → passes ≡ Bool.true)
+owned_fine number owner row old owners numbers (Ok passes) fine =
+    λ first first_owners rows so_far rise table found.
+    let on = counts_on number first old rows row so_far.0 table in
+    fine on.0 on.1 (subst Rise (sym so_far.2) rise) (subst (λ l. IsAmong l (owner row)) (sym so_far.2) (each_last (λ x. IsAmong first_owners (owner x)) rows row found))
+owned_fine number owner row old owners numbers (Err e) fine = tt
+
+-- the key behind those so far is the next one
+pub next_key : (rows : List AnswerKey) (row : AnswerKey) (left all rest : List ℕ) → map (λ k. k.challenge) rows ++ left ≡ all
+    → map (λ k. k.challenge) (rows ++ row ∷ []) ++ rest ≡ all → left ≡ row.challenge ∷ rest
+next_key [] row left all rest so_far begins = so_far ∙ sym begins
+next_key (k ∷ rows) row left all rest so_far begins =
+    next_key rows row left (map (λ k. k.challenge) (rows ++ row ∷ []) ++ rest) rest (let same = so_far ∙ sym begins in cc) refl
+
+-- behind all there is none
+pub none_behind : (ks left : List ℕ) → ks ++ left ≡ ks → left ≡ []
+none_behind [] left same = same
+none_behind (k ∷ ks) left same = none_behind ks left (cc same)

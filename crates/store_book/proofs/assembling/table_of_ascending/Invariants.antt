@@ -1,0 +1,5 @@
+use Rattle.std.proofs.Common.{◌≡◌, ◌++◌}
+use Rattle.store_book.proofs.assembling.table_of_ascending.Given as goal
+
+abbrev pub invariant-loop-row : goal.invariant-loop-row
+invariant-loop-row g l = l.table ++ l.row-iterator.rest.items ≡ l.fn.rows.items

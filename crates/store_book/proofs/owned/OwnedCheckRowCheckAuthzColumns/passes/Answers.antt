@@ -1,0 +1,16 @@
+use Rattle.store_book.proofs.Steps.{owned_fine, owned_more}
+use Rattle.store_book.proofs.Results.{told_by}
+use Rattle.store_book.proofs.owned.OwnedCheckRowCheckAuthzColumns.passes.Goals as goal
+
+pub returns-clause-passed : goal.returns-clause-passed
+returns-clause-passed c =
+    let took = c.takes.ensures in
+    told_by c.takes.result (owned_more (λ a. a.number) (λ a. a.account) c.args.row c.args.self.now.counter c.takes.new.self.counter c.args.self.now.owners.now
+    c.takes.new.self.owners.now c.args.self.now.numbers c.takes.new.self.numbers c.takes.result took.counts took.numbers took.among took.owners)
+    (λ passes so is first rows so_far. so is first.counter first.owners.now rows so_far)
+
+pub returns-clause-fine : goal.returns-clause-fine
+returns-clause-fine c =
+    told_by c.takes.result (owned_fine (λ a. a.number) (λ a. a.account) c.args.row c.args.self.now.counter c.args.self.now.owners.now
+    c.args.self.now.numbers c.takes.result c.takes.ensures.fine)
+    (λ passes so first rows so_far begins. so first.counter first.owners.now rows so_far begins.0 begins.1.table begins.1.accounts_found)

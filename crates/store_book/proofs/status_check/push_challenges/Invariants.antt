@@ -1,0 +1,7 @@
+use Rattle.std.proofs.Common.{◌≡◌, ◌++◌, drop}
+use Rattle.std.specs.List.{flat_map}
+use Rattle.desk_model.specs.Derived.{challenge_faults}
+use Rattle.store_book.proofs.status_check.push_challenges.Given as goal
+
+abbrev pub invariant-loop-row : goal.invariant-loop-row
+invariant-loop-row l = l.faults.items ++ flat_map challenge_faults (drop l.row-index l.rows) ≡ l.fn.faults.items ++ flat_map challenge_faults l.rows

@@ -1,0 +1,10 @@
+pub mod BookRows
+pub mod Both
+pub mod FaultNumbers
+pub mod IsBook
+pub mod Joined
+pub mod Joining
+pub mod Nesting
+pub mod Passing
+pub mod RowFaults
+pub mod Tests

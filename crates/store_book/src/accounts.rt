@@ -1,0 +1,77 @@
+//! The rows of `account`.
+ghost use Rattle.std.specs.Prelude.{◌≡◌, ◌↔◌, [], IfOk, IsTrue, map};
+ghost use Rattle.model_laws.specs.Distinct.{Distinct};
+ghost use Rattle.model_laws.specs.Ordered.{IsTable};
+ghost use Rattle.store_book.specs.BookRows.{AreAccounts};
+ghost use Rattle.store_book.specs.Passing.{IsUpTo};
+
+use crate::counter::Counter;
+use crate::numbers::Numbers;
+use crate::row_check::RowCheck;
+use crate::soundness::are_distinct;
+use desk_model::{AccountRow, Jwk};
+use std::alloc::{AllocError, Global};
+use store_columns::AccountColumns;
+
+/// Checks that numbers ascend, that none is above the last one given, and that no key stands twice; keeps the numbers.
+#[derive(Drop)]
+pub struct AccountCheck {
+    counter: Counter,
+    numbers: Numbers,
+    keys: Vec<Jwk>,
+}
+
+impl AccountCheck {
+    /// Before the first row; the last number given.
+    pub fn new(alloc: Global, last: u64) -> AccountCheck
+        ensures counter { result.counter ≡ record { top = 0; last = last } }
+        ensures numbers { result.numbers ≡ [] }
+        ensures keys { result.keys.items ≡ [] }
+    {
+        AccountCheck {
+            counter: Counter::new(last),
+            numbers: Numbers::new(alloc),
+            keys: Vec::new(alloc),
+        }
+    }
+}
+
+impl RowCheck<AccountColumns> for AccountCheck {
+    type Kept = Numbers;
+
+    ghost Passed = { λ first now rows. IsUpTo (λ a. a.number) first.counter now.counter rows × (now.numbers ≡ map (λ a. a.number) rows)
+        × (now.keys.items ≡ map (λ a. a.key) rows) };
+
+    ghost IsWhole = { λ first rows kept. AreAccounts first.counter.last rows × (kept ≡ map (λ a. a.number) rows) };
+
+    ghost MayBegin = { λ first rows. IsTable (λ a. a.number) first.counter.last rows };
+
+    ghost AreAll = { λ first rows. AreAccounts first.counter.last rows };
+
+    fn passes(&mut self, row: AccountRow) -> Result<bool, AllocError> {
+        if !self.counter.passes(row.number) {
+            return Ok(false);
+        }
+        self.numbers.push(row.number)?;
+        self.keys.push(row.key)?;
+        Ok(true)
+    }
+
+    fn finish(self, alloc: Global) -> Result<Option<Numbers>, AllocError> {
+        if !have_distinct_texts(alloc, &self.keys)? {
+            return Ok(None);
+        }
+        Ok(Some(self.numbers))
+    }
+}
+
+// Whether no key stands twice.
+fn have_distinct_texts(alloc: Global, keys: &[Jwk]) -> Result<bool, AllocError>
+    ensures { IfOk result (λ distinct. IsTrue distinct ↔ Distinct (λ key. key) keys.now) }
+{
+    let mut texts = Vec::new(alloc);
+    for key in keys {
+        texts.push(key.canonical())?;
+    }
+    Ok(are_distinct(texts))
+}

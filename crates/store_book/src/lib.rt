@@ -1,0 +1,38 @@
+//! The rows of a file's tables: made into a book, or checked one after the other, as they come by key; and the check of their statuses.
+#![tactic(auto)]
+
+mod accounts;
+mod assembling;
+mod counter;
+mod joined_rows;
+mod joining;
+mod keys;
+mod laws;
+mod listed;
+mod meta;
+mod nesting;
+mod nonces;
+mod numbers;
+mod owned;
+mod parent;
+mod row_check;
+mod row_faults;
+mod rows_fault;
+mod soundness;
+mod status_check;
+mod stored_book;
+
+pub use accounts::AccountCheck;
+pub use keys::KeyCheck;
+pub use laws::rows_in_order_are_books;
+pub use listed::ListedCheck;
+pub use meta::MetaCheck;
+pub use nonces::NonceCheck;
+pub use numbers::Numbers;
+pub use owned::{ChallengeCheck, OwnedCheck};
+pub use row_check::RowCheck;
+pub use row_faults::{account_fault, authorization_fault, challenge_fault, order_fault};
+pub use rows_fault::RowsFault;
+pub use soundness::are_distinct;
+pub use status_check::check;
+pub use stored_book::from_rows;

@@ -1,0 +1,221 @@
+-- Each TEXT column of rows that hold texts is UTF-8.
+use Rattle.std.proofs.Common.{ℕ, List, [], ◌∷◌, map, Option, Some, None, option_map, Bool, false, IsUtf8, IfSome, subst, refl}
+use Rattle.std.specs.Prelude.{codes}
+use Rattle.std.proofs.lemmas.Str.{IsUtf8-append, IsUtf8-nil}
+use Rattle.json.specs.Token.{Token}
+use Rattle.json.specs.Print.{print_from, ends, separator, token_text}
+use Rattle.json.specs.Tree as tree
+use Rattle.json.proofs.Printed.Utf8.{IsUtf8-are_ascii, IsUtf8-key, IsUtf8-quoted, IsUtf8-separator}
+use Rattle.serde_json.specs.Data.{Data, string}
+use Rattle.serde_json.specs.View.{items_of}
+use Rattle.serde_json.specs.Written.{compact_text, items_outline, outline}
+use Rattle.serde_json.proofs.Texts.{print-outline}
+use Rattle.desk_model.specs.Document.{account_status_text, authorization_status_text, challenge_status_text, kind_text, order_status_text}
+use Rattle.desk_model.specs.Json.{list}
+use Rattle.desk_model.specs.Kept.{EachOf}
+use Rattle.desk_model.specs.Texts.{AreTexts, HoldsTextAccount, HoldsTextAuthorization, HoldsTextMeta, HoldsTextOrder, IsTextProblem}
+use Rattle.desk_model.specs.declared.call.OrderProblem.{OrderProblem}
+use Rattle.desk_model.specs.declared.entry.Ending.{Ending}
+use Rattle.desk_model.specs.declared.entry.Ending.TheVariants as ending
+use Rattle.desk_model.specs.declared.entry.Outcome.{Outcome}
+use Rattle.desk_model.specs.declared.entry.Outcome.TheVariants as outcome
+use Rattle.desk_model.specs.declared.objects.EndKind.{EndKind}
+use Rattle.desk_model.specs.declared.objects.EndKind.TheVariants as end
+use Rattle.desk_model.specs.declared.objects.Kind.{Kind}
+use Rattle.desk_model.specs.declared.objects.Kind.TheVariants as kind
+use Rattle.desk_model.specs.declared.rows.AccountRow.{AccountRow}
+use Rattle.desk_model.specs.declared.rows.AuthorizationRow.{AuthorizationRow}
+use Rattle.desk_model.specs.declared.rows.DatedProblem.{DatedProblem}
+use Rattle.desk_model.specs.declared.rows.OrderRow.{OrderRow}
+use Rattle.desk_model.specs.declared.status.AccountStatus.{AccountStatus}
+use Rattle.desk_model.specs.declared.status.AccountStatus.TheVariants as account
+use Rattle.desk_model.specs.declared.status.AuthzStatus.{AuthzStatus}
+use Rattle.desk_model.specs.declared.status.AuthzStatus.TheVariants as authz
+use Rattle.desk_model.specs.declared.status.ChallengeStatus.{ChallengeStatus}
+use Rattle.desk_model.specs.declared.status.ChallengeStatus.TheVariants as chall
+use Rattle.desk_model.specs.declared.status.OrderStatus.{OrderStatus}
+use Rattle.desk_model.specs.declared.status.OrderStatus.TheVariants as order
+use Rattle.store_columns.specs.Columns.{account_columns, authorization_columns, challenge_columns, meta_columns, order_columns, rows_columns}
+use Rattle.store_columns.specs.Laws.{TextsAreWritten}
+use Rattle.desk_model.specs.Facts.{ending_text, end_kind_text, outcome_text}
+use Rattle.store_columns.specs.Spelling.{contacts_text, problem_document, problem_text}
+use Rattle.store_columns.specs.TextColumns.{HasTextAccount, HasTextAuthorization, HasTextChallenge, HasTextMeta, HasTextOrder, ColumnsAreTexts, RowsHoldTexts}
+use Rattle.store_columns.specs.declared.flat_rows.BareChallenge.{BareChallenge}
+use Rattle.store_columns.specs.declared.flat_rows.FlatRows.{FlatRows}
+use Rattle.store_columns.specs.declared.flat_rows.Owned.{Owned}
+
+-- ---- JSON
+
+-- the token is written as a text
+abbrev IsTextToken : Token → Type 0
+IsTextToken t = IsUtf8 (token_text t)
+
+-- tokens that are written as texts, one after another
+printed_text : (after_value : Bool) (ts : List Token) → EachOf IsTextToken ts → IsUtf8 (print_from after_value ts)
+unfolding print_from
+printed_text after_value [] h = IsUtf8-nil
+printed_text after_value (t ∷ ts) h =
+    IsUtf8-append (separator after_value t) _ (IsUtf8-separator after_value t) (IsUtf8-append (token_text t) _ h.0 (printed_text (ends t) ts h.1))
+
+-- the compact text of a value whose tokens are written as texts
+compact_is_text : (d : Data) → EachOf IsTextToken (tree.json_tokens (outline d)) → IsUtf8 (compact_text d)
+compact_is_text d h = subst IsUtf8 (print-outline d) (printed_text false (tree.json_tokens (outline d)) h)
+
+-- strings, and the end of their list
+strings_text : (texts : List (List ℕ)) → AreTexts texts → EachOf IsTextToken (tree.items_tokens (items_outline (items_of (map string texts))))
+strings_text [] h = (IsUtf8-are_ascii _ refl, tt)
+strings_text (s ∷ rest) h = (IsUtf8-quoted s h.0, strings_text rest h.1)
+
+-- contacts are written as a text
+contacts_is_text : (contacts : List (List ℕ)) → AreTexts contacts → IsUtf8 (contacts_text contacts)
+contacts_is_text contacts h = compact_is_text (list (map string contacts)) (IsUtf8-are_ascii _ refl, strings_text contacts h)
+
+-- and so is a problem
+problem_is_text : (problem : OrderProblem) → IsTextProblem problem → IsUtf8 (problem_text problem)
+problem_is_text problem h =
+    compact_is_text (problem_document problem) (
+      IsUtf8-are_ascii _ refl,
+      (
+        IsUtf8-key (codes "detail") (IsUtf8-are_ascii _ refl),
+        (
+          IsUtf8-quoted problem.detail h.detail,
+          (IsUtf8-key (codes "type") (IsUtf8-are_ascii _ refl), (IsUtf8-quoted problem.kind h.kind, (IsUtf8-are_ascii _ refl, tt))),
+        ),
+      ),
+    )
+
+-- ---- words
+
+-- how an account ended
+ending_is_text : (e : Ending) → IsUtf8 (ending_text e)
+ending_is_text ending.Deactivated = IsUtf8-are_ascii _ refl
+ending_is_text ending.Revoked = IsUtf8-are_ascii _ refl
+
+-- how an authorization ended
+end_kind_is_text : (k : EndKind) → IsUtf8 (end_kind_text k)
+end_kind_is_text end.Invalid = IsUtf8-are_ascii _ refl
+end_kind_is_text end.Deactivated = IsUtf8-are_ascii _ refl
+end_kind_is_text end.Revoked = IsUtf8-are_ascii _ refl
+
+-- what a validation showed
+outcome_is_text : (o : Outcome) → IsUtf8 (outcome_text o)
+outcome_is_text outcome.Good = IsUtf8-are_ascii _ refl
+outcome_is_text outcome.IncorrectResponse = IsUtf8-are_ascii _ refl
+outcome_is_text outcome.Connection = IsUtf8-are_ascii _ refl
+outcome_is_text outcome.Dns = IsUtf8-are_ascii _ refl
+
+-- the kind of a challenge
+kind_is_text : (k : Kind) → IsUtf8 (kind_text k)
+kind_is_text kind.Http01 = IsUtf8-are_ascii _ refl
+kind_is_text kind.Dns01 = IsUtf8-are_ascii _ refl
+
+-- the status of an account
+account_status_is_text : (s : AccountStatus) → IsUtf8 (account_status_text s)
+account_status_is_text account.Valid = IsUtf8-are_ascii _ refl
+account_status_is_text account.Deactivated = IsUtf8-are_ascii _ refl
+account_status_is_text account.Revoked = IsUtf8-are_ascii _ refl
+
+-- of an order
+order_status_is_text : (s : OrderStatus) → IsUtf8 (order_status_text s)
+order_status_is_text order.Pending = IsUtf8-are_ascii _ refl
+order_status_is_text order.Ready = IsUtf8-are_ascii _ refl
+order_status_is_text order.Processing = IsUtf8-are_ascii _ refl
+order_status_is_text order.Valid = IsUtf8-are_ascii _ refl
+order_status_is_text order.Invalid = IsUtf8-are_ascii _ refl
+
+-- of an authorization
+authorization_status_is_text : (s : AuthzStatus) → IsUtf8 (authorization_status_text s)
+authorization_status_is_text authz.Pending = IsUtf8-are_ascii _ refl
+authorization_status_is_text authz.Valid = IsUtf8-are_ascii _ refl
+authorization_status_is_text authz.Invalid = IsUtf8-are_ascii _ refl
+authorization_status_is_text authz.Deactivated = IsUtf8-are_ascii _ refl
+authorization_status_is_text authz.Expired = IsUtf8-are_ascii _ refl
+authorization_status_is_text authz.Revoked = IsUtf8-are_ascii _ refl
+
+-- of a challenge
+challenge_status_is_text : (s : ChallengeStatus) → IsUtf8 (challenge_status_text s)
+challenge_status_is_text chall.Pending = IsUtf8-are_ascii _ refl
+challenge_status_is_text chall.Processing = IsUtf8-are_ascii _ refl
+challenge_status_is_text chall.Valid = IsUtf8-are_ascii _ refl
+challenge_status_is_text chall.Invalid = IsUtf8-are_ascii _ refl
+
+-- what is written of a fact, if it is recorded
+written : {X : Type 0} (P : X → Type 0) (write : X → List ℕ) → ((x : X) → P x → IsUtf8 (write x)) → (o : Option X) → IfSome o P →
+    IfSome (option_map write o) IsUtf8
+written P write text None h = tt
+written P write text (Some x) h = text x h
+
+-- and of one whose words are always texts
+worded : {X : Type 0} (write : X → List ℕ) → ((x : X) → IsUtf8 (write x)) → (o : Option X) → IfSome (option_map write o) IsUtf8
+worded write text None = tt
+worded write text (Some x) = text x
+
+-- ---- rows
+
+-- a row of `account`
+account_written : (row : AccountRow) → HoldsTextAccount row → HasTextAccount (account_columns row)
+account_written row h =
+    record {
+      jwk = h.canonical;
+      contacts = contacts_is_text row.contacts h.contact;
+      end_kind = worded _ (λ e. ending_is_text e.ending) row.ended;
+      status = account_status_is_text row.status;
+    }
+
+-- a row of `ord`
+order_written : (row : OrderRow) → HoldsTextOrder row → HasTextOrder (order_columns row)
+order_written row h =
+    record {
+      problem = written (λ (f : DatedProblem). IsTextProblem f.problem) _ (λ f k. problem_is_text f.problem k) row.failed h;
+      status = order_status_is_text row.status;
+    }
+
+-- a row of `authz`
+authorization_written : (row : AuthorizationRow) → HoldsTextAuthorization row → HasTextAuthorization (authorization_columns row)
+authorization_written row h =
+    record { name = h; end_kind = worded _ (λ e. end_kind_is_text e.kind) row.ended; status = authorization_status_is_text row.status }
+
+-- a row of `chall`
+challenge_written : (row : Owned BareChallenge) → HasTextChallenge (challenge_columns row)
+challenge_written row =
+    record {
+      kind = kind_is_text row.row.kind;
+      outcome = worded _ (λ r. outcome_is_text r.outcome) row.row.reported;
+      status = challenge_status_is_text row.row.status;
+    }
+
+-- ---- tables
+
+-- what is written of each row
+each_written : {R C : Type 0} (P : R → Type 0) (Q : C → Type 0) (write : R → C) → ((row : R) → P row → Q (write row)) → (rows : List R) → EachOf P rows →
+    EachOf Q (map write rows)
+each_written P Q write text [] h = tt
+each_written P Q write text (row ∷ rows) h = (text row h.0, each_written P Q write text rows h.1)
+
+-- whatever the rows hold
+all_written : {R C : Type 0} (Q : C → Type 0) (write : R → C) → ((row : R) → Q (write row)) → (rows : List R) → EachOf Q (map write rows)
+all_written Q write text [] = tt
+all_written Q write text (row ∷ rows) = (text row, all_written Q write text rows)
+
+-- the rows of all tables
+rows_written : (rows : FlatRows) → RowsHoldTexts rows → ColumnsAreTexts (rows_columns rows)
+rows_written rows h =
+    record {
+      metas = each_written HoldsTextMeta HasTextMeta meta_columns (λ row k. k) rows.metas h.metas;
+      accounts = each_written HoldsTextAccount HasTextAccount account_columns account_written rows.accounts h.accounts;
+      orders = each_written HoldsTextOrder HasTextOrder order_columns order_written rows.orders h.orders;
+      authzs = each_written HoldsTextAuthorization HasTextAuthorization authorization_columns authorization_written rows.authorizations h.authorizations;
+      challs = all_written HasTextChallenge challenge_columns challenge_written rows.challenges;
+    }
+
+-- rows are written as texts, one by one and all together
+pub texts_are_written : TextsAreWritten
+texts_are_written =
+    record {
+      metas = λ row h. h;
+      accounts = account_written;
+      orders = order_written;
+      authorizations = authorization_written;
+      challenges = challenge_written;
+      rows = rows_written;
+    }

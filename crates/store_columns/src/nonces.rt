@@ -1,0 +1,37 @@
+//! Rows of the table `nonce`.
+ghost use Rattle.store_columns.specs.Columns.{nonce_columns};
+ghost use Rattle.store_columns.specs.Limits.{IsStoredNonce};
+ghost use Rattle.store_columns.specs.Reading.{IsRead};
+
+use crate::columns::NonceColumns;
+use crate::facts::read_sixteen;
+use crate::numbers::{read_moment, read_number};
+use crate::table::Columns;
+use desk_model::Nonce;
+use std::alloc::{AllocError, Global};
+
+// The nonce with these columns, or `None` where none in its limits has them.
+fn read_nonce(columns: &NonceColumns) -> Option<Nonce>
+    ensures { IsRead nonce_columns IsStoredNonce columns.now result }
+{
+    let serial = read_number(columns.serial)?;
+    let random = read_sixteen(columns.random.as_slice())?;
+    let issued = read_moment(columns.issued)?;
+    Some(Nonce {
+        serial,
+        random,
+        issued,
+    })
+}
+
+impl Columns for NonceColumns {
+    type Row = Nonce;
+
+    ghost write = { nonce_columns };
+
+    ghost IsStored = { IsStoredNonce };
+
+    fn read(self, _alloc: Global) -> Result<Option<Nonce>, AllocError> {
+        Ok(read_nonce(&self))
+    }
+}

@@ -1,0 +1,120 @@
+-- The rows above a number, one after the other.
+use Rattle.std.proofs.Common.{◌≡◌, ◌<◌, ◌≤◌, ℕ, ◌+◌, List, [], ◌∷◌, ◌++◌, Bool, true, false, cond, refl, sym, ap, subst, ◌∙◌, arith, ltb}
+use Rattle.std.proofs.Common.{Option, None, Some, Result, Ok, Err, IfErr, IfOk}
+use Rattle.std.proofs.lemmas.Result.{IfOk-at_ok, IfOk-weaker}
+use Rattle.std.specs.List.{flat_map}
+use Rattle.std.proofs.lemmas.Bool.{ltb-true, lt-ltb, le-ltb, ltb-false}
+use Rattle.model_laws.specs.Ordered.{Ascends}
+use Rattle.model_lives.specs.Above.{above, first_of}
+use Rattle.store_passes.specs.Left.{IsRowAfter}
+use Rattle.store_passes.specs.Stepping.{IsFirst}
+
+-- rows that ascend from above a number are all above it
+pub all_above : {X : Type 0} (number : X → ℕ) (n m : ℕ) (xs : List X) → n < m → Ascends number m xs → above number n xs ≡ xs
+all_above number n m [] lt h = refl
+all_above number n m (x ∷ xs) lt h =
+    let a : m ≤ number x = h.0 in
+    let more : ltb n (number x) ≡ true = lt-ltb n (number x) (omega arith) in
+    let rest : above number n xs ≡ xs = all_above number n (number x + 1) xs (omega arith) h.1 in
+    λ i. cond (more i) (x ∷ rest i) (rest i)
+
+-- the first row above a number is above it
+first_is_above : {X : Type 0} (number : X → ℕ) (n : ℕ) (x : X) (xs : List X) → first_of (above number n xs) ≡ x ∷ [] → n < number x
+first_is_above number n x [] e = absurd (cc e)
+first_is_above number n x (y ∷ ys) e = by (ltb n (number y)) refl (first_is_above number n x ys) e
+  where
+    by : (b : Bool) → ltb n (number y) ≡ b → (first_of (above number n ys) ≡ x ∷ [] → n < number x)
+        → first_of (cond b (y ∷ above number n ys) (above number n ys)) ≡ x ∷ [] → n < number x
+    by true more later is = let same : y ≡ x = cc is in subst (λ z. n < number z) same (ltb-true n (number y) more)
+    by false less later is = later is
+
+-- two rows are not one
+never_two : {X : Type 0} (y : X) (before : List X) (x : X) (zs : List X) → y ∷ (before ++ x ∷ []) ≡ first_of zs → ⊥
+never_two y before x [] e = absurd (cc e)
+never_two y [] x (z ∷ zs) e = absurd (cc e)
+never_two y (b ∷ before) x (z ∷ zs) e = absurd (cc e)
+
+-- nor is the last of those that are the first above a number at or below it
+pub last_is_above : {X : Type 0} (number : X → ℕ) (n : ℕ) (before : List X) (x : X) (xs : List X) → before ++ x ∷ [] ≡ first_of (above number n xs)
+    → n < number x
+last_is_above number n [] x xs e = first_is_above number n x xs (sym e)
+last_is_above number n (y ∷ before) x xs e = absurd (never_two y before x (above number n xs) e)
+
+-- where rows ascend, those above a number are the first of them and those above its number
+pub above_step : {X : Type 0} (number : X → ℕ) (n m : ℕ) (x : X) (xs : List X) → Ascends number m xs → first_of (above number n xs) ≡ x ∷ [] →
+    above number n xs ≡ x ∷ above number (number x) xs
+above_step number n m x [] h e = absurd (cc e)
+above_step number n m x (y ∷ ys) h e = by (ltb n (number y)) refl (above_step number n (number y + 1) x ys h.1) e
+  where
+    by : (b : Bool) → ltb n (number y) ≡ b → (first_of (above number n ys) ≡ x ∷ [] → above number n ys ≡ x ∷ above number (number x) ys)
+        → first_of (cond b (y ∷ above number n ys) (above number n ys)) ≡ x ∷ []
+        → cond b (y ∷ above number n ys) (above number n ys) ≡ x ∷ above number (number x) (y ∷ ys)
+    by true more later is =
+        let same : y ≡ x = cc is in
+        let lower : n < number y = ltb-true n (number y) more in
+        let here : ltb (number y) (number y) ≡ false = le-ltb (number y) (number y) (omega arith) in
+        let rest : above number n ys ≡ above number (number y) ys =
+        all_above number n (number y + 1) ys (omega arith) h.1 ∙ sym (all_above number (number y) (number y + 1) ys (omega arith) h.1) in
+        let skips : above number (number y) (y ∷ ys) ≡ above number (number y) ys =
+        λ i. cond (here i) (y ∷ above number (number y) ys) (above number (number y) ys) in
+        subst (λ z. y ∷ above number n ys ≡ z ∷ above number (number z) (y ∷ ys)) same (ap (λ l. y ∷ l) (rest ∙ sym skips))
+    by false less later is =
+        let upper : n < number x = first_is_above number n x ys is in
+        let lower : number y ≤ n = ltb-false n (number y) less in
+        let here : ltb (number x) (number y) ≡ false = le-ltb (number x) (number y) (omega arith) in
+        let skips : above number (number x) (y ∷ ys) ≡ above number (number x) ys =
+        λ i. cond (here i) (y ∷ above number (number x) ys) (above number (number x) ys) in
+        later is ∙ ap (λ l. x ∷ l) (sym skips)
+
+-- what is found at the first of the rows above a number, and what is left above its number
+pub found_step : {X F : Type 0} (number : X → ℕ) (found_at : X → List F) (n m : ℕ) (x : X) (xs : List X) (found : List F) →
+    Ascends number m xs → first_of (above number n xs) ≡ x ∷ [] → found ≡ found_at x →
+    flat_map found_at (above number n xs) ≡ found ++ flat_map found_at (above number (number x) xs)
+found_step number found_at n m x xs found h e same =
+    ap (flat_map found_at) (above_step number n m x xs h e) ∙ ap (λ l. l ++ flat_map found_at (above number (number x) xs)) (sym same)
+
+-- where no row is first, nothing is found
+pub nothing_left : {X F : Type 0} (found_at : X → List F) (rows : List X) → first_of rows ≡ [] → flat_map found_at rows ≡ []
+nothing_left found_at [] e = refl
+nothing_left found_at (x ∷ xs) e = absurd (cc e)
+
+-- what was answered of what was found, where there was no fault
+pub answer_when_found : {V A F Z : Type 0} (P : V → A → Type 0) (Q : V → Type 0) (found : Result V F) (r : Result A F) (a : A) →
+    IfOk found (λ v. IfOk r (P v)) → IfErr found (λ why. r ≡ Err why) → IfOk found Q → r ≡ Ok a → ((v : V) → P v a → Q v → Z) →
+    Z
+answer_when_found P Q (Ok v) r a told passed looked was so = so v (IfOk-at_ok (P v) was told) looked
+answer_when_found P Q (Err why) r a told passed looked was so = absurd (let e = sym passed ∙ was in cc)
+
+-- what a look-up told of its first row
+pub first_at : {V X F : Type 0} (items : V → List X) (vs : V) (r : Result (Option X) F) (row : Option X) (all : List X) →
+    IfOk r (λ o. (xs : List X) → items vs ≡ first_of xs → IsFirst o xs) → r ≡ Ok row → items vs ≡ first_of all →
+    IsFirst row all
+first_at {X = X} items vs r row all told was is = IfOk-at_ok (λ o. (xs : List X) → items vs ≡ first_of xs → IsFirst o xs) was told all is
+
+-- where no row is first, there is none
+none_first : {X : Type 0} (rows : List X) → first_of rows ≡ [] → rows ≡ []
+none_first [] e = refl
+none_first (x ∷ xs) e = absurd (cc e)
+
+-- the row that was given is the one after a number, where rows ascend
+is_after : {X : Type 0} (number : X → ℕ) (n : ℕ) (all : List X) (row : Option X) → Ascends number 1 all → IsFirst row (above number n all)
+    → IsRowAfter number all n row
+is_after number n all (Some x) ascends is = above_step number n 1 x all ascends is
+is_after number n all None ascends is = none_first (above number n all) is
+
+-- and so it is the first of those above it
+pub first_after : {X : Type 0} (number : X → ℕ) (n : ℕ) (all : List X) (row : Option X) → IsRowAfter number all n row → IsFirst row (above number n all)
+first_after number n all (Some x) is = ap first_of is
+first_after number n all None is = ap first_of is
+
+pub row_is_after : {X F : Type 0} (number : X → ℕ) (n : ℕ) (all found : List X) (r : Result (Option X) F) → Ascends number 1 all
+    → IfOk r (λ row. (rows : List X) → found ≡ first_of rows → IsFirst row rows) → found ≡ first_of (above number n all)
+    → IfOk r (IsRowAfter number all n)
+row_is_after number n all found r ascends told are = IfOk-weaker r _ _ (λ row first. is_after number n all row ascends (first (above number n all) are)) told
+
+-- what was made of what was found, where there was no fault
+pub made_when_found : {V A F : Type 0} (P : A → Type 0) (Q Z : V → Type 0) (found : Result V F) (r : Result A F) →
+    IfOk found Z → IfErr found (λ why. r ≡ Err why) → IfOk found Q → ((v : V) → Z v → Q v → IfOk r P) →
+    IfOk r P
+made_when_found P Q Z (Ok v) r told passed looked so = so v told looked
+made_when_found P Q Z (Err why) r told passed looked so = subst (λ q. IfOk q P) (sym passed) tt

@@ -1,5 +1,0 @@
-use Rattle.std.proofs.Common.{◌≡◌, ◌++◌}
-use Rattle.stored_rows.proofs.assembling.table_of_ascending.Given as goal
-
-abbrev pub invariant-loop-row : goal.invariant-loop-row
-invariant-loop-row g l = l.table ++ l.row-iterator.rest.items ≡ l.fn.rows.items

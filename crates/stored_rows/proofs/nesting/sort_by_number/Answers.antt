@@ -1,6 +1,0 @@
-use Rattle.std.proofs.Common.{rules}
-use Rattle.std.proofs.lemmas.List.Sorted.{answers_always}
-use Rattle.stored_rows.proofs.nesting.sort_by_number.Goals as goal
-
-pub returns-clause-sorted : goal.returns-clause-sorted
-returns-clause-sorted g c = c.sort_unstable_by_key.ensures.sorted (λ r. g.R.Row.number r) (answers_always _ _ _ (λ f a r next called. search rules))

@@ -1,2 +1,0 @@
-pub mod Sweeping
-pub mod SweptRows

@@ -1,4 +1,0 @@
-mod Chains
-mod Going
-mod Joined
-mod Words

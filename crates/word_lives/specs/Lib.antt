@@ -1,4 +1,0 @@
-pub mod Again
-pub mod Kept
-pub mod Left
-pub mod Told
