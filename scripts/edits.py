@@ -132,6 +132,17 @@ def fault_of(edit):
     return None if changes else "it changes nothing"
 
 
+def named_by_specs(edit):
+    """A module that an edit leaves out and a definition of its crate names, which the prover then cannot read, or nothing."""
+    left_out = [re.fullmatch(r"(?:pub )?mod (\w+);", old) for _, old, new in edit.pairs if leaves_out(old, new)]
+    specs = f"{ROOT}/crates/{edit.crate}/specs"
+    texts = [read(f"{specs}/{name}") for name in (os.listdir(specs) if os.path.isdir(specs) else []) if name.endswith(".antt")]
+    for module in (it[1] for it in left_out if it):
+        if any(f"Rattle.{edit.crate}.specs.declared.{module}." in text for text in texts):
+            return f"it leaves out {module}, which specs/ names"
+    return None
+
+
 def misplaced(edit):
     """Why a planted edit does not stand where it belongs, or nothing."""
     items = items_changed(edit)
@@ -148,7 +159,7 @@ def check():
         names = [it.name for it in planted]
         found += len(gate) + len(planted)
         for edit in gate + planted:
-            why = fault_of(edit) or (misplaced(edit) or ("its name stands twice" if names.count(edit.name) > 1 else None) if edit in planted else None)
+            why = fault_of(edit) or named_by_specs(edit) or (misplaced(edit) or ("its name stands twice" if names.count(edit.name) > 1 else None) if edit in planted else None)
             if why:
                 faults.append(f"{os.path.relpath(edit.where, ROOT)}: {edit.name}: {why}")
     for crate in crates_with(f"{ROOT}/planted"):
