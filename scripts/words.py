@@ -185,12 +185,13 @@ def named(program, folder):
     see("its order", desk.answer(desk.signed("/new-order", order_of("a.example"), key=OTHER_KEY, random="00" * 48))[0], "201")
     order_end, end = "1970-01-08T00:00:00Z", "1970-01-31T00:00:00Z"
     orders = {number: (number, 2 if number == 6 else 1, "pending", order_end) for number in range(1, 7)}
-    names = ("a.example", "b.example", "c.example", "*.a.example", "xn--bcher-kva.example", "a.example")
-    authorizations = {number: (number, 2 if number == 6 else 1, name, "pending", end) for number, name in enumerate(names, 1)}
+    # A name that is asked for again while its authorization is pending gets another one.
+    names = ("a.example", "b.example", "a.example", "c.example", "*.a.example", "xn--bcher-kva.example", "a.example")
+    authorizations = {number: (number, 2 if number == 7 else 1, name, "pending", end) for number, name in enumerate(names, 1)}
     one, two = ("--account", "1"), ("--account", "2")
-    rows = (((), (1, 2, 3, 4, 5, 6), (1, 2, 3, 4, 5, 6)), (("a.example",), (1, 3, 6), (1, 6)), (("b.example",), (2,), (2,)), (("c.example",), (3,), (3,)),
-            (("*.a.example",), (4,), (4,)), (("A.Example",), (1, 3, 6), (1, 6)), (("b\u00fccher.example",), (5,), (5,)),
-            (("xn--bcher-kva.example",), (5,), (5,)), (("d.example",), (), ()), (("*.b.example",), (), ()), (("www.a.example",), (), ()))
+    rows = (((), (1, 2, 3, 4, 5, 6), (1, 2, 3, 4, 5, 6, 7)), (("a.example",), (1, 3, 6), (1, 3, 7)), (("b.example",), (2,), (2,)),
+            (("c.example",), (3,), (4,)), (("*.a.example",), (4,), (5,)), (("A.Example",), (1, 3, 6), (1, 3, 7)), (("b\u00fccher.example",), (5,), (6,)),
+            (("xn--bcher-kva.example",), (5,), (6,)), (("d.example",), (), ()), (("*.b.example",), (), ()), (("www.a.example",), (), ()))
     for asked, listed, found in rows:
         words = tuple(word for name in asked for word in ("--name", name))
         text = b"".join(order_line(*orders[number]) for number in listed) + f"orders {len(listed)}\n".encode()
@@ -208,7 +209,7 @@ def named(program, folder):
     see("status by all three, none", run(program, "status", desk.path, "--name", "a.example", *two, "--status", "valid", "--json"), (0, b"", b""))
     for word in ("status", "authorizations"):
         for name in ("", "example", "a..example", "*", "*.example", "a.*.example", "-a.example", "10.0.0.1", "a_b.example", "a example", "*.*.a.example"):
-            see(f"{word} of {name!r}", run(program, word, desk.path, "--name", name), NO_NAME)
+            see(f"{word} of {name!r}", run(program, word, desk.path, f"--name={name}"), NO_NAME)
         for words in (("--name",), ("--name", "a.example", "--name", "b.example")):
             see(f"{word} {words}", run(program, word, desk.path, *words)[:2], (2, b""))
     see("a wrong status and a wrong name", run(program, "status", desk.path, "--status", "pending", "--name", ""), NO_NAME)
