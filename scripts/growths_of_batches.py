@@ -148,7 +148,7 @@ class Run(Batch):
         if left == self.stages[answered]:
             rest = run(*self.whole.words, given=b"".join(self.calls[answered:]))
             see(f"{said}: the rest", (rest, self.whole.left()), ((0, b"".join(self.replies[answered:]), b""), self.whole.after))
-        return f"{answered} answered{', fault 22' if ran[2] == REOPEN else ''}"
+        return HARMLESS if ran == self.whole.ran else f"{answered} answered{', fault 22' if ran[2] == REOPEN else ''}"
 
     def look_at_order(self, came):
         """Of the growths with as many answers, those of the commit come one after the other."""
