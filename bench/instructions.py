@@ -139,12 +139,20 @@ def write_into(page, counts):
 
 
 def compare(counts, path):
-    """The lines that say which calls take more than is written."""
+    """The lines that say which calls take a twentieth more than is written."""
     known = written(path)
-    if set(known) != {name for name, _ in KINDS}:
-        sys.exit(f"instructions: the calls in {path} are not those that are counted")
     now = {name: count / 1000 for name, count in counts["desk"].items()}
-    return [f"{name}: {now[name]:.1f} thousand instructions, and {known[name]:.1f} are written" for name in known if now[name] > ALLOWED * known[name]]
+    return [f"{name}: {now[name]:.1f} thousand instructions, {now[name] / known[name] - 1:.1%} more than the {known[name]:.1f} of {path}"
+            for name in known if now[name] > ALLOWED * known[name]]
+
+
+def check_calls(path):
+    """Ends where the section of the page is missing, or has other calls than those that are counted."""
+    known = written(path)
+    if not known:
+        sys.exit(f"instructions: {path} has no section {HEAD!r}; make instructions writes it")
+    if set(known) != {name for name, _ in KINDS}:
+        sys.exit(f"instructions: {path} has other calls than those that are counted; make instructions writes its section anew")
 
 
 def main():
@@ -155,13 +163,17 @@ def main():
     words = parser.parse_args()
     if not shutil.which("callgrind_control"):
         sys.exit("instructions: valgrind is missing; scripts/setup.sh installs it")
+    if words.against is not None:
+        check_calls(words.against)
     with tempfile.TemporaryDirectory(dir="/dev/shm" if os.path.isdir("/dev/shm") else None) as folder:
         counts = measure(folder, with_c=words.against is None)
     if words.against is None:
         write_into(words.into, counts)
         return
     more = compare(counts, words.against)
-    print("\n".join(more + [f"{len(KINDS)} kinds of calls, {len(more)} that take more than is written"]))
+    print("\n".join(more + [f"{len(KINDS)} kinds of calls, of which {len(more)} take a twentieth more instructions than {words.against} has"]))
+    if more:
+        print("Where that is meant, make instructions writes the figures of the program that is there.")
     sys.exit(1 if more else 0)
 
 
