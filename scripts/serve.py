@@ -20,7 +20,7 @@ from broken_connections import failing_reads, failing_writes
 from operated import OPERATED
 from served import (BASE, BODY, DIRECTORY, HEAD, NEW_NONCE, ROUTES, STOPPED, WORKED, Client, Reply, Server, compact,
                     directory_reply, masked, nonce_reply, received, refusal, reply, request, serial_of, signed)
-from stories import set_machine, stories
+from stories import max_step, set_machine, stories
 from trying import KEY, NOT_A_DESK, faults, finish, fresh, nonce_text, order_of, run, see, small_files, tables_of
 
 # How long the desk waits for a client, in seconds, and how much later its end may be seen.
@@ -277,7 +277,8 @@ def words(program, folder):
     path = fresh(program, folder, "words")
     missing = f"{folder}/missing.db"
     wrong = ("", "--port", "--port 65536", "--port -1", "--port x", "--port 0 --count -1", "--port 0 --count x",
-             "--port 0 --count", "--port 0 --log xml", "--port 0 --log text json", "--port 0 more", f"--port 0 --base {BASE}")
+             "--port 0 --count", "--port 0 --max-step 0", "--port 0 --max-step 250000000001", "--port 0 --max-step x", "--port 0 --max-step",
+             "--port 0 --log xml", "--port 0 --log text json", "--port 0 more", f"--port 0 --base {BASE}")
     for more in [*map(str.split, wrong), ["--port", ""]]:
         status, out, said = run(program, "serve", missing, *more)
         see(f"serve with the words {more}", (status, out, said != b""), (2, b"", True))
@@ -364,7 +365,7 @@ def full_disk(program, folder):
 
 
 PATIENT = (silent, dripping, staying, flooding)
-PROMPT = (worked, methods, key_changes, renewed, stories, set_machine, bad_requests, limits, slow, pipelined, gone, failing_reads,
+PROMPT = (worked, methods, key_changes, renewed, stories, set_machine, max_step, bad_requests, limits, slow, pipelined, gone, failing_reads,
           failing_writes, waiting, counts, words, together, outputs, terminated, full_disk, *OPERATED)
 
 

@@ -9,8 +9,8 @@ import resource
 import struct
 import time
 
-from served import (BASE, LAST, NEW_NONCE, NONCE, ROUTES, STOPPED, Server, masked, nonce_reply, refusal, reply, request, route_of,
-                    serial_of)
+from served import (BASE, DIRECTORY, LAST, NEW_NONCE, NONCE, ROUTES, STOPPED, Server, directory_reply, masked, nonce_reply, refusal,
+                    reply, request, route_of, serial_of)
 from trying import ROOT, fresh, library, nonce_text, see, tables_of
 
 
@@ -177,6 +177,64 @@ def set_machine(program, folder):
         see(f"no {said}: the tables", tables_of(path, folder), before)
     few = Server(program, path, preexec_fn=lambda: resource.setrlimit(resource.RLIMIT_NOFILE, (6, 6)))
     see("no room for a connection", few.ended(), (1, b"", b"desk: accept\n"))
+
+
+# A moment of November 2025; 30 days; the year 2099.
+TODAY, STEP, WRONG = 1764547200, 2592000, 4070908800
+
+
+def moment_text(moment):
+    return time.strftime("%Y-%m-%dT%H:%M:%SZ", time.gmtime(moment))
+
+
+def stepped(server, machine, moments):
+    """Asks for a nonce at each moment: whether it was refused as it should be, and what the log says of it."""
+    for moment, is_refused in moments:
+        machine.set(moment)
+        found = server.ask(NEW_NONCE)
+        see(f"a nonce at {moment_text(moment)}", found == refusal(15, "/new-nonce"), is_refused)
+        line = server.run.stdout.readline().decode()
+        said = f"{moment_text(moment)} GET /new-nonce {'500 24' if is_refused else '204 -'} - "
+        see(f"the log at {moment_text(moment)}: {line!r}", line.startswith(said), True)
+
+
+def max_step(program, folder):
+    """A machine's clock that is wrong: by --max-step a call is refused, and nothing changes, whose moment is too far above the latest."""
+    machine = Machine(folder, library(folder))
+    path, words = fresh(program, folder, "bounded"), ("--log", "--max-step", str(STEP))
+
+    def served(*more):
+        return Server(program, path, *more, env=machine.env)
+
+    # The clock of a desk that was just made bounds nothing but what is past the last moment.
+    server = served(*words)
+    stepped(server, machine, [(250000000001, True), (TODAY, False)])
+    before = tables_of(path, folder)
+    stepped(server, machine, [(WRONG, True), (TODAY + STEP + 1, True), (250000000000, True)])
+    see("a directory at a wrong moment", server.ask(DIRECTORY), refusal(15, "/directory"))
+    see("what is no call at a wrong moment", server.ask(request("GET", "/nothing")), refusal(2, "/nothing"))
+    server.run.stdout.readline(), server.run.stdout.readline()
+    see("the tables after wrong moments", tables_of(path, folder), before)
+    stepped(server, machine, [(TODAY - STEP, False), (TODAY + STEP, False), (TODAY + 2 * STEP + 1, True), (TODAY + 2 * STEP, False)])
+    # A look at the directory is a moment that is known, and moves no clock.
+    machine.set(TODAY + 3 * STEP)
+    see("the directory at the step", server.ask(DIRECTORY), directory_reply())
+    server.run.stdout.readline()
+    see("bounded: the end", server.stop(), STOPPED)
+    silent = TODAY + 4 * STEP
+    server = served(*words)
+    stepped(server, machine, [(silent, True), (TODAY + 3 * STEP, False)])
+    see("bounded again: the end", server.stop(), STOPPED)
+    late = TODAY + 365 * 86400
+    server = served(*words)
+    stepped(server, machine, [(late, True), (late + 1, True)])
+    see("a silent desk: the end", server.stop(), STOPPED)
+    server = served("--log")
+    stepped(server, machine, [(late, False)])
+    see("once without the option: the end", server.stop(), STOPPED)
+    server = served(*words)
+    stepped(server, machine, [(late + 1, False), (WRONG, True), (late + 2, False)])
+    see("a desk that is bounded again: the end", server.stop(), STOPPED)
 
 
 def batch_of(name):

@@ -8,7 +8,8 @@ use Rattle.app_words.specs.declared.command.Command.TheVariants as command
 use Rattle.app_words.specs.declared.command.Target.{Target}
 use Rattle.app_commands.specs.Asked.{IsSaid, RevokesServed, refused, revoked, unheard}
 use Rattle.app_commands.specs.Deeds.{AnswersReader, ChecksStatuses, ListsRows, RevokesTarget, ServesCount, TellsAbout}
-use Rattle.app_commands.specs.Deeds.{AnswersLines, ByDesk, IsTold, Revokes, Serves, adopted, unadopted, served, unserved}
+use Rattle.app_commands.specs.Deeds.{AnswersLines, ByDesk, IsTold, Revokes, Serves}
+use Rattle.app_commands.specs.Deeds.{adopted, clocked, clockless, served, unadopted, unserved}
 use Rattle.app_commands.specs.Deeds.{how_checked, how_listed, how_served}
 use Rattle.app_commands.specs.Faults.{IsOfOpening}
 use Rattle.app_commands.specs.Statuses.{EndsBackUp, IsToldCopied}
@@ -130,8 +131,9 @@ small_client v causes most desk ended how (unserved same (inr (inr is))) = small
 small_client v causes most desk ended how (served by seen all is) = small_as how _ is (small_served by)
 
 small_serves : (count : Option ℕ) → AreSmall (ServesCount count)
-small_serves count was is S C D v causes rows old new how it =
-    small_by v was is (Serves v causes (unwrap_or count 18446744073709551615)) (small_client v causes (unwrap_or count 18446744073709551615)) old new how
+small_serves count was is S C D v causes rows old new how (clockless why fails same) = omega arith
+small_serves count was is S C D v causes rows old new how (clocked end mid stands it) =
+    small_by v was is (Serves v causes (unwrap_or count 18446744073709551615)) (small_client v causes (unwrap_or count 18446744073709551615)) mid new end
     it
 
 -- a fault

@@ -1,5 +1,5 @@
 -- What the words of the program do with the store of a desk, and how that ends.
-use Rattle.std.specs.Prelude.{if◌then◌else◌, ◌≡◌, ◌≢◌, ◌⊎◌, ◌↔◌, ℕ, List, [], Bool, true, false, Option, Some, None, Result, Ok, Err, IfOk, IsTrue, OnOk, unwrap_or}
+use Rattle.std.specs.Prelude.{if◌then◌else◌, ◌≡◌, ◌≢◌, ◌⊎◌, ◌↔◌, ℕ, List, [], false, Option, Some, None, Result, Ok, Err, IfOk, IsTrue, OnOk, unwrap_or}
 use Rattle.std.specs.Io.KnownBytes.{Appends}
 use Rattle.app_batch.specs.InTurn.{AnswersFirst, StopsBehind}
 use Rattle.app_words.specs.declared.command.Target.{Target}
@@ -144,6 +144,12 @@ module _ {S C : Type 0} (v : Sight S C) (causes : Causes S) where
         (served : Result Unit ServeFault) → IsSeenOn v desk ended → ServesAll v causes most desk ended served → how ≡ how_served served
         → Serves most desk ended how
 
+module _ {S D : Type 0} (rows : Sight S D) where
+  -- the clock of the desk was not to be read, and nothing written; or it was, which changed nothing, and then this was done
+  pub data BehindClock (was is : Option (List ℕ)) (Does : S → S → Result ℕ Fault → Type 0) (old new : S) : Result ℕ Fault → Type 0 where
+    clockless : (why : Fault) → FailsToAdopt rows old new why → is ≡ was → BehindClock was is Does old new (Err why)
+    clocked : (how : Result ℕ Fault) (mid : S) → Stands rows old mid → Does mid new how → BehindClock was is Does old new how
+
 -- ---- the tasks, by what their writer was given before them and has behind them, where it is known
 
 -- what is known of a desk is told
@@ -166,6 +172,7 @@ RevokesTarget what was is _ _ _ v causes rows = ByDesk v was is (Revokes v what)
 abbrev pub AnswersReader : (bytes : Option (List ℕ)) → Deed Fault
 AnswersReader bytes was is _ _ _ v causes rows = ByDesk v was is (AnswersLines v bytes was is)
 
--- connections are served, so many or 2^64 - 1
+-- connections are served, so many or 2^64 - 1, once the clock is read
 abbrev pub ServesCount : Option ℕ → Deed Fault
-ServesCount count was is _ _ _ v causes rows = ByDesk v was is (Serves v causes (unwrap_or count 18446744073709551615))
+ServesCount count was is _ _ _ v causes rows =
+    BehindClock rows was is (ByDesk v was is (Serves v causes (unwrap_or count 18446744073709551615)))

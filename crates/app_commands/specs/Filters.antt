@@ -1,5 +1,5 @@
 -- Which rows the words of a list ask for.
-use Rattle.std.specs.Prelude.{◌≡◌, ◌⊎◌, ℕ, List, Option, None, Some}
+use Rattle.std.specs.Prelude.{◌≡◌, ℕ, List, Option, None, Some}
 use Rattle.std.specs.Borrow.{Bor}
 use Rattle.app_words.specs.declared.command.AuthorizationListing.{AuthorizationListing}
 use Rattle.app_words.specs.declared.command.Listing.{Listing}
@@ -11,7 +11,6 @@ use Rattle.app_reports.specs.declared.authorizations.AuthorizationFilter.{Author
 use Rattle.app_reports.specs.declared.orders.OrderFilter.{OrderFilter}
 use Rattle.app_commands.specs.declared.filters.Unasked.{Unasked}
 use Rattle.app_commands.specs.declared.filters.Unasked.TheVariants as unasked
-use Rattle.app_commands.specs.declared.fault.Wrong.{Wrong}
 
 -- a text that words give, if they give one
 abbrev pub Given : Type 0

@@ -2,14 +2,14 @@
 ghost use Rattle.std.specs.Prelude.{unwrap_or};
 ghost use Rattle.app_commands.specs.Deeds.{Serves};
 
-use crate::desks::adopt;
+use crate::desks::{adopt, clock_of};
 use crate::fault::Fault;
 use crate::overseeing::{FileOverseer, Identity};
 use app_batch::batch;
 use app_files::Task;
 use app_words::Serving;
 use desk::Desk;
-use desk_http::{ServeFault, bind, serve_all};
+use desk_http::{MomentBound, ServeFault, Watch, bind, serve_all};
 use std::alloc::Global;
 use std::io::{Read, Write};
 use store_api::{RowsAbove, Storage};
@@ -53,10 +53,11 @@ pub(crate) struct ServeConnections<'a, E: Write> {
 }
 
 impl<'a, E: Write> ServeConnections<'a, E> {
-    // Takes the port, prints the address, and serves; gives the exit status.
+    // Takes the port, prints the address, and serves a desk whose clock stands so; gives the exit status.
     fn serve<K: Storage + Drop, W: Write>(
         &mut self,
         desk: &mut Desk<K>,
+        clock: u64,
         out: &mut W,
     ) -> Result<u8, Fault>
         ensures { Serves K.Storage.sight K.Storage.causes (unwrap_or self.old.serving.count 18446744073709551615) desk.old desk.new result }
@@ -68,12 +69,15 @@ impl<'a, E: Write> ServeConnections<'a, E> {
         if writeln!(out, "listening on {bound}").is_err() || out.flush().is_err() {
             return Err(Fault::Output);
         }
-        let mut overseer = FileOverseer {
-            rt: self.rt,
-            path: self.path,
-            identity,
-            log: self.serving.log,
-            out,
+        let mut watch = Watch {
+            overseer: FileOverseer {
+                rt: self.rt,
+                path: self.path,
+                identity,
+                log: self.serving.log,
+                out,
+            },
+            bound: MomentBound::new(self.serving.max_step, clock),
         };
         serve_all(
             self.rt.alloc(),
@@ -81,7 +85,7 @@ impl<'a, E: Write> ServeConnections<'a, E> {
             &listener,
             desk,
             self.serving.count,
-            &mut overseer,
+            &mut watch,
             self.errors,
         )?;
         Ok(0)
@@ -100,11 +104,16 @@ impl<'a, E: Write> Task for ServeConnections<'a, E> {
         store: K,
         out: &mut W,
     ) -> (K, Result<u8, Fault>) {
+        let mut store = store;
+        let clock = match clock_of(self.rt.alloc(), &mut store) {
+            Ok(clock) => clock,
+            Err(fault) => return (store, Err(fault)),
+        };
         let mut desk = match adopt(self.rt.alloc(), store) {
             Ok(desk) => desk,
             Err((store, fault)) => return (store, Err(fault)),
         };
-        let outcome = self.serve(&mut desk, out);
+        let outcome = self.serve(&mut desk, clock, out);
         (desk.into_store(), outcome)
     }
 }

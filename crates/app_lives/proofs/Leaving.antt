@@ -13,8 +13,8 @@ use Rattle.app_batch.specs.LineRequests.{IsRequestOf, call_of}
 use Rattle.app_batch.specs.Said.{RepliesTo, Says}
 use Rattle.app_batch.specs.InTurn.{AnswersEach, AnswersFirst, AreLines, Stops, StopsBehind, not_one, one_more, silent, unread, unwritten}
 use Rattle.app_words.specs.declared.command.Target.{Target}
-use Rattle.app_commands.specs.Deeds.{Adopts, AnswersLines, AnswersReader, ByDesk, ChecksStatuses, FailsToAdopt, IsTold, ListsRows, Revokes, RevokesTarget, Serves, ServesCount, TellsAbout}
-use Rattle.app_commands.specs.Deeds.{adopted, ask_of, served, unadopted, unserved}
+use Rattle.app_commands.specs.Deeds.{Adopts, AnswersLines, AnswersReader, BehindClock, ByDesk, ChecksStatuses, FailsToAdopt, IsTold, ListsRows, Revokes, RevokesTarget, Serves, ServesCount, TellsAbout}
+use Rattle.app_commands.specs.Deeds.{adopted, ask_of, clocked, clockless, served, unadopted, unserved}
 use Rattle.app_commands.specs.declared.fault.Fault.{Fault}
 use Rattle.desk_http.specs.InTurn.{ServesAll, ServesClient, ServesMany}
 use Rattle.desk_http.specs.InTurn as turn
@@ -35,7 +35,8 @@ use Rattle.desk_model.specs.Legal.{Legal}
 use Rattle.desk_model.specs.Tables.{picture}
 use Rattle.desk_model.specs.declared.refusal.Refusal.{Refusal}
 use Rattle.desk_model.specs.declared.reply.Reply.{Reply}
-use Rattle.store_api.specs.Sight.{Keeps, Sight}
+use Rattle.store_api.proofs.Readings.{reads_then, stands_both}
+use Rattle.store_api.specs.Sight.{Keeps, Sight, Stands}
 use Rattle.store_api.specs.Storing.{Causes}
 use Rattle.desk_store.specs.Desks.{store_sight}
 use Rattle.desk_store.specs.declared.store.Store.{Store}
@@ -295,6 +296,23 @@ module _ {S C : Type 0} (v : Sight S C) where
     left = λ c may. keeps.left c (adopts.stands.left honest c may);
   }
 
+  -- a desk that is adopted once its clock is read is adopted over what there was
+  adopts_behind : (old mid : S) (desk : DeskState S) → Stands v old mid → Adopts v mid desk → Adopts v old desk
+  adopts_behind old mid desk stands adopts = record {
+    stands = stands_both stands adopts.stands;
+    policy = λ honest T held. adopts.policy honest T (stands.tables (adopts.stands.honest honest) T held);
+    opened = adopts.opened;
+  }
+
+  -- and what is done by it is done by a desk, whether the clock was to be read or not
+  behind_clock : (was is : Option (List ℕ)) (Does : DeskState S → DeskState S → Result ℕ Fault → Type 0) (old new : S) (how : Result ℕ Fault)
+      → BehindClock v was is (ByDesk v was is Does) old new how → ByDesk v was is Does old new how
+  behind_clock was is Does old new how (clockless why fails same) = unadopted why fails same
+  behind_clock was is Does old new how (clocked end mid stands (unadopted why fails same)) =
+      unadopted why (record { why = fails.why; reads = reads_then (Err fails.why) stands fails.reads; fault = fails.fault }) same
+  behind_clock was is Does old new how (clocked end mid stands (adopted outcome desk ended adopts does back)) =
+      adopted outcome desk ended (adopts_behind old mid desk stands adopts) does back
+
   by_desk : (P : Result ℕ Fault → List Told → Type 0) (was is : Option (List ℕ)) → ((why : Fault) → is ≡ was → P (Err why) [])
       → (Does : DeskState S → DeskState S → Result ℕ Fault → Type 0)
       → ((desk ended : DeskState S) (how : Result ℕ Fault) → desk.is_closed ≡ false → Does desk ended how → AreCalls v (P how) desk ended)
@@ -378,7 +396,8 @@ module _ {D : Type 0} (g : disk.Ghosts D) where
       let most : ℕ = unwrap_or count 18446744073709551615 in
       left_over (TellsAny how) F done over
       (by_desk stored TellsAny was is (λ why same. tt) (Serves stored _ most)
-      (λ desk ended outcome running it. serve_calls stored _ most desk ended outcome it) F over.legal done.opened done.ended how done.did over.honest)
+      (λ desk ended outcome running it. serve_calls stored _ most desk ended outcome it) F over.legal done.opened done.ended how
+      (behind_clock stored was is (Serves stored _ most) done.opened done.ended how done.did) over.honest)
 
   pub words_leave : WordsLeave g
   words_leave = record {

@@ -33,6 +33,9 @@ pub(crate) const PORT: &str = "port";
 /// How many connections to serve.
 pub(crate) const COUNT: &str = "count";
 
+/// By how much a call's moment may be above the latest that is known.
+pub(crate) const MAX_STEP: &str = "max-step";
+
 /// Whether a line is written for each connection.
 pub(crate) const LOG: &str = "log";
 

@@ -116,6 +116,8 @@ pub struct Serving {
     pub port: u16,
     /// After how many connections to end, or `None` for 2^64 - 1.
     pub count: Option<u64>,
+    /// By how many seconds a call's moment may be above the latest that is known, or `None` for any number.
+    pub max_step: Option<u64>,
     /// How a line for each connection is written, or `None` for none.
     pub log: Option<LogForm>,
 }

@@ -1,5 +1,5 @@
 //! The command that knows the words, made from their table.
-use crate::words::{Argument, LONGEST_WAIT, Word, words};
+use crate::words::{Argument, LONGEST_WAIT, Word, desk_words, operator_words};
 use crate::{arguments, help};
 use clap::builder::ValueParser;
 use clap::{Arg, ArgAction, Command};
@@ -84,19 +84,29 @@ fn command<'a>(alloc: Global, word: &'static Word) -> Result<Command<'a>, AllocE
     command.arg(flag(alloc, arguments::VERBOSE, help::VERBOSE))
 }
 
+// A command with so many words more.
+fn with_words<'a>(
+    alloc: Global,
+    mut desk: Command<'a>,
+    words: &'static [Word],
+) -> Result<Command<'a>, AllocError> {
+    for word in words {
+        desk = desk.subcommand(command(alloc, word)?)?;
+    }
+    Ok(desk)
+}
+
 /// The program's words, each with its arguments and its help.
 ///
 /// # Errors
 ///
 /// Where a growth was refused.
 pub(crate) fn desk<'a>(alloc: Global) -> Result<Command<'a>, AllocError> {
-    let mut desk = Command::new(alloc, "desk")
+    let desk = Command::new(alloc, "desk")
         .about("The order desk of an ACME certificate authority (RFC 8555)")
         .after_help(help::DESK)
         .version(help::VERSION)
         .subcommand_required(true);
-    for word in words() {
-        desk = desk.subcommand(command(alloc, word)?)?;
-    }
-    Ok(desk)
+    let desk = with_words(alloc, desk, desk_words())?;
+    with_words(alloc, desk, operator_words())
 }

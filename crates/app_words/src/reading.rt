@@ -55,6 +55,7 @@ fn serve<'a>(given: &ArgMatches<'a>) -> Option<Command<'a>> {
     let serving = Serving {
         port,
         count: given.get_one::<u64>(arguments::COUNT),
+        max_step: given.get_one::<u64>(arguments::MAX_STEP),
         log: log_form(given),
     };
     Some(Command::Serve { file, serving })

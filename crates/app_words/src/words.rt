@@ -8,6 +8,9 @@ use clap::builder::ValueParser;
 // The greatest number that an object may have, `LAST_NUMBER` of desk_model.
 const LAST_NUMBER: u64 = 1 << 62;
 
+// The last moment that a desk knows, `LAST_MOMENT` of desk_model, in seconds since 1970-01-01T00:00:00Z.
+const LAST_MOMENT: u64 = 250_000_000_000;
+
 /// The longest wait for a file, a day, in seconds.
 pub(crate) const LONGEST_WAIT: u64 = 86400;
 
@@ -94,6 +97,8 @@ pub(crate) enum Value {
     Port,
     /// The number of an object.
     Number,
+    /// The seconds of a step of the clock.
+    Step,
     /// The status of an order.
     Status,
     /// How often a commit syncs.
@@ -118,7 +123,10 @@ impl Argument {
 impl Value {
     // Whether it is a number.
     fn is_number(self) -> bool {
-        matches!(self, Value::Count | Value::Port | Value::Number)
+        matches!(
+            self,
+            Value::Count | Value::Port | Value::Number | Value::Step
+        )
     }
 
     /// What checks it.
@@ -128,6 +136,7 @@ impl Value {
             Value::Count => clap::value_parser!(u64),
             Value::Port => clap::value_parser!(u16),
             Value::Number => ValueParser::unsigned(1, LAST_NUMBER),
+            Value::Step => ValueParser::unsigned(1, LAST_MOMENT),
             Value::Status => ValueParser::Names(ORDER_STATUSES),
             Value::Syncs => ValueParser::Names(SYNCS),
             Value::LogForm => ValueParser::Names(LOG_FORMS),
@@ -212,6 +221,13 @@ const SERVE: &[Argument] = &[
         value: Value::Count,
         is_required: false,
         help: "how many connections to serve, 0 to 2^64 - 1; without it 2^64 - 1",
+    },
+    Argument::Option {
+        id: arguments::MAX_STEP,
+        value_name: "SECONDS",
+        value: Value::Step,
+        is_required: false,
+        help: "refuses by fault 24 a call whose moment is more than this above the latest known one, 1 to 250000000000; without it none; see below",
     },
     Argument::Optional {
         id: arguments::LOG,
@@ -332,7 +348,7 @@ const REVOKE: &[Argument] = &[
     DESK_WAIT,
 ];
 
-const WORDS: &[Word] = &[
+const DESK_WORDS: &[Word] = &[
     Word {
         task: Task::Make,
         name: "make",
@@ -354,6 +370,9 @@ const WORDS: &[Word] = &[
         after: help::BATCH,
         arguments: BATCH,
     },
+];
+
+const OPERATOR_WORDS: &[Word] = &[
     Word {
         task: Task::About,
         name: "about",
@@ -414,10 +433,23 @@ const WORDS: &[Word] = &[
 
 /// The word of this name.
 pub(crate) fn word_named(name: &str) -> Option<&'static Word> {
-    words().iter().find(|word| word.name == name)
+    match named_in(desk_words(), name) {
+        Some(word) => Some(word),
+        None => named_in(operator_words(), name),
+    }
 }
 
-/// The words, as help lists them. A function, so that the table is unfolded in one proof alone.
-pub(crate) fn words() -> &'static [Word] {
-    WORDS
+// The one of these words that has this name.
+fn named_in(words: &'static [Word], name: &str) -> Option<&'static Word> {
+    words.iter().find(|word| word.name == name)
+}
+
+/// The words that make a desk and have it answer, as help lists them. A function, so that the table is unfolded in one proof alone.
+pub(crate) fn desk_words() -> &'static [Word] {
+    DESK_WORDS
+}
+
+/// The words of the operator, which help lists behind those. One table of all words takes more steps than a proof may.
+pub(crate) fn operator_words() -> &'static [Word] {
+    OPERATOR_WORDS
 }

@@ -74,6 +74,10 @@ module _ {S C : Type 0} (v : Sight S C) (causes : Causes S) where
     pub does :
         MatchResult served (Serves v causes at random new.policy.base known before after old new) (Breaks v causes at random known before after old new)
 
+  -- and that this was the moment of its call
+  abbrev pub ServesAt : ℕ → (known before after : Option (List ℕ)) → (old new : DeskState S) → Result Served IoFault → Type 0
+  ServesAt at known before after old new served = (it : ServesParsed known before after old new served) × (it.at ≡ at)
+
   -- a client whose request could not be read, and then nothing was done, or was served
   pub data ServesClient (known before after : Option (List ℕ)) (old new : DeskState S) (served : Result Served IoFault) : Type 0 where
     unread : new ≡ old → Keeps before after → served ≡ Err iofault.Read → ServesClient known before after old new served

@@ -1,14 +1,15 @@
 //! Clients, one after the other.
 ghost use Rattle.std.specs.Prelude.{◌≡◌, ℕ, List, None, Option, false, IfErr, IfOk, unwrap_or};
 ghost use Rattle.desk_http.specs.declared.serve_fault.ServeFault.TheVariants as fault;
-ghost use Rattle.desk_http.specs.InTurn.{Ends, IsOfMachine, ServesAll, ServesClient, ServesParsed, ServesNext, ended_by, fault_after, random_for};
+ghost use Rattle.desk_http.specs.InTurn.{Ends, IsOfMachine, ServesAll, ServesAt, ServesClient, ServesNext, ended_by, fault_after, random_for};
+ghost use Rattle.desk_http.specs.MomentBounds.{admits, followed, moment_for};
 ghost use Rattle.desk_http.specs.Noted.{first_of, object_asked, object_of};
 ghost use Rattle.desk_http.specs.Serving.{IsParsedOf};
 ghost use Rattle.desk.specs.SeenDesks.{IsSeenOn};
 
 use crate::clients::{PATIENCE, Patient, end};
 use crate::noting::Noting;
-use crate::overseeing::{Entry, Overseer, number_of_ask, outcome_number, outcome_status};
+use crate::overseeing::{Entry, Overseer, Watch, number_of_ask, outcome_number, outcome_status};
 use crate::saying::Cause;
 use crate::sending::IoFault;
 use crate::serve_fault::ServeFault;
@@ -53,7 +54,7 @@ pub fn bind<N: Net<Stream = TcpStream, Listener = TcpListener>>(
 
 /// Serves so many connections, or 2^64 - 1 without a count, one request of each (RFC 9112, 9.6). A connection that
 /// fails is told on `errors`, and the next is taken. The overseer is asked before each call, and gets a note of each connection
-/// that was served.
+/// that was served. A call whose moment is out of the watch's bound is refused by fault 24.
 ///
 /// # Errors
 ///
@@ -65,7 +66,7 @@ pub fn serve_all<M: Clock + RandomSource, K: Storage + Drop, O: Overseer, E: Wri
     listener: &TcpListener,
     desk: &mut Desk<K>,
     count: Option<u64>,
-    overseer: &mut O,
+    watch: &mut Watch<O>,
     errors: &mut E,
 ) -> Result<(), ServeFault>
     ensures policy { desk.new.policy ≡ desk.old.policy }
@@ -79,7 +80,7 @@ pub fn serve_all<M: Clock + RandomSource, K: Storage + Drop, O: Overseer, E: Wri
         let Ok((stream, _)) = listener.accept() else {
             return Err(ServeFault::Accept);
         };
-        match serve_stream(alloc, machine, &mut routes, &stream, desk, overseer, errors) {
+        match serve_stream(alloc, machine, &mut routes, &stream, desk, watch, errors) {
             Ok(()) => {}
             Err(fault) => return Err(fault),
         }
@@ -94,7 +95,7 @@ fn serve_stream<M: Clock + RandomSource, K: Storage + Drop, O: Overseer, E: Writ
     routes: &mut Routes,
     stream: &TcpStream,
     desk: &mut Desk<K>,
-    overseer: &mut O,
+    watch: &mut Watch<O>,
     errors: &mut E,
 ) -> Result<(), ServeFault>
     ensures policy { desk.new.policy ≡ desk.old.policy }
@@ -107,12 +108,14 @@ fn serve_stream<M: Clock + RandomSource, K: Storage + Drop, O: Overseer, E: Writ
         alloc,
         machine,
         routes,
-        overseer,
+        watch,
         &mut reader,
         &mut writer,
         desk,
     )?;
-    let is_kept = overseer.note(entry_of(machine, &reader, call, served));
+    let is_kept = watch
+        .overseer
+        .note(entry_of(machine, &reader, call, served));
     match served {
         Ok(_) => end(stream, machine),
         Err(_) => {
@@ -137,7 +140,7 @@ fn ended_by(closed_by: Option<DeskFault>, is_kept: bool) -> Result<(), ServeFaul
 // What is noted of a call that was read.
 #[derive(Clone, Copy)]
 struct CallNote {
-    // The moment at which it acts.
+    // The machine's moment when it came.
     at: u64,
     // The number of the object that it asks about, where there is one.
     object: Option<u64>,
@@ -200,12 +203,12 @@ fn micros_since<M: Clock>(machine: &M, begun: Option<Instant>) -> Option<u64> {
     )
 }
 
-// Serves a client: at the machine's moment it reads one request, and writes the reply, if the desk is in its place.
+// Serves a client: it takes the machine's moment, reads one request, and writes the reply, if the desk is in its place.
 fn serve_client<M: Clock + RandomSource, O: Overseer, R: Read, W: Write, K: Storage + Drop>(
     alloc: Global,
     machine: &M,
     routes: &mut Routes,
-    overseer: &O,
+    watch: &mut Watch<O>,
     reader: &mut R,
     writer: &mut W,
     desk: &mut Desk<K>,
@@ -217,31 +220,34 @@ fn serve_client<M: Clock + RandomSource, O: Overseer, R: Read, W: Write, K: Stor
 {
     let at = moment(machine)?;
     match read_call_by(alloc, routes, reader) {
-        Ok(parsed) => serve_in_place(alloc, machine, overseer, writer, desk, at, parsed),
+        Ok(parsed) => serve_in_place(alloc, machine, watch, writer, desk, at, parsed),
         Err(_) => Ok((Err(IoFault::Read), nothing_read(at))),
     }
 }
 
-// Serves a request that was read, if the desk is in its place.
+// Serves a request that was read and came at a moment of the machine, if the desk is in its place.
 fn serve_in_place<M: Clock + RandomSource, O: Overseer, W: Write, K: Storage + Drop>(
     alloc: Global,
     machine: &M,
-    overseer: &O,
+    watch: &mut Watch<O>,
     writer: &mut W,
     desk: &mut Desk<K>,
     at: u64,
     parsed: ParsedRequest,
 ) -> Result<(Result<Served, IoFault>, CallNote), ServeFault>
     ensures policy { desk.new.policy ≡ desk.old.policy }
-    ensures served { (known : Option (List ℕ)) → IsParsedOf known parsed → IfOk result (λ r. ServesParsed K.Storage.sight K.Storage.causes
-        known (W.contents writer.old) (W.contents writer.new) desk.old desk.new r.0) }
+    ensures served { (known : Option (List ℕ)) → IsParsedOf known parsed → IfOk result (λ r. ServesAt K.Storage.sight K.Storage.causes
+        (moment_for watch.old.bound at) known (W.contents writer.old) (W.contents writer.new) desk.old desk.new r.0) }
+    ensures followed { IfOk result (λ r. watch.new.bound ≡ followed watch.old.bound at) }
+    ensures refused { admits watch.old.bound.latest watch.old.bound.step at ≡ false → desk.new ≡ desk.old }
     ensures failed { IfErr result (λ e. IsOfMachine e × (desk.new ≡ desk.old)) }
 {
-    if !overseer.is_in_place() {
+    if !watch.overseer.is_in_place() {
         return Err(ServeFault::Replaced);
     }
     let call = note_of(machine, at, &parsed);
-    match serve_read(alloc, machine, writer, desk, at, parsed) {
+    let acting = watch.bound.moment_for(at);
+    match serve_read(alloc, machine, writer, desk, acting, parsed) {
         Ok(served) => Ok((served, call)),
         Err(fault) => Err(fault),
     }
@@ -292,8 +298,8 @@ fn serve_read<M: RandomSource, W: Write, K: Storage + Drop>(
     parsed: ParsedRequest,
 ) -> Result<Result<Served, IoFault>, ServeFault>
     ensures policy { desk.new.policy ≡ desk.old.policy }
-    ensures served { (known : Option (List ℕ)) → IsParsedOf known parsed → IfOk result (ServesParsed K.Storage.sight K.Storage.causes
-        known (W.contents writer.old) (W.contents writer.new) desk.old desk.new) }
+    ensures served { (known : Option (List ℕ)) → IsParsedOf known parsed → IfOk result (ServesAt K.Storage.sight K.Storage.causes
+        at known (W.contents writer.old) (W.contents writer.new) desk.old desk.new) }
     ensures failed { IfErr result (λ e. (e ≡ fault.Random) × (desk.new ≡ desk.old)) }
 {
     let mut random = [0u8; MOST_RANDOM];

@@ -4,6 +4,7 @@
 mod asking;
 mod clients;
 mod connections;
+mod moment_bound;
 mod noting;
 mod overseeing;
 mod saying;
@@ -17,7 +18,8 @@ pub use connections::{bind, moment, serve_all};
 pub use http_routes::{Request, Routes};
 pub use http_wire::{ParsedRequest, ReadFailed, ReplyForm, read_call, read_call_by, reply_text};
 pub use json_texts::problem_document;
-pub use overseeing::{Entry, Overseer};
+pub use moment_bound::{MomentBound, admits};
+pub use overseeing::{Entry, Overseer, Watch};
 pub use saying::Cause;
 pub use sending::IoFault;
 pub use serve_fault::ServeFault;

@@ -2,6 +2,7 @@
 ghost use Rattle.std.specs.Prelude.{◌≡◌};
 ghost use Rattle.desk_http.specs.Noted.{number_by, number_of_ask, number_of_cause, number_of_office, number_of_target, outcome_number, outcome_status, status_by};
 
+use crate::moment_bound::MomentBound;
 use crate::saying::Cause;
 use crate::sending::IoFault;
 use crate::serving::Served;
@@ -15,7 +16,7 @@ const INABILITY: u16 = 500;
 /// What is noted of a connection that was served.
 #[derive(Clone, Copy)]
 pub struct Entry<'e> {
-    /// The moment at which its call acted, in seconds since 1970-01-01T00:00:00Z.
+    /// The machine's moment when it came, in seconds since 1970-01-01T00:00:00Z; its call acted then, or was refused by fault 24.
     pub at: u64,
     /// The first word of the request, as far as it was read.
     pub method: &'e str,
@@ -38,6 +39,15 @@ pub trait Overseer {
 
     /// Takes a note, and gives whether it is kept.
     fn note(&mut self, entry: Entry<'_>) -> bool;
+}
+
+/// What goes along with the serving of a desk.
+#[derive(Drop)]
+pub struct Watch<O> {
+    /// Who watches it.
+    pub overseer: O,
+    /// Which of the machine's moments its calls act at.
+    pub bound: MomentBound,
 }
 
 /// The HTTP status of what was sent, where the connection did not fail.

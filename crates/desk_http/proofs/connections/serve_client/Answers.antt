@@ -6,7 +6,7 @@ use Rattle.desk_http.proofs.connections.serve_client.Goals as goal
 
 pub returns-in-Ok-clause-served : goal.returns-in-Ok-clause-served
 returns-in-Ok-clause-served g c =
-    IfOk-weaker c.serve_in_place.result _ _ (λ r s. parsed s)
+    IfOk-weaker c.serve_in_place.result _ _ (λ r s. parsed s.0)
     (c.serve_in_place.ensures.served (g.R.Read.remaining c.args.reader.now) c.in-Ok.ensures.parsed)
 
 pub returns-in-Err-clause-served : goal.returns-in-Err-clause-served

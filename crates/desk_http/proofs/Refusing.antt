@@ -1,0 +1,67 @@
+-- A call at a moment past the last one changes nothing.
+use Rattle.std.proofs.Common.{◌≡◌, ◌<◌, ℕ, Bool, false, List, Option, None, Some, Result, Ok, Err, arith, inl, inr, subst, sym}
+use Rattle.std.specs.Prelude.{MatchResult}
+use Rattle.desk_model.specs.Limits.{last_moment}
+use Rattle.desk_model.specs.declared.reply.Reply.{Reply}
+use Rattle.store_api.specs.Sight.{Sight}
+use Rattle.store_api.specs.Storing.{Causes}
+use Rattle.desk.specs.State.{DeskState}
+use Rattle.http_routes.specs.declared.request.Request.{Request}
+use Rattle.http_routes.specs.declared.request.Request.TheVariants as request
+use Rattle.http_wire.specs.declared.call.ReplyForm.{ReplyForm}
+use Rattle.desk_http.specs.InTurn.{ServesAt}
+use Rattle.desk_http.specs.MomentBounds.{admits, moment_for}
+use Rattle.desk_http.specs.Serving.{Breaks, Fails, HasAnswer, IsLeft, Responds, Serves, ServesBy}
+use Rattle.desk_http.specs.declared.moment_bound.MomentBound.{MomentBound}
+use Rattle.desk_http.specs.declared.saying.Cause.{Cause}
+use Rattle.desk_http.specs.declared.saying.Cause.TheVariants as cause
+use Rattle.desk_http.specs.declared.sending.IoFault.{IoFault}
+use Rattle.desk_http.specs.declared.sending.IoFault.TheVariants as iofault
+use Rattle.desk_http.specs.declared.serving.Served.{Served}
+use Rattle.desk_http.specs.declared.telling.Told.{Told}
+
+module _ {S C : Type 0} (v : Sight S C) (causes : Causes S) (old new : DeskState S) where
+  module _ (at : ℕ) (late : last_moment < at) (random : List ℕ) (known : Option (List ℕ)) where
+    -- by what a request is answered
+    responds_late : (q : Request) (result : Result Reply _) → Responds v causes at random old q result new → new ≡ old
+    responds_late (request.Asks what) result r = r.unmade late
+    responds_late (request.Refused why) result r = r.1
+
+    answer_late : (result : Result Reply _) → HasAnswer v causes at random known old new result → new ≡ old
+    answer_late result a = responds_late a.request result a.responds
+
+    -- where it has no reply
+    fails_late : (why : Cause) → Fails v causes at random known old new why → new ≡ old
+    fails_late (cause.Desk why) f = answer_late (Err why) f
+    fails_late cause.Reading f = f
+    fails_late cause.Text f = answer_late (Ok f.0) f.1
+
+    -- where the connection failed
+    left_late : IsLeft v causes at random known old new → new ≡ old
+    left_late (inl same) = same
+    left_late (inr a) = answer_late a.0 a.1
+
+    -- where it was served
+    served_late : (base : List ℕ) (before after : Option (List ℕ)) (form : ReplyForm) (why : Option Cause) (written : Bool) (told : Option Told)
+        → ServesBy v causes at random base known before after old new form why written told → new ≡ old
+    served_late base before after form None written told s = answer_late (Ok s.0) s.1
+    served_late base before after form (Some why) written told s = fails_late why s.0
+
+    -- whatever became of it
+    once_late : (base : List ℕ) (before after : Option (List ℕ)) (served : Result Served IoFault)
+        → MatchResult served (λ s. Serves v causes at random base known before after old new s)
+        (λ e. Breaks v causes at random known before after old new e)
+        → new ≡ old
+    once_late base before after (Ok served) s = served_late base before after s.0 served.cause served.written served.told s.2
+    once_late base before after (Err iofault.Read) s = s.0
+    once_late base before after (Err iofault.Write) s = left_late s
+
+  -- a request that was served so late
+  pub late_changes_nothing : (at : ℕ) (known before after : Option (List ℕ)) (served : Result Served IoFault) → last_moment < at
+      → ServesAt v causes at known before after old new served → new ≡ old
+  late_changes_nothing at known before after served late s =
+      once_late s.0.at (subst (λ n. last_moment < n) (sym s.1) late) s.0.random known new.policy.base before after served s.0.does
+
+-- where a bound refuses a moment, the call is made so late
+pub refused_late : (bound : MomentBound) (at : ℕ) → admits bound.latest bound.step at ≡ false → last_moment < moment_for bound at
+refused_late bound at is = rw is (omega arith)

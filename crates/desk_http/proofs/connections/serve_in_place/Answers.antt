@@ -1,0 +1,12 @@
+use Rattle.std.proofs.Common.{◌∙◌, None}
+use Rattle.desk_http.proofs.Refusing.{late_changes_nothing, refused_late}
+use Rattle.desk_http.proofs.connections.serve_in_place.Goals as goal
+
+pub returns-in-Ok-clause-served : goal.returns-in-Ok-clause-served
+returns-in-Ok-clause-served g c known is = let s = c.in-Ok.ensures.served known is in (s.0, s.1 ∙ c.moment_for-acting.ensures.moment)
+
+pub returns-in-Ok-clause-refused : goal.returns-in-Ok-clause-refused
+returns-in-Ok-clause-refused g c is =
+    let s = c.in-Ok.ensures.served None tt in
+    late_changes_nothing g.K.Storage.sight g.K.Storage.causes c.args.desk.now c.serve_read.new.desk _ None _ _ c.in-Ok.served
+    (refused_late c.args.watch.now.bound c.args.at is) (s.0, s.1 ∙ c.moment_for-acting.ensures.moment)
