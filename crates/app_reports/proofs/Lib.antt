@@ -2,3 +2,5 @@ pub mod Counting
 pub mod Listing
 pub mod Printing
 pub mod Searching
+pub mod Showing
+pub mod Writing

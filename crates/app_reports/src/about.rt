@@ -128,8 +128,8 @@ fn write_clock<W: Write>(
     }
 }
 
-// Writes how many objects of each kind have each stored status.
-fn write_statuses<K: RowsAbove, W: Write>(
+/// Writes how many objects of each kind have each stored status.
+pub(crate) fn write_statuses<K: RowsAbove, W: Write>(
     alloc: Global,
     source: &mut K,
     out: &mut W,

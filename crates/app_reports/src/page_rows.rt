@@ -1,0 +1,156 @@
+//! Rows of the page's tables.
+ghost use Rattle.std.specs.Prelude.{OnOk};
+ghost use Rattle.std.specs.Io.KnownBytes.{Appends};
+ghost use Rattle.store_api.specs.Sight.{ForTables};
+ghost use Rattle.app_reports.specs.Page.{authorization_html, begin_html, cells_html, order_html, order_row_html};
+ghost use Rattle.app_reports.specs.Reported.{Reports};
+
+use crate::fault::ReportFault;
+use crate::pieces::{Piece, write_pieces};
+use desk_model::{AccountRow, AuthorizationRow, DnsName, OrderRow};
+use model_lives::AccountsWhere;
+use moments::capped_moment_text;
+use std::alloc::Global;
+use std::io::{self, Write};
+use store_api::LookUps;
+use store_passes::{PassedRow, listed_names};
+
+/// A row that the page shows.
+pub(crate) trait PageRow: PassedRow + Drop {
+    ghost use Rattle.std.specs.Prelude.{ℕ, List, OnOk};
+    ghost use Rattle.std.specs.Io.KnownBytes.{Appends};
+    ghost use Rattle.desk_model.specs.Tables.{Tables};
+    ghost use Rattle.store_api.specs.Sight.{ForTables};
+    ghost use Rattle.app_reports.specs.Reported.{Reports};
+
+    // Its HTML, among these tables.
+    ghost html: { Tables → Self → List ℕ };
+
+    /// Writes it.
+    fn write_html<K: LookUps, W: Write>(
+        &self,
+        alloc: Global,
+        source: &mut K,
+        out: &mut W,
+    ) -> Result<(), ReportFault>
+        ensures reads { Reports K.sight source.old source.new result }
+        ensures written { ForTables K.sight source.old source.new (λ T. OnOk result
+            (Appends (W.contents out.old) (W.contents out.new) (html T self.now))) };
+}
+
+impl PageRow for OrderRow {
+    ghost html = { order_html };
+
+    fn write_html<K: LookUps, W: Write>(
+        &self,
+        alloc: Global,
+        source: &mut K,
+        out: &mut W,
+    ) -> Result<(), ReportFault> {
+        write_order(alloc, source, out, self)
+    }
+}
+
+impl PageRow for AuthorizationRow {
+    ghost html = { λ T. authorization_html };
+
+    fn write_html<K: LookUps, W: Write>(
+        &self,
+        alloc: Global,
+        _source: &mut K,
+        out: &mut W,
+    ) -> Result<(), ReportFault> {
+        write_authorization(alloc, out, self)?;
+        Ok(())
+    }
+}
+
+// Writes an order, with the names that it asks for and the contacts of its account.
+fn write_order<K: LookUps, W: Write>(
+    alloc: Global,
+    source: &mut K,
+    out: &mut W,
+    row: &OrderRow,
+) -> Result<(), ReportFault>
+    ensures reads { Reports K.sight source.old source.new result }
+    ensures written { ForTables K.sight source.old source.new (λ T. OnOk result
+        (Appends (W.contents out.old) (W.contents out.new) (order_html T row.now))) }
+{
+    let names = listed_names(alloc, source, row.listed.as_slice())?;
+    let accounts = source.find_accounts(alloc, AccountsWhere::Number(row.account))?;
+    write_order_row(alloc, out, row, &names, &accounts)?;
+    Ok(())
+}
+
+// Writes an order with these names, whose account is this one.
+fn write_order_row<W: Write>(
+    alloc: Global,
+    out: &mut W,
+    row: &OrderRow,
+    names: &[DnsName],
+    accounts: &[AccountRow],
+) -> io::Result<()>
+    ensures { OnOk result (Appends (W.contents out.old) (W.contents out.new) (order_row_html row.now names.now accounts.now)) }
+{
+    write_cells(
+        alloc,
+        out,
+        row.number,
+        row.account,
+        row.status.as_str(),
+        row.expires,
+    )?;
+    write_pieces(alloc, out, names)?;
+    out.write_all(b"</td><td>")?;
+    write_pieces(alloc, out, accounts)?;
+    out.write_all(b"</td></tr>")
+}
+
+// Writes an authorization, with its name and its challenges.
+fn write_authorization<W: Write>(
+    alloc: Global,
+    out: &mut W,
+    row: &AuthorizationRow,
+) -> io::Result<()>
+    ensures { OnOk result (Appends (W.contents out.old) (W.contents out.new) (authorization_html row.now)) }
+{
+    write_cells(
+        alloc,
+        out,
+        row.number,
+        row.account,
+        row.status.as_str(),
+        row.expires,
+    )?;
+    row.name.write_piece(alloc, out)?;
+    out.write_all(b"</td><td>")?;
+    write_pieces(alloc, out, row.challenges.as_slice())?;
+    out.write_all(b"</td></tr>")
+}
+
+// Writes the first cells of a row: its number, its account's, its stored status, the moment at which it ends.
+fn write_cells<W: Write>(
+    alloc: Global,
+    out: &mut W,
+    number: u64,
+    account: u64,
+    status: &str,
+    expires: u64,
+) -> io::Result<()>
+    ensures { OnOk result (Appends (W.contents out.old) (W.contents out.new) (cells_html number account status.now expires)) }
+{
+    let expires = capped_moment_text(alloc, expires)?;
+    let expires = expires.as_str();
+    write_begin(out, number, account, status)?;
+    write!(out, "{status}</td><td>{expires}</td><td>")
+}
+
+// Writes the beginning of a row, up to its stored status.
+fn write_begin<W: Write>(out: &mut W, number: u64, account: u64, status: &str) -> io::Result<()>
+    ensures { OnOk result (Appends (W.contents out.old) (W.contents out.new) (begin_html number account status.now)) }
+{
+    write!(
+        out,
+        "\n<tr><td>{number}</td><td>{account}</td><td class=\"{status}\">"
+    )
+}
