@@ -7,7 +7,7 @@ use Rattle.app_words.specs.declared.command.Command.{Command}
 use Rattle.app_words.specs.declared.command.Command.TheVariants as command
 use Rattle.app_words.specs.declared.command.Target.{Target}
 use Rattle.app_commands.specs.Asked.{IsSaid, RevokesServed, refused, revoked, unheard}
-use Rattle.app_commands.specs.Deeds.{AnswersReader, ChecksStatuses, ListsRows, RevokesTarget, ServesCount, TellsAbout}
+use Rattle.app_commands.specs.Deeds.{AnswersReader, ChecksStatuses, ListsRows, RevokesTarget, ServesCount, TellsAbout, TellsPage}
 use Rattle.app_commands.specs.Deeds.{AnswersLines, ByDesk, IsTold, Revokes, Serves}
 use Rattle.app_commands.specs.Deeds.{adopted, clocked, clockless, served, unadopted, unserved}
 use Rattle.app_commands.specs.Deeds.{how_checked, how_listed, how_served}
@@ -102,6 +102,9 @@ small_lists r was is S C D v causes rows old new how it = small_as how _ it.ends
 
 small_tells : (b : Beside) → AreSmall (TellsAbout b)
 small_tells b was is S C D v causes rows old new how it = small_as how _ it.ends (small_listed it.told)
+
+small_page : AreSmall TellsPage
+small_page was is S C D v causes rows old new how it = small_as how _ it.ends (small_listed it.told)
 
 small_checks : (f : Form) → AreSmall (ChecksStatuses f)
 small_checks f was is S C D v causes rows old new how it = small_as how _ it.ends (small_checked it.checked)
@@ -211,6 +214,7 @@ module _ {D : Type 0} (g : disk.Ghosts D) (image : Image) where
       small_over (ServesCount serving.count) (small_serves serving.count) was is how left it
   small_command bytes was is (command.About file) how left (inl it) = small_as how _ it.1 (omega arith)
   small_command bytes was is (command.About file) how left (inr it) = small_over (TellsAbout it.0) (small_tells it.0) was is how left it.1
+  small_command bytes was is (command.Page file) how left it = small_over TellsPage small_page was is how left it
   small_command bytes was is (command.Status file listing) how left it =
       small_list _ _ was is how left (λ lists. small_rows (orders_roster lists.filter (form_of listing.json)) was is how left lists.ends) it
   small_command bytes was is (command.Accounts file json) how left it = small_rows (accounts_roster (form_of json)) was is how left it

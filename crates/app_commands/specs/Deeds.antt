@@ -17,6 +17,7 @@ use Rattle.desk.specs.SeenDesks.{IsSeenOn}
 use Rattle.desk.specs.State.{DeskState}
 use Rattle.desk.specs.declared.fault.DeskFault.{DeskFault}
 use Rattle.desk_model.specs.Derived.{status_faults}
+use Rattle.desk_model.specs.Tables.{Tables}
 use Rattle.desk_model.specs.declared.call.OfficeAsk.{OfficeAsk}
 use Rattle.desk_model.specs.declared.call.OfficeAsk.TheVariants as ask
 use Rattle.desk_model.specs.declared.refusal.Refusal.{Refusal}
@@ -26,6 +27,7 @@ use Rattle.store_api.specs.declared.fault.StorageFault.{StorageFault}
 use Rattle.app_files.specs.Doing.{Deed}
 use Rattle.app_reports.specs.About.{about_text}
 use Rattle.app_reports.specs.Listed.{PrintsAll, Roster}
+use Rattle.app_reports.specs.Page.{page_html}
 use Rattle.app_reports.specs.Printed.{faults_text}
 use Rattle.app_reports.specs.Reported.{Reports}
 use Rattle.app_reports.specs.declared.about.Beside.{Beside}
@@ -62,11 +64,11 @@ module _ {S C : Type 0} (v : Sight S C) where
     pub ends : how ≡ how_checked checked
 
 module _ {S C : Type 0} (v : Sight S C) where
-  -- what the tables tell about a desk was printed, which changed nothing, or that was stopped
-  pub record Tells (b : Beside) (was is : Option (List ℕ)) (old new : S) (how : Result ℕ Fault) : Type 0 where
+  -- the text that the tables give was printed, which changed nothing, or that was stopped
+  pub record Tells (text : Tables → List ℕ) (was is : Option (List ℕ)) (old new : S) (how : Result ℕ Fault) : Type 0 where
     pub told : Result Unit ReportFault
     pub reads : Reports v old new told
-    pub printed : ForTables v old new (λ T. OnOk told (Appends was is (about_text b T)))
+    pub printed : ForTables v old new (λ T. OnOk told (Appends was is (text T)))
     pub ends : how ≡ how_listed told
 
 -- ---- what is done by a desk
@@ -154,7 +156,11 @@ module _ {S D : Type 0} (rows : Sight S D) where
 
 -- what is known of a desk is told
 abbrev pub TellsAbout : Beside → Deed Fault
-TellsAbout b was is _ _ _ v causes rows = Tells rows b was is
+TellsAbout b was is _ _ _ v causes rows = Tells rows (about_text b) was is
+
+-- its page is written
+abbrev pub TellsPage : Deed Fault
+TellsPage was is _ _ _ v causes rows = Tells rows page_html was is
 
 -- the rows of a list are printed
 abbrev pub ListsRows : {X : Type 0} → Roster X → Deed Fault

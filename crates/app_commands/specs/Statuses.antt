@@ -11,7 +11,7 @@ use Rattle.app_words.specs.declared.command.Syncs.TheVariants as syncs
 use Rattle.app_words.specs.declared.command.Terms.{Terms as Words}
 use Rattle.app_commands.specs.Asked.{RevokesServed}
 use Rattle.app_commands.specs.Filters.{AreRight, AsksForAuthorizations, AsksForOrders, StandsForName}
-use Rattle.app_commands.specs.Deeds.{AnswersReader, ChecksStatuses, ListsRows, RevokesTarget, ServesCount, TellsAbout}
+use Rattle.app_commands.specs.Deeds.{AnswersReader, ChecksStatuses, ListsRows, RevokesTarget, ServesCount, TellsAbout, TellsPage}
 use Rattle.app_commands.specs.Faults.{IsOfOpening, open_fault}
 use Rattle.app_commands.specs.declared.filters.Unasked.{Unasked}
 use Rattle.app_commands.specs.declared.filters.Unasked.TheVariants as unasked
@@ -144,6 +144,7 @@ module _ {D : Type 0} (g : disk.Ghosts D) (image : Image) where
   Ends bytes was is (command.Make file terms) how left = EndsMake (terms_of terms) was is how left
   Ends bytes was is (command.Serve file serving) how left = EndsOverFiles (ServesCount serving.count) was is how left
   Ends bytes was is (command.About file) how left = EndsAbout was is how left
+  Ends bytes was is (command.Page file) how left = EndsOverFiles TellsPage was is how left
   Ends bytes was is (command.Status file listing) how left = EndsList (AreRight listing) (ListsOrders listing was is how left) was is how left
   Ends bytes was is (command.Accounts file json) how left = EndsOverFiles (ListsRows (accounts_roster (form_of json))) was is how left
   Ends bytes was is (command.Authorizations file listing) how left =

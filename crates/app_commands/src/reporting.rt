@@ -7,6 +7,7 @@ use crate::fault::Fault;
 use app_files::Task;
 use app_reports::{
     Beside, Checked, Form, ReportFault, RowList, list_faults, list_rows, seconds_ahead, tell_about,
+    write_page,
 };
 use std::alloc::Global;
 use std::io::Write;
@@ -74,6 +75,30 @@ impl Task for TellAbout {
     }
 }
 
+/// Shows a desk as a page.
+#[derive(Drop)]
+pub(crate) struct ShowPage {
+    pub(crate) alloc: Global,
+}
+
+impl Task for ShowPage {
+    ghost use Rattle.app_commands.specs.Deeds.{TellsPage};
+
+    type Fault = Fault;
+
+    ghost does = { λ task. TellsPage };
+
+    fn run<K: Storage + RowsAbove + Drop, W: Write>(
+        &mut self,
+        store: K,
+        out: &mut W,
+    ) -> (K, Result<u8, Fault>) {
+        let mut store = store;
+        let page = write_page(self.alloc, &mut store, out);
+        (store, told(page))
+    }
+}
+
 /// Lists the stored statuses that are wrong, and tells where the desk's clock is ahead of the machine's.
 #[derive(Drop)]
 pub(crate) struct CheckStatuses<'a, E: Write> {
@@ -102,7 +127,7 @@ impl<'a, E: Write> Task for CheckStatuses<'a, E> {
     }
 }
 
-// How a list of orders ends.
+// How a report ends that finds nothing.
 fn told(listed: Result<(), ReportFault>) -> Result<u8, Fault>
     ensures { result ≡ how_listed listed }
 {

@@ -3,7 +3,7 @@ ghost use Rattle.std.specs.Prelude.{◌≡◌, ◌≤◌, IfErr, IfOk, MatchOpti
 ghost use Rattle.sqlite.specs.WalFiles.{image_at};
 ghost use Rattle.desk_model.specs.Terms.{are_terms};
 ghost use Rattle.desk.specs.declared.fault.DeskFault.TheVariants as deskfault;
-ghost use Rattle.app_commands.specs.Deeds.{ListsRows};
+ghost use Rattle.app_commands.specs.Deeds.{ListsRows, TellsPage};
 ghost use Rattle.app_commands.specs.Faults.{IsOfOpening};
 ghost use Rattle.app_commands.specs.Statuses.{Ends, EndsAbout, EndsBy, EndsMake, EndsOverFiles, EndsUnasked, IsToldMade, form_of, status_of};
 ghost use Rattle.app_commands.specs.Statuses.{supposes, syncs_of, terms_in_memory, terms_of};
@@ -17,7 +17,7 @@ use crate::backing_up::back_up;
 use crate::explaining::explain;
 use crate::fault::{Fault, Wrong, refuse, tell};
 use crate::filters::{Unasked, authorization_filter, order_filter};
-use crate::reporting::{CheckStatuses, ListRows, TellAbout, form};
+use crate::reporting::{CheckStatuses, ListRows, ShowPage, TellAbout, form};
 use crate::revoking::Revoke;
 use app_files::{Left, Task, Unknown, Wary, make_desk, run_in_memory, run_over_file, wait_for};
 use app_reports::{AllAccounts, Beside, RowList};
@@ -167,6 +167,7 @@ fn try_command<S: Start, R: Read + Drop, W: Write, E: Write>(
             run_over_file(rt, file.path, start, task, out)
         }
         Command::About { file } => about_file(rt, file, start, out),
+        Command::Page { file } => show_page(rt, file, start, out),
         Command::Status { file, listing } => {
             let filter = order_filter(rt.alloc(), listing);
             list_asked(rt, file, filter, listing.json, start, out, errors)
@@ -268,6 +269,19 @@ fn log_len(rt: &HostRuntime, file: &str) -> Result<u64, DeskFault> {
     }
 }
 
+// Shows the desk in a file as a page.
+fn show_page<S: Start, W: Write>(
+    rt: &HostRuntime,
+    file: &str,
+    start: S,
+    out: &mut W,
+) -> (Result<u8, Fault>, Left<FileFrom<S>>)
+    ensures { EndsOverFiles ⟦<FileFrom<S> as Disk>⟧ (image_at S.Start) TellsPage (W.contents out.old) (W.contents out.new) result.0 result.1 }
+{
+    let task = ShowPage { alloc: rt.alloc() };
+    run_over_file(rt, file, start, task, out)
+}
+
 // Lists rows of the desk in a file, where the words ask for some.
 fn list_asked<S: Start, L: RowList + Drop, W: Write, E: Write>(
     rt: &HostRuntime,
@@ -353,6 +367,7 @@ fn syncs_of(command: Command<'_>) -> Syncs
         Command::Make { .. } => Syncs::Twice,
         Command::Serve { file, .. } => file.syncs,
         Command::About { .. } => Syncs::Twice,
+        Command::Page { .. } => Syncs::Twice,
         Command::Status { .. } => Syncs::Twice,
         Command::Accounts { .. } => Syncs::Twice,
         Command::Authorizations { .. } => Syncs::Twice,

@@ -33,6 +33,11 @@ pub enum Command<'a> {
         /// The path of the file that holds the desk.
         file: &'a str,
     },
+    /// To show a desk as a page.
+    Page {
+        /// The path of the file that holds the desk.
+        file: &'a str,
+    },
     /// To list the orders.
     Status {
         /// The path of the file that holds the desk.
@@ -97,6 +102,7 @@ impl<'a> Command<'a> {
             Command::Serve { file, .. } => Some(file.path),
             Command::Status { file, .. } => Some(file),
             Command::About { file } => Some(file),
+            Command::Page { file } => Some(file),
             Command::Accounts { file, .. } => Some(file),
             Command::Authorizations { file, .. } => Some(file),
             Command::Check { file, .. } => Some(file),

@@ -108,6 +108,14 @@ pub(crate) const BATCH: &str = synced!("desk batch --file /var/lib/desk/desk.db 
 /// Below the arguments of `about`.
 pub(crate) const ABOUT: &str = after!("desk about /var/lib/desk/desk.db");
 
+/// Below the arguments of `page`.
+pub(crate) const PAGE: &str = after!(
+    "Page:\n",
+    "  One document without scripts, and with nothing from elsewhere. What clients gave stands in it as\n",
+    "  text. A table shows the first 50 rows, by number, and says how many there are in all.\n\n",
+    Example: "desk page /var/lib/desk/desk.db > page.html"
+);
+
 /// Below the arguments of `backup`.
 pub(crate) const BACKUP: &str = after!(
     "Copies:\n",

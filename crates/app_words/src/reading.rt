@@ -34,6 +34,7 @@ fn command<'a>(task: Task, given: &ArgMatches<'a>) -> Option<Command<'a>> {
         Task::Serve => serve(given),
         Task::Batch => Some(batch(given)),
         Task::About => about(given),
+        Task::Page => page(given),
         Task::Status => status(given),
         Task::Accounts => accounts(given),
         Task::Authorizations => authorizations(given),
@@ -81,6 +82,11 @@ fn batch<'a>(given: &ArgMatches<'a>) -> Command<'a> {
 fn about<'a>(given: &ArgMatches<'a>) -> Option<Command<'a>> {
     let file = file(given)?;
     Some(Command::About { file })
+}
+
+fn page<'a>(given: &ArgMatches<'a>) -> Option<Command<'a>> {
+    let file = file(given)?;
+    Some(Command::Page { file })
 }
 
 fn status<'a>(given: &ArgMatches<'a>) -> Option<Command<'a>> {

@@ -12,6 +12,8 @@ pub(crate) enum Task {
     Batch,
     /// Tells about a desk.
     About,
+    /// Shows a desk as a page.
+    Page,
     /// Lists the orders.
     Status,
     /// Lists the accounts.

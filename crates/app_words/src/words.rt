@@ -284,6 +284,8 @@ const STATUS: &[Argument] = &[
 
 const ABOUT: &[Argument] = &[DESK_FILE, DESK_WAIT];
 
+const PAGE: &[Argument] = &[DESK_FILE, DESK_WAIT];
+
 const ACCOUNTS: &[Argument] = &[
     DESK_FILE,
     Argument::Flag {
@@ -379,6 +381,13 @@ const OPERATOR_WORDS: &[Word] = &[
         about: "Tells what a desk was made with, its clock, its objects by status, the size of its log",
         after: help::ABOUT,
         arguments: ABOUT,
+    },
+    Word {
+        task: Task::Page,
+        name: "page",
+        about: "Shows a desk as one page of HTML: objects by status, what waits, what ends soon, the last orders",
+        after: help::PAGE,
+        arguments: PAGE,
     },
     Word {
         task: Task::Status,

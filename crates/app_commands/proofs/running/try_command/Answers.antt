@@ -12,6 +12,9 @@ returns-in-Serve g c = as_command _ _ _ _ _ c.args.command _ _ _ c.in-Serve.is c
 pub returns-in-About : goal.returns-in-About
 returns-in-About g c = as_command _ _ _ _ _ c.args.command _ _ _ c.in-About.is c.about_file.ensures
 
+pub returns-in-Page : goal.returns-in-Page
+returns-in-Page g c = as_command _ _ _ _ _ c.args.command _ _ _ c.in-Page.is c.show_page.ensures
+
 pub returns-in-Status : goal.returns-in-Status
 returns-in-Status g c =
     as_command _ _ _ _ _ c.args.command _ _ _ c.in-Status.is
