@@ -2,7 +2,7 @@
 use Rattle.std.proofs.Common.{◌∙◌, ℕ, List, ◌∷◌, ◌++◌, Result, ap₂, refl, subst, sym}
 use Rattle.sqlite.specs.Files.{over_files}
 use Rattle.sqlite_disk.specs.declared.Disk as disk
-use Rattle.app_commands.specs.Deeds.{AnswersReader, ChecksStatuses, ListsRows, RevokesTarget, ServesCount, TellsAbout}
+use Rattle.app_commands.specs.Deeds.{AnswersReader, ChecksStatuses, ListsRows, RevokesTarget, ServesCount, TellsAbout, TellsPage}
 use Rattle.app_commands.specs.declared.fault.Fault.{Fault}
 use Rattle.desk.specs.Seen.{Told}
 use Rattle.model_lives.proofs.Extends.{histories_are_legal}
@@ -71,6 +71,7 @@ module _ {D : Type 0} (g : disk.Ghosts D) where
       let all : WordsLeave g = words_leave g in
       record {
         about = λ b was is. desk_stays_on (TellsAbout b was is) (all.about b was is);
+        page = λ was is. desk_stays_on (TellsPage was is) (all.page was is);
         status = λ filter f was is. desk_stays_on (ListsRows (orders_roster filter f) was is) (all.status filter f was is);
         accounts = λ f was is. desk_stays_on (ListsRows (accounts_roster f) was is) (all.accounts f was is);
         authorizations = λ filter f was is.

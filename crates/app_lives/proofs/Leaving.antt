@@ -13,8 +13,8 @@ use Rattle.app_batch.specs.LineRequests.{IsRequestOf, call_of}
 use Rattle.app_batch.specs.Said.{RepliesTo, Says}
 use Rattle.app_batch.specs.InTurn.{AnswersEach, AnswersFirst, AreLines, Stops, StopsBehind, not_one, one_more, silent, unread, unwritten}
 use Rattle.app_words.specs.declared.command.Target.{Target}
-use Rattle.app_commands.specs.Deeds.{Adopts, AnswersLines, AnswersReader, BehindClock, ByDesk, ChecksStatuses, FailsToAdopt, IsTold, ListsRows, Revokes, RevokesTarget, Serves, ServesCount, TellsAbout}
-use Rattle.app_commands.specs.Deeds.{adopted, ask_of, clocked, clockless, served, unadopted, unserved}
+use Rattle.app_commands.specs.Deeds.{Adopts, AnswersLines, AnswersReader, BehindClock, ByDesk, ChecksStatuses, FailsToAdopt, IsTold, ListsRows, Revokes, RevokesTarget, Serves}
+use Rattle.app_commands.specs.Deeds.{ServesCount, TellsAbout, TellsPage, adopted, ask_of, clocked, clockless, served, unadopted, unserved}
 use Rattle.app_commands.specs.declared.fault.Fault.{Fault}
 use Rattle.desk_http.specs.InTurn.{ServesAll, ServesClient, ServesMany}
 use Rattle.desk_http.specs.InTurn as turn
@@ -370,6 +370,10 @@ module _ {D : Type 0} (g : disk.Ghosts D) where
   about_leaves b was is bytes how done F over left may =
       (keeps_opened F done over (done.did.reads.honest over.honest)).left left.trees (done.did.reads.left over.honest left.trees may)
 
+  page_leaves : (was is : Option (List ℕ)) → LeavesAsIs g (TellsPage was is)
+  page_leaves was is bytes how done F over left may =
+      (keeps_opened F done over (done.did.reads.honest over.honest)).left left.trees (done.did.reads.left over.honest left.trees may)
+
   list_leaves : {X : Type 0} (r : Roster X) (was is : Option (List ℕ)) → LeavesAsIs g (ListsRows r was is)
   list_leaves r was is bytes how done F over left may =
       (keeps_opened F done over (done.did.reads.honest over.honest)).left left.trees (done.did.reads.left over.honest left.trees may)
@@ -402,6 +406,7 @@ module _ {D : Type 0} (g : disk.Ghosts D) where
   pub words_leave : WordsLeave g
   words_leave = record {
     about = about_leaves;
+    page = page_leaves;
     status = λ filter f. list_leaves (orders_roster filter f);
     accounts = λ f. list_leaves (accounts_roster f);
     authorizations = λ filter f. list_leaves (authorizations_roster filter f);

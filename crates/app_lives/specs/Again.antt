@@ -2,7 +2,7 @@
 use Rattle.std.specs.Prelude.{◌≡◌, ℕ, List, [], ◌∷◌, ◌++◌, Option, Result}
 use Rattle.sqlite_disk.specs.declared.Disk as disk
 use Rattle.app_words.specs.declared.command.Target.{Target}
-use Rattle.app_commands.specs.Deeds.{AnswersReader, ChecksStatuses, ListsRows, RevokesTarget, ServesCount, TellsAbout}
+use Rattle.app_commands.specs.Deeds.{AnswersReader, ChecksStatuses, ListsRows, RevokesTarget, ServesCount, TellsAbout, TellsPage}
 use Rattle.app_commands.specs.declared.fault.Fault.{Fault}
 use Rattle.desk.specs.Seen.{Told, replied}
 use Rattle.desk_model.specs.Entry.{History}
@@ -59,6 +59,7 @@ module _ {D : Type 0} (g : disk.Ghosts D) where
   -- so it is of each word
   pub record WordsGoOn : Type 0 where
     pub about : (b : Beside) (was is : Option (List ℕ)) → StaysOn (TellsAbout b was is)
+    pub page : (was is : Option (List ℕ)) → StaysOn (TellsPage was is)
     pub status : (filter : OrderFilter) (f : Form) (was is : Option (List ℕ)) → StaysOn (ListsRows (orders_roster filter f) was is)
     pub accounts : (f : Form) (was is : Option (List ℕ)) → StaysOn (ListsRows (accounts_roster f) was is)
     pub authorizations : (filter : AuthorizationFilter) (f : Form) (was is : Option (List ℕ)) → StaysOn (ListsRows (authorizations_roster filter f) was is)

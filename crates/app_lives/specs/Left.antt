@@ -7,7 +7,7 @@ use Rattle.sqlite_disk.specs.declared.Disk as disk
 use Rattle.sqlite_disk.specs.declared.Files.{Files}
 use Rattle.sqlite_store.specs.declared.store.FileStore.{FileStore}
 use Rattle.app_words.specs.declared.command.Target.{Target}
-use Rattle.app_commands.specs.Deeds.{Adopts, AnswersReader, ChecksStatuses, FailsToAdopt, ListsRows, RevokesTarget, ServesCount, TellsAbout}
+use Rattle.app_commands.specs.Deeds.{Adopts, AnswersReader, ChecksStatuses, FailsToAdopt, ListsRows, RevokesTarget, ServesCount, TellsAbout, TellsPage}
 use Rattle.app_commands.specs.Statuses.{EndsBackUp}
 use Rattle.app_commands.specs.declared.fault.Fault.{Fault}
 use Rattle.desk.specs.Seen.{Told}
@@ -84,6 +84,7 @@ module _ {D : Type 0} (g : disk.Ghosts D) where
   -- so it is of each word, whose writer was given these bytes and has these in the end, where that is known
   pub record WordsLeave : Type 0 where
     pub about : (b : Beside) (was is : Option (List ℕ)) → LeavesAsIs (TellsAbout b was is)
+    pub page : (was is : Option (List ℕ)) → LeavesAsIs (TellsPage was is)
     pub status : (filter : OrderFilter) (f : Form) (was is : Option (List ℕ)) → LeavesAsIs (ListsRows (orders_roster filter f) was is)
     pub accounts : (f : Form) (was is : Option (List ℕ)) → LeavesAsIs (ListsRows (accounts_roster f) was is)
     pub authorizations : (filter : AuthorizationFilter) (f : Form) (was is : Option (List ℕ)) → LeavesAsIs (ListsRows (authorizations_roster filter f) was is)
