@@ -14,12 +14,15 @@ use Rattle.sqlite.specs.declared.error.Error.TheVariants as error
 use Rattle.sqlite.specs.declared.error.ErrorCode.{ErrorCode}
 use Rattle.sqlite.specs.declared.error.ErrorCode.TheVariants as code
 use Rattle.sql_read.specs.Failures.{IsMet, IsOutOfMemory, is_of_device}
+use Rattle.sql_read.specs.LookUpFaults.{IsOfMemoryOrDisk}
+use Rattle.sql_read.specs.declared.fault.ReadFault.{ReadFault}
+use Rattle.sql_read.specs.declared.fault.ReadFault.TheVariants.{Engine, NotARow}
 use Rattle.sql_read.proofs.MetFaults.{met_on}
 use Rattle.sql_schema.specs.Stays.{Asks}
 use Rattle.sql_schema.specs.Failing.{IsFailure}
 use Rattle.store_api.specs.declared.fault.StorageFault.{StorageFault}
 use Rattle.store_api.specs.declared.fault.StorageFault.TheVariants as fault
-use Rattle.desk_store.specs.Causes.{IsMetFault, IsOfOpening, cause_of}
+use Rattle.desk_store.specs.Causes.{IsMetFault, IsOfOpening, IsOfReading, IsOfStatement, cause_of}
 use Rattle.desk_store.specs.Making.{IsOfStorage}
 use Rattle.desk_store.specs.Opening.{RefusesReading}
 use Rattle.desk_store.specs.declared.faults.Cause.TheVariants as cause
@@ -169,3 +172,25 @@ pub book_met : {R : Type 0} (Other : Type 0) (old new : State) (result : Result 
 book_met Other old new (Ok book) is = tt
 book_met Other old new (Err f) (inl memory) = λ is. absurd (let e = sym memory ∙ is in cc)
 book_met Other old new (Err f) (inr none) = λ is. absurd (let e = sym none.0 ∙ is in cc)
+
+-- ---- look-ups
+
+-- a failure of the disk is an error of it
+disk_error : (e : Error)
+    → (e ≡ error.SqliteFailure code.SystemIoFailure) ⊎ ((e ≡ error.SqliteFailure code.DatabaseCorrupt) ⊎ (e ≡ error.SqliteFailure code.DiskFull))
+    → IsTrue (is_of_device e)
+disk_error e (inl io) = ap is_of_device io
+disk_error e (inr (inl corrupt)) = ap is_of_device corrupt
+disk_error e (inr (inr full)) = ap is_of_device full
+
+-- a look-up that failed for memory or the disk tells of the disk only where it met one more fault
+pub device_met : (old mid new : State) (read : ReadFault) (why : StorageFault) → IsOfMemoryOrDisk old mid read → IsOfReading read why → Asks mid new
+    → why ≡ fault.Device → MoreFaults old.faults new.faults
+device_met old mid new NotARow why cause told asks device = absurd cause
+device_met old mid new (Engine e) why (inl memory, met) told asks device =
+    let of_memory : IsOfStatement cause.Memory why = subst (λ x. IsOfStatement (cause_of x) why) memory told in
+    elim of_memory [
+      | inl goes_on ↦ absurd (let x = sym goes_on ∙ device in cc)
+      | inr shut ↦ absurd (let x = sym shut ∙ device in cc)
+    ]
+device_met old mid new (Engine e) why (inr disk, met) told asks device = met_on old mid new e asks met (disk_error e disk)

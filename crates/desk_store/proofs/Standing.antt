@@ -1,6 +1,7 @@
 -- What a connection still holds after calls that change nothing.
 use Rattle.std.proofs.Common.{◌≡◌, Result, Ok, Err, inl, inr, sym, subst, ◌∙◌, arith}
 use Rattle.std.specs.Prelude.{IfOk, IsTrue, false}
+use Rattle.sqlite_disk.specs.Disk.{MoreFaults}
 use Rattle.sqlite.specs.Held.{Held, state}
 use Rattle.sqlite.specs.State.{State, HasCleanDisk, IsUnchanged, Survives}
 use Rattle.sqlite.specs.Store.{Ghosts}
@@ -109,7 +110,8 @@ module _ {S : Type 0} (g : Ghosts S) where
   -- a call that failed; the connection of a store that goes on is open
   pub reads_failed : {R : Type 0} (old new : Store S) (why : StorageFault) → old.known ≡ new.known → Asks (state g old.conn) (state g new.conn)
       → (HasCleanDisk (state g new.conn) → why ≡ fault.Memory → IsTrue (state g new.conn).is_open)
-      → FailsToLookUp g old.conn new.conn why → Reads (store_sight g) old new (failed R why)
+      → (HasCleanDisk (state g new.conn) → (T : Tables) → HasTables g old T → FailsToLookUp g old.conn new.conn why)
+      → Reads (store_sight g) old new (failed R why)
   reads_failed old new why known asks is_open fails = record {
     honest = honest_by old new asks.survives;
     left = left_by old new asks.survives;
@@ -118,18 +120,21 @@ module _ {S : Type 0} (g : Ghosts S) where
       desk = desk_stays (state g old.conn) (state g new.conn) T (is_open clean memory) asks clean held.desk;
       known = subst (λ k. IsKnownOf k T) known held.known;
     };
-    failed = λ clean T held. inr (record { from = old; stands = stands_here; fails = fails });
+    failed = λ clean T held. inr (record { from = old; stands = stands_here; fails = fails clean T held });
   }
 
   -- a call that failed; the connection of a store that goes on is still open
   pub reads_err : {R : Type 0} (old new : Store S) (mid : Held S) (why : StorageFault) → old.known ≡ new.known → Asks (state g old.conn) (state g mid)
       → Asks (state g mid) (state g new.conn)
       → (HasCleanDisk (state g new.conn) → why ≡ fault.Memory → IsUnchanged (state g mid) (state g new.conn))
-      → (HasCleanDisk (state g new.conn) → why ≡ fault.Reopen → IsSilent (state g mid) (state g new.conn)) → Reads (store_sight g) old new (failed R why)
-  reads_err old new mid why known asked tested same silent =
+      → (HasCleanDisk (state g new.conn) → why ≡ fault.Reopen → IsSilent (state g mid) (state g new.conn))
+      → (HasCleanDisk (state g new.conn) → (T : Tables) → HasTables g old T → why ≡ fault.Device
+      → MoreFaults (state g old.conn).faults (state g new.conn).faults)
+      → Reads (store_sight g) old new (failed R why)
+  reads_err old new mid why known asked tested same silent met =
       reads_failed old new why known (asks_then (state g old.conn) (state g mid) (state g new.conn) asked tested)
       (λ clean memory. (same clean memory).0.is_open)
-      (λ clean shut. record { from = mid; asked = asked; silent = silent clean shut })
+      (λ clean T held. record { met = λ _. met clean T held; shut = λ _ shut. record { from = mid; asked = asked; silent = silent clean shut } })
 
   -- what a reading found is found by what hands it on
   pub hands_on : {R E : Type 0} (P : Tables → R → Type 0) (old : Store S) (mid new : State) (read : Result R E) (result : Result R StorageFault)

@@ -53,9 +53,10 @@ module _ {S : Type 0} (g : Ghosts S) where
     pub asked : Asks (state g old) (state g from)
     pub silent : IsSilent (state g from) (state g new)
 
-  -- a look-up is told to open the store again only where the connection, asked so, failed
-  abbrev pub FailsToLookUp : Held S → Held S → StorageFault → Type 0
-  FailsToLookUp old new why = HasCleanDisk (state g new) → why ≡ fault.Reopen → IsShut old new
+  -- a look-up tells that the disk failed only where it met one more fault, and to open the store again only where the connection, asked so, failed
+  pub record FailsToLookUp (old new : Held S) (why : StorageFault) : Type 0 where
+    pub met : HasCleanDisk (state g new) → why ≡ fault.Device → MoreFaults (state g old).faults (state g new).faults
+    pub shut : HasCleanDisk (state g new) → why ≡ fault.Reopen → IsShut old new
 
 -- the fault of a statement that failed
 abbrev pub IsOfStatement : Cause → StorageFault → Type 0

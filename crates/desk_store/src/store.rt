@@ -10,6 +10,9 @@ ghost use Rattle.sql_write.specs.Standing.{IsPartIn};
 ghost use Rattle.sql_schema.specs.Names.{uses_key_table, uses_names};
 ghost use Rattle.sql_schema.specs.Schema.{no_schema};
 ghost use Rattle.sql_schema.specs.Stays.{Asks};
+ghost use Rattle.sql_read.specs.Failures.{MayRead};
+ghost use Rattle.sql_read.specs.Held.{ForHeld};
+ghost use Rattle.sql_read.specs.LookUpFaults.{IsOfMemoryOrDisk};
 ghost use Rattle.store_api.specs.Sight.{ForTables, Keeps, Reads};
 ghost use Rattle.store_api.specs.Storing.{Loads, Saves, SavesOf};
 ghost use Rattle.store_api.specs.declared.fault.StorageFault.TheVariants.{Memory as memory, Reopen as reopen};
@@ -20,6 +23,7 @@ ghost use Rattle.desk_store.specs.Opening.{FailedToOpen, HasLaterFormat, IsUpgra
 ghost use Rattle.desk_store.specs.Opening.{RefusesFormat, ShowsNoDesk, ShowsNoLaterFormat};
 ghost use Rattle.desk_store.specs.declared.open_fault.OpenFault.TheVariants.{NewerFormat as newer_format, NotADesk as not_a_desk, Storage as of_storage};
 ghost use Rattle.sql_upgrade.specs.FirstDesks.{HasFirst};
+ghost use Rattle.store_book.specs.IsBook.{IsStoredBook};
 
 use crate::faults::{reading_fault, saving_fault};
 use crate::known::Known;
@@ -251,6 +255,8 @@ impl<S: Alter> Store<S> {
     pub(crate) fn told<R>(&mut self, read: Result<R, ReadFault>) -> Result<R, StorageFault>
         ensures reads { (was : Store S) → was.known ≡ self.old.known → Asks (state S.Store was.conn) (state S.Store self.old.conn)
             → (HasCleanDisk (state S.Store self.old.conn) → OnOk read (IsUnchanged (state S.Store was.conn) (state S.Store self.old.conn)))
+            → (ForHeld (state S.Store was.conn) (state S.Store self.old.conn) (λ T. IsStoredBook T → MayRead (state S.Store was.conn)
+            → IfErr read (IsOfMemoryOrDisk (state S.Store was.conn) (state S.Store self.old.conn))))
             → Reads (store_sight S.Store) was self.new result }
         ensures known { self.new.known ≡ self.old.known }
         ensures found { IfOk result (λ found. read ≡ Ok found) }

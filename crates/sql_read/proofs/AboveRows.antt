@@ -54,7 +54,7 @@ use Rattle.sql_read.proofs.Told.{challenge_project, challenge_spelled, order_pro
 -- ---- texts
 
 -- the number is above the first parameter
-abbrev is_higher : List Term
+abbrev pub is_higher : List Term
 is_higher = op2 (Compare Gt Binary) (col 1 0) (col 0 0) ∷ []
 
 -- an account

@@ -37,6 +37,7 @@ use Rattle.sql_tables.specs.Layouts.{HasRows, Layout, authorization_layout, nonc
 use Rattle.sql_tables.proofs.Holding.{authorizations_held, nonces_held, orders_held}
 use Rattle.sql_tables.proofs.Keyed.{three}
 use Rattle.sql_read.specs.Earliest.{IsEarliest, authorization_ends, first_number, issues, order_ends}
+use Rattle.sql_read.specs.LookUpFaults.{BeginWithMoment}
 use Rattle.sql_schema.specs.declared.authorizations.TheConstants as authz
 use Rattle.sql_schema.specs.declared.nonces.TheConstants as nonce
 use Rattle.sql_schema.specs.declared.orders.TheConstants as ord
@@ -146,6 +147,30 @@ module _ (tree : ℕ) (tests project : List Term) (place : ℕ) where
       (subst (λ p. IsSorted (output_cmp query) (p ∷ os)) moment.1 up))
 
 -- ---- moments of a table
+
+-- what is shown of each row is a moment
+all_moments : {X : Type 0} (end : X → ℕ) (xs : List X) → AllByRecursion IsMoment (map (λ x. twice (end x)) xs)
+all_moments end [] = tt
+all_moments end (x ∷ xs) = ((end x, refl), all_moments end xs)
+
+-- so the first is one
+begin_with_moment : (os : List Output) (rows : List Row) → AllByRecursion IsMoment os → rows ≡ first_of (map (λ (o : Output). o.1) os) → BeginWithMoment rows
+begin_with_moment [] rows all are = subst BeginWithMoment (sym are) tt
+begin_with_moment (o ∷ os) rows all are = subst BeginWithMoment (sym are) (all.0.0, ap (λ (p : Output). p.1) all.0.1)
+
+-- whatever rows the query leaves
+pub shows_moment : {X : Type 0} (L : Layout X) (end : X → ℕ) (text : List ℕ) (tests : List Term) (place : ℕ) (params : Row)
+    → IsReadingUpTo first_row text L.table.tree tests (col 1 place ∷ []) (by place ∷ []) → ((db : Trees) → overlay db [] L.table.tree ≡ db L.table.tree)
+    → ((x : X) → output (picked L.table.tree tests (col 1 place ∷ []) (by place ∷ [])) (params ∷ L.image x ∷ []) ≡ twice (end x))
+    → (old new : State) (xs : List X) (rows : List Row) → HasRows L old.now xs → Shown text params old new rows → BeginWithMoment rows
+shows_moment {X} L end text tests place params reading low shows old new xs rows has h =
+    let test = λ (x : X). passes tests params (L.image x) in
+    let answered = answers_up_to L.image (λ (x : X). x) L.table.tree tests (col 1 place ∷ []) (by place ∷ []) params test (λ x. twice (end x)) (λ _. refl)
+    shows first_row text reading low old new xs rows has.schema has.rows_are h in
+    let it = answered.1 in
+    let ys = filter test (map (λ (x : X). x) xs) in
+    begin_with_moment it.ordered rows (all-permutation IsMoment (map (λ x. twice (end x)) ys) it.ordered it.same (all_moments end ys))
+    (answered.2 ∙ ap first_of it.shown)
 
 -- of the rows that pass a test
 pub earliest_found : {X : Type 0} (L : Layout X) (end : X → ℕ) (text : List ℕ) (tests : List Term) (place : ℕ) (params : Row) (test : X → Bool)

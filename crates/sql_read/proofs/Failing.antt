@@ -53,7 +53,7 @@ abbrev pub IsFirstSure : List ℕ → ℕ → List Term → List (Term × Key) �
 IsFirstSure = IsSureIn first_schema
 
 -- a failure of an open store
-failed : (old new : State) (e : Error) (cause : StoreError) → IsTrue old.is_open → e ≡ store_error cause → HasCause old new ⊥ cause → IsFailure e
+pub failed : (old new : State) (e : Error) (cause : StoreError) → IsTrue old.is_open → e ≡ store_error cause → HasCause old new ⊥ cause → IsFailure e
 failed old new e store.OutOfMemory is_open is why = inl is
 failed old new e store.Io is_open is why = inr (inl is)
 failed old new e store.Corrupt is_open is why = inr (inr (inl is))

@@ -103,6 +103,17 @@ answered_found {E} r T c date own is read = by c.answered own is
         let same : a.date ≡ date = same_Some a.date date is in
         read_then r (read key (own key refl)) (λ found it. it ∙ (λ i. Some (record a { date = sym same i })))
 
+-- where a challenge was answered, its key serves
+pub with_key : {Q : Type 0} (T : Tables) (c : ChallengeRow) (date : ℕ) → HasItsKey T c → option_map (λ (a : Answer). a.date) c.answered ≡ Some date
+    → ((key : AnswerKey) → keys_of T c.number ≡ key ∷ [] → Q) → Q
+with_key {Q} T c date own is serve = by c.answered own is
+  where
+    by : (o : Option Answer)
+        → ((k : AnswerKey) → option_map (λ (a : Answer). record { challenge = c.number; thumb = a.thumb }) o ≡ Some k → keys_of T c.number ≡ k ∷ [])
+        → option_map (λ (a : Answer). a.date) o ≡ Some date → Q
+    by None own is = absurd (let x = is in cc)
+    by (Some a) own is = let key : AnswerKey = record { challenge = c.number; thumb = a.thumb } in serve key (own key refl)
+
 -- ---- in the tables of a desk
 
 -- the bare challenges of one authorization

@@ -16,6 +16,7 @@ pub mod KeyRows
 pub mod KeyedReadings
 pub mod ListedOrder
 pub mod Lists
+pub mod LookUpFaults
 pub mod Loading
 pub mod LookUpReadings
 pub mod LookUpRows
@@ -30,6 +31,9 @@ pub mod ShownRows
 pub mod ShownTables
 pub mod StatusTests
 pub mod Streaming
+pub mod SureLookUps
+pub mod SureQueries
+pub mod SureTables
 pub mod SureTexts
 pub mod TableFailures
 pub mod Tests

@@ -111,6 +111,21 @@ listed_strictly tests n (o ∷ os) up places =
 
 -- ---- look-ups
 
+-- what a text picks is shown in this order
+pub listed_shown : (old new : State) (T : Tables) (rows : List Row) → Holds old.now T → IsStoredBook T → (text : List ℕ) (tests : List Term) (params : Row)
+    (sql : Owned Listed → Bool) → IsReading text 6 tests listed_project (by 1 ∷ by 2 ∷ [])
+    → ((t : ℕ × Owned Listed) → passes tests params (hidden listed_cells t) ≡ sql t.1) → Shown text params old new rows
+    → rows ≡ map listed_cells (filter sql (listed_rows T.orders))
+listed_shown old new T rows has book text tests params sql reading tests_are shown =
+    let order = by 1 ∷ by 2 ∷ [] in
+    let ts = has.listed.numbered in
+    let ls = listed_rows T.orders in
+    let answered = answers (hidden listed_cells) row_of 6 tests listed_project order params sql placed tests_are (λ _. refl)
+    text reading (λ _. refl) old new ts rows has.schema has.listed.has shown in
+    let same = IsPermutation-filter sql (map row_of ts) ls has.listed.same in
+    let up = IsStrictlySortedBy-filter (ranks tests) sql ls (listed_strictly tests 0 T.orders has.rising.orders book.book.in_order.places) in
+    shown_in_order (picked 6 tests listed_project order) placed (filter sql (map row_of ts)) (filter sql ls) rows same up answered
+
 module _ (old new : State) (T : Tables) (rows : List Row) (values : Row) (has : Holds old.now T) (book : IsStoredBook T)
     (found : List (Owned Listed)) (kept : EachOf IsStoredListed found) (spells : map listed_in rows ≡ map listed_columns found) where
   -- those that a text picks
@@ -120,15 +135,8 @@ module _ (old new : State) (T : Tables) (rows : List Row) (values : Row) (has : 
       → ((x : Owned Listed) → IsStoredListed x → sql x ≡ test x)
       → values ≡ params → Shown text values old new rows → found ≡ filter test (listed_rows T.orders)
   listed text tests params sql test reading tests_are agree given h =
-      let order = by 1 ∷ by 2 ∷ [] in
-      let ts = has.listed.numbered in
       let ls = listed_rows T.orders in
-      let shown = subst (λ v. Shown text v old new rows) given h in
-      let answered = answers (hidden listed_cells) row_of 6 tests listed_project order params sql placed tests_are (λ _. refl)
-      text reading (λ _. refl) old new ts rows has.schema has.listed.has shown in
-      let same = IsPermutation-filter sql (map row_of ts) ls has.listed.same in
-      let up = IsStrictlySortedBy-filter (ranks tests) sql ls (listed_strictly tests 0 T.orders has.rising.orders book.book.in_order.places) in
-      let rows_are = shown_in_order (picked 6 tests listed_project order) placed (filter sql (map row_of ts)) (filter sql ls) rows same up answered in
+      let rows_are = listed_shown old new T rows has book text tests params sql reading tests_are (subst (λ v. Shown text v old new rows) given h) in
       let columns = columns_of listed_in listed_params listed_columns listed_back (filter sql ls) rows rows_are in
       table-apart listed_columns IsStoredListed listed-apart found (filter sql ls) kept (each-filter IsStoredListed sql ls book.stored.listed)
       (sym spells ∙ columns)

@@ -10,6 +10,7 @@ pub mod Format
 pub mod Heads
 pub mod Held
 pub mod Keys
+pub mod LookUpFaults
 pub mod Queries
 pub mod Reads
 pub mod Selecting

@@ -1,12 +1,14 @@
 //! Accounts, read from the rows of an answer and looked up.
-ghost use Rattle.std.specs.Prelude.{◌≡◌, IfOk, OnOk};
+ghost use Rattle.std.specs.Prelude.{◌≡◌, IfErr, IfOk, OnOk};
 ghost use Rattle.sqlite.specs.State.{HasCleanDisk, IsUnchanged};
 ghost use Rattle.sqlite.specs.Held.{state};
 ghost use Rattle.model_lives.specs.Above.{accounts_above, first_of};
 ghost use Rattle.model_lives.specs.LookUps.{accounts_where};
 ghost use Rattle.sql_schema.specs.Stays.{Asks};
+ghost use Rattle.sql_read.specs.Failures.{MayRead};
 ghost use Rattle.sql_read.specs.Fitting.{FitsAccount};
 ghost use Rattle.sql_read.specs.Held.{ForHeld};
+ghost use Rattle.sql_read.specs.LookUpFaults.{IsOfMemoryOrDisk};
 ghost use Rattle.sql_read.specs.Queries.{account_params, account_text, bound_by};
 ghost use Rattle.sql_read.specs.Spelled.{account_in};
 ghost use Rattle.store_book.specs.IsBook.{IsStoredBook};
@@ -73,7 +75,8 @@ fn params_of<'a>(which: AccountsWhere<'a>) -> Params<'a>
 ///
 /// # Errors
 ///
-/// The engine's, and `NotARow` where a row is not one of a desk; nothing is changed.
+/// The engine's, and `NotARow` where a row is not one of a desk; nothing is changed. Of a desk's tables it fails for memory or the
+/// disk alone.
 pub fn find_accounts<S: Alter>(
     alloc: Global,
     conn: &mut Connection<S>,
@@ -81,6 +84,8 @@ pub fn find_accounts<S: Alter>(
 ) -> Result<Vec<AccountRow>, ReadFault>
     ensures found { ForHeld (state S.Store conn.old) (state S.Store conn.new) (λ T. IsStoredBook T
         → IfOk result (λ rows. rows.items ≡ accounts_where T which.entry)) }
+    ensures caused { ForHeld (state S.Store conn.old) (state S.Store conn.new) (λ T. IsStoredBook T → MayRead (state S.Store conn.old)
+        → IfErr result (IsOfMemoryOrDisk (state S.Store conn.old) (state S.Store conn.new))) }
     ensures unchanged { HasCleanDisk (state S.Store conn.new) → OnOk result (IsUnchanged (state S.Store conn.old) (state S.Store conn.new)) }
     ensures asks { Asks (state S.Store conn.old) (state S.Store conn.new) }
 {
@@ -91,7 +96,8 @@ pub fn find_accounts<S: Alter>(
 ///
 /// # Errors
 ///
-/// The engine's, and `NotARow` where a row is not one of a desk; nothing is changed.
+/// The engine's, and `NotARow` where a row is not one of a desk; nothing is changed. Of a desk's tables it fails for memory or the
+/// disk alone.
 pub fn account_above<S: Alter>(
     alloc: Global,
     conn: &mut Connection<S>,
@@ -99,6 +105,8 @@ pub fn account_above<S: Alter>(
 ) -> Result<Vec<AccountRow>, ReadFault>
     ensures found { ForHeld (state S.Store conn.old) (state S.Store conn.new) (λ T. IsStoredBook T
         → IfOk result (λ rows. rows.items ≡ first_of (accounts_above T number))) }
+    ensures caused { ForHeld (state S.Store conn.old) (state S.Store conn.new) (λ T. IsStoredBook T → MayRead (state S.Store conn.old)
+        → IfErr result (IsOfMemoryOrDisk (state S.Store conn.old) (state S.Store conn.new))) }
     ensures unchanged { HasCleanDisk (state S.Store conn.new) → OnOk result (IsUnchanged (state S.Store conn.old) (state S.Store conn.new)) }
     ensures asks { Asks (state S.Store conn.old) (state S.Store conn.new) }
 {

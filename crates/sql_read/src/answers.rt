@@ -1,5 +1,5 @@
 //! Challenges, each with the key of its answer.
-ghost use Rattle.std.specs.Prelude.{◌≡◌, [], ◌∷◌, List, Some, IfOk, IsTrue, OnOk, map, option_map};
+ghost use Rattle.std.specs.Prelude.{◌≡◌, [], ◌∷◌, List, Some, IfErr, IfOk, IsTrue, OnOk, map, option_map};
 ghost use Rattle.sqlite.specs.State.{HasCleanDisk, IsUnchanged};
 ghost use Rattle.sqlite.specs.Held.{state};
 ghost use Rattle.store_columns.specs.Flat.{bare};
@@ -7,9 +7,11 @@ ghost use Rattle.store_columns.specs.declared.flat_rows.AnswerKey.{AnswerKey as 
 ghost use Rattle.desk_model.specs.Kept.{EachOf};
 ghost use Rattle.desk_model.specs.declared.rows.ChallengeRow.{ChallengeRow as Challenge};
 ghost use Rattle.sql_schema.specs.Stays.{Asks};
+ghost use Rattle.sql_read.specs.Failures.{MayRead};
 ghost use Rattle.sql_read.specs.Fitting.{FitsKey};
 ghost use Rattle.sql_read.specs.Held.{ForHeld};
 ghost use Rattle.sql_read.specs.Keys.{HasItsKey, answered_as, keys_of};
+ghost use Rattle.sql_read.specs.LookUpFaults.{IsOfMemoryOrDisk};
 ghost use Rattle.sql_read.specs.Spelled.{key_in};
 ghost use Rattle.store_book.specs.IsBook.{IsStoredBook};
 
@@ -38,7 +40,8 @@ impl Selected for ChallKeyColumns {
 
 // The answer of this moment under the last of these keys; of an answered challenge it is the only one.
 fn last_answer(date: u64, mut keys: Vec<AnswerKey>) -> Result<Option<Answer>, ReadFault>
-    ensures { (key : KeyRow) → keys.items ≡ key ∷ [] → IfOk result (λ found. found ≡ Some (record { date = date; thumb = key.thumb })) }
+    ensures answer { (key : KeyRow) → keys.items ≡ key ∷ [] → IfOk result (λ found. found ≡ Some (record { date = date; thumb = key.thumb })) }
+    ensures none { IfErr result (λ _. keys.items ≡ []) }
 {
     let key = keys.pop().ok_or(ReadFault::NotARow)?;
     let thumb = key.thumb;
@@ -54,6 +57,8 @@ fn answer_of<S: Alter>(
 ) -> Result<Option<Answer>, ReadFault>
     ensures found { ForHeld (state S.Store conn.old) (state S.Store conn.new) (λ T. IsStoredBook T → (key : KeyRow) → keys_of T number ≡ key ∷ []
         → IfOk result (λ found. found ≡ Some (record { date = date; thumb = key.thumb }))) }
+    ensures caused { ForHeld (state S.Store conn.old) (state S.Store conn.new) (λ T. IsStoredBook T → MayRead (state S.Store conn.old)
+        → (key : KeyRow) → keys_of T number ≡ key ∷ [] → IfErr result (IsOfMemoryOrDisk (state S.Store conn.old) (state S.Store conn.new))) }
     ensures unchanged { HasCleanDisk (state S.Store conn.new) → OnOk result (IsUnchanged (state S.Store conn.old) (state S.Store conn.new)) }
     ensures asks { Asks (state S.Store conn.old) (state S.Store conn.new) }
 {
@@ -70,6 +75,8 @@ fn answer_to<S: Alter>(
 ) -> Result<Option<Answer>, ReadFault>
     ensures found { ForHeld (state S.Store conn.old) (state S.Store conn.new) (λ T. IsStoredBook T → (c : Challenge) → HasItsKey T c
         → row.now ≡ bare c → IfOk result (λ found. found ≡ c.answered)) }
+    ensures caused { ForHeld (state S.Store conn.old) (state S.Store conn.new) (λ T. IsStoredBook T → MayRead (state S.Store conn.old)
+        → (c : Challenge) → HasItsKey T c → row.now ≡ bare c → IfErr result (IsOfMemoryOrDisk (state S.Store conn.old) (state S.Store conn.new))) }
     ensures unchanged { HasCleanDisk (state S.Store conn.new) → IsTrue (state S.Store conn.old).is_open
         → OnOk result (IsUnchanged (state S.Store conn.old) (state S.Store conn.new)) }
     ensures asks { Asks (state S.Store conn.old) (state S.Store conn.new) }
@@ -103,6 +110,9 @@ pub(crate) fn with_answers<S: Alter>(
 ) -> Result<Vec<ChallengeRow>, ReadFault>
     ensures found { ForHeld (state S.Store conn.old) (state S.Store conn.new) (λ T. IsStoredBook T → IsTrue (state S.Store conn.old).is_open
         → (rows : List Challenge) → EachOf (HasItsKey T) rows → heads.now ≡ map bare rows → IfOk result (λ found. found.items ≡ rows)) }
+    ensures caused { ForHeld (state S.Store conn.old) (state S.Store conn.new) (λ T. IsStoredBook T → MayRead (state S.Store conn.old)
+        → (rows : List Challenge) → EachOf (HasItsKey T) rows → heads.now ≡ map bare rows
+        → IfErr result (IsOfMemoryOrDisk (state S.Store conn.old) (state S.Store conn.new))) }
     ensures unchanged { HasCleanDisk (state S.Store conn.new) → IsTrue (state S.Store conn.old).is_open
         → OnOk result (IsUnchanged (state S.Store conn.old) (state S.Store conn.new)) }
     ensures asks { Asks (state S.Store conn.old) (state S.Store conn.new) }

@@ -1,5 +1,5 @@
 //! Authorizations, each with its challenges, read from the rows of answers and looked up.
-ghost use Rattle.std.specs.Prelude.{◌≡◌, IfOk, OnOk};
+ghost use Rattle.std.specs.Prelude.{◌≡◌, IfErr, IfOk, OnOk};
 ghost use Rattle.sqlite.specs.State.{HasCleanDisk, IsUnchanged};
 ghost use Rattle.sqlite.specs.Held.{state};
 ghost use Rattle.store_columns.specs.Flat.{without_challenges};
@@ -7,8 +7,10 @@ ghost use Rattle.model_lives.specs.Above.{authorizations_above, challenges_above
 ghost use Rattle.model_lives.specs.LookUps.{AreNumbers, authorizations_where, owners_of, owners_processing};
 ghost use Rattle.sql_schema.specs.Stays.{Asks};
 ghost use Rattle.sql_read.specs.Earliest.{IsEarliest, authorization_ends};
+ghost use Rattle.sql_read.specs.Failures.{MayRead};
 ghost use Rattle.sql_read.specs.Fitting.{FitsAuthorization, FitsChallenge};
 ghost use Rattle.sql_read.specs.Held.{ForHeld};
+ghost use Rattle.sql_read.specs.LookUpFaults.{IsOfMemoryOrDisk};
 ghost use Rattle.sql_read.specs.Queries.{authorization_params, authorization_text, bound_by};
 ghost use Rattle.sql_read.specs.Spelled.{authorization_in, challenge_in};
 ghost use Rattle.store_book.specs.IsBook.{IsStoredBook};
@@ -132,7 +134,8 @@ fn params_of<'a>(which: AuthorizationsWhere<'a>) -> Params<'a>
 ///
 /// # Errors
 ///
-/// The engine's, and `NotARow` where a row is not one of a desk; nothing is changed.
+/// The engine's, and `NotARow` where a row is not one of a desk; nothing is changed. Of a desk's tables it fails for memory or the
+/// disk alone.
 pub fn find_authorizations<S: Alter>(
     alloc: Global,
     conn: &mut Connection<S>,
@@ -140,6 +143,8 @@ pub fn find_authorizations<S: Alter>(
 ) -> Result<Vec<AuthorizationRow>, ReadFault>
     ensures found { ForHeld (state S.Store conn.old) (state S.Store conn.new) (λ T. IsStoredBook T
         → IfOk result (λ rows. rows.items ≡ authorizations_where T which.entry)) }
+    ensures caused { ForHeld (state S.Store conn.old) (state S.Store conn.new) (λ T. IsStoredBook T → MayRead (state S.Store conn.old)
+        → IfErr result (IsOfMemoryOrDisk (state S.Store conn.old) (state S.Store conn.new))) }
     ensures unchanged { HasCleanDisk (state S.Store conn.new) → OnOk result (IsUnchanged (state S.Store conn.old) (state S.Store conn.new)) }
     ensures asks { Asks (state S.Store conn.old) (state S.Store conn.new) }
 {
@@ -150,13 +155,16 @@ pub fn find_authorizations<S: Alter>(
 ///
 /// # Errors
 ///
-/// The engine's, and `NotARow` where a row is not one of a desk; nothing is changed.
+/// The engine's, and `NotARow` where a row is not one of a desk; nothing is changed. Of a desk's tables it fails for memory or the
+/// disk alone.
 pub fn owners_of<S: Alter>(
     alloc: Global,
     conn: &mut Connection<S>,
     challenge: u64,
 ) -> Result<Vec<u64>, ReadFault>
     ensures found { ForHeld (state S.Store conn.old) (state S.Store conn.new) (λ T. IsStoredBook T → IfOk result (λ rows. rows.items ≡ owners_of T challenge)) }
+    ensures caused { ForHeld (state S.Store conn.old) (state S.Store conn.new) (λ T. IsStoredBook T → MayRead (state S.Store conn.old)
+        → IfErr result (IsOfMemoryOrDisk (state S.Store conn.old) (state S.Store conn.new))) }
     ensures unchanged { HasCleanDisk (state S.Store conn.new) → OnOk result (IsUnchanged (state S.Store conn.old) (state S.Store conn.new)) }
     ensures asks { Asks (state S.Store conn.old) (state S.Store conn.new) }
 {
@@ -169,13 +177,16 @@ pub fn owners_of<S: Alter>(
 ///
 /// # Errors
 ///
-/// The engine's, and `NotARow` where a row is not one of a desk; nothing is changed.
+/// The engine's, and `NotARow` where a row is not one of a desk; nothing is changed. Of a desk's tables it fails for memory or the
+/// disk alone.
 pub fn owners_processing<S: Alter>(
     alloc: Global,
     conn: &mut Connection<S>,
 ) -> Result<Vec<u64>, ReadFault>
     ensures found { ForHeld (state S.Store conn.old) (state S.Store conn.new) (λ T. IsStoredBook T
         → IfOk result (λ numbers. AreNumbers numbers.items (owners_processing T))) }
+    ensures caused { ForHeld (state S.Store conn.old) (state S.Store conn.new) (λ T. IsStoredBook T → MayRead (state S.Store conn.old)
+        → IfErr result (IsOfMemoryOrDisk (state S.Store conn.old) (state S.Store conn.new))) }
     ensures unchanged { HasCleanDisk (state S.Store conn.new) → OnOk result (IsUnchanged (state S.Store conn.old) (state S.Store conn.new)) }
     ensures asks { Asks (state S.Store conn.old) (state S.Store conn.new) }
 {
@@ -188,7 +199,8 @@ pub fn owners_processing<S: Alter>(
 ///
 /// # Errors
 ///
-/// The engine's, and `NotARow` where a row is not one of a desk; nothing is changed.
+/// The engine's, and `NotARow` where a row is not one of a desk; nothing is changed. Of a desk's tables it fails for memory or the
+/// disk alone.
 pub fn authorization_above<S: Alter>(
     alloc: Global,
     conn: &mut Connection<S>,
@@ -196,6 +208,8 @@ pub fn authorization_above<S: Alter>(
 ) -> Result<Vec<AuthorizationRow>, ReadFault>
     ensures found { ForHeld (state S.Store conn.old) (state S.Store conn.new) (λ T. IsStoredBook T
         → IfOk result (λ rows. rows.items ≡ first_of (authorizations_above T number))) }
+    ensures caused { ForHeld (state S.Store conn.old) (state S.Store conn.new) (λ T. IsStoredBook T → MayRead (state S.Store conn.old)
+        → IfErr result (IsOfMemoryOrDisk (state S.Store conn.old) (state S.Store conn.new))) }
     ensures unchanged { HasCleanDisk (state S.Store conn.new) → OnOk result (IsUnchanged (state S.Store conn.old) (state S.Store conn.new)) }
     ensures asks { Asks (state S.Store conn.old) (state S.Store conn.new) }
 {
@@ -207,7 +221,8 @@ pub fn authorization_above<S: Alter>(
 ///
 /// # Errors
 ///
-/// The engine's, and `NotARow` where a row is not one of a desk; nothing is changed.
+/// The engine's, and `NotARow` where a row is not one of a desk; nothing is changed. Of a desk's tables it fails for memory or the
+/// disk alone.
 pub fn challenge_above<S: Alter>(
     alloc: Global,
     conn: &mut Connection<S>,
@@ -215,6 +230,8 @@ pub fn challenge_above<S: Alter>(
 ) -> Result<Vec<ChallengeRow>, ReadFault>
     ensures found { ForHeld (state S.Store conn.old) (state S.Store conn.new) (λ T. IsStoredBook T
         → IfOk result (λ rows. rows.items ≡ first_of (challenges_above T number))) }
+    ensures caused { ForHeld (state S.Store conn.old) (state S.Store conn.new) (λ T. IsStoredBook T → MayRead (state S.Store conn.old)
+        → IfErr result (IsOfMemoryOrDisk (state S.Store conn.old) (state S.Store conn.new))) }
     ensures unchanged { HasCleanDisk (state S.Store conn.new) → OnOk result (IsUnchanged (state S.Store conn.old) (state S.Store conn.new)) }
     ensures asks { Asks (state S.Store conn.old) (state S.Store conn.new) }
 {
@@ -226,12 +243,15 @@ pub fn challenge_above<S: Alter>(
 ///
 /// # Errors
 ///
-/// The engine's, and `NotARow` where a row is not one of a desk; nothing is changed.
+/// The engine's, and `NotARow` where a row is not one of a desk; nothing is changed. Of a desk's tables it fails for memory or the
+/// disk alone.
 pub fn earliest_authorization_end<S: Alter>(
     conn: &mut Connection<S>,
     status: AuthzStatus,
 ) -> Result<Option<u64>, ReadFault>
     ensures found { ForHeld (state S.Store conn.old) (state S.Store conn.new) (λ T. IfOk result (IsEarliest (authorization_ends T status))) }
+    ensures caused { ForHeld (state S.Store conn.old) (state S.Store conn.new) (λ T. IsStoredBook T → MayRead (state S.Store conn.old)
+        → IfErr result (IsOfMemoryOrDisk (state S.Store conn.old) (state S.Store conn.new))) }
     ensures unchanged { HasCleanDisk (state S.Store conn.new) → OnOk result (IsUnchanged (state S.Store conn.old) (state S.Store conn.new)) }
     ensures asks { Asks (state S.Store conn.old) (state S.Store conn.new) }
 {

@@ -1,11 +1,13 @@
 //! The row of the desk.
-ghost use Rattle.std.specs.Prelude.{◌≡◌, [], ◌∷◌, IfOk, OnOk};
+ghost use Rattle.std.specs.Prelude.{◌≡◌, [], ◌∷◌, IfErr, IfOk, OnOk};
 ghost use Rattle.sqlite.specs.State.{HasCleanDisk, IsUnchanged};
 ghost use Rattle.sqlite.specs.Held.{state};
 ghost use Rattle.desk_model.specs.declared.rows.Meta.{Meta as MetaRow};
 ghost use Rattle.sql_schema.specs.Stays.{Asks};
+ghost use Rattle.sql_read.specs.Failures.{MayRead};
 ghost use Rattle.sql_read.specs.Fitting.{FitsMeta};
 ghost use Rattle.sql_read.specs.Held.{ForHeld};
+ghost use Rattle.sql_read.specs.LookUpFaults.{IsOfMemoryOrDisk};
 ghost use Rattle.sql_read.specs.Spelled.{meta_in};
 ghost use Rattle.store_book.specs.IsBook.{IsStoredBook};
 
@@ -58,7 +60,8 @@ impl Selected for MetaColumns {
 
 // The last row; of a desk it is the only one.
 fn last_row(mut rows: Vec<Meta>) -> Result<Meta, ReadFault>
-    ensures { (row : MetaRow) → rows.items ≡ row ∷ [] → IfOk result (λ found. found ≡ row) }
+    ensures row { (row : MetaRow) → rows.items ≡ row ∷ [] → IfOk result (λ found. found ≡ row) }
+    ensures none { IfErr result (λ _. rows.items ≡ []) }
 {
     rows.pop().ok_or(ReadFault::NotARow)
 }
@@ -67,9 +70,12 @@ fn last_row(mut rows: Vec<Meta>) -> Result<Meta, ReadFault>
 ///
 /// # Errors
 ///
-/// The engine's, and `NotARow` where no row of a desk is there; nothing is changed.
+/// The engine's, and `NotARow` where no row of a desk is there; nothing is changed. Of a desk's tables it fails for memory or the
+/// disk alone.
 pub fn meta_row<S: Alter>(alloc: Global, conn: &mut Connection<S>) -> Result<Meta, ReadFault>
     ensures found { ForHeld (state S.Store conn.old) (state S.Store conn.new) (λ T. IsStoredBook T → IfOk result (λ meta. meta ≡ T.meta)) }
+    ensures caused { ForHeld (state S.Store conn.old) (state S.Store conn.new) (λ T. IsStoredBook T → MayRead (state S.Store conn.old)
+        → IfErr result (IsOfMemoryOrDisk (state S.Store conn.old) (state S.Store conn.new))) }
     ensures unchanged { HasCleanDisk (state S.Store conn.new) → OnOk result (IsUnchanged (state S.Store conn.old) (state S.Store conn.new)) }
     ensures asks { Asks (state S.Store conn.old) (state S.Store conn.new) }
 {

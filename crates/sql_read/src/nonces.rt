@@ -1,12 +1,14 @@
 //! Nonces, read from the rows of an answer and looked up.
-ghost use Rattle.std.specs.Prelude.{◌≡◌, IfOk, OnOk};
+ghost use Rattle.std.specs.Prelude.{◌≡◌, IfErr, IfOk, OnOk};
 ghost use Rattle.sqlite.specs.State.{HasCleanDisk, IsUnchanged};
 ghost use Rattle.sqlite.specs.Held.{state};
 ghost use Rattle.model_lives.specs.LookUps.{nonces_where};
 ghost use Rattle.sql_schema.specs.Stays.{Asks};
 ghost use Rattle.sql_read.specs.Earliest.{IsEarliest, issues};
+ghost use Rattle.sql_read.specs.Failures.{MayRead};
 ghost use Rattle.sql_read.specs.Fitting.{FitsNonce};
 ghost use Rattle.sql_read.specs.Held.{ForHeld};
+ghost use Rattle.sql_read.specs.LookUpFaults.{IsOfMemoryOrDisk};
 ghost use Rattle.sql_read.specs.Queries.{bound_by, nonce_params, nonce_text};
 ghost use Rattle.sql_read.specs.Spelled.{nonce_in};
 ghost use Rattle.store_book.specs.IsBook.{IsStoredBook};
@@ -66,7 +68,8 @@ fn params_of<'a>(which: NoncesWhere) -> Params<'a>
 ///
 /// # Errors
 ///
-/// The engine's, and `NotARow` where a row is not one of a desk; nothing is changed.
+/// The engine's, and `NotARow` where a row is not one of a desk; nothing is changed. Of a desk's tables it fails for memory or the
+/// disk alone.
 pub fn find_nonces<S: Alter>(
     alloc: Global,
     conn: &mut Connection<S>,
@@ -74,6 +77,8 @@ pub fn find_nonces<S: Alter>(
 ) -> Result<Vec<Nonce>, ReadFault>
     ensures found { ForHeld (state S.Store conn.old) (state S.Store conn.new) (λ T. IsStoredBook T
         → IfOk result (λ rows. rows.items ≡ nonces_where T which)) }
+    ensures caused { ForHeld (state S.Store conn.old) (state S.Store conn.new) (λ T. IsStoredBook T → MayRead (state S.Store conn.old)
+        → IfErr result (IsOfMemoryOrDisk (state S.Store conn.old) (state S.Store conn.new))) }
     ensures unchanged { HasCleanDisk (state S.Store conn.new) → OnOk result (IsUnchanged (state S.Store conn.old) (state S.Store conn.new)) }
     ensures asks { Asks (state S.Store conn.old) (state S.Store conn.new) }
 {
@@ -84,9 +89,12 @@ pub fn find_nonces<S: Alter>(
 ///
 /// # Errors
 ///
-/// The engine's, and `NotARow` where a row is not one of a desk; nothing is changed.
+/// The engine's, and `NotARow` where a row is not one of a desk; nothing is changed. Of a desk's tables it fails for memory or the
+/// disk alone.
 pub fn earliest_issue<S: Alter>(conn: &mut Connection<S>) -> Result<Option<u64>, ReadFault>
     ensures found { ForHeld (state S.Store conn.old) (state S.Store conn.new) (λ T. IfOk result (IsEarliest (issues T))) }
+    ensures caused { ForHeld (state S.Store conn.old) (state S.Store conn.new) (λ T. IsStoredBook T → MayRead (state S.Store conn.old)
+        → IfErr result (IsOfMemoryOrDisk (state S.Store conn.old) (state S.Store conn.new))) }
     ensures unchanged { HasCleanDisk (state S.Store conn.new) → OnOk result (IsUnchanged (state S.Store conn.old) (state S.Store conn.new)) }
     ensures asks { Asks (state S.Store conn.old) (state S.Store conn.new) }
 {

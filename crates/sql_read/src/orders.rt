@@ -1,5 +1,5 @@
 //! Orders, each with what it lists, read from the rows of answers and looked up.
-ghost use Rattle.std.specs.Prelude.{◌≡◌, IfOk, OnOk};
+ghost use Rattle.std.specs.Prelude.{◌≡◌, IfErr, IfOk, OnOk};
 ghost use Rattle.sqlite.specs.State.{HasCleanDisk, IsUnchanged};
 ghost use Rattle.sqlite.specs.Held.{state};
 ghost use Rattle.store_columns.specs.Flat.{without_listed};
@@ -7,8 +7,10 @@ ghost use Rattle.model_lives.specs.Above.{first_of, orders_above};
 ghost use Rattle.model_lives.specs.LookUps.{orders_listing, orders_where};
 ghost use Rattle.sql_schema.specs.Stays.{Asks};
 ghost use Rattle.sql_read.specs.Earliest.{IsEarliest, order_ends};
+ghost use Rattle.sql_read.specs.Failures.{MayRead};
 ghost use Rattle.sql_read.specs.Fitting.{FitsListed, FitsOrder};
 ghost use Rattle.sql_read.specs.Held.{ForHeld};
+ghost use Rattle.sql_read.specs.LookUpFaults.{IsOfMemoryOrDisk};
 ghost use Rattle.sql_read.specs.Queries.{bound_by, order_params, order_text};
 ghost use Rattle.sql_read.specs.Spelled.{listed_in, order_in};
 ghost use Rattle.store_book.specs.IsBook.{IsStoredBook};
@@ -115,7 +117,8 @@ fn params_of<'a>(which: OrdersWhere) -> Params<'a>
 ///
 /// # Errors
 ///
-/// The engine's, and `NotARow` where a row is not one of a desk; nothing is changed.
+/// The engine's, and `NotARow` where a row is not one of a desk; nothing is changed. Of a desk's tables it fails for memory or the
+/// disk alone.
 pub fn find_orders<S: Alter>(
     alloc: Global,
     conn: &mut Connection<S>,
@@ -123,6 +126,8 @@ pub fn find_orders<S: Alter>(
 ) -> Result<Vec<OrderRow>, ReadFault>
     ensures found { ForHeld (state S.Store conn.old) (state S.Store conn.new) (λ T. IsStoredBook T
         → IfOk result (λ rows. rows.items ≡ orders_where T which)) }
+    ensures caused { ForHeld (state S.Store conn.old) (state S.Store conn.new) (λ T. IsStoredBook T → MayRead (state S.Store conn.old)
+        → IfErr result (IsOfMemoryOrDisk (state S.Store conn.old) (state S.Store conn.new))) }
     ensures unchanged { HasCleanDisk (state S.Store conn.new) → OnOk result (IsUnchanged (state S.Store conn.old) (state S.Store conn.new)) }
     ensures asks { Asks (state S.Store conn.old) (state S.Store conn.new) }
 {
@@ -133,7 +138,8 @@ pub fn find_orders<S: Alter>(
 ///
 /// # Errors
 ///
-/// The engine's, and `NotARow` where a row is not one of a desk; nothing is changed.
+/// The engine's, and `NotARow` where a row is not one of a desk; nothing is changed. Of a desk's tables it fails for memory or the
+/// disk alone.
 pub fn orders_listing<S: Alter>(
     alloc: Global,
     conn: &mut Connection<S>,
@@ -141,6 +147,8 @@ pub fn orders_listing<S: Alter>(
 ) -> Result<Vec<u64>, ReadFault>
     ensures found { ForHeld (state S.Store conn.old) (state S.Store conn.new) (λ T. IsStoredBook T
         → IfOk result (λ rows. rows.items ≡ orders_listing T authorization)) }
+    ensures caused { ForHeld (state S.Store conn.old) (state S.Store conn.new) (λ T. IsStoredBook T → MayRead (state S.Store conn.old)
+        → IfErr result (IsOfMemoryOrDisk (state S.Store conn.old) (state S.Store conn.new))) }
     ensures unchanged { HasCleanDisk (state S.Store conn.new) → OnOk result (IsUnchanged (state S.Store conn.old) (state S.Store conn.new)) }
     ensures asks { Asks (state S.Store conn.old) (state S.Store conn.new) }
 {
@@ -153,7 +161,8 @@ pub fn orders_listing<S: Alter>(
 ///
 /// # Errors
 ///
-/// The engine's, and `NotARow` where a row is not one of a desk; nothing is changed.
+/// The engine's, and `NotARow` where a row is not one of a desk; nothing is changed. Of a desk's tables it fails for memory or the
+/// disk alone.
 pub fn order_above<S: Alter>(
     alloc: Global,
     conn: &mut Connection<S>,
@@ -161,6 +170,8 @@ pub fn order_above<S: Alter>(
 ) -> Result<Vec<OrderRow>, ReadFault>
     ensures found { ForHeld (state S.Store conn.old) (state S.Store conn.new) (λ T. IsStoredBook T
         → IfOk result (λ rows. rows.items ≡ first_of (orders_above T number))) }
+    ensures caused { ForHeld (state S.Store conn.old) (state S.Store conn.new) (λ T. IsStoredBook T → MayRead (state S.Store conn.old)
+        → IfErr result (IsOfMemoryOrDisk (state S.Store conn.old) (state S.Store conn.new))) }
     ensures unchanged { HasCleanDisk (state S.Store conn.new) → OnOk result (IsUnchanged (state S.Store conn.old) (state S.Store conn.new)) }
     ensures asks { Asks (state S.Store conn.old) (state S.Store conn.new) }
 {
@@ -172,12 +183,15 @@ pub fn order_above<S: Alter>(
 ///
 /// # Errors
 ///
-/// The engine's, and `NotARow` where a row is not one of a desk; nothing is changed.
+/// The engine's, and `NotARow` where a row is not one of a desk; nothing is changed. Of a desk's tables it fails for memory or the
+/// disk alone.
 pub fn earliest_order_end<S: Alter>(
     conn: &mut Connection<S>,
     status: OrderStatus,
 ) -> Result<Option<u64>, ReadFault>
     ensures found { ForHeld (state S.Store conn.old) (state S.Store conn.new) (λ T. IfOk result (IsEarliest (order_ends T status))) }
+    ensures caused { ForHeld (state S.Store conn.old) (state S.Store conn.new) (λ T. IsStoredBook T → MayRead (state S.Store conn.old)
+        → IfErr result (IsOfMemoryOrDisk (state S.Store conn.old) (state S.Store conn.new))) }
     ensures unchanged { HasCleanDisk (state S.Store conn.new) → OnOk result (IsUnchanged (state S.Store conn.old) (state S.Store conn.new)) }
     ensures asks { Asks (state S.Store conn.old) (state S.Store conn.new) }
 {

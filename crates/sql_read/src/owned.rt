@@ -1,5 +1,6 @@
 //! Rows that belong to others, and the numbers of those.
-ghost use Rattle.std.specs.Prelude.{◌≡◌, map, IfOk};
+ghost use Rattle.std.specs.Prelude.{◌≡◌, map, IfErr, IfOk};
+ghost use Rattle.sql_read.specs.LookUpFaults.{IsOfMemory};
 
 use crate::fault::ReadFault;
 use std::alloc::Global;
@@ -10,7 +11,8 @@ pub(crate) fn without_owners<T: Drop>(
     alloc: Global,
     rows: Vec<Owned<T>>,
 ) -> Result<Vec<T>, ReadFault>
-    ensures { IfOk result (λ all. all.items ≡ map (λ r. r.row) rows.items) }
+    ensures rows { IfOk result (λ all. all.items ≡ map (λ r. r.row) rows.items) }
+    ensures fault { IfErr result IsOfMemory }
 {
     let mut all = Vec::new(alloc);
     for owned in rows {
@@ -21,7 +23,8 @@ pub(crate) fn without_owners<T: Drop>(
 
 /// The numbers of the owners.
 pub(crate) fn owners<T: Drop>(alloc: Global, rows: Vec<Owned<T>>) -> Result<Vec<u64>, ReadFault>
-    ensures { IfOk result (λ numbers. numbers.items ≡ map (λ r. r.owner) rows.items) }
+    ensures numbers { IfOk result (λ numbers. numbers.items ≡ map (λ r. r.owner) rows.items) }
+    ensures fault { IfErr result IsOfMemory }
 {
     let mut numbers = Vec::new(alloc);
     for owned in rows {

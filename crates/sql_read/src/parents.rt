@@ -1,5 +1,5 @@
 //! Rows that are looked up, each with its children.
-ghost use Rattle.std.specs.Prelude.{◌≡◌, ◌∷◌, [], List, IfOk, OnOk, map, pos};
+ghost use Rattle.std.specs.Prelude.{◌≡◌, ◌∷◌, [], List, IfErr, IfOk, OnOk, map, pos};
 ghost use Rattle.sqlite.specs.Order.{Row as SqlRow};
 ghost use Rattle.sqlite.specs.State.{HasCleanDisk, IsUnchanged, Shown};
 ghost use Rattle.sqlite.specs.Values.{bound};
@@ -10,8 +10,10 @@ ghost use Rattle.desk_model.specs.Kept.{EachOf};
 ghost use Rattle.desk_model.specs.Tables.{Tables};
 ghost use Rattle.sql_schema.specs.Stays.{Asks};
 ghost use Rattle.sql_read.specs.Bounded.{bounded};
+ghost use Rattle.sql_read.specs.Failures.{MayRead};
 ghost use Rattle.sql_read.specs.Heads.{ShowsHeads};
 ghost use Rattle.sql_read.specs.Held.{ForHeld};
+ghost use Rattle.sql_read.specs.LookUpFaults.{AreTableRows, IsOfMemoryOrDisk, IsSureQuery};
 ghost use Rattle.sql_read.specs.Queries.{bound_by};
 ghost use Rattle.sql_read.specs.Selecting.{IsQuery};
 ghost use Rattle.store_book.specs.IsBook.{IsStoredBook};
@@ -38,6 +40,9 @@ pub(crate) trait Parent: Drop {
     fn nest<S: Alter>(&mut self, alloc: Global, conn: &mut Connection<S>) -> Result<(), ReadFault>
         ensures found { ForHeld (state S.Store conn.old) (state S.Store conn.new) (λ T. IsStoredBook T
             → (whole : Self) → HasItsOwn T whole → self.old ≡ bare whole → OnOk result (self.new ≡ whole)) }
+        ensures caused { ForHeld (state S.Store conn.old) (state S.Store conn.new) (λ T. IsStoredBook T → MayRead (state S.Store conn.old)
+            → (whole : Self) → HasItsOwn T whole → self.old ≡ bare whole
+            → IfErr result (IsOfMemoryOrDisk (state S.Store conn.old) (state S.Store conn.new))) }
         ensures unchanged { HasCleanDisk (state S.Store conn.new) → OnOk result (IsUnchanged (state S.Store conn.old) (state S.Store conn.new)) }
         ensures asks { Asks (state S.Store conn.old) (state S.Store conn.new) };
 }
@@ -54,6 +59,9 @@ pub(crate) fn find_owned<S: Alter, C: Selected<Row = Owned<R>>, R: Drop>(
         → IfOk result (λ found. (rows : List SqlRow) × (owned : List (OwnedRow R))
         × Shown text.now (Int (pos (bounded number)) ∷ []) (state S.Store conn.old) (state S.Store conn.new) rows
         × EachOf C.Columns.IsStored owned × (map C.spelled rows ≡ map C.Columns.write owned) × (found.items ≡ map (λ r. r.row) owned)) }
+    ensures caused { HasCleanDisk (state S.Store conn.new)
+        → IsSureQuery S.Store text.now (Int (pos (bounded number)) ∷ []) conn.old (AreTableRows C.spelled C.Fits C.Columns.write C.Columns.IsStored)
+        → IfErr result (IsOfMemoryOrDisk (state S.Store conn.old) (state S.Store conn.new)) }
     ensures unchanged { HasCleanDisk (state S.Store conn.new) → OnOk result (IsUnchanged (state S.Store conn.old) (state S.Store conn.new)) }
     ensures asks { Asks (state S.Store conn.old) (state S.Store conn.new) }
 {
@@ -74,6 +82,11 @@ pub(crate) fn find_parents<S: Alter, C: Selected<Row = R>, R: Parent>(
         → EachOf (R.HasItsOwn T) rows
         → ShowsHeads S.Store C.spelled C.Columns.write C.Columns.IsStored R.bare text.now (bound params.now) conn.old rows
         → IfOk result (λ found. found.items ≡ rows)) }
+    ensures caused { ForHeld (state S.Store conn.old) (state S.Store conn.new) (λ T. IsStoredBook T → MayRead (state S.Store conn.old)
+        → (rows : List R) → EachOf (R.HasItsOwn T) rows
+        → ShowsHeads S.Store C.spelled C.Columns.write C.Columns.IsStored R.bare text.now (bound params.now) conn.old rows
+        → IsSureQuery S.Store text.now (bound params.now) conn.old (AreTableRows C.spelled C.Fits C.Columns.write C.Columns.IsStored)
+        → IfErr result (IsOfMemoryOrDisk (state S.Store conn.old) (state S.Store conn.new))) }
     ensures unchanged { HasCleanDisk (state S.Store conn.new) → OnOk result (IsUnchanged (state S.Store conn.old) (state S.Store conn.new)) }
     ensures asks { Asks (state S.Store conn.old) (state S.Store conn.new) }
 {
@@ -96,6 +109,11 @@ pub(crate) fn find_parents_by<S: Alter, C: Selected<Row = R>, R: Parent>(
         → EachOf (R.HasItsOwn T) rows
         → ShowsHeads S.Store C.spelled C.Columns.write C.Columns.IsStored R.bare text.now (bound_by params.entry) conn.old rows
         → IfOk result (λ found. found.items ≡ rows)) }
+    ensures caused { ForHeld (state S.Store conn.old) (state S.Store conn.new) (λ T. IsStoredBook T → MayRead (state S.Store conn.old)
+        → (rows : List R) → EachOf (R.HasItsOwn T) rows
+        → ShowsHeads S.Store C.spelled C.Columns.write C.Columns.IsStored R.bare text.now (bound_by params.entry) conn.old rows
+        → IsSureQuery S.Store text.now (bound_by params.entry) conn.old (AreTableRows C.spelled C.Fits C.Columns.write C.Columns.IsStored)
+        → IfErr result (IsOfMemoryOrDisk (state S.Store conn.old) (state S.Store conn.new))) }
     ensures unchanged { HasCleanDisk (state S.Store conn.new) → OnOk result (IsUnchanged (state S.Store conn.old) (state S.Store conn.new)) }
     ensures asks { Asks (state S.Store conn.old) (state S.Store conn.new) }
 {

@@ -1,11 +1,12 @@
 //! The rows of a desk that an answer spells.
-ghost use Rattle.std.specs.Prelude.{◌≡◌, ◌≢◌, map, List, IfOk, MatchResult, OnOk};
+ghost use Rattle.std.specs.Prelude.{◌≡◌, ◌≢◌, map, List, IfErr, IfOk, MatchResult, OnOk};
 ghost use Rattle.sqlite.specs.Order.{Row as SqlRow};
 ghost use Rattle.sqlite.specs.State.{HasCleanDisk, IsUnchanged, Shown};
 ghost use Rattle.sqlite.specs.Values.{bound};
 ghost use Rattle.sqlite.specs.Held.{state};
 ghost use Rattle.desk_model.specs.Kept.{EachOf};
 ghost use Rattle.sql_schema.specs.Stays.{Asks};
+ghost use Rattle.sql_read.specs.LookUpFaults.{AreTableRows, IsOfMemoryOrDisk, IsOfMemoryOrRows, IsSureQuery};
 ghost use Rattle.sql_read.specs.Queries.{bound_by};
 ghost use Rattle.sql_read.specs.Selecting.{IsQuery};
 ghost use Rattle.sql_read.specs.declared.fault.ReadFault.TheVariants.{NotARow};
@@ -26,9 +27,10 @@ use store_columns::{Columns, read_table};
 ///
 /// `NotARow` where no row in its limits has some of them.
 pub(crate) fn rows_of<C: Columns>(alloc: Global, all: Sequence<C>) -> Result<Vec<C::Row>, ReadFault>
-    ensures { MatchResult result
+    ensures rows { MatchResult result
         (λ rows. EachOf C.IsStored rows.items × (all ≡ map C.write rows.items))
         (λ fault. fault ≡ NotARow → (rows : List C.Row) → EachOf C.IsStored rows → all ≢ map C.write rows) }
+    ensures fault { IfErr result IsOfMemoryOrRows }
 {
     match read_table(alloc, all)? {
         Some(rows) => Ok(rows.into_vec()),
@@ -52,6 +54,9 @@ pub(crate) fn find_rows<S: Alter, C: Selected>(
         → IfOk result (λ found. (rows : List SqlRow)
         × Shown text.now (bound params.now) (state S.Store conn.old) (state S.Store conn.new) rows × EachOf C.Columns.IsStored found.items
         × (map C.spelled rows ≡ map C.Columns.write found.items)) }
+    ensures caused { HasCleanDisk (state S.Store conn.new)
+        → IsSureQuery S.Store text.now (bound params.now) conn.old (AreTableRows C.spelled C.Fits C.Columns.write C.Columns.IsStored)
+        → IfErr result (IsOfMemoryOrDisk (state S.Store conn.old) (state S.Store conn.new)) }
     ensures unchanged { HasCleanDisk (state S.Store conn.new) → OnOk result (IsUnchanged (state S.Store conn.old) (state S.Store conn.new)) }
     ensures asks { Asks (state S.Store conn.old) (state S.Store conn.new) }
 {
@@ -71,6 +76,9 @@ pub(crate) fn find_rows_by<S: Alter, C: Selected>(
         → IfOk result (λ found. (rows : List SqlRow)
         × Shown text.now (bound_by params.entry) (state S.Store conn.old) (state S.Store conn.new) rows × EachOf C.Columns.IsStored found.items
         × (map C.spelled rows ≡ map C.Columns.write found.items)) }
+    ensures caused { HasCleanDisk (state S.Store conn.new)
+        → IsSureQuery S.Store text.now (bound_by params.entry) conn.old (AreTableRows C.spelled C.Fits C.Columns.write C.Columns.IsStored)
+        → IfErr result (IsOfMemoryOrDisk (state S.Store conn.old) (state S.Store conn.new)) }
     ensures unchanged { HasCleanDisk (state S.Store conn.new) → OnOk result (IsUnchanged (state S.Store conn.old) (state S.Store conn.new)) }
     ensures asks { Asks (state S.Store conn.old) (state S.Store conn.new) }
 {

@@ -6,6 +6,8 @@ use Rattle.sql_read.specs.Selecting.{IsQuery}
 use Rattle.sql_read.proofs.LookUpReadings.{accounts_select}
 use Rattle.sql_read.proofs.LookUpRows.{accounts_found}
 use Rattle.sql_read.proofs.Results.{read_then}
+use Rattle.sql_read.proofs.LookUpFaults.{sure_as}
+use Rattle.sql_read.proofs.SureTables.{accounts_query}
 use Rattle.sql_read.proofs.accounts.find_accounts.Goals as goal
 
 pub find_rows_by-requires : goal.find_rows_by-requires
@@ -18,3 +20,8 @@ returns-clause-found g c clean T has book =
     read_then c.find_rows_by.result (c.find_rows_by.ensures.read clean) (λ found it.
     accounts_found old new T it.0 _ has book found.items it.2 it.3 c.args.which c.params_of.ensures
     (subst (λ text. Shown text (bound_by c.params_of.result) old new it.0) c.text_of.ensures it.1))
+
+pub returns-clause-caused : goal.returns-clause-caused
+returns-clause-caused g c clean T has book may =
+    c.find_rows_by.ensures.caused clean
+    (sure_as g.S.Store _ _ _ _ c.args.conn.now c.text_of.ensures c.params_of.ensures (accounts_query g.S.Store c.args.conn.now T has book may c.args.which))

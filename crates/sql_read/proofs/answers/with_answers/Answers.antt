@@ -9,6 +9,10 @@ use Rattle.sql_schema.proofs.StaysLemmas.{asks_nothing, asks_then}
 use Rattle.sql_tables.proofs.Holding.{holds_still}
 use Rattle.sql_read.specs.Keys.{HasItsKey, answered_as}
 use Rattle.sql_read.proofs.NestLemmas.{AreFilled, filled_none, filled_slice}
+use Rattle.sql_read.proofs.Results.{failed_as}
+use Rattle.sql_read.specs.LookUpFaults.{IsOfMemoryOrDisk}
+use Rattle.sql_read.proofs.LookUpFaults.{caused_behind, failed, with_whole}
+use Rattle.sql_read.proofs.Failing.{may_read_still}
 use Rattle.sql_read.proofs.answers.with_answers.Goals as goal
 
 pub loop-row-init : goal.loop-row-init
@@ -51,3 +55,18 @@ returns-clause-unchanged g c clean open_ = c.loop-row.invariant.unchanged clean 
 
 pub returns-clause-asks : goal.returns-clause-asks
 returns-clause-asks g c = c.loop-row.invariant.asks
+
+pub returns-in_err-answered-clause-caused : goal.returns-in_err-answered-clause-caused
+returns-in_err-answered-clause-caused g c clean T has book may rows own are =
+    let first = state g.S.Store c.args.conn.now in
+    let old = state g.S.Store c.loop-row.conn in
+    let new = state g.S.Store c.answer_to.new.conn in
+    let before = c.loop-row.invariant in
+    let after = c.in_err-answered.ensures in
+    let clean_old : HasCleanDisk old = omega (arith, clean, after.asks.survives.clean) in
+    let same = before.unchanged clean_old may.is_open in
+    failed_as c.from_residual.result c.in_err-answered.field-0.0 (IsOfMemoryOrDisk first new)
+    (caused_behind (failed (Unit {0}) c.in_err-answered.field-0.0) first old new before.asks
+    (with_whole (HasItsKey T) bare c.args.heads.now rows c.loop-row.row-index _ are own c.loop-row-test.true
+    (λ whole own head. after.caused clean T (holds_still first old T same has) book (may_read_still first old same before.asks may) whole own head)))
+    c.from_residual.ensures.1

@@ -6,7 +6,11 @@ use Rattle.sql_schema.proofs.StaysLemmas.{asks_then}
 use Rattle.sql_tables.proofs.Holding.{holds_still}
 use Rattle.sql_read.proofs.AboveRows.{challenge_above_found, challenge_above_reading}
 use Rattle.sql_read.proofs.KeyRows.{keys_above}
-use Rattle.sql_read.proofs.Results.{unchanged_after}
+use Rattle.sql_read.proofs.Results.{failed_as, unchanged_after}
+use Rattle.sql_read.specs.LookUpFaults.{IsOfMemoryOrDisk}
+use Rattle.sql_read.proofs.SureTables.{challenge_above_query}
+use Rattle.sql_read.proofs.LookUpFaults.{caused_behind}
+use Rattle.sql_read.proofs.Failing.{may_read_still}
 use Rattle.sql_read.proofs.authorizations.challenge_above.Goals as goal
 
 pub find_owned-requires : goal.find_owned-requires
@@ -36,3 +40,23 @@ pub returns-clause-asks : goal.returns-clause-asks
 returns-clause-asks g c =
     asks_then (state g.S.Store c.args.conn.now) (state g.S.Store c.find_owned.new.conn) (state g.S.Store c.with_answers.new.conn)
     c.in_ok-heads.ensures.asks c.with_answers.ensures.asks
+
+pub returns-in_err-heads-clause-caused : goal.returns-in_err-heads-clause-caused
+returns-in_err-heads-clause-caused g c clean T has book may =
+    failed_as c.from_residual.result c.in_err-heads.field-0.0 (IsOfMemoryOrDisk (state g.S.Store c.args.conn.now) (state g.S.Store c.find_owned.new.conn))
+    (c.in_err-heads.ensures.caused clean (challenge_above_query g.S.Store c.args.conn.now T has book may c.args.number))
+    c.from_residual.ensures.1
+
+pub returns-clause-caused : goal.returns-clause-caused
+returns-clause-caused g c clean T has book may =
+    let before = state g.S.Store c.args.conn.now in
+    let one = state g.S.Store c.find_owned.new.conn in
+    let clean_one : HasCleanDisk one = omega (arith, clean, c.with_answers.ensures.asks.survives.clean) in
+    let it = c.in_ok-heads.ensures.read clean_one in
+    let same = c.in_ok-heads.ensures.unchanged clean_one in
+    let asks = c.in_ok-heads.ensures.asks in
+    let n = c.args.number in
+    caused_behind c.with_answers.result before one (state g.S.Store c.with_answers.new.conn) asks
+    (c.with_answers.ensures.caused clean T (holds_still before one T same has) book (may_read_still before one same asks may)
+    (first_of (challenges_above T n)) (keys_above T has.rising.challenges n)
+    (c.deref.ensures.value ∙ it.5 ∙ challenge_above_found before one T it.0 _ has book n refl it.1 it.3 it.4 it.2))

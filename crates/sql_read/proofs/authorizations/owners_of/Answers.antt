@@ -1,4 +1,4 @@
-use Rattle.std.proofs.Common.{map, filter, ap, ◌==◌, ◌∙◌}
+use Rattle.std.proofs.Common.{map, filter, ap, ◌==◌, ◌∙◌, refl}
 use Rattle.std.proofs.lemmas.Simd.{map-map}
 use Rattle.std.proofs.lemmas.Result.{IfOk-weaker}
 use Rattle.sqlite.specs.Held.{state}
@@ -6,6 +6,10 @@ use Rattle.store_columns.specs.Flat.{bare_row, challenge_rows}
 use Rattle.sql_read.proofs.LookUpRows.{challenges_numbered_found}
 use Rattle.sql_read.proofs.LookUpReadings.{challenges_numbered_reading}
 use Rattle.sql_read.proofs.UnderLemmas.{owners_are}
+use Rattle.sql_read.proofs.Results.{failed_as}
+use Rattle.sql_read.specs.LookUpFaults.{IsOfMemoryOrDisk}
+use Rattle.sql_read.proofs.LookUpFaults.{all_of_memory, sure_as}
+use Rattle.sql_read.proofs.SureTables.{challenges_numbered_query}
 use Rattle.sql_read.proofs.authorizations.owners_of.Goals as goal
 
 pub find_rows-requires : goal.find_rows-requires
@@ -19,4 +23,16 @@ returns-clause-found g c clean T has book =
     c.args.challenge c.number_param-params.ensures it.1 in
     IfOk-weaker c.owners.result _ _ (λ _ are. are ∙ ap (map (λ c. c.owner)) found
     ∙ map-map (λ c. c.owner) bare_row (filter (λ r. r.row.number == c.args.challenge) (challenge_rows T.authorizations))
-    ∙ owners_are T c.args.challenge) c.owners.ensures
+    ∙ owners_are T c.args.challenge) c.owners.ensures.numbers
+
+pub returns-clause-caused : goal.returns-clause-caused
+returns-clause-caused g c clean T has book may =
+    all_of_memory c.owners.result (state g.S.Store c.args.conn.now) (state g.S.Store c.find_rows.new.conn) c.owners.ensures.fault
+
+pub returns-in_err-rows-clause-caused : goal.returns-in_err-rows-clause-caused
+returns-in_err-rows-clause-caused g c clean T has book may =
+    failed_as c.from_residual.result c.in_err-rows.field-0.0 (IsOfMemoryOrDisk (state g.S.Store c.args.conn.now) (state g.S.Store c.find_rows.new.conn))
+    (c.in_err-rows.ensures.caused clean 
+    (sure_as g.S.Store _ _ _ _ c.args.conn.now refl c.number_param-params.ensures
+    (challenges_numbered_query g.S.Store c.args.conn.now T has book may c.args.challenge)))
+    c.from_residual.ensures.1

@@ -1,10 +1,14 @@
-use Rattle.std.proofs.Common.{[], ◌∷◌, map, ap, ◌∙◌}
+use Rattle.std.proofs.Common.{[], ◌∷◌, map, ap, ◌∙◌, refl}
 use Rattle.std.proofs.lemmas.Result.{IfOk-weaker}
 use Rattle.sqlite.specs.declared.types.Value.TheVariants.{Text}
 use Rattle.sqlite.specs.Held.{state}
 use Rattle.sql_read.proofs.LookUpReadings.{challenges_processing_reading}
 use Rattle.sql_read.proofs.LookUpRows.{challenges_processing_found}
 use Rattle.sql_read.proofs.WaitingOwners.{owners_wait}
+use Rattle.sql_read.proofs.Results.{failed_as}
+use Rattle.sql_read.specs.LookUpFaults.{IsOfMemoryOrDisk}
+use Rattle.sql_read.proofs.LookUpFaults.{all_of_memory, sure_as}
+use Rattle.sql_read.proofs.SureTables.{challenges_processing_query}
 use Rattle.sql_read.proofs.authorizations.owners_processing.Goals as goal
 
 pub find_rows-requires : goal.find_rows-requires
@@ -16,4 +20,17 @@ returns-clause-found g c clean T has book =
     let found = challenges_processing_found (state g.S.Store c.args.conn.now)
     (state g.S.Store c.find_rows.new.conn) T it.0 _ has book c.in_ok-rows.rows.items it.2 it.3
     (c.text_param-params.ensures ∙ ap (λ t. Text t ∷ []) c.as_str.ensures) it.1 in
-    IfOk-weaker c.owners.result _ _ (λ numbers are. owners_wait T numbers.items has.rising.challenges (are ∙ ap (map (λ c. c.owner)) found)) c.owners.ensures
+    IfOk-weaker c.owners.result _ _ (λ numbers are. owners_wait T numbers.items has.rising.challenges (are ∙ ap (map (λ c. c.owner)) found))
+    c.owners.ensures.numbers
+
+pub returns-clause-caused : goal.returns-clause-caused
+returns-clause-caused g c clean T has book may =
+    all_of_memory c.owners.result (state g.S.Store c.args.conn.now) (state g.S.Store c.find_rows.new.conn) c.owners.ensures.fault
+
+pub returns-in_err-rows-clause-caused : goal.returns-in_err-rows-clause-caused
+returns-in_err-rows-clause-caused g c clean T has book may =
+    failed_as c.from_residual.result c.in_err-rows.field-0.0 (IsOfMemoryOrDisk (state g.S.Store c.args.conn.now) (state g.S.Store c.find_rows.new.conn))
+    (c.in_err-rows.ensures.caused clean 
+    (sure_as g.S.Store _ _ _ _ c.args.conn.now refl (c.text_param-params.ensures ∙ ap (λ t. Text t ∷ []) c.as_str.ensures)
+    (challenges_processing_query g.S.Store c.args.conn.now T has book may)))
+    c.from_residual.ensures.1

@@ -7,7 +7,11 @@ use Rattle.sqlite.specs.Held.{state}
 use Rattle.sqlite.specs.State.{HasCleanDisk}
 use Rattle.sql_schema.proofs.StaysLemmas.{asks_nothing, asks_then}
 use Rattle.sql_tables.proofs.Holding.{holds_still}
-use Rattle.sql_read.proofs.NestLemmas.{filled_next, filled_none, left_next, written_over}
+use Rattle.sql_read.proofs.NestLemmas.{filled_next, filled_none, left_next, same_next, written_over}
+use Rattle.sql_read.proofs.Results.{failed_as}
+use Rattle.sql_read.specs.LookUpFaults.{IsOfMemoryOrDisk}
+use Rattle.sql_read.proofs.LookUpFaults.{caused_behind, failed, with_whole}
+use Rattle.sql_read.proofs.Failing.{may_read_still}
 use Rattle.sql_read.proofs.parents.find_parents.Goals as goal
 
 pub find_rows-requires : goal.find_rows-requires
@@ -93,3 +97,36 @@ returns-in_err-nest-clause-asks g c =
     let old = state g.S.Store c.loop-row.conn in
     asks_then before old (state g.S.Store c.nest.new.conn)
     (asks_then before (state g.S.Store c.find_rows.new.conn) old c.in_ok-rows.ensures.asks c.loop-row.invariant.asks) c.in_err-nest.ensures.asks
+
+pub returns-in_err-rows-clause-caused : goal.returns-in_err-rows-clause-caused
+returns-in_err-rows-clause-caused g c clean T has book may rows own shows sure =
+    failed_as c.from_residual.result c.in_err-rows.field-0.0 (IsOfMemoryOrDisk (state g.S.Store c.args.conn.now) (state g.S.Store c.find_rows.new.conn))
+    (c.in_err-rows.ensures.caused clean sure) c.from_residual.ensures.1
+
+pub returns-in_err-nest-clause-caused : goal.returns-in_err-nest-clause-caused
+returns-in_err-nest-clause-caused g c clean T has book may rows own shows sure =
+    let before = state g.S.Store c.args.conn.now in
+    let one = state g.S.Store c.find_rows.new.conn in
+    let old = state g.S.Store c.loop-row.conn in
+    let new = state g.S.Store c.nest.new.conn in
+    let loop = c.loop-row.invariant in
+    let after = c.in_err-nest.ensures in
+    let clean_old : HasCleanDisk old = omega (arith, clean, after.asks.survives.clean) in
+    let clean_one : HasCleanDisk one = omega (arith, clean_old, loop.asks.survives.clean) in
+    let it = c.in_ok-rows.ensures.read clean_one in
+    let same = c.in_ok-rows.ensures.unchanged clean_one in
+    let still = loop.unchanged clean_old same.0.is_open in
+    let may_old = may_read_still one old still loop.asks (may_read_still before one same c.in_ok-rows.ensures.asks may) in
+    let read = c.in_ok-rows.rows in
+    let heads = c.deref_mut-row-items.result.now in
+    let items = c.loop-row.row-items in
+    let index = c.loop-row.row-index in
+    let low : index < length items = omega (arith, c.loop-row-test.true) in
+    let bare = c.deref_mut-row-items.ensures.value ∙ shows c.find_rows.new.conn it.0 read.items it.1 it.2 it.3 in
+    let here = (same_next items heads index c.row-item.result low loop.size loop.left).0 in
+    failed_as c.from_residual-in_err-nest.result c.in_err-nest.field-0.0 (IsOfMemoryOrDisk before new)
+    (caused_behind (failed (Unit {0}) c.in_err-nest.field-0.0) before old new
+    (asks_then before one old c.in_ok-rows.ensures.asks loop.asks)
+    (with_whole (g.R.Parent.HasItsOwn T) g.R.Parent.bare heads rows index c.row-item.result bare own (omega (arith, low, loop.size))
+    (λ whole own head. after.caused clean T (holds_still one old T still (holds_still before one T same has)) book may_old whole own (here ∙ head))))
+    c.from_residual-in_err-nest.ensures.1

@@ -4,7 +4,8 @@ use Rattle.desk_store.proofs.Standing.{hands_on}
 use Rattle.desk_store.proofs.look_ups.StoreLookUps.find_accounts.Goals as goal
 
 pub returns-clause-reads : goal.returns-clause-reads
-returns-clause-reads g c = c.told.ensures.reads c.args.self.now refl c.find_accounts-read.ensures.asks c.find_accounts-read.ensures.unchanged
+returns-clause-reads g c =
+    c.told.ensures.reads c.args.self.now refl c.find_accounts-read.ensures.asks c.find_accounts-read.ensures.unchanged c.find_accounts-read.ensures.caused
 
 pub returns-clause-found : goal.returns-clause-found
 returns-clause-found g c =

@@ -7,12 +7,13 @@ use Rattle.desk_store.proofs.look_ups.StoreLookUps.find_authorizations.Goals as 
 pub returns-clause-reads : goal.returns-clause-reads
 returns-clause-reads g c =
     reads_then c.told.result (stands_read c.in_ok-has_no_authorizations.ensures.reads)
-    (c.told.ensures.reads c.has_no_authorizations.new.self refl c.find_authorizations-read.ensures.asks c.find_authorizations-read.ensures.unchanged)
+    (c.told.ensures.reads c.has_no_authorizations.new.self refl c.find_authorizations-read.ensures.asks c.find_authorizations-read.ensures.unchanged
+    c.find_authorizations-read.ensures.caused)
 
 pub returns-clause-found : goal.returns-clause-found
 returns-clause-found g c clean T has =
     let read = c.find_authorizations-read.ensures in
-    let before = (c.told.ensures.reads c.has_no_authorizations.new.self refl read.asks read.unchanged).honest clean in
+    let before = (c.told.ensures.reads c.has_no_authorizations.new.self refl read.asks read.unchanged read.caused).honest clean in
     hands_on g.S.Store _ c.has_no_authorizations.new.self (state g.S.Store c.find_authorizations-read.new.conn)
     (state g.S.Store c.told.new.self.conn) _ c.told.result
     read.found c.told.ensures.found c.told.ensures.honest clean T (c.in_ok-has_no_authorizations.ensures.reads.tables before T has)

@@ -4,7 +4,8 @@ use Rattle.desk_store.proofs.Standing.{hands_on}
 use Rattle.desk_store.proofs.look_ups.StoreLookUps.owners_of.Goals as goal
 
 pub returns-clause-reads : goal.returns-clause-reads
-returns-clause-reads g c = c.told.ensures.reads c.args.self.now refl c.owners_of-read.ensures.asks c.owners_of-read.ensures.unchanged
+returns-clause-reads g c =
+    c.told.ensures.reads c.args.self.now refl c.owners_of-read.ensures.asks c.owners_of-read.ensures.unchanged c.owners_of-read.ensures.caused
 
 pub returns-clause-found : goal.returns-clause-found
 returns-clause-found g c =

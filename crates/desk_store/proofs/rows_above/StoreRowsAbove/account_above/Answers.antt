@@ -4,7 +4,8 @@ use Rattle.desk_store.proofs.Standing.{hands_on}
 use Rattle.desk_store.proofs.rows_above.StoreRowsAbove.account_above.Goals as goal
 
 pub returns-clause-reads : goal.returns-clause-reads
-returns-clause-reads g c = c.told.ensures.reads c.args.self.now refl c.account_above-read.ensures.asks c.account_above-read.ensures.unchanged
+returns-clause-reads g c =
+    c.told.ensures.reads c.args.self.now refl c.account_above-read.ensures.asks c.account_above-read.ensures.unchanged c.account_above-read.ensures.caused
 
 pub returns-clause-found : goal.returns-clause-found
 returns-clause-found g c =

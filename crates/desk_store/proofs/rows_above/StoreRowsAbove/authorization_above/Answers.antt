@@ -4,7 +4,9 @@ use Rattle.desk_store.proofs.Standing.{hands_on}
 use Rattle.desk_store.proofs.rows_above.StoreRowsAbove.authorization_above.Goals as goal
 
 pub returns-clause-reads : goal.returns-clause-reads
-returns-clause-reads g c = c.told.ensures.reads c.args.self.now refl c.authorization_above-read.ensures.asks c.authorization_above-read.ensures.unchanged
+returns-clause-reads g c =
+    c.told.ensures.reads c.args.self.now refl c.authorization_above-read.ensures.asks c.authorization_above-read.ensures.unchanged
+    c.authorization_above-read.ensures.caused
 
 pub returns-clause-found : goal.returns-clause-found
 returns-clause-found g c =

@@ -15,7 +15,8 @@ pub returns-in-Ok-clause-reads : goal.returns-in-Ok-clause-reads
 returns-in-Ok-clause-reads g c =
     reads_knowing g.S.Store c.args.self.now c.told.new.self (record { conn = c.told.new.self.conn; known = c.note_authorization_end.new.self })
     c.in-Ok.earliest _ refl
-    (c.in-Ok.ensures.reads c.args.self.now refl c.earliest_authorization_end-read.ensures.asks c.earliest_authorization_end-read.ensures.unchanged)
+    (c.in-Ok.ensures.reads c.args.self.now refl c.earliest_authorization_end-read.ensures.asks c.earliest_authorization_end-read.ensures.unchanged
+    c.earliest_authorization_end-read.ensures.caused)
     (λ clean T has known.
     authorization_end_noted c.told.new.self.known c.note_authorization_end.new.self c.args.status c.in-Ok.earliest c.note_authorization_end.ensures T
     (hands_on g.S.Store (λ T. IsEarliest (authorization_ends T c.args.status)) c.args.self.now (state g.S.Store c.earliest_authorization_end-read.new.conn)
@@ -32,3 +33,9 @@ returns-in-Ok-clause-found g c clean T has none =
     (λ clean T held book. c.earliest_authorization_end-read.ensures.found clean T held) c.in-Ok.ensures.found c.told.ensures.honest clean T has)
     (subst (λ k. IsKnownOf k T) (sym c.told.ensures.known) has.known))
     c.authorization_end-in-Ok.ensures (not_late c.args.moment c.authorization_end-in-Ok.result none)
+
+pub returns-in-Err-clause-reads : goal.returns-in-Err-clause-reads
+returns-in-Err-clause-reads g c =
+    let read = c.earliest_authorization_end-read.ensures in
+    let reads = c.in-Err.ensures.reads c.args.self.now refl read.asks read.unchanged read.caused in
+    record { honest = reads.honest; left = reads.left; tables = tt; without_memory = reads.without_memory; failed = reads.failed }

@@ -1,5 +1,6 @@
-use Rattle.std.proofs.Common.{refl}
+use Rattle.std.proofs.Common.{ap, refl, ◌∙◌}
 use Rattle.sqlite.specs.Held.{state}
+use Rattle.desk_store.specs.declared.open_fault.OpenFault.TheVariants.{Storage}
 use Rattle.desk_store.proofs.Failing.{leaves_nothing}
 use Rattle.desk_store.proofs.Standing.{reads_failed, reads_ok}
 use Rattle.desk_store.proofs.store.Store.load.Goals as goal
@@ -13,7 +14,10 @@ pub returns-in-Err-Storage-clause-reads : goal.returns-in-Err-Storage-clause-rea
 returns-in-Err-Storage-clause-reads g c =
     reads_failed g.S.Store c.args.self.now (record c.args.self.now { conn = c.read_book.new.conn }) c.in-Err-Storage.fault refl c.read_book.ensures.asks
     (λ clean memory. c.read_book.ensures.answering clean (let e = memory in cc))
-    (λ clean shut. c.read_book.ensures.shut clean (let e = shut in cc))
+    (λ clean T held. record {
+      met = λ clean device. c.in-Err-Storage.ensures.met clean (c.in-Err-Storage.field-0-is ∙ ap Storage device);
+      shut = λ clean shut. c.read_book.ensures.shut clean (let e = shut in cc);
+    })
 
 pub returns-in-Err-Storage-clause-failed : goal.returns-in-Err-Storage-clause-failed
 returns-in-Err-Storage-clause-failed g c =

@@ -8,7 +8,7 @@ use Rattle.desk_store.proofs.store.Store.policy.Goals as goal
 
 pub returns-in-Ok-clause-reads : goal.returns-in-Ok-clause-reads
 returns-in-Ok-clause-reads g c =
-    let reads = c.in-Ok.ensures.reads c.args.self.now refl c.meta_row-read.ensures.asks c.meta_row-read.ensures.unchanged in
+    let reads = c.in-Ok.ensures.reads c.args.self.now refl c.meta_row-read.ensures.asks c.meta_row-read.ensures.unchanged c.meta_row-read.ensures.caused in
     record { honest = reads.honest; left = reads.left; tables = reads.tables; without_memory = tt; failed = λ clean T held. tt }
 
 pub returns-in-Ok-clause-found : goal.returns-in-Ok-clause-found
@@ -25,7 +25,7 @@ returns-in-Ok-clause-asks g c =
 
 pub returns-in-Err-clause-reads : goal.returns-in-Err-clause-reads
 returns-in-Err-clause-reads g c =
-    let reads = c.in-Err.ensures.reads c.args.self.now refl c.meta_row-read.ensures.asks c.meta_row-read.ensures.unchanged in
+    let reads = c.in-Err.ensures.reads c.args.self.now refl c.meta_row-read.ensures.asks c.meta_row-read.ensures.unchanged c.meta_row-read.ensures.caused in
     record { honest = reads.honest; left = reads.left; tables = tt; without_memory = reads.without_memory; failed = reads.failed }
 
 pub returns-in-Err-clause-asks : goal.returns-in-Err-clause-asks
@@ -36,4 +36,4 @@ returns-in-Err-clause-asks g c =
 pub returns-in-Err-clause-failed : goal.returns-in-Err-clause-failed
 returns-in-Err-clause-failed g c =
     read_failed g.S.Store c.args.self.now c.told.new.self (failed Meta c.in-Err.fault)
-    (c.in-Err.ensures.reads c.args.self.now refl c.meta_row-read.ensures.asks c.meta_row-read.ensures.unchanged)
+    (c.in-Err.ensures.reads c.args.self.now refl c.meta_row-read.ensures.asks c.meta_row-read.ensures.unchanged c.meta_row-read.ensures.caused)

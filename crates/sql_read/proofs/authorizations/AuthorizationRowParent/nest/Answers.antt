@@ -12,6 +12,11 @@ use Rattle.sql_read.specs.Under.{rows_under}
 use Rattle.sql_read.proofs.KeyRows.{bare_under, keys_under}
 use Rattle.sql_read.proofs.LookUpRows.{challenges_of_found}
 use Rattle.sql_read.proofs.LookUpReadings.{challenges_of_reading}
+use Rattle.sql_read.proofs.Results.{failed_as}
+use Rattle.sql_read.specs.LookUpFaults.{IsOfMemoryOrDisk}
+use Rattle.sql_read.proofs.SureTables.{challenges_of_query}
+use Rattle.sql_read.proofs.LookUpFaults.{caused_behind, failed}
+use Rattle.sql_read.proofs.Failing.{may_read_still}
 use Rattle.sql_read.proofs.authorizations.AuthorizationRowParent.nest.Goals as goal
 
 pub find_owned-requires : goal.find_owned-requires
@@ -49,3 +54,31 @@ pub returns-clause-asks : goal.returns-clause-asks
 returns-clause-asks g c =
     asks_then (state g.S.Store c.args.conn.now) (state g.S.Store c.find_owned.new.conn) (state g.S.Store c.with_answers.new.conn)
     c.in_ok-heads.ensures.asks c.in_ok-challenges.ensures.asks
+
+pub returns-in_err-heads-clause-caused : goal.returns-in_err-heads-clause-caused
+returns-in_err-heads-clause-caused g c clean T has book may whole own bare_is =
+    failed_as c.from_residual.result c.in_err-heads.field-0.0 (IsOfMemoryOrDisk (state g.S.Store c.args.conn.now) (state g.S.Store c.find_owned.new.conn))
+    (c.in_err-heads.ensures.caused clean (challenges_of_query g.S.Store c.args.conn.now T has book may c.args.self.now.number))
+    c.from_residual.ensures.1
+
+pub returns-in_err-challenges-clause-caused : goal.returns-in_err-challenges-clause-caused
+returns-in_err-challenges-clause-caused g c clean T has book may whole own bare_is =
+    let before = state g.S.Store c.args.conn.now in
+    let one = state g.S.Store c.find_owned.new.conn in
+    let new = state g.S.Store c.with_answers.new.conn in
+    let clean_one : HasCleanDisk one = omega (arith, clean, c.in_err-challenges.ensures.asks.survives.clean) in
+    let it = c.in_ok-heads.ensures.read clean_one in
+    let same = c.in_ok-heads.ensures.unchanged clean_one in
+    let asks = c.in_ok-heads.ensures.asks in
+    let number = c.args.self.now.number in
+    let found = challenges_of_found before one T it.0 _ has book it.1 it.3 it.4 number refl it.2 in
+    let all = challenge_rows T.authorizations in
+    let heads : c.in_ok-heads.heads.items ≡ map bare whole.challenges =
+    it.5 ∙ ap (map (λ r. r.row)) found ∙ bare_under number all
+    ∙ ap (λ (a : AuthorizationRow). map bare (rows_under a.number all)) bare_is ∙ ap (map bare) own in
+    let keys : EachOf (HasItsKey T) whole.challenges = subst (EachOf (HasItsKey T)) own (keys_under T has.rising.challenges whole.number) in
+    failed_as c.from_residual-in_err-challenges.result c.in_err-challenges.field-0.0 (IsOfMemoryOrDisk before new)
+    (caused_behind (failed (Unit {0}) c.in_err-challenges.field-0.0) before one new asks
+    (c.in_err-challenges.ensures.caused clean T (holds_still before one T same has) book (may_read_still before one same asks may) whole.challenges keys
+    (c.deref.ensures.value ∙ heads)))
+    c.from_residual-in_err-challenges.ensures.1

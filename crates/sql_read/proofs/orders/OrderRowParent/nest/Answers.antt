@@ -5,6 +5,9 @@ use Rattle.desk_model.specs.declared.rows.OrderRow.{OrderRow}
 use Rattle.sql_read.specs.Under.{rows_under}
 use Rattle.sql_read.proofs.ListedOrder.{listed_by_found}
 use Rattle.sql_read.proofs.LookUpReadings.{listed_by_reading}
+use Rattle.sql_read.proofs.Results.{failed_as}
+use Rattle.sql_read.specs.LookUpFaults.{IsOfMemoryOrDisk}
+use Rattle.sql_read.proofs.SureTables.{listed_by_query}
 use Rattle.sql_read.proofs.orders.OrderRowParent.nest.Goals as goal
 
 pub find_owned-requires : goal.find_owned-requires
@@ -19,3 +22,9 @@ returns-clause-found g c clean T has book whole own bare =
     let listed = c.new.ensures ∙ it.5 ∙ ap (map (λ r. r.row)) found
     ∙ ap (λ (o : OrderRow). rows_under o.number (listed_rows T.orders)) bare ∙ own in
     λ i. record (bare i) { listed = listed i }
+
+pub returns-in_err-listed-clause-caused : goal.returns-in_err-listed-clause-caused
+returns-in_err-listed-clause-caused g c clean T has book may whole own bare =
+    failed_as c.from_residual.result c.in_err-listed.field-0.0 (IsOfMemoryOrDisk (state g.S.Store c.args.conn.now) (state g.S.Store c.find_owned.new.conn))
+    (c.in_err-listed.ensures.caused clean (listed_by_query g.S.Store c.args.conn.now T has book may c.args.self.now.number))
+    c.from_residual.ensures.1
