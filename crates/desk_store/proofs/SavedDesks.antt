@@ -1,27 +1,33 @@
 -- Saving over a connection is what is asked of a store.
-use Rattle.std.proofs.Common.{◌≡◌, ℕ, ◌+◌, List, [], ◌∷◌, Option, Some, None, Bool, true, false, Result, Ok, Err, inl, inr, refl, sym, subst, ◌∙◌, arith}
+use Rattle.std.proofs.Common.{◌≡◌, ℕ, ◌+◌, List, [], ◌∷◌, map, Option, Some, None, Bool, true, false, Result, Ok, Err, inl, inr, refl, sym, ap, subst, ◌∙◌}
+use Rattle.std.proofs.Common.{arith}
 use Rattle.std.proofs.lemmas.Bool.{eqb-true}
 use Rattle.std.specs.List.{filter}
-use Rattle.std.specs.Prelude.{◌⊎◌, ◌==◌, IfSome, cond, find}
+use Rattle.std.specs.Prelude.{◌⊎◌, ◌==◌, IfSome, cond, find, option_map}
 use Rattle.sqlite.specs.Effect.{Database}
 use Rattle.sqlite.specs.Held.{state}
 use Rattle.sqlite.specs.State.{State, HasCleanDisk, IsUnchanged, Survives}
 use Rattle.sqlite.specs.Store.{Ghosts}
 use Rattle.sqlite.specs.Tree.{Trees}
 use Rattle.sqlite.proofs.StateLemmas.{survives_then}
+use Rattle.model_laws.proofs.Basics.{each, find-map}
 use Rattle.model_laws.proofs.RowLists.{Above, ascends_above}
 use Rattle.model_laws.specs.Ordered.{Ascends}
 use Rattle.desk_model.specs.Change.{applied}
 use Rattle.desk_model.specs.Tables.{Tables}
 use Rattle.desk_model.specs.declared.rows.AccountRow.{AccountRow}
 use Rattle.desk_model.specs.declared.rows.AuthorizationRow.{AuthorizationRow}
+use Rattle.desk_model.specs.declared.rows.ChallengeRow.{ChallengeRow}
 use Rattle.desk_model.specs.declared.rows.Change.{Change}
 use Rattle.desk_model.specs.declared.rows.OrderRow.{OrderRow}
 use Rattle.sql_write.specs.Committing.{GoesBack, HasCommitted, IsBeforeCommit, IsLeft}
 use Rattle.sql_write.specs.declared.fault.SaveFault.{SaveFault}
 use Rattle.sql_schema.specs.Stays.{Asks}
 use Rattle.sql_write.specs.Fitting.{FitAfter, Saves as Puts}
-use Rattle.sql_write.specs.Standing.{IsPartIn, Stand, StandsIn}
+use Rattle.sql_write.specs.Standing.{HasSome, IsPartIn, IsRow, IsWithout, Stand, StandsIn}
+use Rattle.model_lives.specs.Thinned.{with_challenges, with_listed}
+use Rattle.model_lives.proofs.Lists.{filtered_each}
+use Rattle.sql_write.proofs.KnownRows.{all_of}
 use Rattle.sql_write.proofs.Numbered.{find_none}
 use Rattle.sql_write.proofs.OrderedFit.{ordered_fit}
 use Rattle.store_api.specs.Sight.{Sight}
@@ -141,9 +147,13 @@ saves_of v Of Those changes old new (Err why) are it = record {
   without_memory = it.without_memory;
 }
 
--- rows that were chosen by number, of rows whose numbers rise, stand among these
+-- what is found among these rows is found among those
+abbrev AreAmong : {X : Type 0} → (X → ℕ) → List X → List X → Type 0
+AreAmong key part rows = (n : ℕ) → IfSome (find (λ r. key r == n) part) (λ x. find (λ r. key r == n) rows ≡ Some x)
+
+-- so is that of rows that were chosen by number, of rows whose numbers rise
 stand_chosen : {X : Type 0} (key : X → ℕ) (test : ℕ → Bool) (m : ℕ) (rows : List X) → Ascends key m rows
-    → Stand key (filter (λ r. test (key r)) rows) rows
+    → AreAmong key (filter (λ r. test (key r)) rows) rows
 stand_chosen key test m [] up n = tt
 stand_chosen key test m (z ∷ zs) up n =
     go (test (key z)) (key z == n) refl (find (λ r. key r == n) (filter (λ r. test (key r)) zs)) refl
@@ -171,12 +181,47 @@ stand_chosen key test m (z ∷ zs) up n =
         subst (λ f. IfSome f (λ x. find (λ r. key r == n) (z ∷ zs) ≡ Some x)) (sym found) tt
     go false true e (Some x) found h = absurd (let both : None ≡ Some x = sym (none e) ∙ h in cc)
 
+-- they stand there
+stand_whole : {X : Type 0} (key : X → ℕ) (part rows : List X) → AreAmong key part rows → Stand key IsRow part rows
+stand_whole key part rows among n = go (find (λ r. key r == n) part) (among n)
+  where
+    go : (o : Option _) → IfSome o (λ x. find (λ r. key r == n) rows ≡ Some x)
+        → IfSome o (λ x. (y : _) × (find (λ r. key r == n) rows ≡ Some y) × IsRow x y)
+    go None h = tt
+    go (Some x) h = (x, h, refl)
+
+-- and do so without some of what belongs to them
+stand_thin : {X : Type 0} (key : X → ℕ) (IsOf : X → X → Type 0) (thin : X → X) → ((x : X) → key (thin x) ≡ key x) → ((x : X) → IsOf (thin x) x)
+    → (part rows : List X) → AreAmong key part rows → Stand key IsOf (map thin part) rows
+stand_thin key IsOf thin same is part rows among n =
+    subst (λ o. IfSome o (λ x. (y : _) × (find (λ r. key r == n) rows ≡ Some y) × IsOf x y))
+    (sym (find-map (λ r. key r == n) thin part ∙ ap (option_map thin) (found part))) (go (find (λ r. key r == n) part) (among n))
+  where
+    found : (xs : List _) → find (λ x. key (thin x) == n) xs ≡ find (λ x. key x == n) xs
+    found [] = refl
+    found (x ∷ xs) = λ i. cond (same x i == n) (Some x) (found xs i)
+
+    go : (o : Option _) → IfSome o (λ x. find (λ r. key r == n) rows ≡ Some x)
+        → IfSome (option_map thin o) (λ x. (y : _) × (find (λ r. key r == n) rows ≡ Some y) × IsOf x y)
+    go None h = tt
+    go (Some x) h = (x, h, is x)
+
+-- an authorization with some challenges has some of its own
+some_own : (c : ℕ → ChallengeRow → Bool) (x : AuthorizationRow) → HasSome (with_challenges c x) x
+some_own c x = record {
+  columns = refl;
+  challenges = filtered_each _ (c x.number) x.challenges (each _ _ x.challenges (λ d own kept. own) (all_of x).challenges);
+}
+
 -- the rows of a part stand in the tables that it was cut from
 pub part_stands : (part T : Tables) → IsCutFrom part T → AreRising T → IsPartIn (Some part) T
 part_stands part T cut rising =
     subst (λ (P : Tables). StandsIn P T) (sym cut.1) (record {
       meta = refl;
-      accounts = stand_chosen (λ (a : AccountRow). a.number) cut.0.accounts 0 T.accounts rising.accounts;
-      authorizations = stand_chosen (λ (a : AuthorizationRow). a.number) cut.0.authorizations 0 T.authorizations rising.authorizations;
-      orders = stand_chosen (λ (o : OrderRow). o.number) cut.0.orders 0 T.orders rising.orders;
+      accounts = stand_whole (λ (a : AccountRow). a.number) _ T.accounts
+          (stand_chosen (λ (a : AccountRow). a.number) cut.0.rows.accounts 0 T.accounts rising.accounts);
+      authorizations = stand_thin (λ (a : AuthorizationRow). a.number) HasSome (with_challenges cut.0.challenges) (λ a. refl) (some_own cut.0.challenges) _
+          T.authorizations (stand_chosen (λ (a : AuthorizationRow). a.number) cut.0.rows.authorizations 0 T.authorizations rising.authorizations);
+      orders = stand_thin (λ (o : OrderRow). o.number) IsWithout (with_listed cut.0.listed) (λ o. refl) (λ o. refl) _ T.orders
+          (stand_chosen (λ (o : OrderRow). o.number) cut.0.rows.orders 0 T.orders rising.orders);
     })

@@ -67,6 +67,15 @@ impl<S: Alter> LookUps for Store<S> {
         self.told(read)
     }
 
+    fn bare_authorizations(
+        &mut self,
+        alloc: Global,
+        number: u64,
+    ) -> Result<Vec<AuthorizationRow>, StorageFault> {
+        let read = rows::bare_authorizations(alloc, &mut self.conn, number);
+        self.told(read)
+    }
+
     fn orders_listing(
         &mut self,
         alloc: Global,

@@ -36,6 +36,7 @@ use Rattle.model_laws.proofs.SweptParts.{swept_closed}
 use Rattle.desk_model.specs.Change.{recorded_changes}
 use Rattle.model_lives.specs.AnswersAs.{AnswersAs, CarriesOutAs, IssuesAs, PassesAs, SettlesAs}
 use Rattle.model_lives.specs.IsPart.{IsPartFor, Keeps}
+use Rattle.model_lives.specs.Thinned.{all_challenges}
 use Rattle.desk_model.specs.Asked.{asks_authorizations, asks_name, asks_orders}
 use Rattle.desk_model.specs.Touched.{is_asked_authorization, is_first_authorization, is_named_account, is_named_authorization, is_named_order}
 use Rattle.desk_model.specs.Touched.{is_own_authorization, is_own_order, is_past_order, is_touched_account}
@@ -44,6 +45,7 @@ use Rattle.desk_model.specs.Touched.{touched_rows}
 use Rattle.model_lives.proofs.Cut.{kept_by, no_part, no_rows, numbered, same_authorizations, touched_kept, touched_listed}
 use Rattle.model_lives.proofs.Enough.{answers_at, ready_by, restricted_ordered, work_as}
 use Rattle.model_lives.proofs.Ready.{IsAnswered, IsReady}
+use Rattle.model_lives.proofs.Thin.{whole_authorizations}
 use Rattle.model_lives.proofs.Walks.{IsNoWork, office_answered, signed_answered}
 use Rattle.model_lives.proofs.Grown.{grown, grown_closed, grown_part}
 use Rattle.model_lives.proofs.Listed.{KeepsListed}
@@ -328,7 +330,8 @@ carries_between : (k : Kept) (T Q : Tables) (m : ℕ) (v : Verdict) → IsOrdere
 carries_between k T Q m v h holders low high =
     record {
       standing = λ r. (open_kept k T).authorizations r.number;
-      authorizations = authorizations_stand k T m v h holders;
+      challenges = all_challenges;
+      authorizations = authorizations_stand k T m v h holders ∙ sym (whole_authorizations _);
       ends = orders_end k T m v;
       shows = λ index. sym (high.shows index) ∙ low.shows index;
     }

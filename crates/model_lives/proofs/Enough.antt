@@ -33,6 +33,7 @@ use Rattle.model_laws.proofs.RowLists.{ascends_filter}
 use Rattle.model_laws.proofs.SweptParts.{swept_closed}
 use Rattle.model_lives.specs.AnswersAs.{AnswersAs, CarriesOutAs, IssuesAs, PassesAs, SettlesAs}
 use Rattle.model_lives.specs.IsPart.{IsPartFor, Keeps}
+use Rattle.model_lives.specs.Thinned.{all_challenges}
 use Rattle.model_lives.proofs.Listed.{KeepsListed}
 use Rattle.desk_model.specs.Touched.{touched, touched_at, touched_rows}
 use Rattle.model_lives.proofs.Grown.{KeepsTouched, grown, grown_closed, grown_part, keeps_falling, keeps_named, keeps_restated}
@@ -40,6 +41,7 @@ use Rattle.model_lives.proofs.Grown.{keeps_rows, keeps_touched, may_restate}
 use Rattle.model_lives.proofs.Lists.{filtered_each}
 use Rattle.model_laws.proofs.Plain.{covers_issued, fresh_kept, issued_closed, issued_covers, nonces_covered, spent_closed, spent_covers}
 use Rattle.model_lives.proofs.Ready.{IsAnswered, IsReady, swept_names}
+use Rattle.model_lives.proofs.Thin.{whole_authorizations}
 use Rattle.model_lives.proofs.Verdicts.{nonce_same, office_same, signed_same}
 use Rattle.model_lives.proofs.Walks.{IsNoWork, office_answered, signed_answered}
 
@@ -124,7 +126,8 @@ pub carried_by : (k : Kept) (T : Tables) (m : ℕ) (v : Verdict) →
 carried_by k T m v after same =
     record {
       standing = λ r. k.authorizations r.number;
-      authorizations = ap (λ (E : Tables). E.authorizations) after;
+      challenges = all_challenges;
+      authorizations = ap (λ (E : Tables). E.authorizations) after ∙ sym (whole_authorizations _);
       ends = λ n all. subst (EachOf (λ o. o.expires ≤ n)) (sym (ap (λ (E : Tables). E.orders) after))
           (filtered_each _ (λ (o : OrderRow). k.orders o.number) (effects m (swept m T) (entries_of v)).orders
           (each _ _ (effects m (swept m T) (entries_of v)).orders (λ o e kept. e) all));
@@ -207,8 +210,10 @@ whole_settles T m a =
       judged = refl;
       verdict = record {
         standing = λ r. true;
+        challenges = all_challenges;
         authorizations =
-            sym (filter_all (λ r. true) (effects m (swept m T) (entries_of v)).authorizations
+            sym (whole_authorizations _
+            ∙ filter_all (λ r. true) (effects m (swept m T) (entries_of v)).authorizations
             (each_all _ (effects m (swept m T) (entries_of v)).authorizations (λ r. refl)));
         ends = λ n all. all;
         shows = λ index. refl;

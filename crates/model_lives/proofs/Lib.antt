@@ -27,6 +27,7 @@ pub mod Reusing
 pub mod Sound
 pub mod SoundCalls
 pub mod Steps
+pub mod Thin
 pub mod Unlisted
 pub mod Verdicts
 pub mod Walks

@@ -46,11 +46,13 @@ use Rattle.model_laws.proofs.SweptParts.{swept_closed}
 use Rattle.model_lives.proofs.Steps.{check_keeps, given_keeps}
 use Rattle.model_lives.specs.AnswersAs.{CarriesOutAs, PassesAs}
 use Rattle.model_lives.specs.Few.{target_needs_listed}
+use Rattle.model_lives.specs.Thinned.{all_challenges}
 use Rattle.model_lives.proofs.Between.{authorizations_stand, bare, bare_ordered, open_kept, orders_end, swept_bare}
 use Rattle.model_lives.proofs.Grown.{KeepsNamed, grown_closed}
 use Rattle.model_lives.proofs.Lists.{filter_same, same_number}
 use Rattle.model_lives.proofs.Ready.{swept_names}
 use Rattle.model_lives.proofs.Replies.{certificate_shown, orders_shown}
+use Rattle.model_lives.proofs.Thin.{whole_authorizations}
 use Rattle.model_lives.proofs.Verdicts.{is_key, nonce_same, signed_same, verdict_by}
 use Rattle.model_lives.proofs.Walks.{sent}
 
@@ -249,21 +251,24 @@ carried_open : (k : Kept) (T : Tables) (m : ℕ) (v : Verdict) → IsOrdered T �
 carried_open k T m (refused why ss) h covers shown =
     record {
       standing = λ r. (open_kept k T).authorizations r.number;
-      authorizations = authorizations_stand k T m (refused why ss) h tt;
+      challenges = all_challenges;
+      authorizations = authorizations_stand k T m (refused why ss) h tt ∙ sym (whole_authorizations _);
       ends = orders_end k T m (refused why ss);
       shows = λ index. refl;
     }
 carried_open k T m (key_taken account) h covers shown =
     record {
       standing = λ r. (open_kept k T).authorizations r.number;
-      authorizations = authorizations_stand k T m (key_taken account) h tt;
+      challenges = all_challenges;
+      authorizations = authorizations_stand k T m (key_taken account) h tt ∙ sym (whole_authorizations _);
       ends = orders_end k T m (key_taken account);
       shows = λ index. refl;
     }
 carried_open k T m (answers what) h covers shown =
     record {
       standing = λ r. (open_kept k T).authorizations r.number;
-      authorizations = authorizations_stand k T m (answers what) h tt;
+      challenges = all_challenges;
+      authorizations = authorizations_stand k T m (answers what) h tt ∙ sym (whole_authorizations _);
       ends = orders_end k T m (answers what);
       shows = λ index. ap (λ P. reply_of P what) (swept_open k T m covers) ∙ shown;
     }

@@ -6,7 +6,7 @@ use Rattle.std.proofs.lemmas.Bool.{and_from, or_left}
 use Rattle.serde_json.specs.Data.{Data, number, string, unsigned}
 use Rattle.desk_model.specs.Authorization.{is_pending}
 use Rattle.desk_model.specs.Derived.{numbers_of}
-use Rattle.desk_model.specs.Document.{bytes_of, order_work_document, work_document, work_of}
+use Rattle.desk_model.specs.Document.{bytes_of, order_work, order_work_document, work_document, work_of}
 use Rattle.desk_model.specs.Effect.{falls, is_overdue, swept, swept_authorization, swept_order}
 use Rattle.desk_model.specs.Json.{document, list}
 use Rattle.desk_model.specs.Kept.{EachOf, IsClosed, Kept, restricted}
@@ -32,13 +32,14 @@ use Rattle.desk_model.specs.declared.verdict.Shows.{Shows}
 use Rattle.desk_model.specs.declared.verdict.Shows.TheVariants as show
 use Rattle.desk_model.specs.declared.verdict.Verdict.TheVariants.{Answers as answers}
 use Rattle.model_laws.specs.Ordered.{IsOrdered}
-use Rattle.model_laws.proofs.Basics.{each, each_both, each-map}
+use Rattle.model_laws.proofs.Basics.{each, each_all, each_both, each-map, map-each}
 use Rattle.model_laws.proofs.Local.{filter_part, swept_order_number, swept_part}
 use Rattle.model_laws.proofs.SweptParts.{swept_closed}
 use Rattle.model_lives.specs.AnswersAs.{AnswersAs, CarriesOutAs, SettlesAs}
 use Rattle.model_lives.specs.Few.{IsStatedFor, few_rows}
 use Rattle.model_lives.specs.IsEnough.{IsEnoughFor, challenge_work_rows, enough, enough_at, has_work, is_worked_on, order_work_rows}
 use Rattle.model_lives.specs.IsPart.{IsPartFor}
+use Rattle.model_lives.specs.Thinned.{Thinning, all_challenges, all_listed, in_whole, no_challenges, thin, thinned}
 use Rattle.model_lives.proofs.Between.{authorizations_stand, none_listed, open_kept, orders_end, parts_answer}
 use Rattle.model_lives.proofs.Cut.{at_number, no_part, no_rows, numbered}
 use Rattle.model_lives.proofs.Enough.{answers_at, restricted_ordered}
@@ -47,17 +48,20 @@ use Rattle.model_lives.proofs.Grown.{grown, grown_closed, grown_part}
 use Rattle.model_lives.proofs.Listed.{KeepsListed}
 use Rattle.model_lives.proofs.Lists.{each_member, filter_nothing, filter_same, same_number}
 use Rattle.model_lives.proofs.Replies.{rows_same}
+use Rattle.model_lives.proofs.Thin.{all_falling, bare_authorizations, carries_thin, rows_thin, swept_thin, thin_ordered, thinned_whole, whole_authorizations, whole_orders}
 use Rattle.model_lives.proofs.Walks.{IsNoWork}
 
 -- ---- parts are enough
 
 -- a part for a call is enough for it
 pub part_enough : (T P : Tables) (call : Call) → IsOrdered T → IsPartFor call T P → IsEnoughFor call T P
-part_enough T P call h part = record { kept = part.kept; cut = part.cut; answers = parts_answer T P call h part }
+part_enough T P call h part =
+    record { kept = in_whole part.kept; cut = part.cut ∙ sym (thinned_whole part.kept T); answers = parts_answer T P call h part }
 
 -- what is enough is cut from the whole, and stands by number as it does
 pub enough_ordered : (T P : Tables) (call : Call) → IsOrdered T → IsEnoughFor call T P → IsOrdered P
-enough_ordered T P call h part = subst IsOrdered (sym part.cut) (restricted_ordered part.kept T h)
+enough_ordered T P call h part =
+    subst IsOrdered (sym part.cut) (thin_ordered part.kept.challenges part.kept.listed (restricted part.kept.rows T) (restricted_ordered part.kept.rows T h))
 
 -- ---- what shows something and records nothing
 
@@ -67,7 +71,8 @@ shows_as : (k : Kept) (T : Tables) (m : ℕ) (what : Shows) → IsOrdered T → 
 shows_as k T m what h same =
     record {
       standing = λ r. (open_kept k T).authorizations r.number;
-      authorizations = authorizations_stand k T m (answers what) h tt;
+      challenges = all_challenges;
+      authorizations = authorizations_stand k T m (answers what) h tt ∙ sym (whole_authorizations _);
       ends = orders_end k T m (answers what);
       shows = λ index. same;
     }
@@ -155,14 +160,19 @@ issuer_kept T =
 issuer_same : (T : Tables) → IsOrdered T → EachOf (λ o. (issuer_kept T).orders o.number ≡ is_processing o.status) T.orders
 issuer_same T h = numbered (λ (o : OrderRow). o.number) (λ o. is_processing o.status) 1 T.orders h.orders.0
 
-issuer_cut : (T : Tables) → IsOrdered T → order_work_rows T ≡ restricted (issuer_kept T) T
+-- without challenges
+abbrev issuer_thinning : Tables → Thinning
+issuer_thinning T = record { rows = issuer_kept T; challenges = no_challenges; listed = all_listed }
+
+issuer_cut : (T : Tables) → IsOrdered T → order_work_rows T ≡ thinned (issuer_thinning T) T
 issuer_cut T h =
     λ i. record {
       meta = T.meta;
       nonces = filter_nothing T.nonces i;
       accounts = filter_nothing T.accounts i;
-      authorizations = filter (is_worked_on T) T.authorizations;
-      orders = filter_same (λ o. is_processing o.status) _ T.orders (each _ _ T.orders (λ o e. sym e) (issuer_same T h)) i;
+      authorizations = sym (bare_authorizations (filter (is_worked_on T) T.authorizations)) i;
+      orders = (filter_same (λ o. is_processing o.status) _ T.orders (each _ _ T.orders (λ o e. sym e) (issuer_same T h))
+          ∙ sym (whole_orders (restricted (issuer_kept T) T).orders)) i;
     }
 
 -- with an order what it lists
@@ -240,15 +250,43 @@ issuer_settles T m h =
         (each _ _ T.orders (λ o e yes. ap k.orders (swept_order_number m T.authorizations o)
         ∙ or_left _ _ (e ∙ swept_processing m T.authorizations o yes)) (issuer_same T h))
 
+-- the list shows no challenge
+order_work_thin : (S : Tables) → order_work (thin no_challenges all_listed S) ≡ order_work S
+order_work_thin S =
+    ap (λ (items : List Data). document ((codes "orders", list items) ∷ []))
+    (ap (λ os. map (order_work_document (thin no_challenges all_listed S)) (filter (λ o. is_processing o.status) os)) (whole_orders S.orders)
+    ∙ map-each (order_work_document (thin no_challenges all_listed S)) (order_work_document S) (filter (λ o. is_processing o.status) S.orders)
+    (each_all _ (filter (λ o. is_processing o.status) S.orders) (λ o.
+    ap (λ names. names_document names o)
+    (rows_thin (λ (a : AuthorizationRow). string (shown_name a.name)) no_challenges (λ r. refl) S.authorizations (numbers_of o.listed)))))
+
+-- so it needs none
+issuer_thin : (T P : Tables) (m : ℕ) → SettlesAs m office.OrderWork T P → SettlesAs m office.OrderWork T (thin no_challenges all_listed P)
+issuer_thin T P m h =
+    record {
+      judged = refl;
+      verdict =
+          carries_thin T P m (answers (show.List listing.OrderWork)) no_challenges all_listed (swept_thin no_challenges all_listed m P (all_falling m P))
+          (λ index. ap (ok 200) (order_work_thin (swept m P))) h.verdict;
+      records = refl;
+    }
+
 -- ---- each call
 
 -- what is cut so and answers is enough
+thinned_by : (T : Tables) (call : Call) (a : Ask) (t : Thinning) → call.ask ≡ a → enough_at T (max call.at T.meta.counters.clock) a ≡ thinned t T →
+    AnswersAs (max call.at T.meta.counters.clock) a T (thinned t T) → IsEnoughFor call T (enough T call)
+thinned_by T call a t is cut settles =
+    let m : ℕ = max call.at T.meta.counters.clock in
+    let same : enough T call ≡ thinned t T = ap (enough_at T m) is ∙ cut in
+    record { kept = t; cut = same; answers = subst (λ x. AnswersAs m x T (enough T call)) (sym is) (subst (AnswersAs m a T) (sym same) settles) }
+
+-- so are rows in whole
 enough_by : (T : Tables) (call : Call) (a : Ask) (k : Kept) → call.ask ≡ a → enough_at T (max call.at T.meta.counters.clock) a ≡ restricted k T →
     AnswersAs (max call.at T.meta.counters.clock) a T (restricted k T) → IsEnoughFor call T (enough T call)
 enough_by T call a k is cut settles =
-    let m : ℕ = max call.at T.meta.counters.clock in
-    let same : enough T call ≡ restricted k T = ap (enough_at T m) is ∙ cut in
-    record { kept = k; cut = same; answers = subst (λ x. AnswersAs m x T (enough T call)) (sym is) (subst (AnswersAs m a T) (sym same) settles) }
+    thinned_by T call a (in_whole k) is (cut ∙ sym (thinned_whole k T))
+    (subst (AnswersAs (max call.at T.meta.counters.clock) a T) (sym (thinned_whole k T)) settles)
 
 pub few_enough : (T : Tables) (call : Call) → IsOrdered T → IsStatedFor call.ask (max call.at T.meta.counters.clock) T → IsEnoughFor call T (enough T call)
 few_enough T call h stated = by call.ask refl
@@ -264,7 +302,8 @@ few_enough T call h stated = by call.ask refl
     by : (a : Ask) → call.ask ≡ a → IsEnoughFor call T (enough T call)
     by (ask.Office office.ChallengeWork) is =
         enough_by T call (ask.Office office.ChallengeWork) (validator_kept T) is (validator_cut T h) (validator_settles T m h)
-    by (ask.Office office.OrderWork) is = enough_by T call (ask.Office office.OrderWork) (issuer_kept T) is (issuer_cut T h) (issuer_settles T m h)
+    by (ask.Office office.OrderWork) is = thinned_by T call (ask.Office office.OrderWork) (issuer_thinning T) is (issuer_cut T h)
+        (issuer_thin T (restricted (issuer_kept T) T) m (issuer_settles T m h))
     by (ask.Office office.Directory) is =
         enough_by T call (ask.Office office.Directory) no_rows is (no_part T)
         (answers_at no_rows T m (ask.Office office.Directory) h (none_listed T) (record { nonces = tt; accounts = tt; authorizations = tt; orders = tt }))

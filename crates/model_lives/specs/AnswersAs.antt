@@ -1,5 +1,5 @@
 -- That a part answers a call as the whole tables do.
-use Rattle.std.specs.Prelude.{ℕ, ◌≤◌, ◌≡◌, List, [], ◌∷◌, Bool}
+use Rattle.std.specs.Prelude.{ℕ, ◌≤◌, ◌≡◌, List, [], ◌∷◌, Bool, map}
 use Rattle.std.specs.List.{filter}
 use Rattle.desk_model.specs.Change.{recorded_changes}
 use Rattle.desk_model.specs.Decide.{entries_of, verdict_reply}
@@ -13,16 +13,20 @@ use Rattle.desk_model.specs.declared.call.OfficeAsk.{OfficeAsk}
 use Rattle.desk_model.specs.declared.call.Signed.{Signed}
 use Rattle.desk_model.specs.declared.entry.Entry.TheVariants.{Issued as issued, Spent as spent}
 use Rattle.desk_model.specs.declared.rows.AuthorizationRow.{AuthorizationRow}
+use Rattle.desk_model.specs.declared.rows.ChallengeRow.{ChallengeRow}
 use Rattle.desk_model.specs.declared.verdict.Verdict.{Verdict}
+use Rattle.model_lives.specs.Thinned.{with_challenges}
 
 -- a nonce that is issued changes the same
 pub record IssuesAs (m : ℕ) (whole part : Tables) : Type 0 where
   pub records : (random : List ℕ) → recorded_changes m part (issued random ∷ []) ≡ recorded_changes m whole (issued random ∷ [])
 
--- the verdict shows the same, and then the part's authorizations are among the whole's, and its orders end no later
+-- the verdict shows the same, and then the part's authorizations are among the whole's, with some of their challenges, and its orders end no later
 pub record CarriesOutAs (m : ℕ) (whole part : Tables) (v : Verdict) : Type 0 where
   pub standing : AuthorizationRow → Bool
-  pub authorizations : (effects m (swept m part) (entries_of v)).authorizations ≡ filter standing (effects m (swept m whole) (entries_of v)).authorizations
+  pub challenges : ℕ → ChallengeRow → Bool
+  pub authorizations : (effects m (swept m part) (entries_of v)).authorizations
+      ≡ map (with_challenges challenges) (filter standing (effects m (swept m whole) (entries_of v)).authorizations)
   pub ends : (n : ℕ) → EachOf (λ o. o.expires ≤ n) (effects m (swept m whole) (entries_of v)).orders
       → EachOf (λ o. o.expires ≤ n) (effects m (swept m part) (entries_of v)).orders
   pub shows : (index : Bool) → verdict_reply index (effects m (swept m part) (entries_of v)) v

@@ -1,7 +1,6 @@
 -- When rows are enough for a call, though they may lack what it touches.
-use Rattle.std.specs.Prelude.{◌≡◌, ◌&&◌, ℕ, max, [], Bool}
+use Rattle.std.specs.Prelude.{◌≡◌, ◌&&◌, ℕ, max, [], Bool, map}
 use Rattle.std.specs.List.{filter, list_any}
-use Rattle.desk_model.specs.Kept.{Kept, restricted}
 use Rattle.desk_model.specs.Legal.{is_processing_challenge}
 use Rattle.desk_model.specs.Order.{is_processing}
 use Rattle.desk_model.specs.Tables.{Tables}
@@ -13,11 +12,12 @@ use Rattle.desk_model.specs.declared.call.OfficeAsk.TheVariants as office
 use Rattle.desk_model.specs.declared.rows.AuthorizationRow.{AuthorizationRow}
 use Rattle.model_lives.specs.AnswersAs.{AnswersAs}
 use Rattle.model_lives.specs.Few.{few_rows}
+use Rattle.model_lives.specs.Thinned.{Thinning, thinned, without_challenges}
 
--- the part is cut from the whole, and answers the call as the whole does
+-- the part is cut from the whole, of whose rows it may lack what belongs to them, and answers the call as the whole does
 pub record IsEnoughFor (call : Call) (whole part : Tables) : Type 0 where
-  pub kept : Kept
-  pub cut : part ≡ restricted kept whole
+  pub kept : Thinning
+  pub cut : part ≡ thinned kept whole
   pub answers : AnswersAs (max call.at whole.meta.counters.clock) call.ask whole part
 
 -- ---- the rows that are enough for each call
@@ -35,14 +35,14 @@ abbrev pub challenge_work_rows : Tables → Tables
 challenge_work_rows T =
     record { meta = T.meta; nonces = []; accounts = []; authorizations = filter has_work T.authorizations; orders = [] }
 
--- for the work of the issuer: these orders, and the authorizations that they list, whose ends let an order fall
+-- for the work of the issuer: these orders, and the authorizations that they list, whose ends let an order fall, without challenges
 abbrev pub order_work_rows : Tables → Tables
 order_work_rows T =
     record {
       meta = T.meta;
       nonces = [];
       accounts = [];
-      authorizations = filter (is_worked_on T) T.authorizations;
+      authorizations = map without_challenges (filter (is_worked_on T) T.authorizations);
       orders = filter (λ o. is_processing o.status) T.orders;
     }
 

@@ -8,3 +8,4 @@ pub mod IsPart
 pub mod Loaded
 pub mod LookUps
 pub mod PartsLaws
+pub mod Thinned

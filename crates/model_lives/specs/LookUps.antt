@@ -11,6 +11,7 @@ use Rattle.desk_model.specs.declared.rows.AuthorizationRow.{AuthorizationRow}
 use Rattle.desk_model.specs.declared.rows.OrderRow.{OrderRow}
 use Rattle.desk_model.specs.declared.status.AuthzStatus.{AuthzStatus}
 use Rattle.desk_model.specs.declared.status.OrderStatus.{OrderStatus}
+use Rattle.model_lives.specs.Thinned.{without_challenges}
 use Rattle.model_lives.specs.declared.queries.AccountsWhere.{AccountsWhere}
 use Rattle.model_lives.specs.declared.queries.AccountsWhere.TheVariants as accounts
 use Rattle.model_lives.specs.declared.queries.AuthorizationsWhere.{AuthorizationsWhere}
@@ -111,6 +112,10 @@ authorizations_where T which = filter (wants_authorization which) T.authorizatio
 -- by the number
 abbrev pub authorizations_numbered : Tables → ℕ → List AuthorizationRow
 authorizations_numbered T n = authorizations_where T (authorizations.Number n)
+
+-- by the number, without challenges
+abbrev pub bare_authorizations : Tables → ℕ → List AuthorizationRow
+bare_authorizations T n = map without_challenges (authorizations_numbered T n)
 
 -- by the account
 abbrev pub authorizations_of : Tables → ℕ → List AuthorizationRow

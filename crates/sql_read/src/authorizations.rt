@@ -4,7 +4,7 @@ ghost use Rattle.sqlite.specs.State.{HasCleanDisk, IsUnchanged};
 ghost use Rattle.sqlite.specs.Held.{state};
 ghost use Rattle.store_columns.specs.Flat.{without_challenges};
 ghost use Rattle.model_lives.specs.Above.{authorizations_above, challenges_above, first_of};
-ghost use Rattle.model_lives.specs.LookUps.{AreNumbers, authorizations_where, owners_of, owners_processing};
+ghost use Rattle.model_lives.specs.LookUps.{AreNumbers, authorizations_where, bare_authorizations, owners_of, owners_processing};
 ghost use Rattle.sql_schema.specs.Stays.{Asks};
 ghost use Rattle.sql_read.specs.Earliest.{IsEarliest, authorization_ends};
 ghost use Rattle.sql_read.specs.Failures.{MayRead};
@@ -149,6 +149,25 @@ pub fn find_authorizations<S: Alter>(
     ensures asks { Asks (state S.Store conn.old) (state S.Store conn.new) }
 {
     find_parents_by::<S, AuthzColumns, _>(alloc, conn, text_of(which), params_of(which))
+}
+
+/// The authorization of a number, without its challenges.
+///
+/// # Errors
+///
+/// The engine's, and `NotARow` where a row is not one of a desk; nothing is changed.
+pub fn bare_authorizations<S: Alter>(
+    alloc: Global,
+    conn: &mut Connection<S>,
+    number: u64,
+) -> Result<Vec<AuthorizationRow>, ReadFault>
+    ensures found { ForHeld (state S.Store conn.old) (state S.Store conn.new) (λ T. IsStoredBook T
+        → IfOk result (λ rows. rows.items ≡ bare_authorizations T number)) }
+    ensures unchanged { HasCleanDisk (state S.Store conn.new) → OnOk result (IsUnchanged (state S.Store conn.old) (state S.Store conn.new)) }
+    ensures asks { Asks (state S.Store conn.old) (state S.Store conn.new) }
+{
+    let params = number_param(number);
+    find_rows::<S, AuthzColumns>(alloc, conn, authorizations::SELECT_NUMBERED, &params)
 }
 
 /// The number of the authorization of a challenge.

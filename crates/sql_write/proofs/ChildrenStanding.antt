@@ -8,6 +8,7 @@ use Rattle.store_columns.specs.declared.flat_rows.AnswerKey.{AnswerKey}
 use Rattle.store_columns.specs.declared.flat_rows.Owned.{Owned}
 use Rattle.model_laws.proofs.Basics.{each-map, each_all}
 use Rattle.model_laws.specs.Distinct.{Distinct}
+use Rattle.desk_model.specs.Kept.{EachOf}
 use Rattle.desk_model.specs.declared.objects.Answer.{Answer}
 use Rattle.desk_model.specs.declared.rows.AuthorizationRow.{AuthorizationRow}
 use Rattle.desk_model.specs.declared.rows.ChallengeRow.{ChallengeRow}
@@ -21,9 +22,15 @@ use Rattle.sql_tables.specs.Sorted.{sorted_by}
 use Rattle.sql_tables.proofs.AnswerKeys.{keys_apart}
 use Rattle.sql_tables.proofs.HiddenUpsert.{has_map}
 
--- the row of this number stands among these
-abbrev IsThere : List AuthorizationRow → ℕ → AuthorizationRow → Type 0
-IsThere rows n a = Has rows a × (a.number ≡ n)
+-- the row of this number stands among these, with these challenges and maybe more
+abbrev pub IsThere : List AuthorizationRow → ℕ → AuthorizationRow → Type 0
+IsThere rows n a = (b : AuthorizationRow) × Has rows b × (b.number ≡ n) × EachOf (λ c. Has b.challenges c) a.challenges
+
+-- what holds of each item
+of_each : {X : Type 0} (P : X → Type 0) (xs : List X) (x : X) → EachOf P xs → Has xs x → P x
+of_each P [] x all h = absurd h
+of_each P (y ∷ ys) x all (inl here) = subst P (sym here) all.0
+of_each P (y ∷ ys) x all (inr later) = of_each P ys x all.1 later
 
 -- a challenge under its authorization
 abbrev under : ℕ → ChallengeRow → Owned ChallengeRow
@@ -57,7 +64,8 @@ known_is : (n : ℕ) (rows : List AuthorizationRow) (known : Option Authorizatio
 known_is n rows None there k c is = absurd (cc is)
 known_is n rows (Some a) there k c is =
     let found = found_has (λ (r : ChallengeRow). r.number) k a.challenges c is in
-    (subst (λ m. Has (challenge_rows rows) (under m c)) there.1 (among_all rows a c there.0 found.0), found.1)
+    let own = of_each (λ d. Has there.0.challenges d) a.challenges c there.3 found.0 in
+    (subst (λ m. Has (challenge_rows rows) (under m c)) there.2 (among_all rows there.0 c there.1 own), found.1)
 
 -- what is known of the challenges stands in their table
 pub challenges_stand : (known : Option AuthorizationRow) (n : ℕ) (cs : List ChallengeRow) (rows : List AuthorizationRow)

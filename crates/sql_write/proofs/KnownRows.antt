@@ -16,13 +16,14 @@ use Rattle.desk_model.specs.Questions.{account_on, authorization_on, order_on}
 use Rattle.desk_model.specs.Tables.{Tables}
 use Rattle.desk_model.specs.declared.rows.AccountRow.{AccountRow}
 use Rattle.desk_model.specs.declared.rows.AuthorizationRow.{AuthorizationRow}
+use Rattle.desk_model.specs.declared.rows.ChallengeRow.{ChallengeRow}
 use Rattle.desk_model.specs.declared.rows.Change.{Change}
 use Rattle.desk_model.specs.declared.rows.Change.TheVariants.{PutMeta, PutNonce, RemoveNonce, PutAccount, PutAuthorization, PutOrder}
 use Rattle.desk_model.specs.declared.rows.Meta.{Meta}
 use Rattle.desk_model.specs.declared.rows.OrderRow.{OrderRow}
 use Rattle.sql_write.specs.Highest.{IsAbove, PutsNone}
 use Rattle.sql_write.specs.declared.standing.Highest.{Highest}
-use Rattle.sql_write.specs.Standing.{IsPartIn, Stand, StandsIn, known_account, known_after, known_authorization, known_order}
+use Rattle.sql_write.specs.Standing.{HasSome, IsPartIn, IsRow, IsWithout, Stand, StandsIn, known_account, known_after, known_authorization, known_order}
 use Rattle.sql_tables.proofs.Keyed.{ranked}
 
 -- ---- look-ups
@@ -80,22 +81,27 @@ module _ {X : Type 0} (key : X → ℕ) where
   put_or x o b = cond b (Some x) o
 
   -- with one more in both
-  pub stand_put : (x : X) (part rows : List X) → Stand key part rows → Stand key (put key x part) (put key x rows)
-  stand_put x part rows stand n =
-      subst (λ o. IfSome o (λ z. at n (put key x rows) ≡ Some z)) (sym (find_put n x part))
-      (subst (λ o. IfSome (put_or x (at n part) (key x == n)) (λ z. o ≡ Some z)) (sym (find_put n x rows))
+  pub stand_put : (IsOf : X → X → Type 0) → ((x : X) → IsOf x x) → (x : X) (part rows : List X) → Stand key IsOf part rows
+      → Stand key IsOf (put key x part) (put key x rows)
+  stand_put IsOf same x part rows stand n =
+      subst (λ o. IfSome o (λ z. (y : X) × (at n (put key x rows) ≡ Some y) × IsOf z y)) (sym (find_put n x part))
+      (subst (λ o. IfSome (put_or x (at n part) (key x == n)) (λ z. (y : X) × (o ≡ Some y) × IsOf z y)) (sym (find_put n x rows))
       (go (key x == n) (at n part) (stand n)))
     where
-      go : (b : Bool) (o : Option X) → IfSome o (λ z. at n rows ≡ Some z) → IfSome (put_or x o b) (λ z. put_or x (at n rows) b ≡ Some z)
-      go true o h = refl
+      go : (b : Bool) (o : Option X) → IfSome o (λ z. (y : X) × (at n rows ≡ Some y) × IsOf z y)
+          → IfSome (put_or x o b) (λ z. (y : X) × (put_or x (at n rows) b ≡ Some y) × IsOf z y)
+      go true o h = (x, refl, same x)
       go false o h = h
 
-  -- what is found of the part is a row of the tables
-  pub stands_there : (n : ℕ) (rows : List X) (o : Option X) → IfSome o (λ x. at n rows ≡ Some x) → IfSome o (λ x. Has rows x × (key x ≡ n))
-  stands_there n rows None h = tt
-  stands_there n rows (Some x) h = found_has n rows x h
-
 -- ---- behind changes
+
+-- a row has all of its challenges
+pub all_of : (x : AuthorizationRow) → HasSome x x
+all_of x = record { columns = refl; challenges = own x.challenges (λ c h. h) }
+  where
+    own : (cs : List ChallengeRow) → ((c : ChallengeRow) → Has cs c → Has x.challenges c) → EachOf (λ c. Has x.challenges c) cs
+    own [] h = tt
+    own (c ∷ cs) h = (h c (inl refl), own cs (λ d k. h d (inr k)))
 
 -- behind one
 stands_on : (c : Change) (part T : Tables) → StandsIn part T → StandsIn (applied_one c part) (applied_one c T)
@@ -104,21 +110,21 @@ stands_on (PutNonce x) part T h = record { meta = h.meta; accounts = h.accounts;
 stands_on (RemoveNonce n) part T h = record { meta = h.meta; accounts = h.accounts; authorizations = h.authorizations; orders = h.orders }
 stands_on (PutAccount x) part T h = record {
   meta = h.meta;
-  accounts = stand_put (λ (a : AccountRow). a.number) x part.accounts T.accounts h.accounts;
+  accounts = stand_put (λ (a : AccountRow). a.number) IsRow (λ a. refl) x part.accounts T.accounts h.accounts;
   authorizations = h.authorizations;
   orders = h.orders;
 }
 stands_on (PutAuthorization x) part T h = record {
   meta = h.meta;
   accounts = h.accounts;
-  authorizations = stand_put (λ (a : AuthorizationRow). a.number) x part.authorizations T.authorizations h.authorizations;
+  authorizations = stand_put (λ (a : AuthorizationRow). a.number) HasSome all_of x part.authorizations T.authorizations h.authorizations;
   orders = h.orders;
 }
 stands_on (PutOrder x) part T h = record {
   meta = h.meta;
   accounts = h.accounts;
   authorizations = h.authorizations;
-  orders = stand_put (λ (o : OrderRow). o.number) x part.orders T.orders h.orders;
+  orders = stand_put (λ (o : OrderRow). o.number) IsWithout (λ o. refl) x part.orders T.orders h.orders;
 }
 
 -- behind all
@@ -141,23 +147,28 @@ pub known_next : (c : Change) (cs : List Change) (known : Option Tables) → kno
 known_next c cs None = refl
 known_next c cs (Some part) = refl
 
--- ---- what is found of it is a row of the tables
+-- ---- what is found of it is of a row of the tables
 
--- an account
+-- an account is there
 pub account_stands : (known : Option Tables) (n : ℕ) (T : Tables) → IsPartIn known T
     → IfSome (known_account known n) (λ a. Has T.accounts a × (a.number ≡ n))
 account_stands None n T h = tt
-account_stands (Some part) n T h = stands_there (λ (a : AccountRow). a.number) n T.accounts _ (h.accounts n)
+account_stands (Some part) n T h = go (account_on part n) (h.accounts n)
+  where
+    go : (o : Option AccountRow) → IfSome o (λ a. (b : AccountRow) × (account_on T n ≡ Some b) × (a ≡ b))
+        → IfSome o (λ a. Has T.accounts a × (a.number ≡ n))
+    go None k = tt
+    go (Some a) k = found_has (λ (r : AccountRow). r.number) n T.accounts a (k.1 ∙ ap (λ r. Some r) (sym k.2))
 
--- an authorization
+-- an authorization is there, with these challenges and maybe more
 pub authorization_stands : (known : Option Tables) (n : ℕ) (T : Tables) → IsPartIn known T
-    → IfSome (known_authorization known n) (λ a. Has T.authorizations a × (a.number ≡ n))
+    → IfSome (known_authorization known n) (λ a. (b : AuthorizationRow) × (authorization_on T n ≡ Some b) × HasSome a b)
 authorization_stands None n T h = tt
-authorization_stands (Some part) n T h = stands_there (λ (a : AuthorizationRow). a.number) n T.authorizations _ (h.authorizations n)
+authorization_stands (Some part) n T h = h.authorizations n
 
--- an order, which is found there, too
+-- an order is there, maybe with what it lists
 pub order_stands : (known : Option Tables) (n : ℕ) (T : Tables) → IsPartIn known T
-    → IfSome (known_order known n) (λ o. find (λ (r : OrderRow). r.number == n) T.orders ≡ Some o)
+    → IfSome (known_order known n) (λ o. (p : OrderRow) × (order_on T n ≡ Some p) × IsWithout o p)
 order_stands None n T h = tt
 order_stands (Some part) n T h = h.orders n
 

@@ -1,5 +1,6 @@
 pub mod ChallengeNumbers
 pub mod ChildrenStanding
+pub mod InPlace
 pub mod Differing
 pub mod Numbered
 pub mod NestedRows

@@ -19,11 +19,12 @@ use Rattle.desk_model.specs.declared.rows.Meta.{Meta}
 use Rattle.desk_model.specs.declared.rows.OrderRow.{OrderRow}
 use Rattle.desk_model.specs.declared.rows.Change.TheVariants.{PutMeta, PutNonce, RemoveNonce, PutAccount, PutAuthorization, PutOrder}
 use Rattle.sql_write.specs.Makes.{AppendsAll, Makes, PlacesAll, PutsOver, SetsAuthorization, SetsMeta, SetsOrder, WritesOrder, appended}
-use Rattle.sql_write.specs.Standing.{IsPartIn, known_account, known_authorization, known_meta, known_order}
+use Rattle.sql_write.specs.Standing.{HasSome, IsPartIn, IsWithout, known_account, known_authorization, known_meta, known_order}
 use Rattle.sql_write.specs.declared.write.Write.{Write}
 use Rattle.sql_write.specs.declared.write.Write.TheVariants.{Upsert, Insert, Update}
 use Rattle.sql_write.proofs.ChallengeNumbers.{keys_owned}
-use Rattle.sql_write.proofs.ChildrenStanding.{challenges_stand, keys_stand}
+use Rattle.sql_write.proofs.ChildrenStanding.{IsThere, challenges_stand, keys_stand}
+use Rattle.sql_write.proofs.InPlace.{has_put, put_again, put_alike}
 use Rattle.sql_write.proofs.KeyRows.{keys_flat, keys_within}
 use Rattle.sql_write.proofs.ListedAfter.{added as added_listed, found_in, listed_after}
 use Rattle.sql_write.proofs.NestedRows.{children_put, own_apart}
@@ -37,6 +38,7 @@ use Rattle.sql_tables.specs.Images.{challenge_image, key_image, order_kept}
 use Rattle.sql_tables.specs.Layouts.{HasRows, account_layout, authorization_layout, challenge_layout, formatted_layout}
 use Rattle.sql_tables.specs.Layouts.{key_layout, listed_layout, nonce_layout, order_layout}
 use Rattle.sql_tables.specs.Sorted.{sorted_by}
+use Rattle.sql_tables.proofs.Keyed.{put_ascends}
 use Rattle.sql_tables.proofs.Holding.{accounts_held, authorizations_held, meta_held, nonces_held, orders_held}
 use Rattle.sql_tables.proofs.AnswerKeys.{keys_apart}
 use Rattle.sql_tables.proofs.NoIndexes.{no_index_account, no_index_authorization, no_index_challenge, no_index_key, no_index_listed}
@@ -163,19 +165,52 @@ keys_put T x kept apart =
     (λ a found. keys_within a.number x.number a.challenges x.challenges (stood_kept T x a kept found)) all
     ∙ sym (ap (sorted_by key_layout.key) (keys_flat after))
 
+-- one that is known, of which the table has the columns, stands in its place among rows that the table has, too
+held_with : (db : Database) (rows : List AuthorizationRow) → HasRows authorization_layout db rows → (x : AuthorizationRow) (o : Option AuthorizationRow)
+    → IfSome o (λ a. (b : AuthorizationRow) × (find (λ (r : AuthorizationRow). r.number == x.number) rows ≡ Some b) × HasSome a b)
+    → (others : List AuthorizationRow) × HasRows authorization_layout db others
+    × IfSome o (λ a. Has others a × (authorization_layout.key a ≡ authorization_layout.key x))
+    × (put authorization_layout.key x others ≡ put authorization_layout.key x rows)
+held_with db rows has x None there = (rows, has, tt, refl)
+held_with db rows has x (Some a) (b, found, some) =
+    let key = authorization_layout.key in
+    let number : b.number ≡ x.number = (found_has key x.number rows b found).1 in
+    let same : a.number ≡ x.number = ap (λ (r : AuthorizationRow). r.number) some.columns ∙ number in
+    let at_own : find (λ (r : AuthorizationRow). r.number == a.number) rows ≡ Some b =
+    ap (λ n. find (λ (r : AuthorizationRow). r.number == n) rows) same ∙ found in (
+      put key a rows,
+      record {
+        schema = has.schema;
+        rows_are = has.rows_are
+            ∙ sym (put_alike key authorization_layout.image 0 a b rows has.rising at_own (ap authorization_layout.image some.columns));
+        rising = put_ascends key 0 a rows (omega arith) has.rising;
+      },
+      (has_put key a rows, same),
+      put_again key x a same rows,
+    )
+
+-- its challenges stand there
+there_with : (rows : List AuthorizationRow) (n : ℕ) (o : Option AuthorizationRow)
+    → IfSome o (λ a. (b : AuthorizationRow) × (find (λ (r : AuthorizationRow). r.number == n) rows ≡ Some b) × HasSome a b) → IfSome o (IsThere rows n)
+there_with rows n None h = tt
+there_with rows n (Some a) (b, found, some) =
+    let it = found_has (λ (r : AuthorizationRow). r.number) n rows b found in (b, it.0, it.1, some.challenges)
+
 -- an authorization, then its challenges and the keys of their answers, over those that are known
 pub makes_authorization : (known : Option Tables) (x : AuthorizationRow) (old new : Database)
     → SetsAuthorization (known_authorization known x.number) x old new
     → Makes known (PutAuthorization x) old new
 makes_authorization known x old new sets T has stands fits =
     let stood = known_authorization known x.number in
-    let there = authorization_stands known x.number T stands in
+    let some = authorization_stands known x.number T stands in
+    let there = there_with T.authorizations x.number stood some in
+    let held = held_with old T.authorizations (authorizations_held old T has) x stood some in
     let rows = challenge_rows T.authorizations in
     let challenges = sorted_by challenge_layout.key rows in
     let keys = sorted_by key_layout.key (key_rows rows) in
     let own = own_apart (λ (a : AuthorizationRow). a.number) (λ a. owned_by a.number a.challenges) challenge_layout.key x T.authorizations
     fits.rising.challenges in
-    let p = sets.1 has.sound T.authorizations (authorizations_held old T has) there in
+    let p = sets.1 has.sound held.0 held.1 held.2 in
     let between : HasRows challenge_layout sets.0 challenges =
     record { schema = p.has.schema; rows_are = p.others 8 (λ e. cc) no_index_challenge ∙ has.challenges; rising = sorted_rises challenge_layout.key rows } in
     let q = sets.2.1 p.sound challenges between (challenges_stand stood x.number x.challenges T.authorizations has.rising.challenges there) own in
@@ -196,7 +231,8 @@ makes_authorization known x old new sets T has stands fits =
       nonces = r.others 1 (λ e. cc) no_index_nonce ∙ q.others 1 (λ e. cc) no_index_nonce ∙ p.others 1 (λ e. cc) no_index_nonce ∙ has.nonces;
       accounts = r.others 2 (λ e. cc) no_index_account ∙ q.others 2 (λ e. cc) no_index_account ∙ p.others 2 (λ e. cc) no_index_account ∙ has.accounts;
       orders = r.others 4 (λ e. cc) no_index_order ∙ q.others 4 (λ e. cc) no_index_order ∙ p.others 4 (λ e. cc) no_index_order ∙ has.orders;
-      authorizations = r.others 5 (λ e. cc) no_index_authorization ∙ q.others 5 (λ e. cc) no_index_authorization ∙ p.has.rows_are;
+      authorizations = r.others 5 (λ e. cc) no_index_authorization ∙ q.others 5 (λ e. cc) no_index_authorization ∙ p.has.rows_are
+          ∙ ap (map authorization_layout.image) held.3;
       listed = listed_as old new T
           (r.others 6 (λ e. cc) no_index_listed ∙ q.others 6 (λ e. cc) no_index_listed ∙ p.others 6 (λ e. cc) no_index_listed) has.listed;
       challenges = r.others 8 (λ e. cc) no_index_challenge ∙ q.has.rows_are ∙ ap (map challenge_image) children;
@@ -271,11 +307,14 @@ makes_renewed_order : (known : Option Tables) (x there : OrderRow) → known_ord
     → order_kept (order_columns there) ≡ order_kept (order_columns x) → (old new : Database)
     → Renews order_layout (λ o. order_kept (order_columns o)) x old new → Makes known (PutOrder x) old new
 makes_renewed_order known x there is keeps old new renews T has stands fits =
-    let found = subst (λ o. IfSome o (λ (o : OrderRow). find (λ (r : OrderRow). r.number == x.number) T.orders ≡ Some o)) is
+    let it = subst (λ o. IfSome o (λ (o : OrderRow). (p : OrderRow) × (find (λ (r : OrderRow). r.number == x.number) T.orders ≡ Some p) × IsWithout o p)) is
     (order_stands known x.number T stands) in
-    let stood = found_has order_layout.key x.number T.orders there found in
+    let whole = it.0 in
+    let found = it.1 in
+    let columns = sym (ap (λ (o : OrderRow). order_kept (order_columns o)) it.2) ∙ keeps in
+    let stood = found_has order_layout.key x.number T.orders whole found in
     let kept = subst (λ o. IfSome o (λ (o : OrderRow). o.listed ≡ x.listed)) found fits.children in
-    let p = renews T.orders (orders_held old T has) there stood.0 stood.1 keeps in
+    let p = renews T.orders (orders_held old T has) whole stood.0 stood.1 columns in
     record {
       sound = p.sound;
       schema = p.has.schema;
@@ -288,7 +327,7 @@ makes_renewed_order known x there is keeps old new renews T has stands fits =
         numbered = has.listed.numbered;
         has = p.others 6 (λ e. cc) no_index_listed ∙ has.listed.has;
         rising = has.listed.rising;
-        same = subst (IsPermutation (map row_of has.listed.numbered)) (sym (found_in 0 x T.orders there has.rising.orders found kept).0) has.listed.same;
+        same = subst (IsPermutation (map row_of has.listed.numbered)) (sym (found_in 0 x T.orders whole has.rising.orders found kept).0) has.listed.same;
       };
       challenges = p.others 8 (λ e. cc) no_index_challenge ∙ has.challenges;
       keys = p.others 17 (λ e. cc) no_index_key ∙ has.keys;

@@ -1,9 +1,11 @@
 -- What is known to stand in the tables: rows of a part, and what changes made of them.
 use Rattle.std.specs.Prelude.{◌≡◌, ◌==◌, ◌-◌, ◌^◌, ℕ, List, Option, Some, None, IfSome, find, option_map}
 use Rattle.std.specs.Prelude.{option_and_then}
+use Rattle.sqlite_rules.specs.Lists.{Has}
 use Rattle.store_columns.specs.Flat.{answer_key}
 use Rattle.store_columns.specs.declared.flat_rows.AnswerKey.{AnswerKey}
 use Rattle.desk_model.specs.Change.{applied}
+use Rattle.desk_model.specs.Kept.{EachOf}
 use Rattle.desk_model.specs.Questions.{account_on, authorization_on, order_on}
 use Rattle.desk_model.specs.Tables.{Tables}
 use Rattle.desk_model.specs.declared.rows.AccountRow.{AccountRow}
@@ -16,16 +18,30 @@ use Rattle.desk_model.specs.declared.rows.OrderRow.{OrderRow}
 
 -- ---- what it is
 
--- what is found among these rows is found among those
-abbrev pub Stand : {X : Type 0} → (X → ℕ) → List X → List X → Type 0
-Stand key part rows = (n : ℕ) → IfSome (find (λ r. key r == n) part) (λ x. find (λ r. key r == n) rows ≡ Some x)
+-- what is found among these rows is of what is found among those
+abbrev pub Stand : {X : Type 0} → (X → ℕ) → (X → X → Type 0) → List X → List X → Type 0
+Stand {X} key IsOf part rows =
+    (n : ℕ) → IfSome (find (λ r. key r == n) part) (λ x. (y : X) × (find (λ r. key r == n) rows ≡ Some y) × IsOf x y)
 
--- the rows of the part stand in the tables
+-- the row itself
+abbrev pub IsRow : {X : Type 0} → X → X → Type 0
+IsRow x y = x ≡ y
+
+-- an authorization with some of its challenges
+pub record HasSome (x y : AuthorizationRow) : Type 0 where
+  pub columns : record x { challenges = y.challenges } ≡ y
+  pub challenges : EachOf (λ c. Has y.challenges c) x.challenges
+
+-- an order, with or without what it lists
+abbrev pub IsWithout : OrderRow → OrderRow → Type 0
+IsWithout x y = record x { listed = y.listed } ≡ y
+
+-- the rows of the part stand in the tables; they may lack what belongs to them
 pub record StandsIn (part T : Tables) : Type 0 where
   pub meta : part.meta ≡ T.meta
-  pub accounts : Stand (λ a. a.number) part.accounts T.accounts
-  pub authorizations : Stand (λ a. a.number) part.authorizations T.authorizations
-  pub orders : Stand (λ o. o.number) part.orders T.orders
+  pub accounts : Stand (λ a. a.number) IsRow part.accounts T.accounts
+  pub authorizations : Stand (λ a. a.number) HasSome part.authorizations T.authorizations
+  pub orders : Stand (λ o. o.number) IsWithout part.orders T.orders
 
 -- and so, where there is one
 abbrev pub IsPartIn : Option Tables → Tables → Type 0

@@ -1,7 +1,6 @@
 -- What a store promises of loading a part for a call, and of saving changes.
 use Rattle.std.specs.Prelude.{◌≡◌, ◌⊎◌, List, Option, Result, OnOk, IfOk, IfErr}
 use Rattle.desk_model.specs.Entry.{History}
-use Rattle.desk_model.specs.Kept.{Kept, restricted}
 use Rattle.desk_model.specs.Legal.{Legal}
 use Rattle.desk_model.specs.Tables.{Tables, picture}
 use Rattle.desk_model.specs.Change.{applied}
@@ -9,6 +8,7 @@ use Rattle.desk_model.specs.declared.call.Call.{Call}
 use Rattle.desk_model.specs.declared.rows.Change.{Change}
 use Rattle.model_laws.specs.News.{AreKept}
 use Rattle.model_lives.specs.IsEnough.{IsEnoughFor}
+use Rattle.model_lives.specs.Thinned.{Thinning, thinned}
 use Rattle.store_book.specs.IsBook.{IsStoredBook}
 use Rattle.store_api.specs.Sight.{Sight, Keeps, Reads, Stands}
 use Rattle.store_api.specs.declared.fault.StorageFault.{StorageFault}
@@ -29,9 +29,9 @@ pub record Saving : Type 0 where
 abbrev pub Causes : Type 0 → Type 1
 Causes S = Option Saving → S → S → StorageFault → Type 0
 
--- the rows are some of those of these tables
+-- the rows are some of those of these tables, of which they may lack what belongs to them
 abbrev pub IsCutFrom : Tables → Tables → Type 0
-IsCutFrom part T = (kept : Kept) × (part ≡ restricted kept T)
+IsCutFrom part T = (kept : Thinning) × (part ≡ thinned kept T)
 
 -- any tables
 abbrev pub AreAny : Tables → Type 0

@@ -3,11 +3,12 @@ ghost use Rattle.std.specs.Prelude.{◌≡◌, ◌==◌, ◌++◌, [], ◌∷◌
 ghost use Rattle.std.specs.List.{flat_map};
 ghost use Rattle.store_api.specs.Finding.{LacksMemory, working};
 ghost use Rattle.model_lives.specs.IsEnough.{has_work as has_some};
+ghost use Rattle.model_lives.specs.Thinned.{without_challenges};
 
 use crate::fault::StorageFault;
 use crate::look_ups::LookUps;
 use desk_book::{Book, Row, Table};
-use desk_model::{AccountRow, AuthorizationRow, ChallengeStatus, Meta, Nonce, OrderRow};
+use desk_model::{AccountRow, AuthorizationRow, ChallengeStatus, Meta, Nonce, OrderRow, Sequence};
 use model_lives::{AccountsWhere, AuthorizationsWhere, NoncesWhere, OrdersWhere, Query};
 use std::alloc::{AllocError, Global};
 
@@ -34,6 +35,54 @@ fn rows_where<R: Row + Drop, Q: Query<R>>(
     for row in table.iter() {
         if which.wants(row) {
             push_copy(&mut rows, row)?;
+        }
+    }
+    Ok(rows)
+}
+
+// ---- rows without what belongs to them
+
+/// A row to which others belong.
+trait Owner: Row {
+    // The row without them.
+    ghost bare: { Self → Self };
+
+    /// Takes them away.
+    fn strip(&mut self, alloc: Global)
+        ensures { self.new ≡ bare self.old };
+}
+
+impl Owner for AuthorizationRow {
+    ghost bare = { without_challenges };
+
+    fn strip(&mut self, alloc: Global) {
+        self.challenges = Sequence::new(Vec::new(alloc));
+    }
+}
+
+// Adds a copy of a row without what belongs to it.
+fn push_bare<R: Owner + Drop>(alloc: Global, rows: &mut Vec<R>, row: &R) -> Result<(), AllocError>
+    ensures { OnOk result (rows.new.items ≡ rows.old.items ++ R.bare row.now ∷ []) }
+{
+    let mut copy = row.clone()?;
+    copy.strip(alloc);
+    rows.push(copy)?;
+    Ok(())
+}
+
+// Copies of the rows of a query without what belongs to them.
+fn bare_rows_where<R: Owner + Drop, Q: Query<R>>(
+    alloc: Global,
+    table: &Table<R>,
+    which: &Q,
+) -> Result<Vec<R>, StorageFault>
+    ensures found { IfOk result (λ rows. rows.items ≡ map R.bare (filter (Q.wanted which.now) table.now)) }
+    ensures lacks { IfErr result LacksMemory }
+{
+    let mut rows = Vec::new(alloc);
+    for row in table.iter() {
+        if which.wants(row) {
+            push_bare(alloc, &mut rows, row)?;
         }
     }
     Ok(rows)
@@ -173,6 +222,18 @@ impl LookUps for Book {
         which: AuthorizationsWhere<'_>,
     ) -> Result<Vec<AuthorizationRow>, StorageFault> {
         rows_where(alloc, self.authorizations(), &which)
+    }
+
+    fn bare_authorizations(
+        &mut self,
+        alloc: Global,
+        number: u64,
+    ) -> Result<Vec<AuthorizationRow>, StorageFault> {
+        bare_rows_where(
+            alloc,
+            self.authorizations(),
+            &AuthorizationsWhere::Number(number),
+        )
     }
 
     fn orders_listing(

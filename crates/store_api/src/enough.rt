@@ -1,16 +1,18 @@
 //! The book of the rows that are enough for a call.
-ghost use Rattle.std.specs.Prelude.{◌≡◌, [], filter, IfOk};
+ghost use Rattle.std.specs.Prelude.{◌≡◌, [], filter, map, IfOk};
 ghost use Rattle.model_laws.specs.Ordered.{IsOrdered};
 ghost use Rattle.desk_model.specs.Touched.{only_meta};
 ghost use Rattle.store_api.specs.Finding.{Finds};
 ghost use Rattle.model_lives.specs.IsEnough.{challenge_work_rows, enough, has_work, is_worked_on, order_work_rows};
 ghost use Rattle.model_lives.specs.LookUps.{orders_processing};
+ghost use Rattle.model_lives.specs.Thinned.{without_challenges};
 ghost use Rattle.store_api.specs.Sight.{ForTables, Reads};
 ghost use Rattle.store_api.specs.Storing.{Loads};
 
 use crate::fault::StorageFault;
 use crate::few::few_book;
-use crate::gathering::{add_each, add_found, add_linked};
+use crate::gathering::{add_each, add_found};
+use crate::listed::add_bare_listed;
 use crate::look_ups::LookUps;
 use desk_book::{Book, Table};
 use desk_model::{Ask, AuthorizationRow, Call, OfficeAsk, OrderRow};
@@ -50,7 +52,8 @@ fn challenge_work_book<S: LookUps>(alloc: Global, source: &mut S) -> Result<Book
 
 // ---- the work of the issuer
 
-// Puts the orders that wait for a certificate into an empty table, and the authorizations that they list into another.
+// Puts the orders that wait for a certificate into an empty table, and the authorizations that they list, without their challenges,
+// into another.
 fn add_processing<S: LookUps>(
     alloc: Global,
     source: &mut S,
@@ -58,10 +61,10 @@ fn add_processing<S: LookUps>(
     orders: &mut Table<OrderRow>,
 ) -> Result<(), StorageFault>
     ensures { Finds S.sight source.old source.new result (λ T. IsOrdered T → authorizations.old ≡ [] → orders.old ≡ []
-        → (authorizations.new ≡ filter (is_worked_on T) T.authorizations) × (orders.new ≡ orders_processing T)) }
+        → (authorizations.new ≡ map without_challenges (filter (is_worked_on T) T.authorizations)) × (orders.new ≡ orders_processing T)) }
 {
     add_found(orders, source.find_orders(alloc, OrdersWhere::Processing))?;
-    add_linked(alloc, source, authorizations, orders)
+    add_bare_listed(alloc, source, authorizations, orders)
 }
 
 // The book of these orders and authorizations.

@@ -9,6 +9,7 @@ mod few;
 mod gathering;
 mod laws;
 mod links;
+mod listed;
 mod look_ups;
 mod named;
 mod needs;

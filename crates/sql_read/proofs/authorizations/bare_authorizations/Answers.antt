@@ -1,0 +1,17 @@
+use Rattle.std.proofs.lemmas.Result.{IfOk-weaker}
+use Rattle.sqlite.specs.Held.{state}
+use Rattle.model_lives.specs.declared.queries.AuthorizationsWhere.TheVariants as authorizations_by
+use Rattle.sql_read.proofs.LookUpReadings.{authorizations_numbered_reading}
+use Rattle.sql_read.proofs.LookUpRows.{authorizations_found}
+use Rattle.sql_read.proofs.authorizations.bare_authorizations.Goals as goal
+
+pub find_rows-requires : goal.find_rows-requires
+find_rows-requires g c = authorizations_numbered_reading.selecting
+
+pub returns-clause-found : goal.returns-clause-found
+returns-clause-found g c clean T has book =
+    IfOk-weaker c.find_rows.result _ _
+    (λ found it.
+    authorizations_found (state g.S.Store c.args.conn.now) (state g.S.Store c.find_rows.new.conn) T it.0 _ has book found.items it.2 it.3
+    (authorizations_by.Number c.args.number) c.number_param-params.ensures it.1)
+    (c.find_rows.ensures.read clean)

@@ -1,0 +1,91 @@
+-- Rows that are put into a table without what belongs to them.
+use Rattle.std.proofs.Common.{◌≡◌, ℕ, List, [], ◌∷◌, ◌++◌, map, find, Option, Some, None, refl, sym, ap, ◌∙◌, true, false, Bool, cond}
+use Rattle.std.specs.Prelude.{◌==◌, is_some, nat_lt, option_map}
+use Rattle.std.specs.List.{filter, flat_map}
+use Rattle.std.proofs.lemmas.Grind.{flat_map-append}
+use Rattle.desk_model.specs.Change.{put}
+use Rattle.desk_model.specs.Derived.{numbers_of}
+use Rattle.desk_model.specs.Tables.{Tables}
+use Rattle.desk_model.specs.declared.rows.AuthorizationRow.{AuthorizationRow}
+use Rattle.desk_model.specs.declared.rows.OrderRow.{OrderRow}
+use Rattle.model_laws.proofs.Basics.{find-map}
+use Rattle.model_laws.specs.Ordered.{IsOrdered}
+use Rattle.model_laws.specs.Placing.{puts}
+use Rattle.model_lives.specs.IsEnough.{is_worked_on}
+use Rattle.model_lives.specs.Loaded.{listed_authorizations}
+use Rattle.model_lives.specs.LookUps.{authorizations_numbered, bare_authorizations, orders_processing}
+use Rattle.model_lives.specs.Thinned.{without_challenges}
+use Rattle.model_lives.proofs.Lists.{filter_nothing}
+use Rattle.model_lives.proofs.WorkLoading.{listed_loaded}
+use Rattle.store_api.proofs.Missing.{missings_put}
+use Rattle.store_api.specs.Needing.{missing, missings}
+
+module _ {X : Type 0} (number : X → ℕ) (bare : X → X) (same : (x : X) → number (bare x) ≡ number x) where
+  -- a bare row is put where the row would be
+  put_bare : (x : X) (ys : List X) → put number (bare x) (map bare ys) ≡ map bare (put number x ys)
+  put_bare x [] = refl
+  put_bare x (y ∷ ys) =
+      (λ i. cond (same x i == same y i) (bare x ∷ map bare ys)
+      (cond (nat_lt (same x i) (same y i)) (bare x ∷ bare y ∷ map bare ys) (bare y ∷ put number (bare x) (map bare ys))))
+      ∙ by (number x == number y) (nat_lt (number x) (number y)) (put_bare x ys)
+    where
+      by : (b c : Bool) → put number (bare x) (map bare ys) ≡ map bare (put number x ys) →
+          cond b (bare x ∷ map bare ys) (cond c (bare x ∷ bare y ∷ map bare ys) (bare y ∷ put number (bare x) (map bare ys)))
+          ≡ map bare (cond b (x ∷ ys) (cond c (x ∷ y ∷ ys) (y ∷ put number x ys)))
+      by true c ih = refl
+      by false true ih = refl
+      by false false ih = ap (λ l. bare y ∷ l) ih
+
+  puts_bare : (xs ys : List X) → puts number (map bare xs) (map bare ys) ≡ map bare (puts number xs ys)
+  puts_bare [] ys = refl
+  puts_bare (x ∷ xs) ys = ap (puts number (map bare xs)) (put_bare x ys) ∙ puts_bare xs (put number x ys)
+
+  -- and is missing where the row would be
+  missing_bare : (rows_of : ℕ → List X) (n : ℕ) (table : List X) →
+      missing number (λ k. map bare (rows_of k)) n (map bare table) ≡ map bare (missing number rows_of n table)
+  missing_bare rows_of n table =
+      ap (λ o. cond (is_some o) (map bare table) (puts number (map bare (rows_of n)) (map bare table)))
+      (find-map (λ x. number x == n) bare table ∙ ap (option_map bare) (found table))
+      ∙ by (find (λ x. number x == n) table)
+    where
+      found : (xs : List X) → find (λ x. number (bare x) == n) xs ≡ find (λ x. number x == n) xs
+      found [] = refl
+      found (x ∷ xs) = λ i. cond (same x i == n) (Some x) (found xs i)
+
+      by : (o : Option X) → cond (is_some (option_map bare o)) (map bare table) (puts number (map bare (rows_of n)) (map bare table))
+          ≡ map bare (cond (is_some o) table (puts number (rows_of n) table))
+      by None = puts_bare (rows_of n) table
+      by (Some x) = refl
+
+  pub missings_bare : (rows_of : ℕ → List X) (ns : List ℕ) (table : List X) →
+      missings number (λ k. map bare (rows_of k)) ns (map bare table) ≡ map bare (missings number rows_of ns table)
+  missings_bare rows_of [] table = refl
+  missings_bare rows_of (n ∷ ns) table =
+      ap (missings number (λ k. map bare (rows_of k)) ns) (missing_bare rows_of n table)
+      ∙ missings_bare rows_of ns (missing number rows_of n table)
+
+-- what orders list, order by order
+pub nested : (T : Tables) (os : List OrderRow) → flat_map (authorizations_numbered T) (flat_map (λ o. numbers_of o.listed) os) ≡ listed_authorizations T os
+nested T [] = refl
+nested T (o ∷ os) =
+    flat_map-append (authorizations_numbered T) (numbers_of o.listed) (flat_map (λ o. numbers_of o.listed) os)
+    ∙ ap (λ l. flat_map (authorizations_numbered T) (numbers_of o.listed) ++ l) (nested T os)
+
+-- what the orders list that wait for a certificate, without challenges
+pub worked_on : (T : Tables) → IsOrdered T →
+    missings (λ r. r.number) (bare_authorizations T) (flat_map (λ o. numbers_of o.listed) (orders_processing T)) []
+    ≡ map without_challenges (filter (is_worked_on T) T.authorizations)
+worked_on T h =
+    missings_bare number without_challenges (λ r. refl) (authorizations_numbered T) listed []
+    ∙ ap (map without_challenges)
+    (ap (missings number (authorizations_numbered T) listed) (filter_nothing T.authorizations)
+    ∙ missings_put number T.authorizations h.authorizations.0 listed (λ r. false)
+    ∙ ap (puts number (flat_map (authorizations_numbered T) listed)) (sym (filter_nothing T.authorizations))
+    ∙ ap (λ rows. puts number rows []) (nested T (orders_processing T))
+    ∙ listed_loaded T h)
+  where
+    number : AuthorizationRow → ℕ
+    number r = r.number
+
+    listed : List ℕ
+    listed = flat_map (λ (o : OrderRow). numbers_of o.listed) (orders_processing T)
