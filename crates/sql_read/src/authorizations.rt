@@ -155,7 +155,8 @@ pub fn find_authorizations<S: Alter>(
 ///
 /// # Errors
 ///
-/// The engine's, and `NotARow` where a row is not one of a desk; nothing is changed.
+/// The engine's, and `NotARow` where a row is not one of a desk; nothing is changed. Of a desk's tables it fails for memory or the
+/// disk alone.
 pub fn bare_authorizations<S: Alter>(
     alloc: Global,
     conn: &mut Connection<S>,
@@ -163,6 +164,8 @@ pub fn bare_authorizations<S: Alter>(
 ) -> Result<Vec<AuthorizationRow>, ReadFault>
     ensures found { ForHeld (state S.Store conn.old) (state S.Store conn.new) (λ T. IsStoredBook T
         → IfOk result (λ rows. rows.items ≡ bare_authorizations T number)) }
+    ensures caused { ForHeld (state S.Store conn.old) (state S.Store conn.new) (λ T. IsStoredBook T → MayRead (state S.Store conn.old)
+        → IfErr result (IsOfMemoryOrDisk (state S.Store conn.old) (state S.Store conn.new))) }
     ensures unchanged { HasCleanDisk (state S.Store conn.new) → OnOk result (IsUnchanged (state S.Store conn.old) (state S.Store conn.new)) }
     ensures asks { Asks (state S.Store conn.old) (state S.Store conn.new) }
 {

@@ -28,6 +28,6 @@ returns-clause-caused g c clean T has book may key own =
 pub returns-in_err-keys-clause-caused : goal.returns-in_err-keys-clause-caused
 returns-in_err-keys-clause-caused g c clean T has book may key own =
     failed_as c.from_residual.result c.in_err-keys.field-0.0 (IsOfMemoryOrDisk (state g.S.Store c.args.conn.now) (state g.S.Store c.find_rows.new.conn))
-    (c.in_err-keys.ensures.caused clean 
+    (c.in_err-keys.ensures.caused clean
     (sure_as g.S.Store _ _ _ _ c.args.conn.now refl c.number_param-params.ensures (keys_of_query g.S.Store c.args.conn.now T has book may c.args.number)))
     c.from_residual.ensures.1

@@ -1,8 +1,11 @@
+use Rattle.std.proofs.Common.{refl}
 use Rattle.std.proofs.lemmas.Result.{IfOk-weaker}
 use Rattle.sqlite.specs.Held.{state}
 use Rattle.model_lives.specs.declared.queries.AuthorizationsWhere.TheVariants as authorizations_by
 use Rattle.sql_read.proofs.LookUpReadings.{authorizations_numbered_reading}
 use Rattle.sql_read.proofs.LookUpRows.{authorizations_found}
+use Rattle.sql_read.proofs.LookUpFaults.{sure_as}
+use Rattle.sql_read.proofs.SureTables.{authorizations_query}
 use Rattle.sql_read.proofs.authorizations.bare_authorizations.Goals as goal
 
 pub find_rows-requires : goal.find_rows-requires
@@ -15,3 +18,9 @@ returns-clause-found g c clean T has book =
     authorizations_found (state g.S.Store c.args.conn.now) (state g.S.Store c.find_rows.new.conn) T it.0 _ has book found.items it.2 it.3
     (authorizations_by.Number c.args.number) c.number_param-params.ensures it.1)
     (c.find_rows.ensures.read clean)
+
+pub returns-clause-caused : goal.returns-clause-caused
+returns-clause-caused g c clean T has book may =
+    c.find_rows.ensures.caused clean
+    (sure_as g.S.Store _ _ _ _ c.args.conn.now refl c.number_param-params.ensures
+    (authorizations_query g.S.Store c.args.conn.now T has book may (authorizations_by.Number c.args.number)))

@@ -27,7 +27,7 @@ returns-clause-caused g c clean T has book may =
 pub returns-in_err-rows-clause-caused : goal.returns-in_err-rows-clause-caused
 returns-in_err-rows-clause-caused g c clean T has book may =
     failed_as c.from_residual.result c.in_err-rows.field-0.0 (IsOfMemoryOrDisk (state g.S.Store c.args.conn.now) (state g.S.Store c.find_rows.new.conn))
-    (c.in_err-rows.ensures.caused clean 
+    (c.in_err-rows.ensures.caused clean
     (sure_as g.S.Store _ _ _ _ c.args.conn.now refl c.number_param-params.ensures
     (listing_query g.S.Store c.args.conn.now T has book may c.args.authorization)))
     c.from_residual.ensures.1

@@ -4,7 +4,9 @@ use Rattle.desk_store.proofs.Standing.{hands_on}
 use Rattle.desk_store.proofs.look_ups.StoreLookUps.bare_authorizations.Goals as goal
 
 pub returns-clause-reads : goal.returns-clause-reads
-returns-clause-reads g c = c.told.ensures.reads c.args.self.now refl c.bare_authorizations-read.ensures.asks c.bare_authorizations-read.ensures.unchanged
+returns-clause-reads g c =
+    c.told.ensures.reads c.args.self.now refl c.bare_authorizations-read.ensures.asks c.bare_authorizations-read.ensures.unchanged
+    c.bare_authorizations-read.ensures.caused
 
 pub returns-clause-found : goal.returns-clause-found
 returns-clause-found g c =
