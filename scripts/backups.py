@@ -37,7 +37,7 @@ def because(path, cause):
 
 def words_of(path, to):
     """The words that take `--wait`, on a file, with the exit status of each on a desk without accounts."""
-    reports = [((word, path), 0) for word in ("status", "about", "accounts", "authorizations", "check")]
+    reports = [((word, path), 0) for word in ("status", "about", "page", "accounts", "authorizations", "check")]
     return [*reports, (("backup", path, to), 0), (("revoke-authz", path, "1"), 1), (("revoke-account", path, "1"), 1), (("batch", "--file", path), 0)]
 
 

@@ -4,7 +4,7 @@ import re
 import subprocess
 import sys
 
-WORDS = ("make", "serve", "batch", "about", "status", "accounts", "authorizations", "check", "backup", "revoke-authz", "revoke-account")
+WORDS = ("make", "serve", "batch", "about", "page", "status", "accounts", "authorizations", "check", "backup", "revoke-authz", "revoke-account")
 EXITS = "Exit statuses:"
 
 

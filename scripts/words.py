@@ -1,9 +1,9 @@
 #!/usr/bin/env python3
 """Tries the operator's words on files: scripts/words.py PROGRAM
 
-`about`, `status`, `accounts`, `authorizations`, `check`, `revoke-authz` and `revoke-account` print what docs/SPECIFICATION.md says, section 14, and end with the
-status that it gives; the reports change nothing, also where they are stopped after a line. Help names the options of each word,
-their limits, and the exit statuses. What files and faults say, and copies of a desk, are in backups.py.
+`about`, `page`, `status`, `accounts`, `authorizations`, `check`, `revoke-authz` and `revoke-account` print what docs/SPECIFICATION.md
+says, section 14, and end with the status that it gives; the reports change nothing, also where they are stopped after a line. Help
+names the options of each word, their limits, and the exit statuses. What files and faults say, and copies of a desk, are in backups.py.
 """
 import base64
 import fcntl
@@ -26,7 +26,7 @@ FULL = (1, None, b"desk: output\n")
 LAST = 2**62
 # The bytes of a page, the smallest room of a pipe.
 PAGE = 4096
-REPORTS = ("about", "status", "accounts", "authorizations", "check")
+REPORTS = ("about", "page", "status", "accounts", "authorizations", "check")
 OTHER_KEY = {"crv": "P-256", "kty": "EC", "x": "Aw", "y": "BA"}
 LIFE = "1 to 315360000"
 WAIT = ("--wait <SECONDS>", "as serve does while it runs", "0 to 86400", "--verbose")
@@ -38,6 +38,7 @@ HELP = {
     "batch": ("--file", "in memory", *SYNCS, *WAIT),
     "status": ("FILE", "--account", "1 to 2^62", "--status", "pending, ready, processing, valid, invalid", "--name", "--json", *WAIT),
     "about": ("FILE", *WAIT),
+    "page": ("FILE", "without scripts", "the first 50 rows", "> page.html", *WAIT),
     "accounts": ("FILE", "--json", *WAIT),
     "authorizations": ("FILE", "--account", "1 to 2^62", "--name", "--json", *WAIT),
     "check": ("FILE", "--json", "status 3", *WAIT),
@@ -45,6 +46,31 @@ HELP = {
     "revoke-authz": ("FILE", "N", "1 to 2^62", "--port", "desk: connection", *WAIT),
     "revoke-account": ("FILE", "N", "1 to 2^62", "--port", "desk: connection", *WAIT),
 }
+# The fixed texts of the page.
+PAGE_HEAD = """\
+<!doctype html>
+<html lang="en"><head><meta charset="utf-8"><title>desk</title>
+<style>
+body{max-width:1120px;margin:2em auto;padding:0 1em;font:15px/1.5 sans-serif;color:#222;background:#f7f7f7}
+h1{font-size:1.5em}h2{margin:1.8em 0 0;font-size:1.2em}p{margin:.3em 0;color:#555}
+pre,table{margin:.6em 0;background:#fff;border:1px solid #ddd}pre{padding:.8em 1em}
+table{width:100%;table-layout:fixed;border-collapse:collapse}table:has(tbody:empty){display:none}
+th,td{padding:.4em .8em;text-align:left;vertical-align:top;border-bottom:1px solid #eee}
+th{background:#eee}th:nth-child(-n+3){width:7.2em}th:nth-child(4){width:12em}td>*{display:block;overflow-wrap:anywhere}
+.valid{color:#17703a}.ready,.processing{color:#96600a}.invalid,.deactivated,.expired,.revoked{color:#a32626}
+</style></head><body>
+<h1>The desk of <code>"""
+PAGE_CLOCK = "</code></h1>\n<p>Its clock, the latest moment at which it recorded something: <b>"
+PAGE_COUNTS = "</b></p>\n<p>A table shows the first 50 rows, by number.</p>\n<h2>Objects by status</h2>\n<pre>"
+ORDER_COLUMNS = ("Order", "Account", "Status", "Ends", "Names", "Contacts")
+AUTHORIZATION_COLUMNS = ("Authorization", "Account", "Status", "Ends", "Name", "Challenges")
+PAGE_TABLES = (
+    ("Waiting for the validator", "Authorizations that are pending, with a challenge that is processing.", AUTHORIZATION_COLUMNS),
+    ("Waiting for the signing office", "Orders that are processing.", ORDER_COLUMNS),
+    ("Orders that end within a day", "Pending, ready or processing, with an end less than 86400 seconds after the desk's clock.", ORDER_COLUMNS),
+    ("Authorizations that end within a day", "Pending or valid, with an end less than 86400 seconds after the desk's clock.", AUTHORIZATION_COLUMNS),
+    ("The last orders", "The 20 that were made last.", ORDER_COLUMNS),
+)
 # What help says of all words, below them.
 FILES = ("One program at a time has a file: while serve runs", "--wait", "20 memory", "21 device", "hard link", "22 reopen", "23 not a desk", "24 moment",
          "25 short random", "26 full", "27 newer format")
@@ -284,6 +310,110 @@ def about(program, folder):
     see("about a missing file", run(program, "about", f"{folder}/none.db"), NOT_A_DESK)
 
 
+def in_html(text):
+    """A text as HTML shows it."""
+    for character, entity in (("&", "&amp;"), ("<", "&lt;"), (">", "&gt;"), ('"', "&quot;"), ("'", "&#39;")):
+        text = text.replace(character, entity)
+    return text
+
+
+def order_row(number, account, status, end, names, contacts):
+    """The row of an order on the page."""
+    listed = ["".join(f"<code>{in_html(text)}</code> " for text in texts) for texts in (names, contacts)]
+    return f'\n<tr><td>{number}</td><td>{account}</td><td class="{status}">{status}</td><td>{end}</td><td>{listed[0]}</td><td>{listed[1]}</td></tr>'
+
+
+def authorization_row(number, account, status, end, name, challenges):
+    """The row of an authorization on the page."""
+    texts = "".join(f"<span>{challenge} {kind} {state}</span> " for challenge, kind, state in challenges)
+    return (f'\n<tr><td>{number}</td><td>{account}</td><td class="{status}">{status}</td><td>{end}</td><td><code>{name}</code> </td>'
+            f"<td>{texts}</td></tr>")
+
+
+def page_text(base, clock, counts, tables):
+    """The page of a desk, by the counts as `about` prints them, and by the rows of each table with how many there are in all."""
+    said = [PAGE_HEAD, in_html(base), PAGE_CLOCK, clock, PAGE_COUNTS, counts, "</pre>\n"]
+    for (title, told, columns), (rows, count) in zip(PAGE_TABLES, tables):
+        said += ["<h2>", title, "</h2>\n<p>", told, "</p>\n<table><thead><tr>", *(f"<th>{column}</th>" for column in columns), "</tr></thead><tbody>",
+                 *rows, f"</tbody></table>\n<p>In all: {count}</p>\n"]
+    return "".join([*said, "</body></html>\n"]).encode()
+
+
+def specified_page():
+    """The page that the specification shows."""
+    with open(f"{os.path.dirname(__file__)}/../docs/SPECIFICATION.md", "rb") as text:
+        return text.read().partition(b"```html\n")[2].partition(b"```")[0]
+
+
+def based_desk(program, folder, name, base):
+    """A desk with a base of its own."""
+    room = f"{folder}/{name}"
+    os.mkdir(room)
+    desk = Desk(program, room)
+    desk.path = f"{room}/based.db"
+    see(f"{name}: a desk", run(program, "make", desk.path, "--base", base), (0, b"made\n", b""))
+    desk.answer(desk.line("GET", "/new-nonce", random="00" * 16))
+    return desk
+
+
+def page(program, folder):
+    """The page of a desk: what clients gave is text, what waits and what ends soon is there."""
+    base, contacts = "https://ca.example/a&b'c", ["mailto:o'c@b.example", 'mailto:"<b>&amp;\u00fc"@c.example']
+    desk = based_desk(program, folder, "page", base)
+    none = "accounts: 0 valid, 0 deactivated, 0 revoked\nauthorizations: " + ", ".join(
+        f"0 {status}" for status in ("pending", "valid", "invalid", "deactivated", "expired", "revoked")) + "\n"
+    none += "challenges: 0 pending, 0 processing, 0 valid, 0 invalid\norders: 0 pending, 0 ready, 0 processing, 0 valid, 0 invalid\n"
+    empty = page_text(base, "1970-01-01T00:00:00Z", none, [([], 0)] * 5)
+    see("the page of an empty desk", run(program, "page", desk.path), (0, empty, b""))
+    see("an account with contacts", desk.answer(desk.signed("/new-account", {"contact": contacts}))[0], "201")
+    desk.order("a.example")
+    see("a report", desk.answer(desk.validate(1))[0], "200")
+    see("finalize", desk.answer(desk.signed("/order/1/finalize", {"csr": "AQID"}))[0], "200")
+    see("an account without", desk.answer(desk.signed("/new-account", {}, key=OTHER_KEY))[0], "201")
+    see("six days later", desk.answer(desk.line("GET", "/new-nonce", at=518400, random="00" * 16))[0], "204")
+    wanted = desk.signed("/new-order", order_of("*.b.example", "c.example"), at=518400, key=OTHER_KEY, random="00" * 80)
+    see("its order", desk.answer(wanted)[0], "201")
+    see("its answer", desk.answer(desk.signed("/chall/4", {}, at=518400, key=OTHER_KEY))[0], "200")
+    ends = {1: "1970-01-08T00:00:00Z", 2: "1970-01-14T00:00:00Z"}
+    orders = {1: order_row(1, 1, "processing", ends[1], ["a.example"], contacts), 2: order_row(2, 2, "pending", ends[2], ["*.b.example", "c.example"], [])}
+    waiting = authorization_row(3, 2, "pending", "1970-02-06T00:00:00Z", "c.example", [(4, "http-01", "processing"), (5, "dns-01", "pending")])
+    counts = "accounts: 2 valid, 0 deactivated, 0 revoked\nauthorizations: 2 pending, 1 valid, 0 invalid, 0 deactivated, 0 expired, 0 revoked\n"
+    counts += "challenges: 3 pending, 1 processing, 1 valid, 0 invalid\norders: 1 pending, 0 ready, 1 processing, 0 valid, 0 invalid\n"
+    before = files_of(desk)
+    text = page_text(base, "1970-01-07T00:00:00Z", counts, [([waiting], 1), ([orders[1]], 1), ([], 0), ([], 0), ([orders[1], orders[2]], 2)])
+    see("the page", run(program, "page", desk.path), (0, text, b""))
+    see("the page: nothing is changed", (run(program, "page", desk.path)[0], files_of(desk)), (0, before))
+    see("a second later", desk.answer(desk.line("GET", "/new-nonce", at=518401, random="00" * 16))[0], "204")
+    text = page_text(base, "1970-01-07T00:00:01Z", counts, [([waiting], 1), ([orders[1]], 1), ([orders[1]], 1), ([], 0), ([orders[1], orders[2]], 2)])
+    see("the page once an order ends within a day", run(program, "page", desk.path), (0, text, b""))
+    shown = based_desk(program, folder, "shown", BASE)
+    see("the account of the example", shown.answer(shown.signed("/new-account", {"contact": ["mailto:o'c@b.example"]}))[0], "201")
+    shown.order("www.example.org")
+    see("the page that the specification shows", run(program, "page", shown.path), (0, specified_page(), b""))
+    for words in (("--json",), ("--account", "1")):
+        see(f"page {words}", run(program, "page", desk.path, *words)[:2], (2, b""))
+
+
+def long_page(program, folder):
+    """Of many rows the page shows the first fifty, and says how many there are; of orders the last twenty, too."""
+    desk = based_desk(program, folder, "long", BASE)
+    see("an account", desk.answer(desk.signed("/new-account", {}))[0], "201")
+    first = tables_of(desk.path, folder)["nonce"][0][0]
+    names = [f"n{number}.example" for number in range(1, 61)]
+    calls = [desk.signed("/new-order", order_of(name), random="00" * 48, nonce=nonce_text(first + at)) for at, name in enumerate(names)]
+    calls.append(desk.line("GET", "/new-nonce", at=2505601, random="00" * 16))
+    see("many orders", run(program, "batch", "--file", desk.path, given=b"".join(calls))[::2], (0, b""))
+    change(desk.path, "UPDATE ord SET status = 'pending'")
+    end, later = "1970-01-08T00:00:00Z", "1970-01-31T00:00:00Z"
+    orders = [order_row(number, 1, "pending", end, [name], []) for number, name in enumerate(names, 1)]
+    rows = [authorization_row(number, 1, "pending", later, name, [(2 * number - 1, "http-01", "pending"), (2 * number, "dns-01", "pending")])
+            for number, name in enumerate(names, 1)]
+    counts = "accounts: 1 valid, 0 deactivated, 0 revoked\nauthorizations: 60 pending, 0 valid, 0 invalid, 0 deactivated, 0 expired, 0 revoked\n"
+    counts += "challenges: 120 pending, 0 processing, 0 valid, 0 invalid\norders: 60 pending, 0 ready, 0 processing, 0 valid, 0 invalid\n"
+    text = page_text(BASE, "1970-01-30T00:00:01Z", counts, [([], 0), ([], 0), (orders[:50], 60), (rows[:50], 60), (orders[40:], 20)])
+    see("a long page", run(program, "page", desk.path), (0, text, b""))
+
+
 def log_left(program, folder):
     """`about` tells how many bytes the log has that a program left beside the file, and then it has none."""
     desk = desk_with_orders(program, folder, "log")
@@ -371,7 +501,7 @@ def stopped_reports(program, folder):
     see("a report that is stopped: its opening", run(program, "status", desk.path)[0], 0)
     before = files_of(desk)
     for word, *more in (("status",), ("status", "--json"), ("status", "--name", "a.example"), ("about",), ("accounts",), ("authorizations",),
-                        ("authorizations", "--json"), ("check",), ("check", "--json")):
+                        ("authorizations", "--json"), ("page",), ("check",), ("check", "--json")):
         words = (program, word, desk.path, *more)
         whole = run(*words)
         lines = whole[1].splitlines(keepends=True)
@@ -497,7 +627,7 @@ def helps(program, folder):
 
 def main(program):
     with workspace("words") as folder:
-        for tries in (reports, wrong_statuses, interleaved, narrowed, named, accounts, about, log_left, clock_ahead, wrong_statuses_as_json, stopped_reports, readers_gone, revocations, shared_revocation,
+        for tries in (reports, wrong_statuses, interleaved, narrowed, named, accounts, about, page, long_page, log_left, clock_ahead, wrong_statuses_as_json, stopped_reports, readers_gone, revocations, shared_revocation,
                       wrong_words, numbers_of_other_forms, helps, *backups.TRIES):
             tries(program, folder)
     return finish("Words")
