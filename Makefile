@@ -67,6 +67,8 @@ test: edits
 	@python3 -B scripts/serve.py bin/desk
 	@echo 'Refusing memory to the program, each ninth growth of a call (make growths: each one).'
 	@python3 -B scripts/growths.py bin/desk --step 9
+	@echo 'Counting the instructions of a call, and comparing them with those that docs/PERFORMANCE.md has (make instructions writes these).'
+	@python3 -B bench/instructions.py --against docs/PERFORMANCE.md
 	@echo 'Killing the program at random moments while it serves, 20 times (make kills: 200).'
 	@python3 -B scripts/kills.py bin/desk --times 20
 	@echo 'Refusing memory to calls of the library, each seventh growth, without proof.'
