@@ -35,9 +35,12 @@ def instructions_of(path):
     names, total, name, is_called = {}, 0, "", False
     with open(path, encoding="utf-8", errors="replace") as dump:
         for line in dump:
-            if line.startswith("fn="):
-                number, _, text = line[3:].strip().partition(" ")
-                name = names.setdefault(number, text)
+            if line.startswith(("fn=", "cfn=")):
+                # A name is written where its number comes first, be it of the function whose costs follow or of one that is called.
+                place, _, named = line.strip().partition("=")
+                number, _, text = named.partition(" ")
+                names.setdefault(number, text)
+                name = names[number] if place == "fn" else name
             elif line.startswith("calls="):
                 is_called = True
             elif line[:1] in "0123456789+-*" and line.strip():
