@@ -67,6 +67,15 @@ impl<S: Alter> LookUps for Store<S> {
         self.told(read)
     }
 
+    fn bare_orders_of(
+        &mut self,
+        alloc: Global,
+        account: u64,
+    ) -> Result<Vec<OrderRow>, StorageFault> {
+        let read = rows::bare_orders_of(alloc, &mut self.conn, account);
+        self.told(read)
+    }
+
     fn bare_authorizations(
         &mut self,
         alloc: Global,

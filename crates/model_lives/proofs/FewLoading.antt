@@ -1,7 +1,7 @@
 -- What the look-ups of the few rows find is what is enough, rule by rule.
-use Rattle.std.proofs.Common.{◌≡◌, ℕ, List, refl, ap, ◌∙◌, true, false, Bool, not}
+use Rattle.std.proofs.Common.{◌≡◌, ℕ, List, [], ◌++◌, refl, ap, ◌∙◌, true, false, Bool, not}
 use Rattle.std.proofs.Common.{Option, None, Some}
-use Rattle.std.specs.Prelude.{◌==◌, ◌&&◌, ◌||◌}
+use Rattle.std.specs.Prelude.{◌==◌, ◌&&◌, ◌||◌, if◌then◌else◌}
 use Rattle.std.specs.List.{flat_map, list_any}
 use Rattle.desk_model.specs.Asked.{asked_names, asks_authorizations, asks_orders}
 use Rattle.desk_model.specs.Lookup.{holds}
@@ -14,11 +14,11 @@ use Rattle.desk_model.specs.declared.rows.AuthorizationRow.{AuthorizationRow}
 use Rattle.model_laws.specs.Ordered.{IsOrdered}
 use Rattle.model_laws.proofs.Basics.{each_all, eq_turn, list_any-same}
 use Rattle.model_lives.specs.Few.{few_rows, is_few_account, is_few_authorization, is_few_order, is_moved_authorization, is_opened_order}
-use Rattle.model_lives.specs.Few.{is_restated_authorization, is_wanted_authorization, needs_listed, restates}
-use Rattle.model_lives.specs.FewLoaded.{few_accounts, few_authorizations, few_loaded, few_orders, holders_of, moved_authorizations, opened_orders}
-use Rattle.model_lives.specs.FewLoaded.{restated_authorizations}
+use Rattle.model_lives.specs.Few.{is_restated_authorization, is_wanted_authorization, is_whole_order, needs_listed, restates}
+use Rattle.model_lives.specs.FewLoaded.{few_accounts, few_authorizations, few_loaded, few_orders, holders_of, listed_orders, moved_authorizations}
+use Rattle.model_lives.specs.FewLoaded.{opened_orders, restated_authorizations}
 use Rattle.model_lives.specs.Loaded.{accounts_once, authorizations_asked_of, authorizations_for, authorizations_once, found_nonces}
-use Rattle.model_lives.specs.Loaded.{named_accounts, orders_once}
+use Rattle.model_lives.specs.Loaded.{named_accounts, named_orders, orders_once}
 use Rattle.model_lives.specs.LookUps.{accounts_numbered, authorizations_of, orders_of}
 use Rattle.model_lives.proofs.Found.{IsFound, found_both, found_by, found_filter, found_if, found_none, found_once, found_same, found_table}
 use Rattle.model_lives.proofs.Loading.{accounts_named, accounts_once_named, any_under, authorizations_by_names, authorizations_listed, authorizations_named}
@@ -81,6 +81,14 @@ opened_found T m a h =
 opened_once : (T : Tables) (m : ℕ) (a : Ask) → IsOrdered T → IsFound of_order (is_opened_order T m a) T.orders (orders_once (opened_orders T m a))
 opened_once T m a h = found_once of_order (is_opened_order T m a) 1 T.orders (opened_orders T m a) h.orders.0 (opened_found T m a h)
 
+pub listed_orders_found : (T : Tables) (a : Ask) → IsOrdered T → IsFound of_order
+    (λ o. asks_orders a && list_any (λ x. is_few_account T a x && (o.account == x.number)) T.accounts) T.orders (listed_orders T a)
+listed_orders_found T a h =
+    found_if of_order (asks_orders a) (λ o. list_any (λ x. is_few_account T a x && (o.account == x.number)) T.accounts) T.orders _
+    (found_same of_order _ _ T.orders _ (each_all _ T.orders (λ o. (accounts_few_once T a h).tests (λ x. o.account == x.number)))
+    (found_by of_order (λ (x : AccountRow) o. o.account == x.number) (λ x. orders_of T x.number) T.orders
+    (λ x. found_filter of_order (λ o. o.account == x.number) 1 T.orders h.orders.0) (accounts_once (few_accounts T a))))
+
 orders_few : (T : Tables) (m : ℕ) (a : Ask) → IsOrdered T → IsFound of_order (is_few_order T m a) T.orders (few_orders T m a)
 orders_few T m a h =
     found_same of_order _ _ T.orders _
@@ -88,16 +96,28 @@ orders_few T m a h =
     (needs_listed a) (is_named_order a o) (asks_orders a && list_any (λ x. is_few_account T a x && (o.account == x.number)) T.accounts)))
     (found_both of_order _ _ T.orders _ _ (opened_found T m a h)
     (found_both of_order _ _ T.orders _ _ (found_if of_order (not (needs_listed a)) (is_named_order a) T.orders _ (orders_named T a h))
-    (found_if of_order (asks_orders a) (λ o. list_any (λ x. is_few_account T a x && (o.account == x.number)) T.accounts) T.orders _
-    (found_same of_order _ _ T.orders _ (each_all _ T.orders (λ o. (accounts_few_once T a h).tests (λ x. o.account == x.number)))
-    (found_by of_order (λ (x : AccountRow) o. o.account == x.number) (λ x. orders_of T x.number) T.orders
-    (λ x. found_filter of_order (λ o. o.account == x.number) 1 T.orders h.orders.0) (accounts_once (few_accounts T a)))))))
+    (listed_orders_found T a h)))
   where
     by : (x n d w : Bool) → ((x || (n && d)) || ((not n && d) || w)) ≡ ((x || (n && d)) || (d || w))
     by true n d w = refl
     by false true true w = refl
     by false true false w = refl
     by false false d w = refl
+
+-- the orders that are needed with what they list
+pub whole_found : (T : Tables) (m : ℕ) (a : Ask) → IsOrdered T →
+    IsFound of_order (is_whole_order T m a) T.orders (opened_orders T m a ++ (if not (needs_listed a) then named_orders T a else []))
+whole_found T m a h =
+    found_same of_order _ _ T.orders _
+    (each_all _ T.orders (λ o. by (is_past_order m o || list_any (λ r. is_restated_authorization T m a r && lists o r.number) T.authorizations)
+    (needs_listed a) (is_named_order a o)))
+    (found_both of_order _ _ T.orders _ _ (opened_found T m a h) (found_if of_order (not (needs_listed a)) (is_named_order a) T.orders _ (orders_named T a h)))
+  where
+    by : (x n d : Bool) → ((x || (n && d)) || (not n && d)) ≡ ((x || (n && d)) || d)
+    by true n d = refl
+    by false true true = refl
+    by false true false = refl
+    by false false d = refl
 
 wanted_found : (T : Tables) (a : Ask) → IsOrdered T → IsFound of_authorization (is_wanted_authorization T a) T.authorizations
     (authorizations_asked_of T (asked_names a) (accounts_once (few_accounts T a)))

@@ -71,7 +71,7 @@ few_cut T m a h =
           (numbered (λ (o : OrderRow). o.number) (is_few_order T m a) 1 T.orders h.orders.0)) i;
     }
 
-few_hold : (T : Tables) (m : ℕ) (a : Ask) → IsOrdered T → Keeps (few_kept T m a) (few_rows T m a)
+pub few_hold : (T : Tables) (m : ℕ) (a : Ask) → IsOrdered T → Keeps (few_kept T m a) (few_rows T m a)
 few_hold T m a h =
     record {
       nonces = filtered_each _ (is_touched_nonce T m a) T.nonces
@@ -114,7 +114,7 @@ few_listed T m a h all =
 
 -- ---- what they have
 
-few_restated : (k : Kept) (T : Tables) (m : ℕ) (a : Ask) → Keeps k (few_rows T m a) → KeepsRestated (restates a) (grown k T) T m a
+pub few_restated : (k : Kept) (T : Tables) (m : ℕ) (a : Ask) → Keeps k (few_rows T m a) → KeepsRestated (restates a) (grown k T) T m a
 few_restated k T m a h =
     record {
       nonces = each _ _ T.nonces (λ x f so. or_left _ _ (f so)) (each_filtered _ (is_touched_nonce T m a) T.nonces h.nonces);

@@ -15,6 +15,7 @@ pub mod JsonTexts
 pub mod JsonTokens
 mod KeyPayloads
 pub mod Listed
+pub mod ListedAlone
 pub mod Lists
 pub mod Loading
 pub mod Names

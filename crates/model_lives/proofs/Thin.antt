@@ -114,7 +114,7 @@ swept_authorizations_thin c m [] = refl
 swept_authorizations_thin c m (r ∷ rs) = λ i. swept_authorization_thin c m r i ∷ swept_authorizations_thin c m rs i
 
 -- an order that falls has what it lists: then it falls without the rest of these rows, too
-falls_thin : (c : ℕ → ChallengeRow → Bool) (l : ℕ → Bool) (m : ℕ) (rows : List AuthorizationRow) (o : OrderRow) →
+pub falls_thin : (c : ℕ → ChallengeRow → Bool) (l : ℕ → Bool) (m : ℕ) (rows : List AuthorizationRow) (o : OrderRow) →
     (falls m rows o ≡ true → l o.number ≡ true) → falls m (map (with_challenges c) rows) (with_listed l o) ≡ falls m rows o
 falls_thin c l m rows o kept = by (l o.number) kept
   where

@@ -90,7 +90,7 @@ found_alike kept test n xs h = by (kept n) refl
     by false e = ap (holds test) (not_found kept n xs e) ∙ sym (none e (authorization_numbered n xs) refl)
 
 -- an order falls by the part where it falls by the whole
-falls_open : (k : Kept) (T : Tables) (m : ℕ) → CoversSweep k T m → (o : OrderRow) → falls m (restricted k T).authorizations o ≡ falls m T.authorizations o
+pub falls_open : (k : Kept) (T : Tables) (m : ℕ) → CoversSweep k T m → (o : OrderRow) → falls m (restricted k T).authorizations o ≡ falls m T.authorizations o
 falls_open k T m covers o =
     ap (λ b. is_live_order o.status && (nat_lt o.expires m || b))
     (list_any-same _ _ (numbers_of o.listed) (λ n. found_alike k.authorizations (is_overdue m) n T.authorizations covers.authorizations))
@@ -159,12 +159,12 @@ bare_changes m S e none =
     ap (changes_with m S e)
     (no_orders (touches_order e S.authorizations) (λ o. restated_order m (authorizations_after S e m) (noted_order e m o)) S.orders none)
 
-issued_bare : (m : ℕ) (S : Tables) (r : List ℕ) → all_changes m S (issued r ∷ []) ≡ all_changes m (bare S) (issued r ∷ [])
+pub issued_bare : (m : ℕ) (S : Tables) (r : List ℕ) → all_changes m S (issued r ∷ []) ≡ all_changes m (bare S) (issued r ∷ [])
 issued_bare m S r = ap (λ cs. cs ++ []) (bare_changes m S (issued r) (each_all _ S.orders (λ o.
     ap (λ b. b && order_differs o (restated_order m (authorizations_after S (issued r) m) (noted_order (issued r) m o)))
     (nothing_touched S.authorizations (numbers_of o.listed)))))
 
-nonces_bare : (m : ℕ) (S : Tables) (n : ℕ) (r : List ℕ) → all_changes m S (spent n ∷ issued r ∷ []) ≡ all_changes m (bare S) (spent n ∷ issued r ∷ [])
+pub nonces_bare : (m : ℕ) (S : Tables) (n : ℕ) (r : List ℕ) → all_changes m S (spent n ∷ issued r ∷ []) ≡ all_changes m (bare S) (spent n ∷ issued r ∷ [])
 nonces_bare m S n r =
     λ i. bare_changes m S (spent n) (each_all _ S.orders (λ o.
     ap (λ b. b && order_differs o (restated_order m (authorizations_after S (spent n) m) (noted_order (spent n) m o)))

@@ -1,5 +1,5 @@
 -- Fewer rows than a call touches, which are enough for it: what it names, what falls by the passing of time, and what decides a status that may change.
-use Rattle.std.specs.Prelude.{ℕ, ◌≡◌, ◌==◌, ◌&&◌, ◌||◌, not, Bool, true, false, List}
+use Rattle.std.specs.Prelude.{ℕ, ◌≡◌, ◌==◌, ◌&&◌, ◌||◌, not, Bool, true, false, List, [], map, if◌then◌else◌}
 use Rattle.std.specs.List.{filter, list_any}
 use Rattle.desk_model.specs.Asked.{asks_name, asks_orders}
 use Rattle.desk_model.specs.Derived.{restated_authorization, restated_order}
@@ -99,6 +99,20 @@ few_rows T m a =
       authorizations = filter (is_few_authorization T m a) T.authorizations;
       orders = filter (is_few_order T m a) T.orders;
     }
+
+-- ---- what they may lack
+
+-- an order that is opened or named, and so needed with what it lists
+abbrev pub is_whole_order : Tables → ℕ → Ask → OrderRow → Bool
+is_whole_order T m a o = is_opened_order T m a o || is_named_order a o
+
+-- one that is only listed with those of its account is not
+abbrev pub as_needed : Tables → ℕ → Ask → OrderRow → OrderRow
+as_needed T m a o = record o { listed = if is_whole_order T m a o then o.listed else [] }
+
+-- the rows, as they are needed
+abbrev pub needed_rows : Tables → ℕ → Ask → Tables
+needed_rows T m a = record (few_rows T m a) { orders = map (as_needed T m a) (filter (is_few_order T m a) T.orders) }
 
 -- ---- what is asked of the tables
 

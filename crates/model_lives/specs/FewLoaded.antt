@@ -33,11 +33,12 @@ abbrev pub opened_orders : Tables → ℕ → Ask → List OrderRow
 opened_orders T m a =
     (past_orders T m ++ listing_orders T (authorizations_once (restated_authorizations T m a))) ++ (if needs_listed a then named_orders T a else [])
 
+-- the orders of the accounts, where they are asked for
+abbrev pub listed_orders : Tables → Ask → List OrderRow
+listed_orders T a = if asks_orders a then flat_map (λ x. orders_of T x.number) (accounts_once (few_accounts T a)) else []
+
 abbrev pub few_orders : Tables → ℕ → Ask → List OrderRow
-few_orders T m a =
-    opened_orders T m a
-    ++ ((if not (needs_listed a) then named_orders T a else [])
-    ++ (if asks_orders a then flat_map (λ x. orders_of T x.number) (accounts_once (few_accounts T a)) else []))
+few_orders T m a = opened_orders T m a ++ ((if not (needs_listed a) then named_orders T a else []) ++ listed_orders T a)
 
 abbrev pub few_authorizations : Tables → ℕ → Ask → List AuthorizationRow
 few_authorizations T m a =

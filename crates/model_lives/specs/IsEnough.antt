@@ -11,7 +11,7 @@ use Rattle.desk_model.specs.declared.call.Call.{Call}
 use Rattle.desk_model.specs.declared.call.OfficeAsk.TheVariants as office
 use Rattle.desk_model.specs.declared.rows.AuthorizationRow.{AuthorizationRow}
 use Rattle.model_lives.specs.AnswersAs.{AnswersAs}
-use Rattle.model_lives.specs.Few.{few_rows}
+use Rattle.model_lives.specs.Few.{needed_rows}
 use Rattle.model_lives.specs.Thinned.{Thinning, thinned, without_challenges}
 
 -- the part is cut from the whole, of whose rows it may lack what belongs to them, and answers the call as the whole does
@@ -51,7 +51,7 @@ abbrev pub enough_at : Tables → ℕ → Ask → Tables
 enough_at T m (ask.Office office.Directory) = only_meta T
 enough_at T m (ask.Office office.ChallengeWork) = challenge_work_rows T
 enough_at T m (ask.Office office.OrderWork) = order_work_rows T
-enough_at T m a = few_rows T m a
+enough_at T m a = needed_rows T m a
 
 -- at the moment at which the call acts
 abbrev pub enough : Tables → Call → Tables

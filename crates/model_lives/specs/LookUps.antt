@@ -11,7 +11,7 @@ use Rattle.desk_model.specs.declared.rows.AuthorizationRow.{AuthorizationRow}
 use Rattle.desk_model.specs.declared.rows.OrderRow.{OrderRow}
 use Rattle.desk_model.specs.declared.status.AuthzStatus.{AuthzStatus}
 use Rattle.desk_model.specs.declared.status.OrderStatus.{OrderStatus}
-use Rattle.model_lives.specs.Thinned.{without_challenges}
+use Rattle.model_lives.specs.Thinned.{without_challenges, without_listed}
 use Rattle.model_lives.specs.declared.queries.AccountsWhere.{AccountsWhere}
 use Rattle.model_lives.specs.declared.queries.AccountsWhere.TheVariants as accounts
 use Rattle.model_lives.specs.declared.queries.AuthorizationsWhere.{AuthorizationsWhere}
@@ -83,6 +83,10 @@ orders_numbered T n = orders_where T (orders.Number n)
 -- by the account
 abbrev pub orders_of : Tables → ℕ → List OrderRow
 orders_of T n = orders_where T (orders.Account n)
+
+-- by the account, without what they list
+abbrev pub bare_orders_of : Tables → ℕ → List OrderRow
+bare_orders_of T n = map without_listed (orders_of T n)
 
 -- of one stored status, with an end before a moment
 abbrev pub orders_past : Tables → OrderStatus → ℕ → List OrderRow

@@ -30,6 +30,10 @@ thin challenges listed T =
 abbrev pub without_challenges : AuthorizationRow → AuthorizationRow
 without_challenges r = record r { challenges = [] }
 
+-- an order without what it lists
+abbrev pub without_listed : OrderRow → OrderRow
+without_listed o = record o { listed = [] }
+
 -- which rows are kept, of an authorization which challenges, and whether what an order lists
 pub record Thinning : Type 0 where
   pub rows : Kept

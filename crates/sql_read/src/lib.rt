@@ -34,5 +34,5 @@ pub use first::load_first;
 pub use format::is_newer;
 pub use meta::meta_row;
 pub use nonces::{earliest_issue, find_nonces};
-pub use orders::{earliest_order_end, find_orders, order_above, orders_listing};
+pub use orders::{bare_orders_of, earliest_order_end, find_orders, order_above, orders_listing};
 pub use stored::load_stored;

@@ -4,7 +4,7 @@ ghost use Rattle.sqlite.specs.State.{HasCleanDisk, IsUnchanged};
 ghost use Rattle.sqlite.specs.Held.{state};
 ghost use Rattle.store_columns.specs.Flat.{without_listed};
 ghost use Rattle.model_lives.specs.Above.{first_of, orders_above};
-ghost use Rattle.model_lives.specs.LookUps.{orders_listing, orders_where};
+ghost use Rattle.model_lives.specs.LookUps.{bare_orders_of, orders_listing, orders_where};
 ghost use Rattle.sql_schema.specs.Stays.{Asks};
 ghost use Rattle.sql_read.specs.Earliest.{IsEarliest, order_ends};
 ghost use Rattle.sql_read.specs.Failures.{MayRead};
@@ -132,6 +132,28 @@ pub fn find_orders<S: Alter>(
     ensures asks { Asks (state S.Store conn.old) (state S.Store conn.new) }
 {
     find_parents_by::<S, OrderColumns, _>(alloc, conn, text_of(which), params_of(which))
+}
+
+/// The orders of an account, by number, without what they list.
+///
+/// # Errors
+///
+/// The engine's, and `NotARow` where a row is not one of a desk; nothing is changed. Of a desk's tables it fails for memory or the
+/// disk alone.
+pub fn bare_orders_of<S: Alter>(
+    alloc: Global,
+    conn: &mut Connection<S>,
+    account: u64,
+) -> Result<Vec<OrderRow>, ReadFault>
+    ensures found { ForHeld (state S.Store conn.old) (state S.Store conn.new) (λ T. IsStoredBook T
+        → IfOk result (λ rows. rows.items ≡ bare_orders_of T account)) }
+    ensures caused { ForHeld (state S.Store conn.old) (state S.Store conn.new) (λ T. IsStoredBook T → MayRead (state S.Store conn.old)
+        → IfErr result (IsOfMemoryOrDisk (state S.Store conn.old) (state S.Store conn.new))) }
+    ensures unchanged { HasCleanDisk (state S.Store conn.new) → OnOk result (IsUnchanged (state S.Store conn.old) (state S.Store conn.new)) }
+    ensures asks { Asks (state S.Store conn.old) (state S.Store conn.new) }
+{
+    let params = number_param(account);
+    find_rows::<S, OrderColumns>(alloc, conn, orders::SELECT_OF, &params)
 }
 
 /// The numbers of the orders that list an authorization.

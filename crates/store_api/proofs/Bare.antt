@@ -22,7 +22,7 @@ use Rattle.store_api.specs.Needing.{missing, missings}
 
 module _ {X : Type 0} (number : X → ℕ) (bare : X → X) (same : (x : X) → number (bare x) ≡ number x) where
   -- a bare row is put where the row would be
-  put_bare : (x : X) (ys : List X) → put number (bare x) (map bare ys) ≡ map bare (put number x ys)
+  pub put_bare : (x : X) (ys : List X) → put number (bare x) (map bare ys) ≡ map bare (put number x ys)
   put_bare x [] = refl
   put_bare x (y ∷ ys) =
       (λ i. cond (same x i == same y i) (bare x ∷ map bare ys)

@@ -15,7 +15,7 @@ use Rattle.model_lives.specs.Loaded.{account_numbers, keys, new_keys}
 use Rattle.model_lives.specs.LookUps.{accounts_with_key}
 use Rattle.model_lives.proofs.Found.{IsFound, found_both, found_by, found_filter}
 use Rattle.store_api.specs.Needing.{keyed_accounts, missings, with_named}
-use Rattle.std.specs.Prelude.{◌&&◌, if◌then◌else◌, not}
+use Rattle.std.specs.Prelude.{◌&&◌, if◌then◌else◌}
 use Rattle.std.specs.List.{flat_map}
 use Rattle.desk_model.specs.Tables.{Tables}
 use Rattle.desk_model.specs.declared.call.Ask.{Ask}
@@ -28,12 +28,10 @@ use Rattle.model_lives.specs.Loaded.{listed_authorizations}
 use Rattle.model_lives.proofs.FewLoading.{restated_found}
 use Rattle.model_lives.specs.LookUps.{accounts_numbered}
 use Rattle.model_lives.specs.FewLoaded.{few_accounts, holders_of, moved_authorizations, opened_orders, restated_authorizations}
-use Rattle.model_lives.specs.Loaded.{accounts_once, authorizations_once, listing_orders, named_accounts, named_orders, past_authorizations, past_orders}
-use Rattle.model_lives.specs.LookUps.{authorizations_numbered, authorizations_of, orders_numbered, orders_of, owners_of}
-use Rattle.store_api.specs.Needing.{NeedsFor, alone_with, moved_by, opened_with, restated_by}
+use Rattle.model_lives.specs.Loaded.{accounts_once, authorizations_once, listing_orders, named_accounts, past_authorizations, past_orders}
+use Rattle.model_lives.specs.LookUps.{authorizations_numbered, authorizations_of, orders_numbered, owners_of}
+use Rattle.store_api.specs.Needing.{NeedsFor, moved_by, opened_with, restated_by}
 use Rattle.store_api.specs.declared.needs.Needs.{Needs}
-use Rattle.desk_model.specs.Asked.{asks_orders}
-use Rattle.model_lives.specs.Few.{needs_listed}
 
 -- rows that lead to themselves alone
 pub themselves : {X : Type 0} (xs : List X) → flat_map (λ x. x ∷ []) xs ≡ xs
@@ -122,11 +120,3 @@ module _ (T : Tables) (m : ℕ) (a : Ask) (needs : Needs) (is : NeedsFor a m nee
   opened_are rows same = λ i.
       (past_orders T (is.moment i) ++ listing_orders T (same i))
       ++ (if is.listed i then flat_map (orders_numbered T) (is.named.order i) else [])
-
-  pub alone_are : (accounts : List AccountRow) → accounts ≡ accounts_once (few_accounts T a) →
-      alone_with T needs accounts
-      ≡ (if not (needs_listed a) then named_orders T a else [])
-      ++ (if asks_orders a then flat_map (λ (x : AccountRow). orders_of T x.number) (accounts_once (few_accounts T a)) else [])
-  alone_are accounts same = λ i.
-      (if not (is.listed i) then flat_map (orders_numbered T) (is.named.order i) else [])
-      ++ (if is.named.orders_asked i then flat_map (λ (x : AccountRow). orders_of T x.number) (same i) else [])

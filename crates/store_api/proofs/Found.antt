@@ -5,7 +5,7 @@ use Rattle.std.specs.Option.{MatchOption}
 use Rattle.std.proofs.lemmas.Result.{on_ok_weaker}
 use Rattle.model_laws.specs.Placing.{puts}
 use Rattle.store_api.specs.Finding.{Finds, LacksMemory}
-use Rattle.store_api.proofs.Gathered.{put_if_found}
+use Rattle.store_api.proofs.Gathered.{into_if_found, put_if_found}
 use Rattle.store_api.proofs.Readings.{reads_failing, reads_found, reads_then, stands_read}
 use Rattle.desk_model.specs.Tables.{Tables}
 use Rattle.store_api.specs.Sight.{ForTables, Reads, Sight}
@@ -73,6 +73,17 @@ module _ {S C : Type 0} {v : Sight S C} where
   finds_put number items rows_of rows later looked r read are put_now lacks passed = record {
     reads = reads_found looked r read lacks passed;
     found = λ honest T held. put_if_found number items looked r (rows_of T) rows later put_now passed (are honest T held);
+  }
+
+  -- what was found is put into a table in some way
+  pub finds_into : {V X B : Type 0} {old new : S} (into : List X → List X → List X) (items : V → List X) (rows_of : Tables → List X) (rows later : List X)
+      (looked : Result V StorageFault) (r : Result B StorageFault) →
+      Reads v old new looked → ForTables v old new (λ T. IfOk looked (λ vs. items vs ≡ rows_of T)) →
+      IfOk looked (λ vs. OnOk r (later ≡ into (items vs) rows)) → IfOk looked (λ _. IfErr r LacksMemory) → IfErr looked (λ why. r ≡ Err why) →
+      Finds v old new r (λ T. later ≡ into (rows_of T) rows)
+  finds_into into items rows_of rows later looked r read are put_now lacks passed = record {
+    reads = reads_found looked r read lacks passed;
+    found = λ honest T held. into_if_found into items looked r (rows_of T) rows later put_now passed (are honest T held);
   }
 
 -- an option as a slice

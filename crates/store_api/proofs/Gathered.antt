@@ -40,6 +40,14 @@ put_if_found number items (Ok vs) (Ok done) xs rows later put_now passed looked 
 put_if_found number items (Ok vs) (Err why) xs rows later put_now passed looked = tt
 put_if_found number items (Err why) r xs rows later put_now passed looked = subst (λ q. OnOk q (later ≡ puts number xs rows)) (sym passed) tt
 
+-- and in whatever way it is put
+pub into_if_found : {F V B X : Type 0} (into : List X → List X → List X) (items : V → List X) (found : Result V F) (r : Result B F) (xs rows later : List X) →
+    IfOk found (λ vs. OnOk r (later ≡ into (items vs) rows)) → IfErr found (λ why. r ≡ Err why) → IfOk found (λ vs. items vs ≡ xs) →
+    OnOk r (later ≡ into xs rows)
+into_if_found into items (Ok vs) (Ok done) xs rows later put_now passed looked = put_now ∙ ap (λ l. into l rows) looked
+into_if_found into items (Ok vs) (Err why) xs rows later put_now passed looked = tt
+into_if_found into items (Err why) r xs rows later put_now passed looked = subst (λ q. OnOk q (later ≡ into xs rows)) (sym passed) tt
+
 -- rows are put, and then others
 pub put_then : {X : Type 0} (number : X → ℕ) (xs ys rows mid later : List X) → mid ≡ puts number xs rows → later ≡ puts number ys mid →
     later ≡ puts number (xs ++ ys) rows

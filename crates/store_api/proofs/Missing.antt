@@ -17,11 +17,11 @@ abbrev pub rows_at : {X : Type 0} → (X → ℕ) → List X → ℕ → List X
 rows_at number xs n = filter (λ x. number x == n) xs
 
 -- with the rows of a number
-abbrev with_number : {X : Type 0} → (X → ℕ) → List X → ℕ → (X → Bool) → X → Bool
+abbrev pub with_number : {X : Type 0} → (X → ℕ) → List X → ℕ → (X → Bool) → X → Bool
 with_number number xs n p x = list_any (λ y. number y == number x) (rows_at number xs n) || p x
 
 -- they are put among rows that pass a test
-put_number : {X : Type 0} (number : X → ℕ) (xs : List X) → Ascends number 1 xs → (n : ℕ) (p : X → Bool) →
+pub put_number : {X : Type 0} (number : X → ℕ) (xs : List X) → Ascends number 1 xs → (n : ℕ) (p : X → Bool) →
     puts number (rows_at number xs n) (filter p xs) ≡ filter (with_number number xs n p) xs
 put_number number xs h n p =
     puts_filter number 1 xs h (rows_at number xs n) p
@@ -73,7 +73,7 @@ nothing_missing number xs h n p has =
     same x false e c alike is = refl
 
 -- a number whose row is put where it is missing is put
-missing_put : {X : Type 0} (number : X → ℕ) (xs : List X) → Ascends number 1 xs → (n : ℕ) (p : X → Bool) →
+pub missing_put : {X : Type 0} (number : X → ℕ) (xs : List X) → Ascends number 1 xs → (n : ℕ) (p : X → Bool) →
     missing number (rows_at number xs) n (filter p xs) ≡ filter (with_number number xs n p) xs
 missing_put number xs h n p = by (find (λ x. number x == n) (filter p xs)) refl
   where

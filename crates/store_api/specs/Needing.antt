@@ -11,7 +11,7 @@ use Rattle.desk_model.specs.declared.rows.OrderRow.{OrderRow}
 use Rattle.model_lives.specs.Few.{needs_listed, restates}
 use Rattle.model_lives.specs.Loaded.{account_numbers, authorization_numbers, challenge_numbers, keys, listing_orders, new_keys, order_numbers}
 use Rattle.model_lives.specs.Loaded.{past_authorizations, past_orders}
-use Rattle.model_lives.specs.LookUps.{accounts_numbered, accounts_with_key, authorizations_numbered, authorizations_of, orders_numbered, orders_of}
+use Rattle.model_lives.specs.LookUps.{accounts_numbered, accounts_with_key, authorizations_numbered, authorizations_of, bare_orders_of, orders_numbered}
 use Rattle.model_lives.specs.LookUps.{owners_of}
 use Rattle.store_api.specs.Naming.{Names}
 use Rattle.store_api.specs.declared.needs.Needs.{Needs}
@@ -32,6 +32,11 @@ missing number rows_of n table = if is_some (find (λ x. number x == n) table) t
 abbrev pub missings : {X : Type 0} → (X → ℕ) → (ℕ → List X) → List ℕ → List X → List X
 missings number rows_of [] table = table
 missings number rows_of (n ∷ ns) table = missings number rows_of ns (missing number rows_of n table)
+
+-- rows are put into a table, those alone whose numbers it lacks
+abbrev pub lacking : {X : Type 0} → (X → ℕ) → List X → List X → List X
+lacking number [] table = table
+lacking number (x ∷ xs) table = lacking number xs (missing number (λ n. x ∷ []) (number x) table)
 
 -- the accounts with the request's key, and with the key that an account is to get
 abbrev pub keyed_accounts : Tables → Ask → List AccountRow
@@ -60,8 +65,10 @@ orders_by T needs = flat_map (orders_numbered T) (option_to_list needs.named.ord
 abbrev pub opened_with : Tables → Needs → List AuthorizationRow → List OrderRow
 opened_with T needs rows = (past_orders T needs.moment ++ listing_orders T rows) ++ (if needs.needs_listed then orders_by T needs else [])
 
--- the named order, where it is not, and those of these accounts, where they are asked for
-abbrev pub alone_with : Tables → Needs → List AccountRow → List OrderRow
-alone_with T needs accounts =
-    (if not needs.needs_listed then orders_by T needs else [])
-    ++ (if needs.named.asks_orders then flat_map (λ x. orders_of T x.number) accounts else [])
+-- the named order, where it is not
+abbrev pub named_alone : Tables → Needs → List OrderRow
+named_alone T needs = if not needs.needs_listed then orders_by T needs else []
+
+-- the orders of these accounts, where they are asked for, without what they list
+abbrev pub listed_with : Tables → Needs → List AccountRow → List OrderRow
+listed_with T needs accounts = if needs.named.asks_orders then flat_map (λ x. bare_orders_of T x.number) accounts else []

@@ -3,7 +3,7 @@ ghost use Rattle.std.specs.Prelude.{◌≡◌, ◌==◌, ◌++◌, [], ◌∷◌
 ghost use Rattle.std.specs.List.{flat_map};
 ghost use Rattle.store_api.specs.Finding.{LacksMemory, working};
 ghost use Rattle.model_lives.specs.IsEnough.{has_work as has_some};
-ghost use Rattle.model_lives.specs.Thinned.{without_challenges};
+ghost use Rattle.model_lives.specs.Thinned.{without_challenges, without_listed};
 
 use crate::fault::StorageFault;
 use crate::look_ups::LookUps;
@@ -57,6 +57,14 @@ impl Owner for AuthorizationRow {
 
     fn strip(&mut self, alloc: Global) {
         self.challenges = Sequence::new(Vec::new(alloc));
+    }
+}
+
+impl Owner for OrderRow {
+    ghost bare = { without_listed };
+
+    fn strip(&mut self, alloc: Global) {
+        self.listed = Sequence::new(Vec::new(alloc));
     }
 }
 
@@ -222,6 +230,14 @@ impl LookUps for Book {
         which: AuthorizationsWhere<'_>,
     ) -> Result<Vec<AuthorizationRow>, StorageFault> {
         rows_where(alloc, self.authorizations(), &which)
+    }
+
+    fn bare_orders_of(
+        &mut self,
+        alloc: Global,
+        account: u64,
+    ) -> Result<Vec<OrderRow>, StorageFault> {
+        bare_rows_where(alloc, self.orders(), &OrdersWhere::Account(account))
     }
 
     fn bare_authorizations(

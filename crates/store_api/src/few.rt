@@ -3,10 +3,9 @@ ghost use Rattle.std.specs.Prelude.{◌≡◌, ◌++◌, [], IfOk, if◌then◌e
 ghost use Rattle.model_laws.specs.Ordered.{IsOrdered};
 ghost use Rattle.model_laws.specs.Placing.{puts};
 ghost use Rattle.store_api.specs.Finding.{AreNone, AreRowsOf, Finds};
-ghost use Rattle.store_api.specs.Needing.{NeedsFor, alone_with, missings, moved_by, opened_with, orders_by, restated_by, with_named};
-ghost use Rattle.model_lives.specs.Few.{few_rows};
-ghost use Rattle.model_lives.specs.FewLoaded.{few_loaded};
-ghost use Rattle.model_lives.specs.LookUps.{accounts_numbered, authorizations_numbered};
+ghost use Rattle.store_api.specs.Needing.{NeedsFor, lacking, listed_with, missings, moved_by, named_alone, opened_with, orders_by, restated_by, with_named};
+ghost use Rattle.model_lives.specs.Few.{needed_rows};
+ghost use Rattle.model_lives.specs.LookUps.{accounts_numbered, authorizations_numbered, bare_orders_of};
 ghost use Rattle.std.specs.List.{flat_map};
 ghost use Rattle.desk_model.specs.Derived.{numbers_of};
 ghost use Rattle.model_lives.specs.Loaded.{authorizations_asked_of};
@@ -14,7 +13,7 @@ ghost use Rattle.store_api.specs.Sight.{ForTables, Reads};
 
 use crate::asked::add_asked_names;
 use crate::fault::StorageFault;
-use crate::gathering::{add_each, add_linked, add_missing};
+use crate::gathering::{add_each, add_lacking, add_linked, add_missing};
 use crate::look_ups::LookUps;
 use crate::named::named_in;
 use crate::needs::{Needs, needs_of};
@@ -240,8 +239,42 @@ fn add_wanted<S: LookUps>(
     add_asked_names(alloc, source, authorizations, &needs.names, accounts)
 }
 
-// Puts the order that is named, where nothing that it lists is needed, and the orders of these accounts, where they are
-// asked for, into a table.
+// Puts the orders of these accounts into a table without what they list, those alone that it lacks.
+fn add_bare_orders<S: LookUps>(
+    alloc: Global,
+    source: &mut S,
+    orders: &mut Table<OrderRow>,
+    accounts: &Table<AccountRow>,
+) -> Result<(), StorageFault>
+    ensures { Finds S.sight source.old source.new result (λ T.
+        orders.new ≡ lacking (λ o. o.number) (flat_map (λ x. bare_orders_of T x.number) accounts.now) orders.old) }
+{
+    for account in accounts.iter() {
+        add_lacking(orders, source.bare_orders_of(alloc, account.number))?;
+    }
+    Ok(())
+}
+
+// Puts them into the table, where they are asked for.
+fn add_listed<S: LookUps>(
+    alloc: Global,
+    source: &mut S,
+    orders: &mut Table<OrderRow>,
+    accounts: &Table<AccountRow>,
+    asked: bool,
+) -> Result<(), StorageFault>
+    ensures { Finds S.sight source.old source.new result (λ T.
+        orders.new ≡ lacking (λ o. o.number) (if asked then flat_map (λ x. bare_orders_of T x.number) accounts.now else []) orders.old) }
+{
+    if asked {
+        add_bare_orders(alloc, source, orders, accounts)
+    } else {
+        Ok(())
+    }
+}
+
+// Puts the order that is named, where nothing that it lists is needed, into a table, and then the orders of these accounts,
+// where they are asked for, that it lacks, without what they list.
 fn add_alone<S: LookUps>(
     alloc: Global,
     source: &mut S,
@@ -250,10 +283,10 @@ fn add_alone<S: LookUps>(
     accounts: &Table<AccountRow>,
 ) -> Result<(), StorageFault>
     ensures { Finds S.sight source.old source.new result (λ T.
-        orders.new ≡ puts (λ o. o.number) (alone_with T needs.now accounts.now) orders.old) }
+        orders.new ≡ lacking (λ o. o.number) (listed_with T needs.now accounts.now) (puts (λ o. o.number) (named_alone T needs.now) orders.old)) }
 {
     add_named_order(alloc, source, orders, needs, !needs.needs_listed)?;
-    add_asked(alloc, source, orders, accounts, needs.named.asks_orders)
+    add_listed(alloc, source, orders, accounts, needs.named.asks_orders)
 }
 
 // ---- all of them
@@ -270,7 +303,7 @@ fn add_few<S: LookUps>(
 ) -> Result<(), StorageFault>
     requires { NeedsFor ask.now needs.now.moment needs.now }
     ensures { Finds S.sight source.old source.new result (λ T. IsOrdered T → policy.now ≡ T.meta.policy → AreNone rows.old → moved.old ≡ []
-        → AreRowsOf (few_loaded T needs.now.moment ask.now) rows.new) }
+        → AreRowsOf (needed_rows T needs.now.moment ask.now) rows.new) }
 {
     add_nonces(alloc, source, &mut rows.nonces, policy, needs.moment, ask)?;
     add_holders(alloc, source, &mut rows.accounts, moved, ask, needs)?;
@@ -301,7 +334,7 @@ pub(crate) fn few_book<S: LookUps>(
 ) -> Result<Book, StorageFault>
     ensures reads { Reads S.sight source.old source.new result }
     ensures found { ForTables S.sight source.old source.new (λ T. IsOrdered T
-        → IfOk result (λ book. book ≡ few_rows T (max call.now.at T.meta.counters.clock) call.now.ask)) }
+        → IfOk result (λ book. book ≡ needed_rows T (max call.now.at T.meta.counters.clock) call.now.ask)) }
 {
     let meta = source.meta_row(alloc)?;
     let counters = meta.counters;

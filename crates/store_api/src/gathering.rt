@@ -4,7 +4,7 @@ ghost use Rattle.std.specs.List.{flat_map};
 ghost use Rattle.desk_model.specs.Tables.{Tables};
 ghost use Rattle.model_laws.specs.Placing.{puts};
 ghost use Rattle.store_api.specs.Finding.{Finds, LacksMemory};
-ghost use Rattle.store_api.specs.Needing.{missing};
+ghost use Rattle.store_api.specs.Needing.{lacking, missing};
 
 use crate::fault::StorageFault;
 use crate::look_ups::LookUps;
@@ -44,6 +44,29 @@ pub(crate) fn add_found<R: Row + Drop>(
 {
     for row in found? {
         table.put(row)?;
+    }
+    Ok(())
+}
+
+// Puts a row into a table, unless it has one of its number already.
+fn put_lacking<R: Row + Drop>(table: &mut Table<R>, row: R) -> Result<(), AllocError>
+    ensures { OnOk result (table.new ≡ missing R.number (λ n. row ∷ []) (R.number row) table.old) }
+{
+    let is_there = table.get(row.number()).is_some();
+    if is_there { Ok(()) } else { table.put(row) }
+}
+
+/// Puts the rows that were found into a table, those alone whose numbers it lacks.
+pub(crate) fn add_lacking<R: Row + Drop>(
+    table: &mut Table<R>,
+    found: Result<Vec<R>, StorageFault>,
+) -> Result<(), StorageFault>
+    ensures put { IfOk found (λ rows. OnOk result (table.new ≡ lacking R.number rows.items table.old)) }
+    ensures lacks { IfOk found (λ rows. IfErr result LacksMemory) }
+    ensures fails { IfErr found (λ fault. result ≡ Err fault) }
+{
+    for row in found? {
+        put_lacking(table, row)?;
     }
     Ok(())
 }

@@ -1,7 +1,7 @@
 //! Look-ups in the tables of a desk.
 ghost use Rattle.std.specs.Prelude.{◌≡◌, List, IfOk};
 ghost use Rattle.model_lives.specs.LookUps.{accounts_where, authorizations_where, nonces_where, orders_where};
-ghost use Rattle.model_lives.specs.LookUps.{AreNumbers, bare_authorizations, orders_listing, owners_of, owners_processing};
+ghost use Rattle.model_lives.specs.LookUps.{AreNumbers, bare_authorizations, bare_orders_of, orders_listing, owners_of, owners_processing};
 ghost use Rattle.store_api.specs.Sight.{ForTables, Reads, Sight};
 
 use crate::fault::StorageFault;
@@ -56,6 +56,11 @@ pub trait LookUps {
     ) -> Result<Vec<AuthorizationRow>, StorageFault>
         ensures reads { Reads sight self.old self.new result }
         ensures found { ForTables sight self.old self.new (λ T. IfOk result (λ rows. rows.items ≡ authorizations_where T which.entry)) };
+
+    /// The orders of an account, by number, without what they list.
+    fn bare_orders_of(&mut self, alloc: Global, account: u64) -> Result<Vec<OrderRow>, StorageFault>
+        ensures reads { Reads sight self.old self.new result }
+        ensures found { ForTables sight self.old self.new (λ T. IfOk result (λ rows. rows.items ≡ bare_orders_of T account)) };
 
     /// The authorization of a number, without its challenges.
     fn bare_authorizations(

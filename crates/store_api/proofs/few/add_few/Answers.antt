@@ -1,14 +1,18 @@
 use Rattle.std.proofs.Common.{ap, map, ◌∙◌, ◌++◌, []}
 use Rattle.model_laws.specs.Placing.{puts}
-use Rattle.store_api.proofs.FewRows.{alone_are, moved_are, opened_are, restated_are}
+use Rattle.store_api.proofs.FewRows.{moved_are, opened_are, restated_are}
 use Rattle.store_api.proofs.Found.{fails_behind, finds_both, finds_failing, finds_fourth}
 use Rattle.store_api.proofs.Gathered.{put_into_none, put_then}
 use Rattle.std.specs.List.{flat_map}
 use Rattle.desk_model.specs.Derived.{numbers_of}
 use Rattle.store_api.proofs.FewRows.{holders_missing, listed_missing, named_missing}
 use Rattle.store_api.proofs.few.add_few.Goals as goal
-use Rattle.store_api.specs.Needing.{missings, with_named}
-use Rattle.model_lives.specs.LookUps.{accounts_numbered, authorizations_numbered}
+use Rattle.store_api.specs.Needing.{lacking, missings, with_named}
+use Rattle.desk_model.specs.Tables.{Tables}
+use Rattle.model_lives.proofs.FewLoading.{loaded_few}
+use Rattle.model_lives.specs.LookUps.{accounts_numbered, authorizations_numbered, bare_orders_of, orders_numbered}
+use Rattle.std.specs.Prelude.{if◌then◌else◌, not}
+use Rattle.store_api.proofs.Lacking.{needed_orders}
 use Rattle.desk_model.specs.declared.objects.Nonce.{Nonce}
 use Rattle.desk_model.specs.declared.rows.AccountRow.{AccountRow}
 use Rattle.desk_model.specs.declared.rows.AuthorizationRow.{AuthorizationRow}
@@ -46,16 +50,20 @@ returns g c =
     statuses.1
     ∙ (λ i. missings authorization (authorizations_numbered T) (flat_map (λ (o : OrderRow). numbers_of o.listed) (opens i)) (restated i))
     ∙ listed_missing T m ask ordered (puts order (opened_orders T m ask) []) in
+    let few = loaded_few T m ask ordered in
     record {
-      nonces = put_into_none (λ (n : Nonce). n.serial) (found_nonces T m ask) _ _ (first.0 same) none.nonces;
-      accounts = accounts;
+      nonces = put_into_none (λ (n : Nonce). n.serial) (found_nonces T m ask) _ _ (first.0 same) none.nonces ∙ ap (λ (B : Tables). B.nonces) few;
+      accounts = accounts ∙ ap (λ (B : Tables). B.accounts) few;
       authorizations =
           put_then authorization (restated_authorizations T m ask ++ listed_authorizations T (puts order (opened_orders T m ask) []))
           (authorizations_once (moved_authorizations T ask) ++ authorizations_asked_of T _ (accounts_once (few_accounts T ask))) [] _ _ listed
-          (wanted ∙ (λ i. puts authorization (moved i ++ authorizations_asked_of T (is.names i) (accounts i)) c.add_statuses.new.authorizations));
+          (wanted ∙ (λ i. puts authorization (moved i ++ authorizations_asked_of T (is.names i) (accounts i)) c.add_statuses.new.authorizations))
+          ∙ ap (λ (B : Tables). B.authorizations) few;
       orders =
-          put_then order (opened_orders T m ask) _ [] _ _ opens
-          (alone ∙ ap (λ l. puts order l c.add_statuses.new.orders) (alone_are T m ask needs is _ accounts));
+          alone
+          ∙ (λ i. lacking order (if is.named.orders_asked i then flat_map (λ (x : AccountRow). bare_orders_of T x.number) (accounts i) else [])
+          (puts order (if not (is.listed i) then flat_map (orders_numbered T) (is.named.order i) else []) (opens i)))
+          ∙ needed_orders T m ask ordered;
     })
 
 pub returns-in_err-add_nonces : goal.returns-in_err-add_nonces

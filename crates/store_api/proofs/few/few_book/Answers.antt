@@ -1,8 +1,7 @@
 use Rattle.std.proofs.Common.{ap, max, ◌∙◌}
 use Rattle.std.proofs.lemmas.Result.{IfOk-from_err}
 use Rattle.desk_model.specs.declared.rows.Meta.{Meta}
-use Rattle.model_lives.proofs.FewLoading.{loaded_few}
-use Rattle.model_lives.specs.FewLoaded.{few_loaded}
+use Rattle.model_lives.specs.Few.{needed_rows}
 use Rattle.store_api.proofs.Gathered.{made_of}
 use Rattle.store_api.proofs.Readings.{reads_and, reads_failing, lacks_by, reads_standing, reads_then, stands_read}
 use Rattle.store_api.proofs.Tabled.{book_are}
@@ -22,11 +21,10 @@ returns-clause-found g c = λ honest T held ordered.
     let are = put_now ordered (λ i. (same i).policy)
     (record { nonces = c.new.ensures; accounts = c.new-2.ensures; authorizations = c.new-3.ensures; orders = c.new-4.ensures }) c.new-moved.ensures in
     c.of_tables.ensures
-    ∙ book_are c.in_ok-meta.meta _ (few_loaded T c.in_ok-needs.needs.moment c.args.call.now.ask) same are
-    ∙ ap (λ m. few_loaded T m c.args.call.now.ask)
+    ∙ book_are c.in_ok-meta.meta _ (needed_rows T c.in_ok-needs.needs.moment c.args.call.now.ask) same are
+    ∙ ap (λ m. needed_rows T m c.args.call.now.ask)
     (c.in_ok-needs.ensures.moment ∙ c.max-moment.ensures
-    ∙ ap (max c.args.call.now.at) (c.moment.ensures.same ∙ ap (λ (m : Meta). m.counters.clock) same))
-    ∙ loaded_few T _ c.args.call.now.ask ordered)
+    ∙ ap (max c.args.call.now.at) (c.moment.ensures.same ∙ ap (λ (m : Meta). m.counters.clock) same)))
 
 pub returns-in_err-meta-clause-reads : goal.returns-in_err-meta-clause-reads
 returns-in_err-meta-clause-reads g c = reads_failing _ c.in_err-meta.ensures.reads c.from_residual.ensures.1

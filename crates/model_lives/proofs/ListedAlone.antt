@@ -1,0 +1,296 @@
+-- The list of an account's orders is answered from orders without what they list, but for those that fall.
+use Rattle.std.proofs.Common.{◌≡◌, ℕ, List, [], ◌∷◌, ◌++◌, map, filter, Option, Some, None, refl, sym, ap, subst, ◌∙◌, true, false, Bool, cond, Result, Ok, Err}
+use Rattle.std.specs.Prelude.{◌==◌, codes, if◌then◌else◌}
+use Rattle.std.proofs.lemmas.Bool.{and_parts, or_left, or_right}
+use Rattle.serde_json.specs.Data.{string}
+use Rattle.desk_model.specs.Account.{is_valid as is_valid_account}
+use Rattle.desk_model.specs.Asked.{asks_orders, target_orders}
+use Rattle.desk_model.specs.Change.{all_changes, nonces_gone, recorded_changes, sweep_changes}
+use Rattle.desk_model.specs.Decide.{entries_of}
+use Rattle.desk_model.specs.Document.{is_listed, order_url}
+use Rattle.desk_model.specs.Effect.{effects, falls, is_overdue, swept, swept_authorization}
+use Rattle.desk_model.specs.Json.{document, list}
+use Rattle.desk_model.specs.Kept.{EachOf, Kept, restricted}
+use Rattle.desk_model.specs.Questions.{account_with_key}
+use Rattle.desk_model.specs.Rules.{key_verdict, nothing, open_nonce, signed_verdict}
+use Rattle.desk_model.specs.Shown.{ok, reply_of}
+use Rattle.desk_model.specs.Tables.{Tables}
+use Rattle.desk_model.specs.Touched.{is_named_order}
+use Rattle.desk_model.specs.declared.call.Ask.{Ask}
+use Rattle.desk_model.specs.declared.call.Ask.TheVariants as ask
+use Rattle.desk_model.specs.declared.call.BadKey.{BadKey}
+use Rattle.desk_model.specs.declared.call.Signed.{Signed}
+use Rattle.desk_model.specs.declared.call.Target.{Target}
+use Rattle.desk_model.specs.declared.call.Target.TheVariants as to
+use Rattle.desk_model.specs.declared.entry.Entry.TheVariants.{Issued as issued, Spent as spent}
+use Rattle.desk_model.specs.declared.refusal.Refusal.TheVariants as refusal
+use Rattle.desk_model.specs.declared.rows.AccountRow.{AccountRow}
+use Rattle.desk_model.specs.declared.rows.AuthorizationRow.{AuthorizationRow}
+use Rattle.desk_model.specs.declared.rows.Change.TheVariants.{PutAuthorization, PutMeta, PutOrder, RemoveNonce}
+use Rattle.desk_model.specs.declared.rows.OrderRow.{OrderRow}
+use Rattle.desk_model.specs.declared.status.AuthzStatus.TheVariants as authz
+use Rattle.desk_model.specs.declared.status.OrderStatus.TheVariants as order
+use Rattle.desk_model.specs.declared.verdict.Listing.TheVariants as listing
+use Rattle.desk_model.specs.declared.verdict.Shows.TheVariants as show
+use Rattle.desk_model.specs.declared.verdict.Verdict.{Verdict}
+use Rattle.desk_model.specs.declared.verdict.Verdict.TheVariants.{Refused as refused, KeyTaken as key_taken, Answers as answers}
+use Rattle.model_laws.specs.Ordered.{IsOrdered}
+use Rattle.model_laws.proofs.Basics.{each, each_both, map-each}
+use Rattle.model_lives.specs.AnswersAs.{CarriesOutAs, PassesAs}
+use Rattle.model_lives.specs.Few.{as_needed, few_rows, is_few_order, is_opened_order, is_whole_order, needed_rows, restates}
+use Rattle.model_lives.specs.Thinned.{Thinning, all_challenges, thin, thinned, with_listed}
+use Rattle.model_lives.proofs.Between.{bare}
+use Rattle.model_lives.proofs.Cut.{at_number, numbered}
+use Rattle.model_lives.proofs.Fewer.{few_cut, few_hold, few_kept, few_restated}
+use Rattle.model_lives.proofs.Grown.{KeepsRestated, grown, grown_part, keeps_falling}
+use Rattle.model_lives.proofs.Lists.{filtered_each, or_cases}
+use Rattle.model_lives.proofs.Steps.{check_keeps}
+use Rattle.model_lives.proofs.Thin.{ListsFalling, carries_thin, falls_thin, swept_thin, whole_authorizations}
+use Rattle.model_lives.proofs.Unlisted.{falls_open, issued_bare, nonces_bare}
+use Rattle.model_lives.proofs.Verdicts.{verdict_by}
+
+-- ---- what it records
+
+-- an order of which all that it lists is kept is the order
+listed_whole : (l : ℕ → Bool) (o : OrderRow) → l o.number ≡ true → with_listed l o ≡ o
+listed_whole l o h = λ i. record o { listed = if h i then o.listed else [] }
+
+pub orders_whole : (l : ℕ → Bool) (os : List OrderRow) → EachOf (λ o. l o.number ≡ true) os → map (with_listed l) os ≡ os
+orders_whole l [] h = refl
+orders_whole l (o ∷ os) h = λ i. listed_whole l o h.0 i ∷ orders_whole l os h.1 i
+
+-- the same orders fall
+falling_thin : (l : ℕ → Bool) (m : ℕ) (rows : List AuthorizationRow) (os : List OrderRow) → EachOf (λ o. falls m rows o ≡ true → l o.number ≡ true) os →
+    filter (falls m rows) (map (with_listed l) os) ≡ filter (falls m rows) os
+falling_thin l m rows [] k = refl
+falling_thin l m rows (o ∷ os) k =
+    ap (λ b. cond b (with_listed l o ∷ filter (falls m rows) (map (with_listed l) os)) (filter (falls m rows) (map (with_listed l) os)))
+    (ap (λ rows. falls m rows (with_listed l o)) (sym (whole_authorizations rows)) ∙ falls_thin all_challenges l m rows o k.0)
+    ∙ by (falls m rows o) k.0 (falling_thin l m rows os k.1)
+  where
+    by : (b : Bool) → (b ≡ true → l o.number ≡ true) → filter (falls m rows) (map (with_listed l) os) ≡ filter (falls m rows) os →
+        cond b (with_listed l o ∷ filter (falls m rows) (map (with_listed l) os)) (filter (falls m rows) (map (with_listed l) os))
+        ≡ cond b (o ∷ filter (falls m rows) os) (filter (falls m rows) os)
+    by true kept ih = λ i. listed_whole l o (kept refl) i ∷ ih i
+    by false kept ih = ih
+
+module _ (l : ℕ → Bool) (m : ℕ) (P : Tables) (kept : ListsFalling l m P) where
+  -- the rows, with what these orders list
+  abbrev some : Tables
+  some = thin all_challenges l P
+
+  -- the passing of time changes the same
+  sweep_same : sweep_changes m some ≡ sweep_changes m P
+  sweep_same =
+      λ i. map RemoveNonce (nonces_gone m P)
+      ++ (map PutAuthorization (map (λ (r : AuthorizationRow). record r { status = authz.Expired })
+      (filter (is_overdue m) (whole_authorizations P.authorizations i)))
+      ++ map PutOrder (map (λ (r : OrderRow). record r { status = order.Invalid }) (fallen i)))
+    where
+      fallen : filter (falls m some.authorizations) some.orders ≡ filter (falls m P.authorizations) P.orders
+      fallen = ap (λ rows. filter (falls m rows) some.orders) (whole_authorizations P.authorizations) ∙ falling_thin l m P.authorizations P.orders kept
+
+  -- but for their orders the rows are the same
+  bare_same : bare (swept m some) ≡ bare (swept m P)
+  bare_same = ap (λ rows. record (bare (swept m P)) { authorizations = map (swept_authorization m) rows }) (whole_authorizations P.authorizations)
+
+  nonces_same : (n : ℕ) (r : List ℕ) → recorded_changes m some (spent n ∷ issued r ∷ []) ≡ recorded_changes m P (spent n ∷ issued r ∷ [])
+  nonces_same n r =
+      λ i. sweep_same i ++ (same i ++ PutMeta (effects m (swept m P) (spent n ∷ issued r ∷ [])).meta ∷ [])
+    where
+      same : all_changes m (swept m some) (spent n ∷ issued r ∷ []) ≡ all_changes m (swept m P) (spent n ∷ issued r ∷ [])
+      same =
+          nonces_bare m (swept m some) n r ∙ ap (λ T. all_changes m T (spent n ∷ issued r ∷ [])) bare_same ∙ sym (nonces_bare m (swept m P) n r)
+
+  issued_same : (r : List ℕ) → recorded_changes m some (issued r ∷ []) ≡ recorded_changes m P (issued r ∷ [])
+  issued_same r =
+      λ i. sweep_same i ++ (same i ++ PutMeta (effects m (swept m P) (issued r ∷ [])).meta ∷ [])
+    where
+      same : all_changes m (swept m some) (issued r ∷ []) ≡ all_changes m (swept m P) (issued r ∷ [])
+      same = issued_bare m (swept m some) r ∙ ap (λ T. all_changes m T (issued r ∷ [])) bare_same ∙ sym (issued_bare m (swept m P) r)
+
+-- ---- what it shows
+
+-- it shows no more of an order than its number
+orders_document_thin : (l : ℕ → Bool) (S : Tables) (n : ℕ) →
+    reply_of (thin all_challenges l S) (show.List (listing.Orders n)) ≡ reply_of S (show.List (listing.Orders n))
+orders_document_thin l S n = ap (λ urls. ok 200 (document ((codes "orders", list urls) ∷ []))) (urls S.orders)
+  where
+    urls : (os : List OrderRow) → map (λ (o : OrderRow). string (order_url S.meta.policy o.number)) (filter (is_listed n) (map (with_listed l) os))
+        ≡ map (λ (o : OrderRow). string (order_url S.meta.policy o.number)) (filter (is_listed n) os)
+    urls [] = refl
+    urls (o ∷ os) = by (is_listed n o) (urls os)
+      where
+        by : (b : Bool) → map (λ (o : OrderRow). string (order_url S.meta.policy o.number)) (filter (is_listed n) (map (with_listed l) os))
+            ≡ map (λ (o : OrderRow). string (order_url S.meta.policy o.number)) (filter (is_listed n) os) →
+            map (λ (o : OrderRow). string (order_url S.meta.policy o.number))
+            (cond b (with_listed l o ∷ filter (is_listed n) (map (with_listed l) os)) (filter (is_listed n) (map (with_listed l) os)))
+            ≡ map (λ (o : OrderRow). string (order_url S.meta.policy o.number)) (cond b (o ∷ filter (is_listed n) os) (filter (is_listed n) os))
+        by true ih = ap (λ us. string (order_url S.meta.policy o.number) ∷ us) ih
+        by false ih = ih
+
+-- ---- its verdict
+
+-- it is refused, or shows the list
+abbrev IsList : Verdict → Type 0
+IsList (refused why ss) = Unit {0}
+IsList (key_taken account) = Unit {0}
+IsList (answers (show.List (listing.Orders n))) = Unit {0}
+IsList _ = ⊥
+
+-- by the key's account, if there is one
+key_lists : (S : Tables) (r key p : List ℕ) (j : ℕ) (o : Option AccountRow) → IsList (key_verdict S r key p (to.Orders j) o)
+key_lists S r key p j None = tt
+key_lists S r key p j (Some x) =
+    check_keeps IsList (is_valid_account x.status) refusal.Unauthorized _ tt (λ valid.
+    check_keeps IsList (j == x.number) refusal.NotFound _ tt (λ here.
+    check_keeps IsList (nothing p) refusal.Malformed _ tt (λ none. tt)))
+
+lists : (S : Tables) (r : List ℕ) (s : Signed) (j : ℕ) → IsList (signed_verdict S r (record s { target = to.Orders j }))
+lists S r s j = by s.key
+  where
+    by : (key : Result (List ℕ) BadKey) → IsList (verdict_by S r (record s { target = to.Orders j }) key)
+    by (Err why) = tt
+    by (Ok key) = key_lists S r key s.payload j (account_with_key S key)
+
+-- which asks nothing of orders
+key_same : (l : ℕ → Bool) (S : Tables) (r key p : List ℕ) (j : ℕ) (o : Option AccountRow) →
+    key_verdict (thin all_challenges l S) r key p (to.Orders j) o ≡ key_verdict S r key p (to.Orders j) o
+key_same l S r key p j None = refl
+key_same l S r key p j (Some x) = refl
+
+verdict_same : (l : ℕ → Bool) (S : Tables) (r : List ℕ) (s : Signed) (j : ℕ) →
+    signed_verdict (thin all_challenges l S) r (record s { target = to.Orders j }) ≡ signed_verdict S r (record s { target = to.Orders j })
+verdict_same l S r s j = by s.key
+  where
+    by : (key : Result (List ℕ) BadKey) →
+        verdict_by (thin all_challenges l S) r (record s { target = to.Orders j }) key ≡ verdict_by S r (record s { target = to.Orders j }) key
+    by (Err why) = refl
+    by (Ok key) = key_same l S r key s.payload j (account_with_key S key)
+
+-- ---- the request
+
+carried_list : (T P : Tables) (m : ℕ) (l : ℕ → Bool) (v : Verdict) → ListsFalling l m P → IsList v → CarriesOutAs m T P v →
+    CarriesOutAs m T (thin all_challenges l P) v
+carried_list T P m l (refused why ss) kept is h = carries_thin T P m (refused why ss) all_challenges l (swept_thin all_challenges l m P kept) (λ index. refl) h
+carried_list T P m l (key_taken account) kept is h =
+    carries_thin T P m (key_taken account) all_challenges l (swept_thin all_challenges l m P kept) (λ index. refl) h
+carried_list T P m l (answers (show.List (listing.Orders n))) kept is h =
+    carries_thin T P m (answers (show.List (listing.Orders n))) all_challenges l (swept_thin all_challenges l m P kept)
+    (λ index. orders_document_thin l (swept m P) n) h
+carried_list T P m l _ kept is h = absurd is
+
+list_records : (l : ℕ → Bool) (m : ℕ) (P : Tables) (v : Verdict) → ListsFalling l m P → IsList v → (n : ℕ) (fresh : List ℕ) →
+    recorded_changes m (thin all_challenges l P) (spent n ∷ issued fresh ∷ entries_of v) ≡ recorded_changes m P (spent n ∷ issued fresh ∷ entries_of v)
+list_records l m P (refused why ss) kept is n fresh = nonces_same l m P kept n fresh
+list_records l m P (key_taken account) kept is n fresh = nonces_same l m P kept n fresh
+list_records l m P (answers (show.List (listing.Orders j))) kept is n fresh = nonces_same l m P kept n fresh
+list_records l m P _ kept is n fresh = absurd is
+
+-- rows that answer it answer it so
+pub passes_alone : (T P : Tables) (m : ℕ) (s : Signed) (j : ℕ) (l : ℕ → Bool) → ListsFalling l m P → PassesAs m (record s { target = to.Orders j }) T P →
+    PassesAs m (record s { target = to.Orders j }) T (thin all_challenges l P)
+passes_alone T P m s j l kept h =
+    record {
+      nonce = ap (λ S. open_nonce S s.nonce) (swept_thin all_challenges l m P kept) ∙ h.nonce;
+      issues = record { records = λ r. issued_same l m P kept r ∙ h.issues.records r };
+      judged = λ r.
+          ap (λ S. signed_verdict S r (record s { target = to.Orders j })) (swept_thin all_challenges l m P kept) ∙ verdict_same l (swept m P) r s j
+          ∙ h.judged r;
+      verdict = λ r. carried_list T P m l (signed_verdict (swept m T) r (record s { target = to.Orders j })) kept (lists (swept m T) r s j) (h.verdict r);
+      records = λ r n fresh.
+          list_records l m P (signed_verdict (swept m T) r (record s { target = to.Orders j })) kept (lists (swept m T) r s j) n fresh
+          ∙ h.records r n fresh;
+    }
+
+-- ---- what is needed of the few rows
+
+-- the orders that are needed with what they list, by number
+abbrev pub needed_listed : Tables → ℕ → Ask → ℕ → Bool
+needed_listed T m a = at_number (λ (o : OrderRow). o.number) (is_whole_order T m a) T.orders
+
+abbrev pub needed : Tables → ℕ → Ask → Thinning
+needed T m a = record { rows = few_kept T m a; challenges = all_challenges; listed = needed_listed T m a }
+
+needed_same : (T : Tables) (m : ℕ) (a : Ask) → IsOrdered T → EachOf (λ o. needed_listed T m a o.number ≡ is_whole_order T m a o) T.orders
+needed_same T m a h = numbered (λ (o : OrderRow). o.number) (is_whole_order T m a) 1 T.orders h.orders.0
+
+pub needed_cut : (T : Tables) (m : ℕ) (a : Ask) → IsOrdered T → needed_rows T m a ≡ thinned (needed T m a) T
+needed_cut T m a h = start ∙ ap (thin all_challenges (needed_listed T m a)) (few_cut T m a h)
+  where
+    start : needed_rows T m a ≡ thin all_challenges (needed_listed T m a) (few_rows T m a)
+    start = λ i. record (few_rows T m a) {
+      authorizations = sym (whole_authorizations (few_rows T m a).authorizations) i;
+      orders = map-each (as_needed T m a) (with_listed (needed_listed T m a)) (filter (is_few_order T m a) T.orders)
+          (filtered_each _ (is_few_order T m a) T.orders
+          (each _ _ T.orders (λ o e few i. record o { listed = if sym e i then o.listed else [] }) (needed_same T m a h))) i;
+    }
+
+-- where no list of orders is asked for, each order is needed in whole
+pub all_needed : (T : Tables) (m : ℕ) (a : Ask) → IsOrdered T → asks_orders a ≡ false → thinned (needed T m a) T ≡ restricted (few_kept T m a) T
+all_needed T m a h none =
+    λ i. record (restricted (few_kept T m a) T) {
+      authorizations = whole_authorizations (restricted (few_kept T m a) T).authorizations i;
+      orders = orders_whole (needed_listed T m a) (restricted (few_kept T m a) T).orders
+          (filtered_each _ (λ (o : OrderRow). (few_kept T m a).orders o.number) T.orders
+          (each _ _ T.orders (λ o e kept. e.0 ∙ whole o (sym e.1 ∙ kept))
+          (each_both _ _ T.orders (needed_same T m a h) (numbered (λ (o : OrderRow). o.number) (is_few_order T m a) 1 T.orders h.orders.0)))) i;
+    }
+  where
+    whole : (o : OrderRow) → is_few_order T m a o ≡ true → is_whole_order T m a o ≡ true
+    whole o few =
+        or_cases (is_opened_order T m a o) _ few (λ opens. or_left _ _ opens)
+        (λ e. or_cases (is_named_order a o) _ e (λ named. or_right (is_opened_order T m a o) _ named)
+        (λ own. let asked : asks_orders a ≡ true = (and_parts (asks_orders a) _ own).0 in cc))
+
+-- what falls is needed with what it lists
+pub falling_needed : (T : Tables) (m : ℕ) (a : Ask) → IsOrdered T → ListsFalling (needed_listed T m a) m (restricted (few_kept T m a) T)
+falling_needed T m a h =
+    subst (ListsFalling (needed_listed T m a) m) (grown_part (few_kept T m a) T)
+    (filtered_each _ (λ (o : OrderRow). k.orders o.number) T.orders
+    (each _ _ T.orders (λ o f kept so. f (sym (falls_open k T m (keeps_falling (restates a) k T m a few) o) ∙ so))
+    (keeps_falling (restates a) opens T m a restated).orders))
+  where
+    k : Kept
+    k = grown (few_kept T m a) T
+
+    few : KeepsRestated (restates a) k T m a
+    few = few_restated (few_kept T m a) T m a (few_hold T m a h)
+
+    opens : Kept
+    opens = record k { orders = needed_listed T m a }
+
+    restated : KeepsRestated (restates a) opens T m a
+    restated =
+        record {
+          nonces = few.nonces;
+          accounts = few.accounts;
+          authorizations = few.authorizations;
+          orders = each _ _ T.orders (λ o e so. e ∙ or_left (is_opened_order T m a o) (is_named_order a o) so) (needed_same T m a h);
+          named = each _ _ T.orders (λ o e so. e ∙ or_right (is_opened_order T m a o) (is_named_order a o) so) (needed_same T m a h);
+          holders = few.holders;
+        }
+
+-- a signed request is answered so
+pub needed_pass : (T : Tables) (m : ℕ) (s : Signed) → IsOrdered T → PassesAs m s T (restricted (few_kept T m (ask.Signed s)) T) →
+    PassesAs m s T (thinned (needed T m (ask.Signed s)) T)
+needed_pass T m s h passes = by s.target (falling_needed T m (ask.Signed s) h) passes (all_needed T m (ask.Signed s) h)
+  where
+    P : Tables
+    P = restricted (few_kept T m (ask.Signed s)) T
+
+    l : ℕ → Bool
+    l = needed_listed T m (ask.Signed s)
+
+    by : (t : Target) → ListsFalling l m P → PassesAs m (record s { target = t }) T P → (target_orders t ≡ false → thin all_challenges l P ≡ P) →
+        PassesAs m (record s { target = t }) T (thin all_challenges l P)
+    by (to.Orders j) kept answered all = passes_alone T P m s j l kept answered
+    by to.NewAccount kept answered all = subst (PassesAs m (record s { target = to.NewAccount }) T) (sym (all refl)) answered
+    by to.KeyChange kept answered all = subst (PassesAs m (record s { target = to.KeyChange }) T) (sym (all refl)) answered
+    by to.NewOrder kept answered all = subst (PassesAs m (record s { target = to.NewOrder }) T) (sym (all refl)) answered
+    by (to.Account j) kept answered all = subst (PassesAs m (record s { target = to.Account j }) T) (sym (all refl)) answered
+    by (to.Order j) kept answered all = subst (PassesAs m (record s { target = to.Order j }) T) (sym (all refl)) answered
+    by (to.Finalize j) kept answered all = subst (PassesAs m (record s { target = to.Finalize j }) T) (sym (all refl)) answered
+    by (to.Cert j) kept answered all = subst (PassesAs m (record s { target = to.Cert j }) T) (sym (all refl)) answered
+    by (to.Authz j) kept answered all = subst (PassesAs m (record s { target = to.Authz j }) T) (sym (all refl)) answered
+    by (to.Chall j) kept answered all = subst (PassesAs m (record s { target = to.Chall j }) T) (sym (all refl)) answered
