@@ -14,9 +14,9 @@ use Rattle.desk_model.specs.declared.rows.AuthorizationRow.{AuthorizationRow}
 use Rattle.model_laws.specs.Ordered.{IsOrdered}
 use Rattle.model_laws.proofs.Basics.{each_all, eq_turn, list_any-same}
 use Rattle.model_lives.specs.Few.{few_rows, is_few_account, is_few_authorization, is_few_order, is_moved_authorization, is_opened_order}
-use Rattle.model_lives.specs.Few.{is_restated_authorization, is_wanted_authorization, is_whole_order, needs_listed, restates}
+use Rattle.model_lives.specs.Few.{is_restated_authorization, is_wanted_authorization, is_whole_authorization, is_whole_order, needs_listed, restates}
 use Rattle.model_lives.specs.FewLoaded.{few_accounts, few_authorizations, few_loaded, few_orders, holders_of, listed_orders, moved_authorizations}
-use Rattle.model_lives.specs.FewLoaded.{opened_orders, restated_authorizations}
+use Rattle.model_lives.specs.FewLoaded.{opened_orders, restated_authorizations, whole_authorizations}
 use Rattle.model_lives.specs.Loaded.{accounts_once, authorizations_asked_of, authorizations_for, authorizations_once, found_nonces}
 use Rattle.model_lives.specs.Loaded.{named_accounts, named_orders, orders_once}
 use Rattle.model_lives.specs.LookUps.{accounts_numbered, authorizations_of, orders_of}
@@ -135,13 +135,28 @@ wanted_found T a h = by (asked_names a)
         (λ x. flat_map (authorizations_for T x.number) names) T.authorizations
         (λ x. authorizations_by_names T x.number h names) (accounts_once (few_accounts T a)))
 
+-- the authorizations that are needed with their challenges
+pub whole_authorizations_found : (T : Tables) (m : ℕ) (a : Ask) → IsOrdered T →
+    IsFound of_authorization (is_whole_authorization T m a) T.authorizations (whole_authorizations T m a)
+whole_authorizations_found T m a h =
+    found_both of_authorization _ _ T.authorizations _ _ (restated_found T m a h)
+    (found_both of_authorization _ _ T.authorizations _ _ (moved_once T a h) (wanted_found T a h))
+
 authorizations_few : (T : Tables) (m : ℕ) (a : Ask) → IsOrdered T →
     IsFound of_authorization (is_few_authorization T m a) T.authorizations (few_authorizations T m a)
 authorizations_few T m a h =
-    found_both of_authorization _ _ T.authorizations _ _
-    (found_both of_authorization _ _ T.authorizations _ _ (restated_found T m a h)
+    found_same of_authorization _ _ T.authorizations _
+    (each_all _ T.authorizations (λ r. by (is_restated_authorization T m a r) (list_any (λ o. is_opened_order T m a o && lists o r.number) T.orders)
+    (is_moved_authorization T a r || is_wanted_authorization T a r)))
+    (found_both of_authorization _ _ T.authorizations _ _ (whole_authorizations_found T m a h)
     (authorizations_listed T (is_opened_order T m a) (orders_once (opened_orders T m a)) h (opened_once T m a h)))
-    (found_both of_authorization _ _ T.authorizations _ _ (moved_once T a h) (wanted_found T a h))
+  where
+    by : (x l w : Bool) → ((x || w) || l) ≡ ((x || l) || w)
+    by true l w = refl
+    by false true true = refl
+    by false true false = refl
+    by false false true = refl
+    by false false false = refl
 
 -- as tables
 pub loaded_few : (T : Tables) (m : ℕ) (a : Ask) → IsOrdered T → few_loaded T m a ≡ few_rows T m a

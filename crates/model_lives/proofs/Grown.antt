@@ -49,7 +49,7 @@ grown k T =
     }
 
 -- for the rows themselves nothing is added
-same_kept : {X : Type 0} (number : X → ℕ) (xs : List X) (kept : ℕ → Bool) → EachOf (λ x. with_others number xs kept (number x) ≡ kept (number x)) xs
+pub same_kept : {X : Type 0} (number : X → ℕ) (xs : List X) (kept : ℕ → Bool) → EachOf (λ x. with_others number xs kept (number x) ≡ kept (number x)) xs
 same_kept number xs kept =
     each _ _ xs (λ x f. by (kept (number x)) (stands number xs (number x)) (f (λ y. number y == number x) (same_number (number x)))) (each_member xs)
   where
@@ -80,7 +80,7 @@ none_stands number last n (x ∷ xs) h lt =
     let low : number x < last + 1 = h.0 in
     ap (λ b. b || stands number xs n) (less_differs (number x) n (omega arith)) ∙ none_stands number last n xs h.1 lt
 
-new_kept : {X : Type 0} (number : X → ℕ) (last : ℕ) (xs : List X) (kept : ℕ → Bool) → Below number (last + 1) xs →
+pub new_kept : {X : Type 0} (number : X → ℕ) (last : ℕ) (xs : List X) (kept : ℕ → Bool) → Below number (last + 1) xs →
     (n : ℕ) → last < n → with_others number xs kept n ≡ true
 new_kept number last xs kept h n lt = or_right (kept n) (not (stands number xs n)) (ap not (none_stands number last n xs h lt))
 

@@ -1,4 +1,5 @@
 pub mod Answering
+pub mod Bared
 pub mod Between
 pub mod Cut
 pub mod Ended
@@ -19,6 +20,7 @@ pub mod ListedAlone
 pub mod Lists
 pub mod Loading
 pub mod Names
+pub mod Needed
 pub mod Nonces
 pub mod Owners
 pub mod PayloadTexts
@@ -32,5 +34,6 @@ pub mod Thin
 pub mod Unlisted
 pub mod Verdicts
 pub mod Walks
+pub mod Wholly
 pub mod Work
 pub mod WorkLoading

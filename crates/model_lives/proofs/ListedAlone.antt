@@ -35,13 +35,13 @@ use Rattle.desk_model.specs.declared.verdict.Shows.TheVariants as show
 use Rattle.desk_model.specs.declared.verdict.Verdict.{Verdict}
 use Rattle.desk_model.specs.declared.verdict.Verdict.TheVariants.{Refused as refused, KeyTaken as key_taken, Answers as answers}
 use Rattle.model_laws.specs.Ordered.{IsOrdered}
-use Rattle.model_laws.proofs.Basics.{each, each_both, map-each}
+use Rattle.model_laws.proofs.Basics.{each, each_both}
 use Rattle.model_lives.specs.AnswersAs.{CarriesOutAs, PassesAs}
-use Rattle.model_lives.specs.Few.{as_needed, few_rows, is_few_order, is_opened_order, is_whole_order, needed_rows, restates}
+use Rattle.model_lives.specs.Few.{is_few_order, is_opened_order, is_whole_order, restates}
 use Rattle.model_lives.specs.Thinned.{Thinning, all_challenges, thin, thinned, with_listed}
 use Rattle.model_lives.proofs.Between.{bare}
 use Rattle.model_lives.proofs.Cut.{at_number, numbered}
-use Rattle.model_lives.proofs.Fewer.{few_cut, few_hold, few_kept, few_restated}
+use Rattle.model_lives.proofs.Fewer.{few_hold, few_kept, few_restated}
 use Rattle.model_lives.proofs.Grown.{KeepsRestated, grown, grown_part, keeps_falling}
 use Rattle.model_lives.proofs.Lists.{filtered_each, or_cases}
 use Rattle.model_lives.proofs.Steps.{check_keeps}
@@ -209,25 +209,15 @@ passes_alone T P m s j l kept h =
 abbrev pub needed_listed : Tables → ℕ → Ask → ℕ → Bool
 needed_listed T m a = at_number (λ (o : OrderRow). o.number) (is_whole_order T m a) T.orders
 
-abbrev pub needed : Tables → ℕ → Ask → Thinning
-needed T m a = record { rows = few_kept T m a; challenges = all_challenges; listed = needed_listed T m a }
+-- the rows, of which orders alone lack what they list
+abbrev pub unlisted : Tables → ℕ → Ask → Thinning
+unlisted T m a = record { rows = few_kept T m a; challenges = all_challenges; listed = needed_listed T m a }
 
-needed_same : (T : Tables) (m : ℕ) (a : Ask) → IsOrdered T → EachOf (λ o. needed_listed T m a o.number ≡ is_whole_order T m a o) T.orders
+pub needed_same : (T : Tables) (m : ℕ) (a : Ask) → IsOrdered T → EachOf (λ o. needed_listed T m a o.number ≡ is_whole_order T m a o) T.orders
 needed_same T m a h = numbered (λ (o : OrderRow). o.number) (is_whole_order T m a) 1 T.orders h.orders.0
 
-pub needed_cut : (T : Tables) (m : ℕ) (a : Ask) → IsOrdered T → needed_rows T m a ≡ thinned (needed T m a) T
-needed_cut T m a h = start ∙ ap (thin all_challenges (needed_listed T m a)) (few_cut T m a h)
-  where
-    start : needed_rows T m a ≡ thin all_challenges (needed_listed T m a) (few_rows T m a)
-    start = λ i. record (few_rows T m a) {
-      authorizations = sym (whole_authorizations (few_rows T m a).authorizations) i;
-      orders = map-each (as_needed T m a) (with_listed (needed_listed T m a)) (filter (is_few_order T m a) T.orders)
-          (filtered_each _ (is_few_order T m a) T.orders
-          (each _ _ T.orders (λ o e few i. record o { listed = if sym e i then o.listed else [] }) (needed_same T m a h))) i;
-    }
-
 -- where no list of orders is asked for, each order is needed in whole
-pub all_needed : (T : Tables) (m : ℕ) (a : Ask) → IsOrdered T → asks_orders a ≡ false → thinned (needed T m a) T ≡ restricted (few_kept T m a) T
+pub all_needed : (T : Tables) (m : ℕ) (a : Ask) → IsOrdered T → asks_orders a ≡ false → thinned (unlisted T m a) T ≡ restricted (few_kept T m a) T
 all_needed T m a h none =
     λ i. record (restricted (few_kept T m a) T) {
       authorizations = whole_authorizations (restricted (few_kept T m a) T).authorizations i;
@@ -273,7 +263,7 @@ falling_needed T m a h =
 
 -- a signed request is answered so
 pub needed_pass : (T : Tables) (m : ℕ) (s : Signed) → IsOrdered T → PassesAs m s T (restricted (few_kept T m (ask.Signed s)) T) →
-    PassesAs m s T (thinned (needed T m (ask.Signed s)) T)
+    PassesAs m s T (thinned (unlisted T m (ask.Signed s)) T)
 needed_pass T m s h passes = by s.target (falling_needed T m (ask.Signed s) h) passes (all_needed T m (ask.Signed s) h)
   where
     P : Tables

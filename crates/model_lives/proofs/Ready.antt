@@ -36,7 +36,7 @@ pub record IsReady (k : Kept) (T : Tables) (m : ℕ) (a : Ask) : Type 0 where
   pub named : KeepsNamed k T a
 
 -- an authorization is named and held as before it was swept
-swept_named : (a : Ask) (m : ℕ) (r : AuthorizationRow) → names_owner a (swept_authorization m r) ≡ names_owner a r
+pub swept_named : (a : Ask) (m : ℕ) (r : AuthorizationRow) → names_owner a (swept_authorization m r) ≡ names_owner a r
 swept_named a m r = by (is_overdue m r)
   where
     by_target : (t : Target) (s : Signed) → names_owner (ask.Signed (record s { target = t })) (record r { status = authz.Expired })

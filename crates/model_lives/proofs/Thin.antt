@@ -70,12 +70,12 @@ thin_ordered c l T h =
 
 -- ---- look-ups
 
-found_thin : (c : ℕ → ChallengeRow → Bool) (n : ℕ) (rows : List AuthorizationRow) →
+pub found_thin : (c : ℕ → ChallengeRow → Bool) (n : ℕ) (rows : List AuthorizationRow) →
     authorization_numbered n (map (with_challenges c) rows) ≡ option_map (with_challenges c) (authorization_numbered n rows)
 found_thin c n rows = find-map (λ (a : AuthorizationRow). a.number == n) (with_challenges c) rows
 
 -- what an order lists is past its end by these rows where it is by those in whole
-overdue_thin : (c : ℕ → ChallengeRow → Bool) (m : ℕ) (rows : List AuthorizationRow) (ns : List ℕ) →
+pub overdue_thin : (c : ℕ → ChallengeRow → Bool) (m : ℕ) (rows : List AuthorizationRow) (ns : List ℕ) →
     lists_one (is_overdue m) (map (with_challenges c) rows) ns ≡ lists_one (is_overdue m) rows ns
 overdue_thin c m rows ns =
     list_any-same _ _ ns (λ n. ap (holds (is_overdue m)) (found_thin c n rows) ∙ by (authorization_numbered n rows))

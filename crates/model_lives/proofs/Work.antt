@@ -47,12 +47,14 @@ use Rattle.model_lives.proofs.Enough.{answers_at, restricted_ordered}
 use Rattle.model_lives.proofs.Fewer.{few_issue, few_kept, few_pass, few_settle}
 use Rattle.model_lives.proofs.Grown.{grown, grown_closed, grown_part}
 use Rattle.model_lives.proofs.Listed.{KeepsListed}
-use Rattle.model_lives.proofs.ListedAlone.{all_needed, needed, needed_cut, needed_pass}
+use Rattle.model_lives.proofs.ListedAlone.{all_needed, needed_pass}
+use Rattle.model_lives.proofs.Needed.{needed, needed_answers, needed_cut}
 use Rattle.model_lives.proofs.Lists.{each_member, filter_nothing, filter_same, same_number}
 use Rattle.model_lives.proofs.Replies.{rows_same}
 use Rattle.model_lives.proofs.Thin.{all_falling, bare_authorizations, carries_thin, rows_thin, swept_thin, thin_ordered, thinned_whole}
 use Rattle.model_lives.proofs.Thin.{whole_authorizations, whole_orders}
 use Rattle.model_lives.proofs.Walks.{IsNoWork}
+use Rattle.model_lives.proofs.Wholly.{IsNoList}
 
 -- ---- parts are enough
 
@@ -292,12 +294,13 @@ enough_by T call a k is cut settles =
     (subst (AnswersAs (max call.at T.meta.counters.clock) a T) (sym (thinned_whole k T)) settles)
 
 -- so are the few rows, as they are needed, where no list of orders is asked for
-needed_by : (T : Tables) (call : Call) (a : Ask) → IsOrdered T → call.ask ≡ a → asks_orders a ≡ false →
+needed_by : (T : Tables) (call : Call) (a : Ask) → IsNoList a → IsOrdered T → call.ask ≡ a → asks_orders a ≡ false →
     enough_at T (max call.at T.meta.counters.clock) a ≡ needed_rows T (max call.at T.meta.counters.clock) a →
     AnswersAs (max call.at T.meta.counters.clock) a T (restricted (few_kept T (max call.at T.meta.counters.clock) a) T) → IsEnoughFor call T (enough T call)
-needed_by T call a h is none here settles =
+needed_by T call a no_list h is none here settles =
     let m : ℕ = max call.at T.meta.counters.clock in
-    thinned_by T call a (needed T m a) is (here ∙ needed_cut T m a h) (subst (AnswersAs m a T) (sym (all_needed T m a h none)) settles)
+    thinned_by T call a (needed T m a) is (here ∙ needed_cut T m a h)
+    (needed_answers T m a h no_list (subst (AnswersAs m a T) (sym (all_needed T m a h none)) settles))
 
 pub few_enough : (T : Tables) (call : Call) → IsOrdered T → IsStatedFor call.ask (max call.at T.meta.counters.clock) T → IsEnoughFor call T (enough T call)
 few_enough T call h stated = by call.ask refl
@@ -307,7 +310,7 @@ few_enough T call h stated = by call.ask refl
 
     few : (a : OfficeAsk) → IsNoWork a → call.ask ≡ ask.Office a → enough_at T m (ask.Office a) ≡ needed_rows T m (ask.Office a) →
         IsEnoughFor call T (enough T call)
-    few a none is here = needed_by T call (ask.Office a) h is refl here (few_settle T m a none h)
+    few a none is here = needed_by T call (ask.Office a) none h is refl here (few_settle T m a none h)
 
     by : (a : Ask) → call.ask ≡ a → IsEnoughFor call T (enough T call)
     by (ask.Office office.ChallengeWork) is =
@@ -318,10 +321,10 @@ few_enough T call h stated = by call.ask refl
         enough_by T call (ask.Office office.Directory) no_rows is (no_part T)
         (answers_at no_rows T m (ask.Office office.Directory) h (none_listed T) (record { nonces = tt; accounts = tt; authorizations = tt; orders = tt }))
     by (ask.NewNonce head) is =
-        needed_by T call (ask.NewNonce head) h is refl refl (few_issue T m (ask.NewNonce head) h refl refl)
+        needed_by T call (ask.NewNonce head) tt h is refl refl (few_issue T m (ask.NewNonce head) h refl refl)
     by (ask.Signed s) is =
         thinned_by T call (ask.Signed s) (needed T m (ask.Signed s)) is (needed_cut T m (ask.Signed s) h)
-        (needed_pass T m s h (few_pass T m s h (subst (λ a. IsStatedFor a m T) is stated)))
+        (needed_answers T m (ask.Signed s) h tt (needed_pass T m s h (few_pass T m s h (subst (λ a. IsStatedFor a m T) is stated))))
     by (ask.Office (office.Report n finding)) is = few (office.Report n finding) tt is refl
     by (ask.Office (office.Certify n bytes)) is = few (office.Certify n bytes) tt is refl
     by (ask.Office (office.FailOrder n problem)) is = few (office.FailOrder n problem) tt is refl

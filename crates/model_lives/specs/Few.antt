@@ -110,9 +110,21 @@ is_whole_order T m a o = is_opened_order T m a o || is_named_order a o
 abbrev pub as_needed : Tables → ℕ → Ask → OrderRow → OrderRow
 as_needed T m a o = record o { listed = if is_whole_order T m a o then o.listed else [] }
 
+-- an authorization that may change, or that is named or wanted, and so needed with its challenges
+abbrev pub is_whole_authorization : Tables → ℕ → Ask → AuthorizationRow → Bool
+is_whole_authorization T m a r = is_restated_authorization T m a r || (is_moved_authorization T a r || is_wanted_authorization T a r)
+
+-- one that an order only lists is not
+abbrev pub authorization_as_needed : Tables → ℕ → Ask → AuthorizationRow → AuthorizationRow
+authorization_as_needed T m a r = record r { challenges = if is_whole_authorization T m a r then r.challenges else [] }
+
 -- the rows, as they are needed
 abbrev pub needed_rows : Tables → ℕ → Ask → Tables
-needed_rows T m a = record (few_rows T m a) { orders = map (as_needed T m a) (filter (is_few_order T m a) T.orders) }
+needed_rows T m a =
+    record (few_rows T m a) {
+      authorizations = map (authorization_as_needed T m a) (filter (is_few_authorization T m a) T.authorizations);
+      orders = map (as_needed T m a) (filter (is_few_order T m a) T.orders);
+    }
 
 -- ---- what is asked of the tables
 

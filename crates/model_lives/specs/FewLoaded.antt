@@ -40,10 +40,14 @@ listed_orders T a = if asks_orders a then flat_map (λ x. orders_of T x.number) 
 abbrev pub few_orders : Tables → ℕ → Ask → List OrderRow
 few_orders T m a = opened_orders T m a ++ ((if not (needs_listed a) then named_orders T a else []) ++ listed_orders T a)
 
-abbrev pub few_authorizations : Tables → ℕ → Ask → List AuthorizationRow
-few_authorizations T m a =
-    (restated_authorizations T m a ++ listed_authorizations T (orders_once (opened_orders T m a)))
+-- the authorizations that are needed with their challenges
+abbrev pub whole_authorizations : Tables → ℕ → Ask → List AuthorizationRow
+whole_authorizations T m a =
+    restated_authorizations T m a
     ++ (authorizations_once (moved_authorizations T a) ++ authorizations_asked_of T (asked_names a) (accounts_once (few_accounts T a)))
+
+abbrev pub few_authorizations : Tables → ℕ → Ask → List AuthorizationRow
+few_authorizations T m a = whole_authorizations T m a ++ listed_authorizations T (orders_once (opened_orders T m a))
 
 -- as tables
 abbrev pub few_loaded : Tables → ℕ → Ask → Tables

@@ -36,7 +36,7 @@ module _ {X : Type 0} (number : X → ℕ) (bare : X → X) (same : (x : X) → 
       by false true ih = refl
       by false false ih = ap (λ l. bare y ∷ l) ih
 
-  puts_bare : (xs ys : List X) → puts number (map bare xs) (map bare ys) ≡ map bare (puts number xs ys)
+  pub puts_bare : (xs ys : List X) → puts number (map bare xs) (map bare ys) ≡ map bare (puts number xs ys)
   puts_bare [] ys = refl
   puts_bare (x ∷ xs) ys = ap (puts number (map bare xs)) (put_bare x ys) ∙ puts_bare xs (put number x ys)
 

@@ -1,13 +1,12 @@
 -- The rows that are enough for an ask, by what it needs.
 use Rattle.std.proofs.Common.{◌≡◌, ℕ, List, [], ◌∷◌, ◌++◌, ap, append_assoc, filter, map, refl, sym, ◌∙◌, Bool}
-use Rattle.std.proofs.lemmas.Grind.{flat_map-append}
 use Rattle.std.proofs.lemmas.List.Folds.{flat_map-map}
 use Rattle.model_laws.specs.Ordered.{IsOrdered}
 use Rattle.model_laws.specs.Placing.{puts}
 use Rattle.model_laws.proofs.RowLists.{puts_append}
 use Rattle.desk_model.specs.Touched.{is_named_account}
 use Rattle.model_lives.proofs.Found.{found_table}
-use Rattle.model_lives.proofs.Loading.{accounts_named, of_account, of_authorization}
+use Rattle.model_lives.proofs.Loading.{accounts_named, of_account}
 use Rattle.store_api.proofs.Missing.{missings_put}
 use Rattle.std.specs.List.{list_any}
 use Rattle.std.specs.Prelude.{◌||◌, bytes_eq}
@@ -21,11 +20,6 @@ use Rattle.desk_model.specs.Tables.{Tables}
 use Rattle.desk_model.specs.declared.call.Ask.{Ask}
 use Rattle.desk_model.specs.declared.rows.AccountRow.{AccountRow}
 use Rattle.desk_model.specs.declared.rows.AuthorizationRow.{AuthorizationRow}
-use Rattle.desk_model.specs.declared.rows.OrderRow.{OrderRow}
-use Rattle.desk_model.specs.Derived.{numbers_of}
-use Rattle.model_lives.specs.Few.{is_restated_authorization}
-use Rattle.model_lives.specs.Loaded.{listed_authorizations}
-use Rattle.model_lives.proofs.FewLoading.{restated_found}
 use Rattle.model_lives.specs.LookUps.{accounts_numbered}
 use Rattle.model_lives.specs.FewLoaded.{few_accounts, holders_of, moved_authorizations, opened_orders, restated_authorizations}
 use Rattle.model_lives.specs.Loaded.{accounts_once, authorizations_once, listing_orders, named_accounts, past_authorizations, past_orders}
@@ -79,30 +73,6 @@ holders_missing T a h =
 
     named : accounts_once (named_accounts T a) ≡ filter (is_named_account a) T.accounts
     named = found_table of_account (is_named_account a) 1 T.accounts (named_accounts T a) h.accounts.0 (accounts_named T a h)
-
--- what these orders list, put where it is missing beside the authorizations whose statuses may change
-pub listed_missing : (T : Tables) (m : ℕ) (a : Ask) → IsOrdered T → (os : List OrderRow) →
-    missings of_authorization (authorizations_numbered T) (flat_map (λ o. numbers_of o.listed) os) (authorizations_once (restated_authorizations T m a))
-    ≡ puts of_authorization (restated_authorizations T m a ++ listed_authorizations T os) []
-listed_missing T m a h os =
-    ap (missings of_authorization (authorizations_numbered T) listed) restated
-    ∙ missings_put of_authorization T.authorizations h.authorizations.0 listed (is_restated_authorization T m a)
-    ∙ ap (puts of_authorization (flat_map (authorizations_numbered T) listed)) (sym restated)
-    ∙ ap (λ rows. puts of_authorization rows (authorizations_once (restated_authorizations T m a))) (nested os)
-    ∙ sym (puts_append of_authorization (restated_authorizations T m a) (listed_authorizations T os) [])
-  where
-    listed : List ℕ
-    listed = flat_map (λ o. numbers_of o.listed) os
-
-    restated : authorizations_once (restated_authorizations T m a) ≡ filter (is_restated_authorization T m a) T.authorizations
-    restated = found_table of_authorization (is_restated_authorization T m a) 1 T.authorizations (restated_authorizations T m a) h.authorizations.0
-        (restated_found T m a h)
-
-    nested : (xs : List OrderRow) → flat_map (authorizations_numbered T) (flat_map (λ o. numbers_of o.listed) xs) ≡ listed_authorizations T xs
-    nested [] = refl
-    nested (x ∷ xs) =
-        flat_map-append (authorizations_numbered T) (numbers_of x.listed) (flat_map (λ o. numbers_of o.listed) xs)
-        ∙ ap (λ l. flat_map (authorizations_numbered T) (numbers_of x.listed) ++ l) (nested xs)
 
 module _ (T : Tables) (m : ℕ) (a : Ask) (needs : Needs) (is : NeedsFor a m needs) where
   pub moved_are : (accounts : List AccountRow) → accounts ≡ accounts_once (named_accounts T a) → moved_by T needs accounts ≡ moved_authorizations T a

@@ -1,32 +1,36 @@
 -- Rows that are put into a table which lacks them, without what belongs to them.
-use Rattle.std.proofs.Common.{◌≡◌, ◌+◌, ℕ, List, [], ◌∷◌, ◌++◌, append_assoc, map, find, Option, Some, None, refl, sym, ap, ◌∙◌, true, false, Bool, cond, arith}
+use Rattle.std.proofs.Common.{◌≡◌, ◌+◌, ℕ, List, [], ◌∷◌, ◌++◌, append_assoc, map, find, Option, Some, None, refl, sym, ap, ◌∙◌, subst, true, false}
+use Rattle.std.proofs.Common.{Bool, arith, cond}
 use Rattle.std.specs.Prelude.{◌==◌, if◌then◌else◌, is_some, not, option_map}
 use Rattle.std.specs.List.{filter, flat_map}
 use Rattle.std.proofs.lemmas.Bool.{eqb-true, or_right}
 use Rattle.std.proofs.lemmas.List.{map-append}
-use Rattle.desk_model.specs.Asked.{asks_orders}
+use Rattle.desk_model.specs.Asked.{asked_names, asks_orders}
 use Rattle.desk_model.specs.Change.{put}
+use Rattle.desk_model.specs.Derived.{numbers_of}
 use Rattle.desk_model.specs.Kept.{EachOf}
 use Rattle.desk_model.specs.Tables.{Tables}
 use Rattle.desk_model.specs.declared.call.Ask.{Ask}
 use Rattle.desk_model.specs.declared.rows.AccountRow.{AccountRow}
+use Rattle.desk_model.specs.declared.rows.AuthorizationRow.{AuthorizationRow}
 use Rattle.desk_model.specs.declared.rows.OrderRow.{OrderRow}
-use Rattle.model_laws.proofs.Basics.{each, find-map, more_differs}
-use Rattle.model_laws.proofs.RowLists.{ascends_above, puts_append}
+use Rattle.model_laws.proofs.Basics.{each, find-map, map-each, more_differs}
+use Rattle.model_laws.proofs.RowLists.{ascends_above, ascends_found, puts_append}
 use Rattle.model_laws.specs.Ordered.{Ascends, IsOrdered}
 use Rattle.model_laws.specs.Placing.{puts}
-use Rattle.model_lives.specs.Few.{as_needed, is_whole_order, needed_rows, needs_listed}
-use Rattle.model_lives.specs.FewLoaded.{few_accounts, listed_orders, opened_orders}
-use Rattle.model_lives.specs.Loaded.{accounts_once, named_orders, orders_once}
-use Rattle.model_lives.specs.LookUps.{bare_orders_of, orders_of}
-use Rattle.model_lives.specs.Thinned.{without_listed}
-use Rattle.model_lives.proofs.FewLoading.{listed_orders_found, loaded_few, whole_found}
+use Rattle.model_lives.specs.Few.{as_needed, authorization_as_needed, is_whole_authorization, is_whole_order, needed_rows, needs_listed}
+use Rattle.model_lives.specs.FewLoaded.{few_accounts, listed_orders, moved_authorizations, opened_orders, restated_authorizations}
+use Rattle.model_lives.specs.FewLoaded.{whole_authorizations}
+use Rattle.model_lives.specs.Loaded.{accounts_once, authorizations_asked_of, authorizations_once, listed_authorizations, named_orders, orders_once}
+use Rattle.model_lives.specs.LookUps.{authorizations_numbered, bare_authorizations, bare_orders_of, orders_of}
+use Rattle.model_lives.specs.Thinned.{without_challenges, without_listed}
+use Rattle.model_lives.proofs.FewLoading.{listed_orders_found, loaded_few, whole_authorizations_found, whole_found}
 use Rattle.model_lives.proofs.Found.{found_table}
-use Rattle.model_lives.proofs.Lists.{filter_nothing, filter_same}
-use Rattle.model_lives.proofs.Loading.{of_order}
-use Rattle.store_api.proofs.Bare.{put_bare}
+use Rattle.model_lives.proofs.Lists.{filter_nothing, filter_same, filtered_each}
+use Rattle.model_lives.proofs.Loading.{of_authorization, of_order}
+use Rattle.store_api.proofs.Bare.{nested, put_bare, puts_bare}
 use Rattle.store_api.proofs.Missing.{missing_put, put_number, rows_at, with_number}
-use Rattle.store_api.specs.Needing.{lacking, missing}
+use Rattle.store_api.specs.Needing.{lacking, missing, missings}
 
 -- the rows of a number that is found are that row
 rows_one : {X : Type 0} (number : X → ℕ) (m n : ℕ) (z : X) (xs : List X) → Ascends number m xs → find (λ x. number x == n) xs ≡ Some z →
@@ -103,6 +107,52 @@ module _ {X : Type 0} (number : X → ℕ) (bare needed : X → X) (bare_number 
       ∙ ap (λ t. map needed (puts number zs t))
       (sym (put_number number xs up (number z) q) ∙ ap (λ rows. puts number rows (filter q xs)) (rows_one number 1 (number z) z xs up h.0))
 
+  -- the rows of a number, where the table lacks it
+  bare_one : (q : X → Bool) → ((x : X) → is_whole x ≡ true → q x ≡ true) → (n : ℕ) →
+      missing number (λ k. map bare (rows_at number xs k)) n (map needed (filter q xs)) ≡ map needed (filter (with_number number xs n q) xs)
+  bare_one q wide n =
+      ap (λ o. cond (is_some o) (map needed t) (puts number (map bare (rows_at number xs n)) (map needed t)))
+      (find-map (λ x. number x == n) needed t ∙ ap (option_map needed) (found t))
+      ∙ by (find (λ x. number x == n) t) refl
+      ∙ ap (map needed) (missing_put number xs up n q)
+    where
+      t : List X
+      t = filter q xs
+
+      found : (ys : List X) → find (λ x. number (needed x) == n) ys ≡ find (λ x. number x == n) ys
+      found [] = refl
+      found (y ∷ ys) = λ i. cond (needed_number y i == n) (Some y) (found ys i)
+
+      fails : find (λ x. number x == n) t ≡ None → (z : X) → find (λ x. number x == number z) xs ≡ Some z → (number z == n) ≡ true →
+          (b : Bool) → is_whole z ≡ b → bare z ≡ needed z
+      fails none z there here true w = absurd (
+          let is : find (λ x. number x == n) t ≡ Some z =
+          subst (λ j. find (λ x. number x == j) t ≡ Some z) (eqb-true (number z) n here) (still_found number q z xs (wide z w) there) in
+          let both : None ≡ Some z = sym none ∙ is in cc)
+      fails none z there here false w = else_bare z w
+
+      by : (o : Option X) → find (λ x. number x == n) t ≡ o →
+          cond (is_some (option_map needed o)) (map needed t) (puts number (map bare (rows_at number xs n)) (map needed t))
+          ≡ map needed (cond (is_some o) t (puts number (rows_at number xs n) t))
+      by (Some y) e = refl
+      by None e =
+          ap (λ rows. puts number rows (map needed t))
+          (map-each bare needed (rows_at number xs n)
+          (filtered_each _ (λ x. number x == n) xs
+          (each _ _ xs (λ z there here. fails e z there here (is_whole z) refl) (ascends_found number 1 xs up))))
+          ∙ puts_bare number needed needed_number (rows_at number xs n) t
+
+  -- and those of numbers in a row
+  bares_put : (ns : List ℕ) (q : X → Bool) → ((x : X) → is_whole x ≡ true → q x ≡ true) →
+      missings number (λ k. map bare (rows_at number xs k)) ns (map needed (filter q xs))
+      ≡ map needed (puts number (flat_map (rows_at number xs) ns) (filter q xs))
+  bares_put [] q wide = refl
+  bares_put (n ∷ ns) q wide =
+      ap (missings number (λ k. map bare (rows_at number xs k)) ns) (bare_one q wide n)
+      ∙ bares_put ns (with_number number xs n q) (λ x w. or_right _ _ (wide x w))
+      ∙ ap (λ t. map needed (puts number (flat_map (rows_at number xs) ns) t)) (sym (put_number number xs up n q))
+      ∙ ap (map needed) (sym (puts_append number (rows_at number xs n) (flat_map (rows_at number xs) ns) (filter q xs)))
+
 -- rows, and then others
 pub lacking_append : {X : Type 0} (number : X → ℕ) (xs ys table : List X) → lacking number (xs ++ ys) table ≡ lacking number ys (lacking number xs table)
 lacking_append number [] ys table = refl
@@ -154,3 +204,45 @@ needed_orders T m a h =
         ≡ map without_listed (if b then flat_map (λ (x : AccountRow). orders_of T x.number) (accounts_once (few_accounts T a)) else [])
     own true = bare_own T (accounts_once (few_accounts T a))
     own false = refl
+
+-- those that are whole are needed so
+whole_challenges : (T : Tables) (m : ℕ) (a : Ask) (rs : List AuthorizationRow) →
+    map (authorization_as_needed T m a) (filter (is_whole_authorization T m a) rs) ≡ filter (is_whole_authorization T m a) rs
+whole_challenges T m a [] = refl
+whole_challenges T m a (r ∷ rs) = by (is_whole_authorization T m a r) refl (whole_challenges T m a rs)
+  where
+    by : (b : Bool) → is_whole_authorization T m a r ≡ b →
+        map (authorization_as_needed T m a) (filter (is_whole_authorization T m a) rs) ≡ filter (is_whole_authorization T m a) rs →
+        map (authorization_as_needed T m a) (cond b (r ∷ filter (is_whole_authorization T m a) rs) (filter (is_whole_authorization T m a) rs))
+        ≡ cond b (r ∷ filter (is_whole_authorization T m a) rs) (filter (is_whole_authorization T m a) rs)
+    by true e ih = λ i. record r { challenges = if e i then r.challenges else [] } ∷ ih i
+    by false e ih = ih
+
+-- the authorizations that may change, or are named or wanted, and those that orders list, which lack their challenges, are the authorizations as
+-- they are needed
+pub needed_authorizations : (T : Tables) (m : ℕ) (a : Ask) → IsOrdered T →
+    missings of_authorization (bare_authorizations T) (flat_map (λ (o : OrderRow). numbers_of o.listed) (orders_once (opened_orders T m a)))
+    (puts of_authorization
+    (authorizations_once (moved_authorizations T a) ++ authorizations_asked_of T (asked_names a) (accounts_once (few_accounts T a)))
+    (authorizations_once (restated_authorizations T m a)))
+    ≡ (needed_rows T m a).authorizations
+needed_authorizations T m a h =
+    ap (missings of_authorization (bare_authorizations T) listed)
+    (sym (puts_append of_authorization (restated_authorizations T m a)
+    (authorizations_once (moved_authorizations T a) ++ authorizations_asked_of T (asked_names a) (accounts_once (few_accounts T a))) [])
+    ∙ whole ∙ sym (whole_challenges T m a T.authorizations))
+    ∙ bares_put of_authorization without_challenges (authorization_as_needed T m a) (λ r. refl) (λ r. refl) (is_whole_authorization T m a)
+    (λ r no i. record r { challenges = if sym no i then r.challenges else [] }) T.authorizations h.authorizations.0 listed
+    (is_whole_authorization T m a) (λ r so. so)
+    ∙ ap (map (authorization_as_needed T m a))
+    (ap (puts of_authorization (flat_map (authorizations_numbered T) listed)) (sym whole)
+    ∙ ap (λ rows. puts of_authorization rows (puts of_authorization (whole_authorizations T m a) [])) (nested T (orders_once (opened_orders T m a)))
+    ∙ sym (puts_append of_authorization (whole_authorizations T m a) (listed_authorizations T (orders_once (opened_orders T m a))) [])
+    ∙ ap (λ (B : Tables). B.authorizations) (loaded_few T m a h))
+  where
+    listed : List ℕ
+    listed = flat_map (λ (o : OrderRow). numbers_of o.listed) (orders_once (opened_orders T m a))
+
+    whole : puts of_authorization (whole_authorizations T m a) [] ≡ filter (is_whole_authorization T m a) T.authorizations
+    whole = found_table of_authorization (is_whole_authorization T m a) 1 T.authorizations (whole_authorizations T m a) h.authorizations.0
+        (whole_authorizations_found T m a h)

@@ -5,7 +5,7 @@ ghost use Rattle.model_laws.specs.Placing.{puts};
 ghost use Rattle.store_api.specs.Finding.{AreNone, AreRowsOf, Finds};
 ghost use Rattle.store_api.specs.Needing.{NeedsFor, lacking, listed_with, missings, moved_by, named_alone, opened_with, orders_by, restated_by, with_named};
 ghost use Rattle.model_lives.specs.Few.{needed_rows};
-ghost use Rattle.model_lives.specs.LookUps.{accounts_numbered, authorizations_numbered, bare_orders_of};
+ghost use Rattle.model_lives.specs.LookUps.{accounts_numbered, bare_authorizations, bare_orders_of};
 ghost use Rattle.std.specs.List.{flat_map};
 ghost use Rattle.desk_model.specs.Derived.{numbers_of};
 ghost use Rattle.model_lives.specs.Loaded.{authorizations_asked_of};
@@ -14,6 +14,7 @@ ghost use Rattle.store_api.specs.Sight.{ForTables, Reads};
 use crate::asked::add_asked_names;
 use crate::fault::StorageFault;
 use crate::gathering::{add_each, add_lacking, add_linked, add_missing};
+use crate::listed::add_bare_listed;
 use crate::look_ups::LookUps;
 use crate::named::named_in;
 use crate::needs::{Needs, needs_of};
@@ -21,7 +22,7 @@ use crate::objects::{add_asked, add_keyed, add_new_keyed, add_owner};
 use crate::touched::{Rows, add_nonces};
 use desk_book::{Book, Table};
 use desk_model::{
-    AccountRow, Ask, AuthorizationRow, AuthzStatus, Call, Listed, OrderRow, OrderStatus, Policy,
+    AccountRow, Ask, AuthorizationRow, AuthzStatus, Call, OrderRow, OrderStatus, Policy,
 };
 use std::alloc::Global;
 
@@ -169,39 +170,7 @@ fn add_opened<S: LookUps>(
     add_named_order(alloc, source, orders, needs, needs.needs_listed)
 }
 
-// Puts the authorizations at these places into a table, those alone that it lacks.
-fn add_missing_places<S: LookUps>(
-    alloc: Global,
-    source: &mut S,
-    authorizations: &mut Table<AuthorizationRow>,
-    places: &[Listed],
-) -> Result<(), StorageFault>
-    ensures { Finds S.sight source.old source.new result (λ T.
-        authorizations.new ≡ missings (λ r. r.number) (authorizations_numbered T) (numbers_of places.now) authorizations.old) }
-{
-    for place in places {
-        add_missing(alloc, source, authorizations, place.authorization, place)?;
-    }
-    Ok(())
-}
-
-// Puts the authorizations that these orders list into a table, those alone that it lacks.
-fn add_missing_listed<S: LookUps>(
-    alloc: Global,
-    source: &mut S,
-    authorizations: &mut Table<AuthorizationRow>,
-    orders: &Table<OrderRow>,
-) -> Result<(), StorageFault>
-    ensures { Finds S.sight source.old source.new result (λ T.
-        authorizations.new ≡ missings (λ r. r.number) (authorizations_numbered T) (flat_map (λ o. numbers_of o.listed) orders.now) authorizations.old) }
-{
-    for order in orders.iter() {
-        add_missing_places(alloc, source, authorizations, order.listed.as_slice())?;
-    }
-    Ok(())
-}
-
-// Puts the authorizations and orders whose statuses may change into two tables, and what the orders list into the first.
+// Puts the authorizations and orders whose statuses may change into two tables.
 fn add_statuses<S: LookUps>(
     alloc: Global,
     source: &mut S,
@@ -211,14 +180,11 @@ fn add_statuses<S: LookUps>(
     needs: &Needs,
 ) -> Result<(), StorageFault>
     ensures { Finds S.sight source.old source.new result (λ T.
-        (orders.new ≡ puts (λ o. o.number)
-        (opened_with T needs.now (puts (λ r. r.number) (restated_by T needs.now moved.now) authorizations.old)) orders.old)
-        × (authorizations.new ≡ missings (λ r. r.number) (authorizations_numbered T) (flat_map (λ o. numbers_of o.listed) orders.new)
-        (puts (λ r. r.number) (restated_by T needs.now moved.now) authorizations.old))) }
+        (authorizations.new ≡ puts (λ r. r.number) (restated_by T needs.now moved.now) authorizations.old)
+        × (orders.new ≡ puts (λ o. o.number) (opened_with T needs.now authorizations.new) orders.old)) }
 {
     add_restated(alloc, source, authorizations, moved, needs)?;
-    add_opened(alloc, source, orders, authorizations, needs)?;
-    add_missing_listed(alloc, source, authorizations, orders)
+    add_opened(alloc, source, orders, authorizations, needs)
 }
 
 // ---- what leads to nothing more
@@ -237,6 +203,26 @@ fn add_wanted<S: LookUps>(
 {
     add_linked(alloc, source, authorizations, moved)?;
     add_asked_names(alloc, source, authorizations, &needs.names, accounts)
+}
+
+// Puts the authorizations that are named, and those that a new order asks for, into a table, and then those that these orders
+// list and that it lacks, without their challenges.
+fn add_others<S: LookUps>(
+    alloc: Global,
+    source: &mut S,
+    authorizations: &mut Table<AuthorizationRow>,
+    orders: &Table<OrderRow>,
+    moved: &Table<AuthorizationRow>,
+    needs: &Needs,
+    accounts: &Table<AccountRow>,
+) -> Result<(), StorageFault>
+    ensures { Finds S.sight source.old source.new result (λ T.
+        authorizations.new ≡ missings (λ r. r.number) (bare_authorizations T) (flat_map (λ o. numbers_of o.listed) orders.now)
+        (puts (λ r. r.number) (moved.now ++ authorizations_asked_of T (option_map (λ v. v.items) needs.now.names) accounts.now)
+        authorizations.old)) }
+{
+    add_wanted(alloc, source, authorizations, moved, needs, accounts)?;
+    add_bare_listed(alloc, source, authorizations, orders)
 }
 
 // Puts the orders of these accounts into a table without what they list, those alone that it lacks.
@@ -315,10 +301,11 @@ fn add_few<S: LookUps>(
         moved,
         needs,
     )?;
-    add_wanted(
+    add_others(
         alloc,
         source,
         &mut rows.authorizations,
+        &rows.orders,
         moved,
         needs,
         &rows.accounts,

@@ -2,29 +2,29 @@ use Rattle.std.proofs.Common.{ap, map, ◌∙◌, ◌++◌, []}
 use Rattle.model_laws.specs.Placing.{puts}
 use Rattle.store_api.proofs.FewRows.{moved_are, opened_are, restated_are}
 use Rattle.store_api.proofs.Found.{fails_behind, finds_both, finds_failing, finds_fourth}
-use Rattle.store_api.proofs.Gathered.{put_into_none, put_then}
+use Rattle.store_api.proofs.Gathered.{put_into_none}
 use Rattle.std.specs.List.{flat_map}
 use Rattle.desk_model.specs.Derived.{numbers_of}
-use Rattle.store_api.proofs.FewRows.{holders_missing, listed_missing, named_missing}
+use Rattle.store_api.proofs.FewRows.{holders_missing, named_missing}
 use Rattle.store_api.proofs.few.add_few.Goals as goal
 use Rattle.store_api.specs.Needing.{lacking, missings, with_named}
 use Rattle.desk_model.specs.Tables.{Tables}
 use Rattle.model_lives.proofs.FewLoading.{loaded_few}
-use Rattle.model_lives.specs.LookUps.{accounts_numbered, authorizations_numbered, bare_orders_of, orders_numbered}
+use Rattle.model_lives.specs.LookUps.{accounts_numbered, bare_authorizations, bare_orders_of, orders_numbered}
 use Rattle.std.specs.Prelude.{if◌then◌else◌, not}
-use Rattle.store_api.proofs.Lacking.{needed_orders}
+use Rattle.store_api.proofs.Lacking.{needed_authorizations, needed_orders}
 use Rattle.desk_model.specs.declared.objects.Nonce.{Nonce}
 use Rattle.desk_model.specs.declared.rows.AccountRow.{AccountRow}
 use Rattle.desk_model.specs.declared.rows.AuthorizationRow.{AuthorizationRow}
 use Rattle.desk_model.specs.declared.rows.OrderRow.{OrderRow}
-use Rattle.model_lives.specs.FewLoaded.{few_accounts, moved_authorizations, opened_orders, restated_authorizations}
-use Rattle.model_lives.specs.Loaded.{accounts_once, authorizations_asked_of, authorizations_once, found_nonces, listed_authorizations}
+use Rattle.model_lives.specs.FewLoaded.{moved_authorizations, opened_orders, restated_authorizations}
+use Rattle.model_lives.specs.Loaded.{authorizations_asked_of, found_nonces}
 
 pub returns : goal.returns
 returns g c =
     finds_fourth c.add_alone.result (finds_both _ c.in_ok-add_nonces.ensures c.in_ok-add_holders.ensures) c.in_ok-add_statuses.ensures
-    c.in_ok-add_wanted.ensures c.add_alone.ensures
-    (λ T first statuses wanted alone ordered same none no_moved.
+    c.in_ok-add_others.ensures c.add_alone.ensures
+    (λ T first statuses others alone ordered same none no_moved.
     let ask = c.args.ask.now in
     let needs = c.args.needs.now in
     let m = needs.moment in
@@ -41,24 +41,21 @@ returns g c =
     ∙ (λ i. missings account (accounts_numbered T) (map (λ (r : AuthorizationRow). r.account) (moved i)) (named i))
     ∙ holders_missing T ask ordered in
     let restated =
-    ap (λ rows. puts authorization rows c.args.rows.now.authorizations) (restated_are T m ask needs is _ moved)
+    statuses.0
+    ∙ ap (λ rows. puts authorization rows c.args.rows.now.authorizations) (restated_are T m ask needs is _ moved)
     ∙ ap (puts authorization (restated_authorizations T m ask)) none.authorizations in
     let opens =
     put_into_none order (opened_orders T m ask) _ _
-    (statuses.0 ∙ ap (λ l. puts order l c.args.rows.now.orders) (opened_are T m ask needs is _ restated)) none.orders in
-    let listed =
-    statuses.1
-    ∙ (λ i. missings authorization (authorizations_numbered T) (flat_map (λ (o : OrderRow). numbers_of o.listed) (opens i)) (restated i))
-    ∙ listed_missing T m ask ordered (puts order (opened_orders T m ask) []) in
+    (statuses.1 ∙ ap (λ l. puts order l c.args.rows.now.orders) (opened_are T m ask needs is _ restated)) none.orders in
     let few = loaded_few T m ask ordered in
     record {
       nonces = put_into_none (λ (n : Nonce). n.serial) (found_nonces T m ask) _ _ (first.0 same) none.nonces ∙ ap (λ (B : Tables). B.nonces) few;
       accounts = accounts ∙ ap (λ (B : Tables). B.accounts) few;
       authorizations =
-          put_then authorization (restated_authorizations T m ask ++ listed_authorizations T (puts order (opened_orders T m ask) []))
-          (authorizations_once (moved_authorizations T ask) ++ authorizations_asked_of T _ (accounts_once (few_accounts T ask))) [] _ _ listed
-          (wanted ∙ (λ i. puts authorization (moved i ++ authorizations_asked_of T (is.names i) (accounts i)) c.add_statuses.new.authorizations))
-          ∙ ap (λ (B : Tables). B.authorizations) few;
+          others
+          ∙ (λ i. missings authorization (bare_authorizations T) (flat_map (λ (o : OrderRow). numbers_of o.listed) (opens i))
+          (puts authorization (moved i ++ authorizations_asked_of T (is.names i) (accounts i)) (restated i)))
+          ∙ needed_authorizations T m ask ordered;
       orders =
           alone
           ∙ (λ i. lacking order (if is.named.orders_asked i then flat_map (λ (x : AccountRow). bare_orders_of T x.number) (accounts i) else [])
@@ -77,7 +74,7 @@ returns-in_err-add_statuses g c =
     fails_behind _ (finds_both _ c.in_ok-add_nonces.ensures c.in_ok-add_holders.ensures) c.in_err-add_statuses.ensures
     c.from_residual-in_err-add_statuses.ensures.1
 
-pub returns-in_err-add_wanted : goal.returns-in_err-add_wanted
-returns-in_err-add_wanted g c =
+pub returns-in_err-add_others : goal.returns-in_err-add_others
+returns-in_err-add_others g c =
     fails_behind _ (finds_both _ (finds_both _ c.in_ok-add_nonces.ensures c.in_ok-add_holders.ensures) c.in_ok-add_statuses.ensures)
-    c.in_err-add_wanted.ensures c.from_residual-in_err-add_wanted.ensures.1
+    c.in_err-add_others.ensures c.from_residual-in_err-add_others.ensures.1

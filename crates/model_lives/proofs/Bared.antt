@@ -1,0 +1,291 @@
+-- Authorizations without challenges, but for those that entries touch: entries do to them, and change, what they do to those in whole.
+use Rattle.std.proofs.Common.{◌≡◌, ◌+◌, ◌<◌, ℕ, List, [], ◌∷◌, ◌++◌, length, map, filter, find, Option, Some, None, refl, sym, ap, ◌∙◌, true, false, Bool}
+use Rattle.std.proofs.Common.{arith, cond}
+use Rattle.std.specs.Prelude.{◌==◌, ◌&&◌, ◌||◌, is_some, nat_lt, option_map}
+use Rattle.std.specs.List.{list_all, list_any}
+use Rattle.std.proofs.lemmas.List.{map-append}
+use Rattle.desk_model.specs.Authorization.{is_over, is_valid}
+use Rattle.desk_model.specs.Change.{accounts_put, all_changes, authorization_differs, authorizations_put, changes, moved_rows, nonces_gone, nonces_put}
+use Rattle.desk_model.specs.Change.{order_differs, orders_put, recorded_changes, spent_by, sweep_changes}
+use Rattle.desk_model.specs.Derived.{and_status, authorization_numbered, numbers_of, restated_authorization, restated_order, stored_statuses}
+use Rattle.desk_model.specs.Effect.{authorizations_after, effect, effects, falls, fresh_authorization, fresh_order, is_live_order, is_overdue}
+use Rattle.desk_model.specs.Effect.{moved_authorization, moved_order, names_order, new_authorizations, noted_authorization, noted_order, swept}
+use Rattle.desk_model.specs.Effect.{touches_authorization, touches_order}
+use Rattle.desk_model.specs.Kept.{EachOf}
+use Rattle.desk_model.specs.Lookup.{holds}
+use Rattle.desk_model.specs.Order.{order_status_by, ordered_by}
+use Rattle.desk_model.specs.Tables.{Tables}
+use Rattle.desk_model.specs.declared.entry.Entry.{Entry}
+use Rattle.desk_model.specs.declared.entry.Entry.TheVariants.{AccountEnded as account_ended, Answered as answered}
+use Rattle.desk_model.specs.declared.entry.Entry.TheVariants.{AuthorizationEnded as authorization_ended, Reported as reported}
+use Rattle.desk_model.specs.declared.rows.AccountRow.{AccountRow}
+use Rattle.desk_model.specs.declared.rows.AuthorizationRow.{AuthorizationRow}
+use Rattle.desk_model.specs.declared.rows.Change.TheVariants.{PutAccount, PutAuthorization, PutMeta, PutNonce, PutOrder, RemoveNonce}
+use Rattle.desk_model.specs.declared.rows.ChallengeRow.{ChallengeRow}
+use Rattle.desk_model.specs.declared.rows.OrderRow.{OrderRow}
+use Rattle.desk_model.specs.declared.status.AuthzStatus.TheVariants as authz
+use Rattle.desk_model.specs.declared.status.OrderStatus.TheVariants as order
+use Rattle.model_laws.proofs.Basics.{each, each_all, list_any-same}
+use Rattle.model_laws.proofs.Chain.{up_kept}
+use Rattle.model_laws.proofs.Finds.{each_found}
+use Rattle.model_laws.proofs.Local.{filter_all, moved_number}
+use Rattle.model_laws.proofs.Recorded.{made_up}
+use Rattle.model_lives.specs.Thinned.{all_listed, thin, with_challenges, without_challenges}
+use Rattle.model_lives.proofs.Lists.{filter_nothing}
+use Rattle.model_lives.proofs.Thin.{all_falling, found_thin, overdue_thin, swept_thin, whole_orders}
+
+-- the authorizations of these numbers have their challenges, others none
+abbrev pub those : (ℕ → Bool) → ℕ → ChallengeRow → Bool
+those w n c = w n
+
+-- tables with these challenges alone
+abbrev pub bared : (ℕ → Bool) → Tables → Tables
+bared w T = thin (those w) all_listed T
+
+-- each row that passes a test is in whole
+abbrev pub AreWhole : (ℕ → Bool) → (AuthorizationRow → Bool) → List AuthorizationRow → Type 0
+AreWhole w test rows = EachOf (λ r. test r ≡ true → w r.number ≡ true) rows
+
+-- and so is each new one
+abbrev pub NewWhole : (ℕ → Bool) → Tables → Type 0
+NewWhole w T = (n : ℕ) → T.meta.counters.authorizations < n → w n ≡ true
+
+-- what these entries touch, one after the other
+abbrev pub AllWhole : (ℕ → Bool) → ℕ → Tables → List Entry → Type 0
+AllWhole w m T [] = Unit {0}
+AllWhole w m T (e ∷ es) = AreWhole w (touches_authorization e) T.authorizations × AllWhole w m (effect m T e) es
+
+-- ---- lists
+
+-- items that change, but for those that pass a test, leave what passes
+pub filter_changed : {X : Type 0} (p : X → Bool) (f : X → X) (xs : List X) → EachOf (λ x. (p (f x) ≡ p x) × (p x ≡ true → f x ≡ x)) xs →
+    filter p (map f xs) ≡ filter p xs
+filter_changed p f [] h = refl
+filter_changed p f (x ∷ xs) h =
+    ap (λ b. cond b (f x ∷ filter p (map f xs)) (filter p (map f xs))) h.0.0 ∙ by (p x) refl (filter_changed p f xs h.1)
+  where
+    by : (b : Bool) → p x ≡ b → filter p (map f xs) ≡ filter p xs →
+        cond b (f x ∷ filter p (map f xs)) (filter p (map f xs)) ≡ cond b (x ∷ filter p xs) (filter p xs)
+    by true so ih = λ i. h.0.1 so i ∷ ih i
+    by false so ih = ih
+
+-- and what is found
+pub find_changed : {X : Type 0} (p : X → Bool) (f : X → X) (xs : List X) → EachOf (λ x. (p (f x) ≡ p x) × (p x ≡ true → f x ≡ x)) xs →
+    find p (map f xs) ≡ find p xs
+find_changed p f [] h = refl
+find_changed p f (x ∷ xs) h = ap (λ b. cond b (Some (f x)) (find p (map f xs))) h.0.0 ∙ by (p x) refl (find_changed p f xs h.1)
+  where
+    by : (b : Bool) → p x ≡ b → find p (map f xs) ≡ find p xs → cond b (Some (f x)) (find p (map f xs)) ≡ cond b (Some x) (find p xs)
+    by true so ih = ap Some (h.0.1 so)
+    by false so ih = ih
+
+-- ---- one row
+
+-- a row of one of these numbers
+pub row_whole : (w : ℕ → Bool) (r : AuthorizationRow) → w r.number ≡ true → with_challenges (those w) r ≡ r
+row_whole w r h =
+    λ i. record r {
+      challenges = (ap (λ b. filter (λ (c : ChallengeRow). b) r.challenges) h ∙ filter_all (λ (c : ChallengeRow). true) r.challenges
+          (each_all _ r.challenges (λ c. refl))) i;
+    }
+
+-- a row of none
+row_bare : (w : ℕ → Bool) (r : AuthorizationRow) → w r.number ≡ false → with_challenges (those w) r ≡ without_challenges r
+row_bare w r h = λ i. record r { challenges = (ap (λ b. filter (λ (c : ChallengeRow). b) r.challenges) h ∙ sym (filter_nothing r.challenges)) i }
+
+-- rows of these numbers
+pub rows_whole : (w : ℕ → Bool) (rows : List AuthorizationRow) → EachOf (λ r. w r.number ≡ true) rows → map (with_challenges (those w)) rows ≡ rows
+rows_whole w [] h = refl
+rows_whole w (r ∷ rs) h = λ i. row_whole w r h.0 i ∷ rows_whole w rs h.1 i
+
+-- what touches no row in whole does not touch it without challenges
+touches_less : (e : Entry) (r : AuthorizationRow) → touches_authorization e r ≡ false → touches_authorization e (without_challenges r) ≡ false
+touches_less (answered n) r h = refl
+touches_less (reported n o) r h = refl
+touches_less (authorization_ended n ending) r h = h
+touches_less (account_ended n ending) r h = h
+touches_less _ r h = refl
+
+-- so an entry touches it as the whole row, where what it touches is in whole
+pub touches_bared : (w : ℕ → Bool) (e : Entry) (r : AuthorizationRow) → (touches_authorization e r ≡ true → w r.number ≡ true) →
+    touches_authorization e (with_challenges (those w) r) ≡ touches_authorization e r
+touches_bared w e r h = by (w r.number) refl (touches_authorization e r) refl
+  where
+    by : (b : Bool) → w r.number ≡ b → (t : Bool) → touches_authorization e r ≡ t →
+        touches_authorization e (with_challenges (those w) r) ≡ touches_authorization e r
+    by true is t so = ap (touches_authorization e) (row_whole w r is)
+    by false is true so = let whole : w r.number ≡ true = h so in cc
+    by false is false so = ap (touches_authorization e) (row_bare w r is) ∙ touches_less e r so ∙ sym so
+
+-- and moves it so
+moved_bared : (w : ℕ → Bool) (e : Entry) (m : ℕ) (accounts : List AccountRow) (r : AuthorizationRow) → (touches_authorization e r ≡ true → w r.number ≡ true) →
+    moved_authorization e m accounts (with_challenges (those w) r) ≡ with_challenges (those w) (moved_authorization e m accounts r)
+moved_bared w e m accounts r h = by (touches_authorization e r) refl
+  where
+    by : (b : Bool) → touches_authorization e r ≡ b →
+        moved_authorization e m accounts (with_challenges (those w) r) ≡ with_challenges (those w) (moved_authorization e m accounts r)
+    by true so =
+        ap (moved_authorization e m accounts) (row_whole w r (h so))
+        ∙ sym (row_whole w (moved_authorization e m accounts r) (ap w (moved_number e m accounts r) ∙ h so))
+    by false so =
+        ap (λ t. cond t (restated_authorization m (noted_authorization e m accounts (with_challenges (those w) r))) (with_challenges (those w) r))
+        (touches_bared w e r h ∙ so)
+        ∙ sym (ap (λ t. with_challenges (those w) (cond t (restated_authorization m (noted_authorization e m accounts r)) r)) so)
+
+-- ---- what decides an order
+
+-- the statuses of what it lists
+statuses_bared : (w : ℕ → Bool) (rows : List AuthorizationRow) (ns : List ℕ) →
+    stored_statuses (map (with_challenges (those w)) rows) ns ≡ stored_statuses rows ns
+statuses_bared w rows [] = refl
+statuses_bared w rows (n ∷ ns) =
+    ap (λ o. and_status o (stored_statuses (map (with_challenges (those w)) rows) ns)) (found_thin (those w) n rows)
+    ∙ by (authorization_numbered n rows) (statuses_bared w rows ns)
+  where
+    by : (o : Option AuthorizationRow) → stored_statuses (map (with_challenges (those w)) rows) ns ≡ stored_statuses rows ns →
+        and_status (option_map (with_challenges (those w)) o) (stored_statuses (map (with_challenges (those w)) rows) ns)
+        ≡ and_status o (stored_statuses rows ns)
+    by None ih = ih
+    by (Some r) ih = ap (λ l. r.status ∷ l) ih
+
+-- so its own
+restated_bared : (w : ℕ → Bool) (m : ℕ) (rows : List AuthorizationRow) (o : OrderRow) →
+    restated_order m (map (with_challenges (those w)) rows) o ≡ restated_order m rows o
+restated_bared w m rows o =
+    λ i. record o {
+      status = order_status_by (is_some o.certified)
+          (is_some o.failed || (nat_lt o.expires m || list_any is_over (statuses_bared w rows (numbers_of o.listed) i))) (is_some o.finalized)
+          (list_all is_valid (statuses_bared w rows (numbers_of o.listed) i));
+    }
+
+-- and whether an entry touches it
+touched_bared : (w : ℕ → Bool) (e : Entry) (rows : List AuthorizationRow) → AreWhole w (touches_authorization e) rows → (o : OrderRow) →
+    touches_order e (map (with_challenges (those w)) rows) o ≡ touches_order e rows o
+touched_bared w e rows h o =
+    ap (λ b. names_order e o.number || b)
+    (list_any-same _ _ (numbers_of o.listed) (λ n.
+    ap (holds (touches_authorization e)) (found_thin (those w) n rows) ∙ by n (authorization_numbered n rows) refl))
+  where
+    by : (n : ℕ) (x : Option AuthorizationRow) → authorization_numbered n rows ≡ x →
+        holds (touches_authorization e) (option_map (with_challenges (those w)) x) ≡ holds (touches_authorization e) x
+    by n None is = refl
+    by n (Some r) is = touches_bared w e r (each_found _ (λ a. a.number == n) rows r h is)
+
+-- ---- an entry
+
+module _ (w : ℕ → Bool) (m : ℕ) (S : Tables) (e : Entry) (new : NewWhole w S) (h : AreWhole w (touches_authorization e) S.authorizations) where
+  after_bared : authorizations_after (bared w S) e m ≡ map (with_challenges (those w)) (authorizations_after S e m)
+  after_bared =
+      (λ i. moved S.authorizations h i ++ sym (rows_whole w made whole) i)
+      ∙ sym (map-append (with_challenges (those w)) (map (moved_authorization e m S.accounts) S.authorizations) made)
+    where
+      made : List AuthorizationRow
+      made = map (λ a. restated_authorization m (fresh_authorization a)) (new_authorizations S e m)
+
+      whole : EachOf (λ r. w r.number ≡ true) made
+      whole = up_kept (λ (r : AuthorizationRow). r.number) w S.meta.counters.authorizations new (S.meta.counters.authorizations + 1) (omega arith) made
+          (made_up e m S.meta.policy.authz_life (S.meta.counters.authorizations + 1) (S.meta.counters.challenges + 1))
+
+      moved : (rows : List AuthorizationRow) → AreWhole w (touches_authorization e) rows →
+          map (moved_authorization e m S.accounts) (map (with_challenges (those w)) rows)
+          ≡ map (with_challenges (those w)) (map (moved_authorization e m S.accounts) rows)
+      moved [] k = refl
+      moved (r ∷ rs) k = λ i. moved_bared w e m S.accounts r k.0 i ∷ moved rs k.1 i
+
+  restated_after : (o : OrderRow) → restated_order m (authorizations_after (bared w S) e m) o ≡ restated_order m (authorizations_after S e m) o
+  restated_after o = ap (λ rows. restated_order m rows o) after_bared ∙ restated_bared w m (authorizations_after S e m) o
+
+  moved_after : (o : OrderRow) → moved_order e m (bared w S).authorizations (authorizations_after (bared w S) e m) o
+      ≡ moved_order e m S.authorizations (authorizations_after S e m) o
+  moved_after o = λ i. cond (touched_bared w e S.authorizations h o i) (restated_after (noted_order e m o) i) o
+
+  pub effect_bared : effect m (bared w S) e ≡ bared w (effect m S e)
+  effect_bared =
+      λ i. record (effect m S e) {
+        authorizations = after_bared i;
+        orders = ((λ j. map (λ o. moved_after o j) (whole_orders S.orders j)
+            ++ map (λ o. restated_after (fresh_order o) j)
+            (ordered_by e m S.meta.policy (S.meta.counters.authorizations + 1) (S.meta.counters.orders + 1)))
+            ∙ sym (whole_orders (effect m S e).orders)) i;
+      }
+
+  -- it puts the same rows
+  pub changes_bared : changes m (bared w S) e ≡ changes m S e
+  changes_bared =
+      λ i. map RemoveNonce (spent_by e)
+      ++ (map PutNonce (nonces_put S e m)
+      ++ (map PutAccount (accounts_put S e m)
+      ++ (map PutAuthorization (authorizations i)
+      ++ map PutOrder (orders i))))
+    where
+      move : AuthorizationRow → AuthorizationRow
+      move r = restated_authorization m (noted_authorization e m S.accounts r)
+
+      moves : AuthorizationRow → Bool
+      moves r = touches_authorization e r && authorization_differs r (move r)
+
+      same : (r : AuthorizationRow) → (touches_authorization e r ≡ true → w r.number ≡ true) → (b : Bool) → touches_authorization e r ≡ b →
+          (moves (with_challenges (those w) r) ≡ moves r) × (moves r ≡ true → with_challenges (those w) r ≡ r)
+      same r k true so = (ap moves (row_whole w r (k so)), λ yes. row_whole w r (k so))
+      same r k false so = (
+        ap (λ b. b && authorization_differs (with_challenges (those w) r) (move (with_challenges (those w) r))) (touches_bared w e r k ∙ so)
+            ∙ sym (ap (λ b. b && authorization_differs r (move r)) so),
+        λ yes. absurd (let no : false ≡ true = sym (ap (λ b. b && authorization_differs r (move r)) so) ∙ yes in cc),
+      )
+
+      authorizations : authorizations_put (bared w S) e m ≡ authorizations_put S e m
+      authorizations =
+          ap (λ rows. map move rows ++ map (λ a. restated_authorization m (fresh_authorization a)) (new_authorizations S e m))
+          (filter_changed moves (with_challenges (those w)) S.authorizations
+          (each _ _ S.authorizations (λ r k. same r k (touches_authorization e r) refl) h))
+
+      orders : orders_put (bared w S) e m ≡ orders_put S e m
+      orders =
+          λ i. moved_rows (λ o. touched_bared w e S.authorizations h o i) order_differs (λ o. restated_after (noted_order e m o) i) (whole_orders S.orders i)
+          ++ map (λ o. restated_after (fresh_order o) i)
+          (ordered_by e m S.meta.policy (S.meta.counters.authorizations + 1) (S.meta.counters.orders + 1))
+
+-- ---- entries, one after the other
+
+new_after : (w : ℕ → Bool) (m : ℕ) (S : Tables) (e : Entry) → NewWhole w S → NewWhole w (effect m S e)
+new_after w m S e new n lt = let up : S.meta.counters.authorizations + length (new_authorizations S e m) < n = lt in new n (omega arith)
+
+pub effects_bared : (w : ℕ → Bool) (m : ℕ) (S : Tables) (es : List Entry) → NewWhole w S → AllWhole w m S es →
+    effects m (bared w S) es ≡ bared w (effects m S es)
+effects_bared w m S [] new h = refl
+effects_bared w m S (e ∷ es) new h =
+    ap (λ U. effects m U es) (effect_bared w m S e new h.0) ∙ effects_bared w m (effect m S e) es (new_after w m S e new) h.1
+
+all_changes_bared : (w : ℕ → Bool) (m : ℕ) (S : Tables) (es : List Entry) → NewWhole w S → AllWhole w m S es →
+    all_changes m (bared w S) es ≡ all_changes m S es
+all_changes_bared w m S [] new h = refl
+all_changes_bared w m S (e ∷ es) new h =
+    λ i. changes_bared w m S e new h.0 i
+    ++ (ap (λ U. all_changes m U es) (effect_bared w m S e new h.0) ∙ all_changes_bared w m (effect m S e) es (new_after w m S e new) h.1) i
+
+-- ---- the passing of time
+
+pub swept_bared : (w : ℕ → Bool) (m : ℕ) (S : Tables) → swept m (bared w S) ≡ bared w (swept m S)
+swept_bared w m S = swept_thin (those w) all_listed m S (all_falling m S)
+
+-- what is past its moment is in whole: so it changes the same
+sweep_bared : (w : ℕ → Bool) (m : ℕ) (S : Tables) → AreWhole w (is_overdue m) S.authorizations → sweep_changes m (bared w S) ≡ sweep_changes m S
+sweep_bared w m S past =
+    λ i. map RemoveNonce (nonces_gone m S)
+    ++ (map PutAuthorization (map (λ (r : AuthorizationRow). record r { status = authz.Expired })
+    (filter_changed (is_overdue m) (with_challenges (those w)) S.authorizations
+    (each _ _ S.authorizations (λ r k. (refl, λ so. row_whole w r (k so))) past) i))
+    ++ map PutOrder (map (λ (r : OrderRow). record r { status = order.Invalid }) (filter (λ o. same o i) (whole_orders S.orders i))))
+  where
+    same : (o : OrderRow) → falls m (bared w S).authorizations o ≡ falls m S.authorizations o
+    same o = ap (λ b. is_live_order o.status && (nat_lt o.expires m || b)) (overdue_thin (those w) m S.authorizations (numbers_of o.listed))
+
+pub recorded_bared : (w : ℕ → Bool) (m : ℕ) (S : Tables) (es : List Entry) → NewWhole w S → AreWhole w (is_overdue m) S.authorizations →
+    AllWhole w m (swept m S) es → recorded_changes m (bared w S) es ≡ recorded_changes m S es
+recorded_bared w m S [] new past h = refl
+recorded_bared w m S (e ∷ es) new past h =
+    λ i. sweep_bared w m S past i
+    ++ ((ap (λ U. all_changes m U (e ∷ es)) (swept_bared w m S) ∙ all_changes_bared w m (swept m S) (e ∷ es) new h) i
+    ++ PutMeta ((ap (λ U. (effects m U (e ∷ es)).meta) (swept_bared w m S)
+    ∙ ap (λ (E : Tables). E.meta) (effects_bared w m (swept m S) (e ∷ es) new h)) i)
+    ∷ [])

@@ -1,0 +1,124 @@
+-- The rows as they are needed are cut from the tables, and answer as the few rows in whole.
+use Rattle.std.proofs.Common.{◌≡◌, ℕ, [], map, filter, refl, sym, ap, subst, ◌∙◌, true, false, Bool}
+use Rattle.std.specs.Prelude.{◌==◌, ◌&&◌, if◌then◌else◌}
+use Rattle.std.proofs.lemmas.Bool.{and_from, or_left, or_right}
+use Rattle.desk_model.specs.Asked.{asks_authorizations, names_authorization, names_owner}
+use Rattle.desk_model.specs.Effect.{is_overdue}
+use Rattle.desk_model.specs.Kept.{EachOf, restricted}
+use Rattle.desk_model.specs.Tables.{Tables}
+use Rattle.desk_model.specs.Touched.{is_named_account}
+use Rattle.desk_model.specs.declared.call.Ask.{Ask}
+use Rattle.desk_model.specs.declared.rows.AccountRow.{AccountRow}
+use Rattle.desk_model.specs.declared.rows.AuthorizationRow.{AuthorizationRow}
+use Rattle.desk_model.specs.declared.rows.ChallengeRow.{ChallengeRow}
+use Rattle.model_laws.specs.Ordered.{IsOrdered}
+use Rattle.model_laws.proofs.Basics.{each, each_all, each_both, map-each}
+use Rattle.model_laws.proofs.Local.{filter_all}
+use Rattle.model_lives.specs.AnswersAs.{AnswersAs}
+use Rattle.model_lives.specs.Few.{as_needed, authorization_as_needed, few_rows, is_few_authorization, is_few_order, is_moved_authorization}
+use Rattle.model_lives.specs.Few.{is_restated_authorization, is_whole_authorization, needed_rows, restates}
+use Rattle.model_lives.specs.Thinned.{Thinning, thin, thinned, with_challenges, with_listed}
+use Rattle.model_lives.proofs.Bared.{AreWhole, bared, those}
+use Rattle.model_lives.proofs.Cut.{at_number, numbered}
+use Rattle.model_lives.proofs.Fewer.{few_cut, few_kept}
+use Rattle.model_lives.proofs.Grown.{kept_number, new_kept, same_kept, with_others}
+use Rattle.model_lives.proofs.ListedAlone.{needed_listed, needed_same, unlisted}
+use Rattle.model_lives.proofs.Lists.{each_member, filter_nothing, filtered_each, turned}
+use Rattle.model_lives.proofs.Thin.{whole_authorizations, whole_orders}
+use Rattle.model_lives.proofs.Wholly.{IsNoList, KeepsWhole, answers_bared}
+
+abbrev number : AuthorizationRow → ℕ
+number r = r.number
+
+-- the authorizations that are needed with their challenges, by number, and new ones
+abbrev needed_whole : Tables → ℕ → Ask → ℕ → Bool
+needed_whole T m a = with_others number T.authorizations (at_number number (is_whole_authorization T m a) T.authorizations)
+
+-- these rows, which lack other challenges, and what orders list that is not needed
+abbrev pub needed : Tables → ℕ → Ask → Thinning
+needed T m a = record { rows = few_kept T m a; challenges = those (needed_whole T m a); listed = needed_listed T m a }
+
+whole_same : (T : Tables) (m : ℕ) (a : Ask) → IsOrdered T → EachOf (λ r. needed_whole T m a r.number ≡ is_whole_authorization T m a r) T.authorizations
+whole_same T m a h =
+    each _ _ T.authorizations (λ r e. e.0 ∙ e.1)
+    (each_both _ _ T.authorizations (same_kept number T.authorizations (at_number number (is_whole_authorization T m a) T.authorizations))
+    (numbered number (is_whole_authorization T m a) 1 T.authorizations h.authorizations.0))
+
+-- ---- the cut
+
+pub needed_cut : (T : Tables) (m : ℕ) (a : Ask) → IsOrdered T → needed_rows T m a ≡ thinned (needed T m a) T
+needed_cut T m a h = start ∙ ap (thin (those (needed_whole T m a)) (needed_listed T m a)) (few_cut T m a h)
+  where
+    lacks : (r : AuthorizationRow) (b : Bool) → needed_whole T m a r.number ≡ b → is_whole_authorization T m a r ≡ b →
+        authorization_as_needed T m a r ≡ with_challenges (those (needed_whole T m a)) r
+    lacks r true is so =
+        λ i. record r {
+          challenges = (ap (λ b. if b then r.challenges else []) so
+              ∙ sym (ap (λ b. filter (λ (c : ChallengeRow). b) r.challenges) is
+              ∙ filter_all (λ (c : ChallengeRow). true) r.challenges (each_all _ r.challenges (λ c. refl)))) i;
+        }
+    lacks r false is so =
+        λ i. record r {
+          challenges = (ap (λ b. if b then r.challenges else []) so ∙ filter_nothing r.challenges
+              ∙ sym (ap (λ b. filter (λ (c : ChallengeRow). b) r.challenges) is)) i;
+        }
+
+    start : needed_rows T m a ≡ thin (those (needed_whole T m a)) (needed_listed T m a) (few_rows T m a)
+    start = λ i. record (few_rows T m a) {
+      authorizations = map-each (authorization_as_needed T m a) (with_challenges (those (needed_whole T m a)))
+          (filter (is_few_authorization T m a) T.authorizations)
+          (filtered_each _ (is_few_authorization T m a) T.authorizations
+          (each _ _ T.authorizations (λ r e few. lacks r (is_whole_authorization T m a r) e refl) (whole_same T m a h))) i;
+      orders = map-each (as_needed T m a) (with_listed (needed_listed T m a)) (filter (is_few_order T m a) T.orders)
+          (filtered_each _ (is_few_order T m a) T.orders
+          (each _ _ T.orders (λ o e few i. record o { listed = if sym e i then o.listed else [] }) (needed_same T m a h))) i;
+    }
+
+-- ---- what is in whole
+
+module _ (T : Tables) (m : ℕ) (a : Ask) (h : IsOrdered T) where
+  -- the few rows, which lack what orders list
+  abbrev rows : Tables
+  rows = thinned (unlisted T m a) T
+
+  -- what holds of each authorization holds of those that are kept
+  kept_each : (P : AuthorizationRow → Type 0) → EachOf P T.authorizations → EachOf P rows.authorizations
+  kept_each P each_one =
+      subst (EachOf P) (sym (whole_authorizations (restricted (few_kept T m a) T).authorizations))
+      (filtered_each P (λ (r : AuthorizationRow). (few_kept T m a).authorizations r.number) T.authorizations
+      (each _ _ T.authorizations (λ r so kept. so) each_one))
+
+  whole_each : (test : AuthorizationRow → Bool) → ((r : AuthorizationRow) → test r ≡ true → is_whole_authorization T m a r ≡ true) →
+      AreWhole (needed_whole T m a) test T.authorizations
+  whole_each test wide = each _ _ T.authorizations (λ r e so. e ∙ wide r so) (whole_same T m a h)
+
+  moved_whole : (r : AuthorizationRow) → is_moved_authorization T a r ≡ true → is_whole_authorization T m a r ≡ true
+  moved_whole r so = or_right (is_restated_authorization T m a r) _ (or_left _ _ so)
+
+  kept_whole : KeepsWhole (needed_whole T m a) rows a
+  kept_whole =
+      record {
+        authorization = kept_number number T.authorizations (at_number number (is_whole_authorization T m a) T.authorizations) (names_authorization a)
+            (whole_each (λ r. names_authorization a r.number) (λ r so. moved_whole r (or_left _ _ (or_left _ _ so))));
+        owner = kept_each _ (whole_each (names_owner a) (λ r so. moved_whole r (or_left _ _ (or_right (names_authorization a r.number) _ so))));
+        own = filtered_each _ (λ (x : AccountRow). (few_kept T m a).accounts x.number) T.accounts
+            (each _ _ T.accounts (λ x member kept named ends asks.
+            kept_each _ (whole_each (λ r. x.number == r.account) (λ r own. moved_whole r (or_right _ _ (and_from (restates a) _ ends
+            (and_from (asks_authorizations a) _ asks
+            (member (λ y. is_named_account a y && (r.account == y.number)) (and_from _ _ named (turned x.number r.account own)))))))))
+            (each_member T.accounts));
+      }
+
+  -- so they answer without the challenges of the others
+  pub needed_answers : IsNoList a → AnswersAs m a T rows → AnswersAs m a T (thinned (needed T m a) T)
+  needed_answers none answers =
+      subst (AnswersAs m a T) same
+      (answers_bared T rows m (needed_whole T m a) a none
+      (new_kept number T.meta.counters.authorizations T.authorizations (at_number number (is_whole_authorization T m a) T.authorizations) h.authorizations.1)
+      (kept_each _ (whole_each (is_overdue m) (λ r past. or_left _ _ (or_left _ _ past)))) kept_whole answers)
+    where
+      same : bared (needed_whole T m a) rows ≡ thinned (needed T m a) T
+      same = λ i. record (thinned (needed T m a) T) {
+        authorizations = map (with_challenges (those (needed_whole T m a))) (whole_authorizations (restricted (few_kept T m a) T).authorizations i);
+        orders = whole_orders rows.orders i;
+      }
