@@ -14,7 +14,8 @@ use Rattle.desk_model.specs.declared.rows.AuthorizationRow.{AuthorizationRow}
 use Rattle.model_laws.specs.Ordered.{IsOrdered}
 use Rattle.model_laws.proofs.Basics.{each_all, eq_turn, list_any-same}
 use Rattle.model_lives.specs.Few.{few_rows, is_few_account, is_few_authorization, is_few_order, is_moved_authorization, is_opened_order}
-use Rattle.model_lives.specs.Few.{is_restated_authorization, is_wanted_authorization, is_whole_authorization, is_whole_order, needs_listed, restates}
+use Rattle.model_lives.specs.Few.{is_restated_authorization, is_wanted_authorization, is_whole_authorization, is_whole_order, needs_holders}
+use Rattle.model_lives.specs.Few.{needs_listed, restates}
 use Rattle.model_lives.specs.FewLoaded.{few_accounts, few_authorizations, few_loaded, few_orders, holders_of, listed_orders, moved_authorizations}
 use Rattle.model_lives.specs.FewLoaded.{opened_orders, restated_authorizations, whole_authorizations}
 use Rattle.model_lives.specs.Loaded.{accounts_once, authorizations_asked_of, authorizations_for, authorizations_once, found_nonces}
@@ -58,7 +59,9 @@ holders_found T test rows h is =
 
 accounts_few : (T : Tables) (a : Ask) → IsOrdered T → IsFound of_account (is_few_account T a) T.accounts (few_accounts T a)
 accounts_few T a h =
-    found_both of_account _ _ T.accounts _ _ (accounts_named T a h) (holders_found T (is_moved_authorization T a) _ h (moved_once T a h))
+    found_both of_account _ _ T.accounts _ _ (accounts_named T a h)
+    (found_if of_account (needs_holders a) (λ x. list_any (λ r. is_moved_authorization T a r && (r.account == x.number)) T.authorizations) T.accounts _
+    (holders_found T (is_moved_authorization T a) _ h (moved_once T a h)))
 
 accounts_few_once : (T : Tables) (a : Ask) → IsOrdered T → IsFound of_account (is_few_account T a) T.accounts (accounts_once (few_accounts T a))
 accounts_few_once T a h = found_once of_account (is_few_account T a) 1 T.accounts (few_accounts T a) h.accounts.0 (accounts_few T a h)

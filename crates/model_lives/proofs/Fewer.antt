@@ -12,6 +12,7 @@ use Rattle.desk_model.specs.Touched.{is_named_account, is_named_order, is_touche
 use Rattle.desk_model.specs.declared.call.Ask.{Ask}
 use Rattle.desk_model.specs.declared.call.Ask.TheVariants as ask
 use Rattle.desk_model.specs.declared.call.OfficeAsk.{OfficeAsk}
+use Rattle.desk_model.specs.declared.call.OfficeAsk.TheVariants as office
 use Rattle.desk_model.specs.declared.call.Signed.{Signed}
 use Rattle.desk_model.specs.declared.call.Target.{Target}
 use Rattle.desk_model.specs.declared.call.Target.TheVariants as to
@@ -20,10 +21,11 @@ use Rattle.desk_model.specs.declared.rows.AccountRow.{AccountRow}
 use Rattle.desk_model.specs.declared.rows.AuthorizationRow.{AuthorizationRow}
 use Rattle.desk_model.specs.declared.rows.OrderRow.{OrderRow}
 use Rattle.model_laws.specs.Ordered.{IsOrdered}
-use Rattle.model_laws.proofs.Basics.{each, each_both}
+use Rattle.model_laws.proofs.Basics.{each, each_all, each_both}
 use Rattle.model_lives.specs.AnswersAs.{IssuesAs, PassesAs, SettlesAs}
 use Rattle.model_lives.specs.Few.{few_rows, is_few_account, is_few_authorization, is_few_order, is_moved_authorization, is_opened_order}
-use Rattle.model_lives.specs.Few.{IsStatedFor, is_restated_authorization, is_wanted_authorization, needs_listed, restates, target_needs_listed}
+use Rattle.model_lives.specs.Few.{IsStatedFor, is_restated_authorization, is_wanted_authorization, needs_holders, needs_listed, restates}
+use Rattle.model_lives.specs.Few.{target_needs_listed}
 use Rattle.model_lives.proofs.Answering.{passes_answer}
 use Rattle.model_lives.specs.IsPart.{Keeps}
 use Rattle.model_lives.proofs.Cut.{at_number, numbered}
@@ -31,8 +33,9 @@ use Rattle.model_lives.proofs.Enough.{issues_as, passes_as, settles_as}
 use Rattle.model_lives.proofs.Grown.{KeepsNamed, KeepsRestated, KeepsRows, answers_challenge, grown, grown_closed, grown_part, kept_number}
 use Rattle.model_lives.proofs.Grown.{keeps_falling, keeps_named, target_answers}
 use Rattle.model_lives.proofs.Listed.{KeepsListed}
-use Rattle.model_lives.proofs.Lists.{any_wider, each_filtered, each_member, filter_same, filtered_each, or_cases, same_number}
+use Rattle.model_lives.proofs.Lists.{any_wider, each_filtered, each_member, filter_nothing, filter_same, filtered_each, or_cases, same_number}
 use Rattle.model_lives.proofs.Ready.{IsReady}
+use Rattle.model_lives.proofs.Unheld.{IsOfAuthorization, settles_unheld, unheld}
 use Rattle.model_lives.proofs.Unlisted.{passes_open}
 use Rattle.model_lives.proofs.Walks.{IsNoWork}
 
@@ -114,26 +117,35 @@ few_listed T m a h all =
 
 -- ---- what they have
 
-pub few_restated : (k : Kept) (T : Tables) (m : ℕ) (a : Ask) → Keeps k (few_rows T m a) → KeepsRestated (restates a) (grown k T) T m a
-few_restated k T m a h =
+-- the accounts of the authorizations that are named
+abbrev pub KeepsHolders : Kept → Tables → Ask → Type 0
+KeepsHolders k T a = EachOf (λ r. is_moved_authorization T a r ≡ true → k.accounts r.account ≡ true) T.authorizations
+
+few_accounts : (k : Kept) (T : Tables) (m : ℕ) (a : Ask) → Keeps k (few_rows T m a) →
+    EachOf (λ x. is_few_account T a x ≡ true → (grown k T).accounts x.number ≡ true) T.accounts
+few_accounts k T m a h = each _ _ T.accounts (λ x f so. or_left _ _ (f so)) (each_filtered _ (is_few_account T a) T.accounts h.accounts)
+
+pub few_holders : (k : Kept) (T : Tables) (m : ℕ) (a : Ask) → needs_holders a ≡ true → Keeps k (few_rows T m a) → KeepsHolders (grown k T) T a
+few_holders k T m a needed h =
+    each _ _ T.authorizations
+    (λ r member so. kept_number (λ (x : AccountRow). x.number) T.accounts k.accounts (λ n. r.account == n)
+    (each _ _ T.accounts (λ x f same. f (or_right (is_named_account a x) _ (and_from (needs_holders a) _ needed
+    (member (λ y. is_moved_authorization T a y && (y.account == x.number)) (and_from _ _ so same))))) (few_accounts k T m a h))
+    r.account (same_number r.account)) (each_member T.authorizations)
+
+pub few_restated : (k : Kept) (T : Tables) (m : ℕ) (a : Ask) → KeepsHolders (grown k T) T a → Keeps k (few_rows T m a) →
+    KeepsRestated (restates a) (grown k T) T m a
+few_restated k T m a holders h =
     record {
       nonces = each _ _ T.nonces (λ x f so. or_left _ _ (f so)) (each_filtered _ (is_touched_nonce T m a) T.nonces h.nonces);
-      accounts = each _ _ T.accounts (λ x f so. f (or_left _ _ so)) accounts;
+      accounts = each _ _ T.accounts (λ x f so. f (or_left _ _ so)) (few_accounts k T m a h);
       authorizations = each _ _ T.authorizations (λ r f so. or_left _ _ (f (or_left _ _ (or_left _ _ so))))
           (each_filtered _ (is_few_authorization T m a) T.authorizations h.authorizations);
       orders = each _ _ T.orders (λ o f so. or_left _ _ (f (or_left _ _ so))) (each_filtered _ (is_few_order T m a) T.orders h.orders);
       named = each _ _ T.orders (λ o f so. or_left _ _ (f (or_right (is_opened_order T m a o) _ (or_left _ _ so))))
           (each_filtered _ (is_few_order T m a) T.orders h.orders);
-      holders =
-          each _ _ T.authorizations
-          (λ r member so. kept_number (λ (x : AccountRow). x.number) T.accounts k.accounts (λ n. r.account == n)
-          (each _ _ T.accounts (λ x f same. f (or_right (is_named_account a x) _
-          (member (λ y. is_moved_authorization T a y && (y.account == x.number)) (and_from _ _ so same)))) accounts)
-          r.account (same_number r.account)) (each_member T.authorizations);
+      holders = holders;
     }
-  where
-    accounts : EachOf (λ x. is_few_account T a x ≡ true → (grown k T).accounts x.number ≡ true) T.accounts
-    accounts = each _ _ T.accounts (λ x f so. or_left _ _ (f so)) (each_filtered _ (is_few_account T a) T.accounts h.accounts)
 
 -- what is an account's by the named accounts is so by these
 wider_holder : (T : Tables) (a : Ask) (n : ℕ) → list_any (λ x. is_named_account a x && (n == x.number)) T.accounts ≡ true →
@@ -165,26 +177,80 @@ few_named k T m a h =
 
 -- ---- they are enough
 
-few_ready : (T : Tables) (m : ℕ) (a : Ask) → IsOrdered T → needs_listed a ≡ true → answers_challenge a ≡ false → IsReady (grown (few_kept T m a) T) T m a
-few_ready T m a h all none =
-    let k : Kept = few_kept T m a in
+ready_with : (k : Kept) (T : Tables) (m : ℕ) (a : Ask) → IsOrdered T → KeepsListed k T → answers_challenge a ≡ false → KeepsHolders (grown k T) T a →
+    Keeps k (few_rows T m a) → IsReady (grown k T) T m a
+ready_with k T m a h listed none holders holds =
     record {
-      closed = grown_closed k T h (few_listed T m a h all);
+      closed = grown_closed k T h listed;
       restated = subst (λ b. KeepsRestated b (grown k T) T m a) (sym (ap (λ b. restates a || b) none ∙ or-false (restates a)))
-          (few_restated k T m a (few_hold T m a h));
-      named = keeps_named k T a (few_named k T m a (few_hold T m a h));
+          (few_restated k T m a holders holds);
+      named = keeps_named k T a (few_named k T m a holds);
     }
 
-pub few_issue : (T : Tables) (m : ℕ) (a : Ask) → IsOrdered T → needs_listed a ≡ true → answers_challenge a ≡ false →
-    IssuesAs m T (restricted (few_kept T m a) T)
-few_issue T m a h all none =
+few_ready : (T : Tables) (m : ℕ) (a : Ask) → IsOrdered T → needs_listed a ≡ true → needs_holders a ≡ true → answers_challenge a ≡ false →
+    IsReady (grown (few_kept T m a) T) T m a
+few_ready T m a h all needed none =
     let k : Kept = few_kept T m a in
-    subst (IssuesAs m T) (grown_part k T) (issues_as (grown k T) T m a (few_ready T m a h all none))
+    ready_with k T m a h (few_listed T m a h all) none (few_holders k T m a needed (few_hold T m a h)) (few_hold T m a h)
+
+pub few_issue : (T : Tables) (m : ℕ) (a : Ask) → IsOrdered T → needs_listed a ≡ true → needs_holders a ≡ true → answers_challenge a ≡ false →
+    IssuesAs m T (restricted (few_kept T m a) T)
+few_issue T m a h all needed none =
+    let k : Kept = few_kept T m a in
+    subst (IssuesAs m T) (grown_part k T) (issues_as (grown k T) T m a (few_ready T m a h all needed none))
+
+-- where no account is named, and none is needed: they answer with all accounts, and so without
+few_unheld : (T : Tables) (m : ℕ) (a : OfficeAsk) → IsNoWork a → IsOrdered T → IsOfAuthorization a →
+    ((x : AccountRow) → is_few_account T (ask.Office a) x ≡ false) → SettlesAs m a T (restricted (few_kept T m (ask.Office a)) T)
+few_unheld T m a none h of no_account =
+    subst (SettlesAs m a T) without
+    (settles_unheld T (restricted with_all T) m a of
+    (subst (SettlesAs m a T) (grown_part with_all T)
+    (settles_as (grown with_all T) T m a none
+    (ready_with with_all T m (ask.Office a) h (few_listed T m (ask.Office a) h refl) refl (each_all _ T.authorizations (λ r so. refl)) holds))))
+  where
+    k : Kept
+    k = few_kept T m (ask.Office a)
+
+    with_all : Kept
+    with_all = record k { accounts = λ n. true }
+
+    held : Keeps k (few_rows T m (ask.Office a))
+    held = few_hold T m (ask.Office a) h
+
+    holds : Keeps with_all (few_rows T m (ask.Office a))
+    holds =
+        record {
+          nonces = held.nonces;
+          accounts = each_all _ (few_rows T m (ask.Office a)).accounts (λ x. refl);
+          authorizations = held.authorizations;
+          orders = held.orders;
+        }
+
+    without : unheld (restricted with_all T) ≡ restricted k T
+    without = λ i. record (restricted k T) {
+      accounts = (filter_nothing T.accounts
+          ∙ sym (filter_same (λ (x : AccountRow). k.accounts x.number) (λ x. false) T.accounts
+          (each _ _ T.accounts (λ x e. e ∙ no_account x)
+          (numbered (λ (x : AccountRow). x.number) (is_few_account T (ask.Office a)) 1 T.accounts h.accounts.0)))) i;
+    }
+
+few_held : (T : Tables) (m : ℕ) (a : OfficeAsk) → IsNoWork a → IsOrdered T → needs_holders (ask.Office a) ≡ true →
+    SettlesAs m a T (restricted (few_kept T m (ask.Office a)) T)
+few_held T m a none h needed =
+    let k : Kept = few_kept T m (ask.Office a) in
+    subst (SettlesAs m a T) (grown_part k T) (settles_as (grown k T) T m a none (few_ready T m (ask.Office a) h refl needed refl))
 
 pub few_settle : (T : Tables) (m : ℕ) (a : OfficeAsk) → IsNoWork a → IsOrdered T → SettlesAs m a T (restricted (few_kept T m (ask.Office a)) T)
-few_settle T m a none h =
-    let k : Kept = few_kept T m (ask.Office a) in
-    subst (SettlesAs m a T) (grown_part k T) (settles_as (grown k T) T m a none (few_ready T m (ask.Office a) h refl refl))
+few_settle T m (office.Report n finding) none h = few_unheld T m (office.Report n finding) none h tt (λ x. refl)
+few_settle T m (office.RevokeAuthz n) none h = few_unheld T m (office.RevokeAuthz n) none h tt (λ x. refl)
+few_settle T m office.Directory none h = few_held T m office.Directory none h refl
+few_settle T m (office.Certify n bytes) none h = few_held T m (office.Certify n bytes) none h refl
+few_settle T m (office.FailOrder n problem) none h = few_held T m (office.FailOrder n problem) none h refl
+few_settle T m (office.RevokeAccount n) none h = few_held T m (office.RevokeAccount n) none h refl
+few_settle T m office.ChallengeWork none h = absurd none
+few_settle T m office.OrderWork none h = absurd none
+few_settle T m (office.KeyOf n) none h = few_held T m (office.KeyOf n) none h refl
 
 pub few_pass : (T : Tables) (m : ℕ) (s : Signed) → IsOrdered T → IsStatedFor (ask.Signed s) m T → PassesAs m s T (restricted (few_kept T m (ask.Signed s)) T)
 few_pass T m s h stated =
@@ -194,7 +260,8 @@ few_pass T m s h stated =
     k = few_kept T m (ask.Signed s)
 
     restated : KeepsRestated (restates (ask.Signed s)) (grown k T) T m (ask.Signed s)
-    restated = few_restated k T m (ask.Signed s) (few_hold T m (ask.Signed s) h)
+    restated =
+        few_restated k T m (ask.Signed s) (few_holders k T m (ask.Signed s) refl (few_hold T m (ask.Signed s) h)) (few_hold T m (ask.Signed s) h)
 
     named : KeepsNamed (grown k T) T (ask.Signed s)
     named = keeps_named k T (ask.Signed s) (few_named k T m (ask.Signed s) (few_hold T m (ask.Signed s) h))
@@ -203,5 +270,5 @@ few_pass T m s h stated =
     by true answers true all =
         passes_answer (restates (ask.Signed s)) (grown k T) T m s s.target answers stated (grown_closed k T h (few_listed T m (ask.Signed s) h all))
         restated named
-    by false none true all = passes_as (grown k T) T m s (few_ready T m (ask.Signed s) h all none)
+    by false none true all = passes_as (grown k T) T m s (few_ready T m (ask.Signed s) h all refl none)
     by b answers false alone = passes_open (grown k T) T m s h alone (keeps_falling (restates (ask.Signed s)) (grown k T) T m (ask.Signed s) restated) named

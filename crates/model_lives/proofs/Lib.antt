@@ -31,6 +31,7 @@ pub mod Sound
 pub mod SoundCalls
 pub mod Steps
 pub mod Thin
+pub mod Unheld
 pub mod Unlisted
 pub mod Verdicts
 pub mod Walks

@@ -37,11 +37,11 @@ use Rattle.desk_model.specs.declared.verdict.Verdict.TheVariants.{Refused as ref
 use Rattle.model_laws.specs.Ordered.{IsOrdered}
 use Rattle.model_laws.proofs.Basics.{each, each_both}
 use Rattle.model_lives.specs.AnswersAs.{CarriesOutAs, PassesAs}
-use Rattle.model_lives.specs.Few.{is_few_order, is_opened_order, is_whole_order, restates}
+use Rattle.model_lives.specs.Few.{is_few_order, is_opened_order, is_whole_order, needs_holders, restates}
 use Rattle.model_lives.specs.Thinned.{Thinning, all_challenges, thin, thinned, with_listed}
 use Rattle.model_lives.proofs.Between.{bare}
 use Rattle.model_lives.proofs.Cut.{at_number, numbered}
-use Rattle.model_lives.proofs.Fewer.{few_hold, few_kept, few_restated}
+use Rattle.model_lives.proofs.Fewer.{few_hold, few_holders, few_kept, few_restated}
 use Rattle.model_lives.proofs.Grown.{KeepsRestated, grown, grown_part, keeps_falling}
 use Rattle.model_lives.proofs.Lists.{filtered_each, or_cases}
 use Rattle.model_lives.proofs.Steps.{check_keeps}
@@ -234,8 +234,9 @@ all_needed T m a h none =
         (λ own. let asked : asks_orders a ≡ true = (and_parts (asks_orders a) _ own).0 in cc))
 
 -- what falls is needed with what it lists
-pub falling_needed : (T : Tables) (m : ℕ) (a : Ask) → IsOrdered T → ListsFalling (needed_listed T m a) m (restricted (few_kept T m a) T)
-falling_needed T m a h =
+pub falling_needed : (T : Tables) (m : ℕ) (a : Ask) → IsOrdered T → needs_holders a ≡ true →
+    ListsFalling (needed_listed T m a) m (restricted (few_kept T m a) T)
+falling_needed T m a h holders =
     subst (ListsFalling (needed_listed T m a) m) (grown_part (few_kept T m a) T)
     (filtered_each _ (λ (o : OrderRow). k.orders o.number) T.orders
     (each _ _ T.orders (λ o f kept so. f (sym (falls_open k T m (keeps_falling (restates a) k T m a few) o) ∙ so))
@@ -245,7 +246,7 @@ falling_needed T m a h =
     k = grown (few_kept T m a) T
 
     few : KeepsRestated (restates a) k T m a
-    few = few_restated (few_kept T m a) T m a (few_hold T m a h)
+    few = few_restated (few_kept T m a) T m a (few_holders (few_kept T m a) T m a holders (few_hold T m a h)) (few_hold T m a h)
 
     opens : Kept
     opens = record k { orders = needed_listed T m a }
@@ -264,7 +265,7 @@ falling_needed T m a h =
 -- a signed request is answered so
 pub needed_pass : (T : Tables) (m : ℕ) (s : Signed) → IsOrdered T → PassesAs m s T (restricted (few_kept T m (ask.Signed s)) T) →
     PassesAs m s T (thinned (unlisted T m (ask.Signed s)) T)
-needed_pass T m s h passes = by s.target (falling_needed T m (ask.Signed s) h) passes (all_needed T m (ask.Signed s) h)
+needed_pass T m s h passes = by s.target (falling_needed T m (ask.Signed s) h refl) passes (all_needed T m (ask.Signed s) h)
   where
     P : Tables
     P = restricted (few_kept T m (ask.Signed s)) T

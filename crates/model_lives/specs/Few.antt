@@ -53,15 +53,23 @@ abbrev pub needs_listed : Ask → Bool
 needs_listed (ask.Signed s) = target_needs_listed s.target
 needs_listed _ = true
 
+-- with the authorization that is named its account is needed, but for a report, where the key's thumbprint stands with the answer, and for its end by the
+-- operator
+abbrev pub needs_holders : Ask → Bool
+needs_holders (ask.Office (office.Report k finding)) = false
+needs_holders (ask.Office (office.RevokeAuthz k)) = false
+needs_holders _ = true
+
 -- ---- rows
 
 -- the authorization that is named, or whose challenge is, and those of an account that ends
 abbrev pub is_moved_authorization : Tables → Ask → AuthorizationRow → Bool
 is_moved_authorization T a r = is_named_authorization a r || (restates a && is_own_authorization T a r)
 
--- an account that is named, or that of such an authorization
+-- an account that is named, or that of such an authorization, where it is needed
 abbrev pub is_few_account : Tables → Ask → AccountRow → Bool
-is_few_account T a x = is_named_account a x || list_any (λ r. is_moved_authorization T a r && (r.account == x.number)) T.authorizations
+is_few_account T a x =
+    is_named_account a x || (needs_holders a && list_any (λ r. is_moved_authorization T a r && (r.account == x.number)) T.authorizations)
 
 -- an authorization whose status may change
 abbrev pub is_restated_authorization : Tables → ℕ → Ask → AuthorizationRow → Bool

@@ -8,7 +8,7 @@ use Rattle.desk_model.specs.declared.call.Ask.{Ask}
 use Rattle.desk_model.specs.declared.rows.AccountRow.{AccountRow}
 use Rattle.desk_model.specs.declared.rows.AuthorizationRow.{AuthorizationRow}
 use Rattle.desk_model.specs.declared.rows.OrderRow.{OrderRow}
-use Rattle.model_lives.specs.Few.{needs_listed, restates}
+use Rattle.model_lives.specs.Few.{needs_holders, needs_listed, restates}
 use Rattle.model_lives.specs.Loaded.{accounts_once, authorizations_asked_of, authorizations_once, found_nonces, listed_authorizations}
 use Rattle.model_lives.specs.Loaded.{listing_orders, named_accounts, named_authorizations, named_orders, orders_once, past_authorizations, past_orders}
 use Rattle.model_lives.specs.LookUps.{accounts_numbered, authorizations_of, orders_of}
@@ -24,7 +24,7 @@ abbrev pub holders_of : Tables → List AuthorizationRow → List AccountRow
 holders_of T rows = flat_map (λ r. accounts_numbered T r.account) rows
 
 abbrev pub few_accounts : Tables → Ask → List AccountRow
-few_accounts T a = named_accounts T a ++ holders_of T (authorizations_once (moved_authorizations T a))
+few_accounts T a = named_accounts T a ++ (if needs_holders a then holders_of T (authorizations_once (moved_authorizations T a)) else [])
 
 abbrev pub restated_authorizations : Tables → ℕ → Ask → List AuthorizationRow
 restated_authorizations T m a = past_authorizations T m ++ (if restates a then authorizations_once (moved_authorizations T a) else [])

@@ -1,5 +1,5 @@
 -- The rows that are enough for an ask, by what it needs.
-use Rattle.std.proofs.Common.{◌≡◌, ℕ, List, [], ◌∷◌, ◌++◌, ap, append_assoc, filter, map, refl, sym, ◌∙◌, Bool}
+use Rattle.std.proofs.Common.{◌≡◌, ℕ, List, [], ◌∷◌, ◌++◌, ap, append_assoc, filter, map, refl, sym, ◌∙◌, true, false, Bool}
 use Rattle.std.proofs.lemmas.List.Folds.{flat_map-map}
 use Rattle.model_laws.specs.Ordered.{IsOrdered}
 use Rattle.model_laws.specs.Placing.{puts}
@@ -21,6 +21,7 @@ use Rattle.desk_model.specs.declared.call.Ask.{Ask}
 use Rattle.desk_model.specs.declared.rows.AccountRow.{AccountRow}
 use Rattle.desk_model.specs.declared.rows.AuthorizationRow.{AuthorizationRow}
 use Rattle.model_lives.specs.LookUps.{accounts_numbered}
+use Rattle.model_lives.specs.Few.{needs_holders}
 use Rattle.model_lives.specs.FewLoaded.{few_accounts, holders_of, moved_authorizations, opened_orders, restated_authorizations}
 use Rattle.model_lives.specs.Loaded.{accounts_once, authorizations_once, listing_orders, named_accounts, past_authorizations, past_orders}
 use Rattle.model_lives.specs.LookUps.{authorizations_numbered, authorizations_of, orders_numbered, owners_of}
@@ -55,21 +56,28 @@ named_missing T a h =
         found_table of_account has_one 1 T.accounts (keyed_accounts T a) h.accounts.0
         (found_both of_account _ _ T.accounts _ _ (by_keys (keys a)) (by_keys (new_keys a)))
 
--- the accounts of the authorizations that are named, put where they are missing, make the accounts that are enough
+-- the accounts of the authorizations that are named, where they are needed, put where they are missing, make the accounts that are enough
 pub holders_missing : (T : Tables) (a : Ask) → IsOrdered T →
-    missings of_account (accounts_numbered T) (map (λ (r : AuthorizationRow). r.account) (authorizations_once (moved_authorizations T a)))
+    missings of_account (accounts_numbered T)
+    (if needs_holders a then map (λ (r : AuthorizationRow). r.account) (authorizations_once (moved_authorizations T a)) else [])
     (accounts_once (named_accounts T a))
     ≡ accounts_once (few_accounts T a)
 holders_missing T a h =
     ap (missings of_account (accounts_numbered T) holders) named
     ∙ missings_put of_account T.accounts h.accounts.0 holders (is_named_account a)
     ∙ ap (puts of_account (flat_map (accounts_numbered T) holders)) (sym named)
-    ∙ ap (λ rows. puts of_account rows (accounts_once (named_accounts T a)))
-    (flat_map-map (accounts_numbered T) (λ (r : AuthorizationRow). r.account) (authorizations_once (moved_authorizations T a)))
-    ∙ sym (puts_append of_account (named_accounts T a) (holders_of T (authorizations_once (moved_authorizations T a))) [])
+    ∙ ap (λ rows. puts of_account rows (accounts_once (named_accounts T a))) (by (needs_holders a))
+    ∙ sym (puts_append of_account (named_accounts T a)
+    (if needs_holders a then holders_of T (authorizations_once (moved_authorizations T a)) else []) [])
   where
     holders : List ℕ
-    holders = map (λ (r : AuthorizationRow). r.account) (authorizations_once (moved_authorizations T a))
+    holders = if needs_holders a then map (λ (r : AuthorizationRow). r.account) (authorizations_once (moved_authorizations T a)) else []
+
+    by : (b : Bool) →
+        flat_map (accounts_numbered T) (if b then map (λ (r : AuthorizationRow). r.account) (authorizations_once (moved_authorizations T a)) else [])
+        ≡ (if b then holders_of T (authorizations_once (moved_authorizations T a)) else [])
+    by true = flat_map-map (accounts_numbered T) (λ (r : AuthorizationRow). r.account) (authorizations_once (moved_authorizations T a))
+    by false = refl
 
     named : accounts_once (named_accounts T a) ≡ filter (is_named_account a) T.accounts
     named = found_table of_account (is_named_account a) 1 T.accounts (named_accounts T a) h.accounts.0 (accounts_named T a h)

@@ -1,5 +1,5 @@
 -- What is enough for an ask, and the rows that are found by it.
-use Rattle.std.specs.Prelude.{ℕ, ◌≡◌, ◌==◌, ◌++◌, ◌&&◌, ◌∷◌, find, is_some, not, [], List, if◌then◌else◌, option_map, option_to_list}
+use Rattle.std.specs.Prelude.{ℕ, ◌≡◌, ◌==◌, ◌++◌, ◌&&◌, ◌∷◌, find, is_some, map, not, [], List, if◌then◌else◌, option_map, option_to_list}
 use Rattle.model_laws.specs.Placing.{puts}
 use Rattle.std.specs.List.{flat_map}
 use Rattle.desk_model.specs.Asked.{asked_names, asks_authorizations, asks_orders}
@@ -8,7 +8,7 @@ use Rattle.desk_model.specs.declared.call.Ask.{Ask}
 use Rattle.desk_model.specs.declared.rows.AccountRow.{AccountRow}
 use Rattle.desk_model.specs.declared.rows.AuthorizationRow.{AuthorizationRow}
 use Rattle.desk_model.specs.declared.rows.OrderRow.{OrderRow}
-use Rattle.model_lives.specs.Few.{needs_listed, restates}
+use Rattle.model_lives.specs.Few.{needs_holders, needs_listed, restates}
 use Rattle.model_lives.specs.Loaded.{account_numbers, authorization_numbers, challenge_numbers, keys, listing_orders, new_keys, order_numbers}
 use Rattle.model_lives.specs.Loaded.{past_authorizations, past_orders}
 use Rattle.model_lives.specs.LookUps.{accounts_numbered, accounts_with_key, authorizations_numbered, authorizations_of, bare_orders_of, orders_numbered}
@@ -22,6 +22,7 @@ pub record NeedsFor (a : Ask) (m : ℕ) (needs : Needs) : Type 0 where
   pub moment : needs.moment ≡ m
   pub restated : needs.restates ≡ restates a
   pub listed : needs.needs_listed ≡ needs_listed a
+  pub holders : needs.needs_holders ≡ needs_holders a
   pub names : option_map (λ v. v.items) needs.names ≡ asked_names a
 
 -- the rows of a number are put into a table that has no row of it
@@ -52,6 +53,10 @@ moved_by T needs accounts =
     (flat_map (authorizations_numbered T) (option_to_list needs.named.authorization)
     ++ flat_map (λ c. flat_map (authorizations_numbered T) (owners_of T c)) (option_to_list needs.named.challenge))
     ++ (if needs.restates && needs.named.asks_authorizations then flat_map (λ x. authorizations_of T x.number) accounts else [])
+
+-- the numbers of their accounts, where these are needed
+abbrev pub holders_by : Needs → List AuthorizationRow → List ℕ
+holders_by needs moved = if needs.needs_holders then map (λ r. r.account) moved else []
 
 -- those past their moment, and these, where their statuses may change
 abbrev pub restated_by : Tables → Needs → List AuthorizationRow → List AuthorizationRow

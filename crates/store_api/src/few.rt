@@ -3,7 +3,8 @@ ghost use Rattle.std.specs.Prelude.{◌≡◌, ◌++◌, [], IfOk, if◌then◌e
 ghost use Rattle.model_laws.specs.Ordered.{IsOrdered};
 ghost use Rattle.model_laws.specs.Placing.{puts};
 ghost use Rattle.store_api.specs.Finding.{AreNone, AreRowsOf, Finds};
-ghost use Rattle.store_api.specs.Needing.{NeedsFor, lacking, listed_with, missings, moved_by, named_alone, opened_with, orders_by, restated_by, with_named};
+ghost use Rattle.store_api.specs.Needing.{NeedsFor, holders_by, lacking, listed_with, missings, moved_by, named_alone, opened_with};
+ghost use Rattle.store_api.specs.Needing.{orders_by, restated_by, with_named};
 ghost use Rattle.model_lives.specs.Few.{needed_rows};
 ghost use Rattle.model_lives.specs.LookUps.{accounts_numbered, bare_authorizations, bare_orders_of};
 ghost use Rattle.std.specs.List.{flat_map};
@@ -90,8 +91,26 @@ fn add_missing_holders<S: LookUps>(
     Ok(())
 }
 
-// Puts the accounts that are named into a table, the authorizations that are named into another, and their accounts into the
-// first.
+// Puts these accounts into the table, where they are needed.
+fn add_needed_holders<S: LookUps>(
+    alloc: Global,
+    source: &mut S,
+    accounts: &mut Table<AccountRow>,
+    rows: &Table<AuthorizationRow>,
+    needed: bool,
+) -> Result<(), StorageFault>
+    ensures { Finds S.sight source.old source.new result (λ T.
+        accounts.new ≡ missings (λ x. x.number) (accounts_numbered T) (if needed then map (λ r. r.account) rows.now else []) accounts.old) }
+{
+    if needed {
+        add_missing_holders(alloc, source, accounts, rows)
+    } else {
+        Ok(())
+    }
+}
+
+// Puts the accounts that are named into a table, the authorizations that are named into another, and their accounts, where
+// they are needed, into the first.
 fn add_holders<S: LookUps>(
     alloc: Global,
     source: &mut S,
@@ -102,11 +121,11 @@ fn add_holders<S: LookUps>(
 ) -> Result<(), StorageFault>
     ensures { Finds S.sight source.old source.new result (λ T.
         (moved.new ≡ puts (λ r. r.number) (moved_by T needs.now (with_named T ask.now accounts.old)) moved.old)
-        × (accounts.new ≡ missings (λ x. x.number) (accounts_numbered T) (map (λ r. r.account) moved.new) (with_named T ask.now accounts.old))) }
+        × (accounts.new ≡ missings (λ x. x.number) (accounts_numbered T) (holders_by needs.now moved.new) (with_named T ask.now accounts.old))) }
 {
     add_named_accounts(alloc, source, accounts, ask)?;
     add_moved(alloc, source, moved, needs, accounts)?;
-    add_missing_holders(alloc, source, accounts, moved)
+    add_needed_holders(alloc, source, accounts, moved, needs.needs_holders)
 }
 
 // ---- what decides statuses

@@ -3,7 +3,7 @@ ghost use Rattle.std.specs.Prelude.{◌≡◌, ◌&&◌, IfOk};
 ghost use Rattle.store_api.specs.Needing.{NeedsFor};
 ghost use Rattle.desk_model.specs.Lookup.{holds};
 ghost use Rattle.desk_model.specs.Payload.{account_change, says_deactivated};
-ghost use Rattle.model_lives.specs.Few.{is_end, needs_listed, restates, target_restates};
+ghost use Rattle.model_lives.specs.Few.{is_end, needs_holders, needs_listed, restates, target_restates};
 ghost use Rattle.serde_json.specs.View.{view};
 
 use crate::named::{Named, named_in};
@@ -23,6 +23,8 @@ pub(crate) struct Needs {
     pub(crate) restates: bool,
     /// Whether what the orders that are named list is needed.
     pub(crate) needs_listed: bool,
+    /// Whether the accounts of the authorizations that are named are needed.
+    pub(crate) needs_holders: bool,
     /// The names that a new order asks for.
     pub(crate) names: Option<Vec<DnsName>>,
 }
@@ -99,6 +101,17 @@ fn needs_listed(ask: &Ask) -> bool
     }
 }
 
+// Whether the accounts of the authorizations that an ask names are needed: a report takes the key's thumbprint from the answer.
+fn needs_holders(ask: &Ask) -> bool
+    ensures { result ≡ needs_holders ask.now }
+{
+    match ask {
+        Ask::Office(OfficeAsk::Report { .. }) => false,
+        Ask::Office(OfficeAsk::RevokeAuthz(_)) => false,
+        _ => true,
+    }
+}
+
 /// What is enough for an ask at a moment.
 ///
 /// # Errors
@@ -114,6 +127,7 @@ pub(crate) fn needs_of(alloc: Global, ask: &Ask, moment: u64) -> Result<Needs, A
         moment,
         restates,
         needs_listed: needs_listed(ask),
+        needs_holders: needs_holders(ask),
         names,
     })
 }

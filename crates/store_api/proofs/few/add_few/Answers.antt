@@ -38,7 +38,7 @@ returns g c =
     (first.1.0 ∙ ap (λ l. puts authorization l c.args.moved.now) (moved_are T m ask needs is _ named)) no_moved in
     let accounts =
     first.1.1
-    ∙ (λ i. missings account (accounts_numbered T) (map (λ (r : AuthorizationRow). r.account) (moved i)) (named i))
+    ∙ (λ i. missings account (accounts_numbered T) (if is.holders i then map (λ (r : AuthorizationRow). r.account) (moved i) else []) (named i))
     ∙ holders_missing T ask ordered in
     let restated =
     statuses.0
