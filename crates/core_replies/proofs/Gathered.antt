@@ -1,15 +1,6 @@
 -- Values that are gathered in a loop, by what one more item shows.
-use Rattle.std.proofs.Common.{◌≡◌, Bool, true, false, cond, List, [], ◌∷◌, ◌++◌, map, filter, refl, sym, ap, ◌∙◌, append_assoc}
+use Rattle.std.proofs.Common.{◌≡◌, Bool, true, false, cond, List, [], ◌∷◌, ◌++◌, map, filter, refl, ap}
 use Rattle.std.specs.List.{flat_map}
-
--- what the next item shows stands behind what the earlier ones show
-pub shown-next : {X Z : Type 0} (f : X → List Z) (x : X) (left rest : List X) (before after whole : List Z) →
-    left ≡ x ∷ rest → after ≡ before ++ f x → before ++ flat_map f left ≡ whole → after ++ flat_map f rest ≡ whole
-shown-next f x left rest before after whole next pushed known =
-    ap (λ l. l ++ flat_map f rest) pushed
-    ∙ append_assoc before (f x) (flat_map f rest)
-    ∙ sym (ap (λ l. before ++ flat_map f l) next)
-    ∙ known
 
 -- where each item shows one value
 pub each-shows-one : {X Z : Type 0} (f : X → Z) (xs : List X) → flat_map (λ x. f x ∷ []) xs ≡ map f xs

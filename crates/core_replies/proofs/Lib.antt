@@ -6,3 +6,4 @@ pub mod ShownAuthorizations
 pub mod ShownLists
 pub mod ShownOrders
 pub mod ShownWork
+pub mod Writing

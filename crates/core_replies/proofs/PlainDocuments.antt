@@ -1,10 +1,9 @@
 -- The documents of replies are plain: their compact texts read back as them.
-use Rattle.std.proofs.Common.{◌≡◌, ℕ, suc, List, [], ◌∷◌, ◌++◌, map, filter, Bool, true, false, Option, Some, None, Result, IfOk, refl, ap, ◌∙◌}
+use Rattle.std.proofs.Common.{◌≡◌, ℕ, suc, List, [], ◌∷◌, ◌++◌, map, filter, Bool, true, false, Option, Some, None, refl, ap, ◌∙◌}
 use Rattle.std.specs.Prelude.{◌&&◌, ◌==◌, codes, is_some, if◌then◌else◌}
 use Rattle.std.specs.List.{flat_map, slice_split}
 use Rattle.serde_json.specs.Data.{Data, Items, string, array, boolean}
-use Rattle.serde_json.specs.View.{items_of, view}
-use Rattle.serde_json.specs.declared.value.Value.{Value}
+use Rattle.serde_json.specs.View.{items_of}
 use Rattle.desk_model.proofs.PlainData.{each_plain}
 use Rattle.desk_model.specs.Plain.{is_document, is_plain, items_are_plain, members_are_plain}
 use Rattle.desk_model.specs.Json.{members, when}
@@ -32,7 +31,6 @@ use Rattle.desk_model.specs.declared.rows.AuthorizationRow.{AuthorizationRow}
 use Rattle.desk_model.specs.declared.rows.DatedBytes.{DatedBytes}
 use Rattle.desk_model.specs.declared.rows.DatedProblem.{DatedProblem}
 use Rattle.desk_model.specs.declared.rows.AccountRow.{AccountRow}
-use Rattle.core_replies.proofs.Results.{ok_so}
 
 -- the document of an account
 pub account_plain : (t : Terms) (row : AccountRow) → is_document (account_document t row) ≡ true
@@ -142,8 +140,3 @@ key_members_plain (before ∷ name ∷ between ∷ value ∷ rest) = key_members
 -- the document of a key
 pub key_plain : (text : List ℕ) → is_document (key_document text) ≡ true
 key_plain text = key_members_plain (slice_split (λ c. c == 34) text)
-
--- a value that shows a plain document is plain
-pub plain_value : {E : Type 0} (r : Result Value E) (d : Data) → is_document d ≡ true → IfOk r (λ v. view v ≡ d)
-    → IfOk r (λ v. is_document (view v) ≡ true)
-plain_value r d plain = ok_so r (λ v is. ap is_document is ∙ plain)

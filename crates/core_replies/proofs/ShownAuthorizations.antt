@@ -4,7 +4,7 @@ use Rattle.std.specs.Prelude.{is_some, codes, not, ◌||◌}
 use Rattle.std.specs.List.{flat_map, list_any}
 use Rattle.std.proofs.lemmas.Simd.{map-map}
 use Rattle.serde_json.specs.Data.{Data, string, boolean}
-use Rattle.desk_model.specs.Json.{members, list, when}
+use Rattle.desk_model.specs.Json.{when}
 use Rattle.desk_model.specs.Authorization.{is_good}
 use Rattle.desk_model.specs.Terms.{Terms}
 use Rattle.desk_model.specs.Moment.{moment_text}
@@ -14,11 +14,11 @@ use Rattle.desk_model.specs.declared.rows.AuthorizationRow.{AuthorizationRow}
 use Rattle.desk_model.specs.declared.objects.Report.{Report}
 use Rattle.desk_model.specs.declared.entry.Outcome.{Outcome}
 use Rattle.desk_model.specs.declared.entry.Outcome.TheVariants.{Good, IncorrectResponse, Connection, Dns}
-use Rattle.desk_model.specs.Document.{error_of, report_error, validated, validated_by, authorization_status_text}
-use Rattle.desk_model.specs.Document.{challenge_document, identifier, or_all, shown_challenges}
-use Rattle.moments.specs.Capped.{capped}
-use Rattle.core_replies.specs.Shown.{capped_report, capped_challenge, capped_authorization, with_members, HasDatedReport, HasMoments}
+use Rattle.desk_model.specs.Document.{error_of, report_error, validated, validated_by}
+use Rattle.desk_model.specs.Document.{challenge_document, or_all, shown_challenges}
+use Rattle.core_replies.specs.Shown.{authorization_members, capped_report, capped_challenge, capped_authorization, challenge_members, HasDatedReport, HasMoments}
 use Rattle.core_replies.specs.Shown.{shown_challenge}
+use Rattle.core_replies.specs.Texts.{AreInOrder}
 use Rattle.core_replies.proofs.Gathered.{passing-show-one}
 use Rattle.core_replies.proofs.ShownOrders.{capped-same}
 
@@ -85,22 +85,21 @@ validated-good IncorrectResponse date good = cc good
 validated-good Connection date good = cc good
 validated-good Dns date good = cc good
 
-challenge_members-by : (o : Outcome) (date : ℕ) (s t k u : Data) →
-    with_members (validated_by o (capped date))
-    (with_members (report_error o) (members ((codes "status", s) ∷ (codes "token", t) ∷ (codes "type", k) ∷ (codes "url", u) ∷ [])))
-    ≡ members (report_error o ++ (codes "status", s) ∷ (codes "token", t) ∷ (codes "type", k) ∷ (codes "url", u) ∷ validated_by o (capped date))
-challenge_members-by Good date s t k u = refl
-challenge_members-by IncorrectResponse date s t k u = refl
-challenge_members-by Connection date s t k u = refl
-challenge_members-by Dns date s t k u = refl
+challenge_in_order-by : (o : Outcome) (date : ℕ) (s t k u : Data) →
+    AreInOrder (report_error o ++ (codes "status", s) ∷ (codes "token", t) ∷ (codes "type", k) ∷ (codes "url", u) ∷ validated_by o date)
+challenge_in_order-by Good date s t k u = refl
+challenge_in_order-by IncorrectResponse date s t k u = refl
+challenge_in_order-by Connection date s t k u = refl
+challenge_in_order-by Dns date s t k u = refl
 
--- the error and the date of a report stand in the order of names
-pub challenge_members-put : (r : Option Report) (s t k u : Data) →
-    with_members (validated (capped_report r))
-    (with_members (error_of r) (members ((codes "status", s) ∷ (codes "token", t) ∷ (codes "type", k) ∷ (codes "url", u) ∷ [])))
-    ≡ members (error_of (capped_report r) ++ (codes "status", s) ∷ (codes "token", t) ∷ (codes "type", k) ∷ (codes "url", u) ∷ validated (capped_report r))
-challenge_members-put None s t k u = refl
-challenge_members-put (Some r) s t k u = challenge_members-by r.outcome r.date s t k u
+challenge_in_order-of : (r : Option Report) (s t k u : Data) →
+    AreInOrder (error_of r ++ (codes "status", s) ∷ (codes "token", t) ∷ (codes "type", k) ∷ (codes "url", u) ∷ validated r)
+challenge_in_order-of None s t k u = refl
+challenge_in_order-of (Some r) s t k u = challenge_in_order-by r.outcome r.date s t k u
+
+-- the members of a challenge stand in the order of their names
+pub challenge_in_order : (t : Terms) (c : ChallengeRow) → AreInOrder (challenge_members t c)
+challenge_in_order t c = challenge_in_order-of c.reported _ _ _ _
 
 reported-capped : (cs : List ChallengeRow) → filter (λ c. is_some c.reported) (map capped_challenge cs)
     ≡ map capped_challenge (filter (λ c. is_some c.reported) cs)
@@ -131,38 +130,11 @@ shown-capped t cs =
 
 -- ---- authorizations
 
-authorization_members-by : (wildcard : Bool) (c x i s : Data) →
-    with_members (when wildcard (codes "wildcard", boolean true))
-    (members ((codes "challenges", c) ∷ (codes "expires", x) ∷ (codes "identifier", i) ∷ (codes "status", s) ∷ []))
-    ≡ members ((codes "challenges", c) ∷ (codes "expires", x) ∷ (codes "identifier", i) ∷ (codes "status", s) ∷ when wildcard (codes "wildcard", boolean true))
-authorization_members-by true c x i s = refl
-authorization_members-by false c x i s = refl
+authorization_in_order-by : (wildcard : Bool) (c x i s : Data) → AreInOrder ((codes "challenges", c) ∷ (codes "expires", x)
+    ∷ (codes "identifier", i) ∷ (codes "status", s) ∷ when wildcard (codes "wildcard", boolean true))
+authorization_in_order-by true c x i s = refl
+authorization_in_order-by false c x i s = refl
 
--- the mark of a wildcard stands last
-pub authorization_members-put : (t : Terms) (a : AuthorizationRow) →
-    with_members (when a.name.wildcard (codes "wildcard", boolean true)) (members (
-    (codes "challenges", list (map (λ c. challenge_document t (capped_challenge c)) (shown_challenges a.challenges)))
-    ∷ (codes "expires", string (moment_text (capped a.expires)))
-    ∷ (codes "identifier", identifier a.name.base)
-    ∷ (codes "status", string (authorization_status_text a.status))
-    ∷ []))
-    ≡ members (
-    (codes "challenges", list (map (challenge_document t) (shown_challenges (map capped_challenge a.challenges))))
-    ∷ (codes "expires", string (moment_text (capped a.expires)))
-    ∷ (codes "identifier", identifier a.name.base)
-    ∷ (codes "status", string (authorization_status_text a.status))
-    ∷ when a.name.wildcard (codes "wildcard", boolean true))
-authorization_members-put t a =
-    authorization_members-by a.name.wildcard
-    (list (map (λ c. challenge_document t (capped_challenge c)) (shown_challenges a.challenges)))
-    (string (moment_text (capped a.expires)))
-    (identifier a.name.base)
-    (string (authorization_status_text a.status))
-    ∙ ap
-    (λ cs. members (
-    (codes "challenges", list cs)
-    ∷ (codes "expires", string (moment_text (capped a.expires)))
-    ∷ (codes "identifier", identifier a.name.base)
-    ∷ (codes "status", string (authorization_status_text a.status))
-    ∷ when a.name.wildcard (codes "wildcard", boolean true)))
-    (shown-capped t a.challenges)
+-- so do those of an authorization
+pub authorization_in_order : (t : Terms) (a : AuthorizationRow) → AreInOrder (authorization_members t a)
+authorization_in_order t a = authorization_in_order-by a.name.wildcard _ _ _ _

@@ -1,7 +1,7 @@
 -- What documents show, where their moments have a text, and members that are put one by one.
-use Rattle.std.specs.Prelude.{codes, ℕ, ◌≤◌, Bool, not, ◌||◌, is_some, List, [], ◌∷◌, ◌++◌, decimal, map, Option, Some, None, if◌then◌else◌}
+use Rattle.std.specs.Prelude.{codes, ℕ, ◌≤◌, Bool, true, not, ◌||◌, is_some, List, [], ◌∷◌, ◌++◌, decimal, map, Option, Some, None, if◌then◌else◌}
 use Rattle.std.specs.List.{filter}
-use Rattle.serde_json.specs.Data.{Data, Members, number, put, string, unsigned}
+use Rattle.serde_json.specs.Data.{Data, Members, boolean, number, put, string, unsigned}
 use Rattle.desk_model.specs.Limits.{last_end}
 use Rattle.desk_model.specs.declared.objects.Report.{Report}
 use Rattle.desk_model.specs.declared.rows.ChallengeRow.{ChallengeRow}
@@ -13,10 +13,11 @@ use Rattle.desk_model.specs.Order.{is_processing}
 use Rattle.desk_model.specs.Legal.{is_processing_challenge}
 use Rattle.desk_model.specs.Effect.{swept_authorization, swept_order}
 use Rattle.desk_model.specs.Kept.{EachOf}
-use Rattle.desk_model.specs.Document.{account_status_text, authorization_status_text, authorization_url, bytes_of, challenge_document}
-use Rattle.desk_model.specs.Document.{challenge_status_text, challenge_url, expected, finalize_url, identifier, is_listed, kind_text, listed_rows}
-use Rattle.desk_model.specs.Document.{order_status_text, order_url, order_work_document, orders_url, shown_challenges, url, work_document}
-use Rattle.desk_model.specs.Json.{list}
+use Rattle.desk_model.specs.Derived.{numbers_of}
+use Rattle.desk_model.specs.Document.{account_status_text, authorization_status_text, authorization_url, bytes_of, certificate_url, challenge_document}
+use Rattle.desk_model.specs.Document.{challenge_status_text, challenge_url, error_of, expected, finalize_url, identifier, is_listed, kind_text, listed_rows}
+use Rattle.desk_model.specs.Document.{order_error, order_status_text, order_url, order_work_document, orders_url, shown_challenges, url, validated, work_document}
+use Rattle.desk_model.specs.Json.{list, when}
 use Rattle.desk_model.specs.Moment.{moment_text}
 use Rattle.desk_model.specs.Name.{Name}
 use Rattle.desk_model.specs.Names.{dns_type, shown_name}
@@ -86,33 +87,36 @@ abbrev pub error_members : (kind detail : List ℕ) (status : ℕ) → List (Lis
 error_members kind detail status =
     (codes "detail", string detail) ∷ (codes "status", number (unsigned status)) ∷ (codes "type", string (error_type kind)) ∷ []
 
--- those that the document of every challenge has
+-- of a challenge
 abbrev pub challenge_members : Terms → ChallengeRow → List (List ℕ × Data)
 challenge_members t c =
-    (codes "status", string (challenge_status_text c.status))
+    error_of c.reported
+    ++ (codes "status", string (challenge_status_text c.status))
     ∷ (codes "token", string (token_text c.token))
     ∷ (codes "type", string (kind_text c.kind))
     ∷ (codes "url", string (challenge_url t c.number))
-    ∷ []
+    ∷ validated c.reported
 
--- of every authorization
+-- of an authorization
 abbrev pub authorization_members : Terms → AuthorizationRow → List (List ℕ × Data)
 authorization_members t a =
-    (codes "challenges", list (map (λ c. challenge_document t (capped_challenge c)) (shown_challenges a.challenges)))
-    ∷ (codes "expires", string (moment_text (capped a.expires)))
+    (codes "challenges", list (map (challenge_document t) (shown_challenges a.challenges)))
+    ∷ (codes "expires", string (moment_text a.expires))
     ∷ (codes "identifier", identifier a.name.base)
     ∷ (codes "status", string (authorization_status_text a.status))
-    ∷ []
+    ∷ when a.name.wildcard (codes "wildcard", boolean true)
 
--- of every order whose authorizations have these names
+-- of an order whose authorizations have these names
 abbrev pub order_members : Terms → List Name → OrderRow → List (List ℕ × Data)
 order_members t names o =
-    (codes "authorizations", list (map (λ l. string (authorization_url t l.authorization)) o.listed))
-    ∷ (codes "expires", string (moment_text (capped o.expires)))
+    (codes "authorizations", list (map (λ n. string (authorization_url t n)) (numbers_of o.listed)))
+    ∷ (when (is_some o.certified) (codes "certificate", string (certificate_url t o.number))
+    ++ (order_error o.failed
+    ++ (codes "expires", string (moment_text o.expires))
     ∷ (codes "finalize", string (finalize_url t o.number))
     ∷ (codes "identifiers", list (map (λ n. identifier (shown_name n)) names))
     ∷ (codes "status", string (order_status_text o.status))
-    ∷ []
+    ∷ []))
 
 -- ---- what an item of a list shows
 

@@ -2,90 +2,93 @@
 ghost use Rattle.std.specs.Prelude.{◌≡◌, codes, is_some, true, OnOk};
 ghost use Rattle.std.specs.List.{list_any};
 ghost use Rattle.serde_json.specs.Data.{boolean};
-ghost use Rattle.serde_json.specs.View.{members_view};
 ghost use Rattle.desk_model.specs.Json.{when};
-ghost use Rattle.desk_model.specs.Document.{error_of, report_error, validated, validated_by, challenge_document};
-ghost use Rattle.desk_model.specs.Document.{authorization_document};
+ghost use Rattle.desk_model.specs.Document.{error_of, report_error, validated, validated_by};
 ghost use Rattle.moments.specs.Capped.{capped};
-ghost use Rattle.core_replies.specs.Shown.{capped_authorization, capped_challenge, capped_report};
-ghost use Rattle.core_replies.specs.Shown.{shown_challenge, with_members};
+ghost use Rattle.core_replies.specs.Shown.{authorization_members, capped_authorization, capped_challenge, capped_report};
+ghost use Rattle.core_replies.specs.Shown.{challenge_members, shown_challenge};
+ghost use Rattle.core_replies.specs.Texts.{HasMembers};
 
-use crate::document_values::{
-    ShowsObject, error_value, identifier_value, insert_str, insert_text, insert_value, push_value,
-    shown_object,
-};
-use crate::lists::{ListItem, insert_each};
+use crate::json_text::JsonText;
+use crate::lists::{ListItem, write_list};
+use crate::objects::{ShowsObject, write_error, write_identifier, write_object};
 use crate::urls::numbered_url;
 use desk_model::{AuthorizationRow, ChallengeRow, Outcome, Policy, Report};
+use keys::token_text;
 use moments::capped_moment_text;
-use serde_json::{Map, Value, put};
 use std::alloc::{AllocError, Global};
 
-// Adds an error of the validator.
-fn insert_error(
-    members: &mut Map<String, Value>,
-    alloc: Global,
-    outcome: Outcome,
-) -> Result<(), AllocError>
-    ensures { OnOk result (members_view members.new.entries ≡ with_members (report_error outcome) (members_view members.old.entries)) }
+// Writes an error of the validator.
+fn write_outcome(text: &mut JsonText, alloc: Global, outcome: Outcome) -> Result<(), AllocError>
+    ensures { OnOk result (HasMembers text.old text.new (report_error outcome)) }
 {
     if outcome.is_good() {
         return Ok(());
     }
-    let error = error_value(alloc, outcome.as_str(), outcome.detail(), outcome.status());
-    insert_value(members, alloc, "error", error)
+    write_error(
+        text,
+        alloc,
+        outcome.as_str(),
+        outcome.detail(),
+        outcome.status(),
+    )
 }
 
-// Adds when a good report was made.
-fn insert_date(
-    members: &mut Map<String, Value>,
+// Writes the error that the report on a challenge showed, if there is one.
+fn write_reported(
+    text: &mut JsonText,
     alloc: Global,
-    report: Report,
+    reported: Option<Report>,
 ) -> Result<(), AllocError>
-    ensures { OnOk result (members_view members.new.entries
-        ≡ with_members (validated_by report.outcome (capped report.date)) (members_view members.old.entries)) }
+    ensures { OnOk result (HasMembers text.old text.new (error_of (capped_report reported))) }
+{
+    match reported {
+        Some(report) => write_outcome(text, alloc, report.outcome),
+        None => Ok(()),
+    }
+}
+
+// Writes when a good report was made.
+fn write_date(text: &mut JsonText, alloc: Global, report: Report) -> Result<(), AllocError>
+    ensures { OnOk result (HasMembers text.old text.new (validated_by report.outcome (capped report.date))) }
 {
     if !report.outcome.is_good() {
         return Ok(());
     }
     let date = capped_moment_text(alloc, report.date);
-    insert_text(members, alloc, "validated", date)
+    text.made_member("validated", date)
 }
 
-// Adds what the report on a challenge showed, if there is one.
-fn insert_report(
-    members: &mut Map<String, Value>,
+// Writes when a challenge was validated, if it was.
+fn write_validated(
+    text: &mut JsonText,
     alloc: Global,
     reported: Option<Report>,
 ) -> Result<(), AllocError>
-    ensures { OnOk result (members_view members.new.entries
-        ≡ with_members (validated (capped_report reported)) (with_members (error_of reported) (members_view members.old.entries))) }
+    ensures { OnOk result (HasMembers text.old text.new (validated (capped_report reported))) }
 {
-    let Some(report) = reported else {
-        return Ok(());
-    };
-    insert_error(members, alloc, report.outcome)?;
-    insert_date(members, alloc, report)
+    match reported {
+        Some(report) => write_date(text, alloc, report),
+        None => Ok(()),
+    }
 }
 
 // A challenge (RFC 8555, 8).
 impl ShowsObject<Policy> for ChallengeRow {
-    ghost document = { λ t c. challenge_document t (capped_challenge c) };
+    ghost members = { λ t c. challenge_members t (capped_challenge c) };
 
-    fn insert_members(
+    fn write_members(
         &self,
-        members: &mut Map<String, Value>,
+        text: &mut JsonText,
         alloc: Global,
         by: &Policy,
     ) -> Result<(), AllocError> {
-        let status = insert_str(members, alloc, "status", self.status.as_str());
-        let text = keys::token_text(alloc, self.token);
-        let token = insert_text(members, alloc, "token", text);
-        let kind = insert_str(members, alloc, "type", self.kind.as_str());
-        let path = numbered_url(alloc, by, "/chall/", self.number);
-        let url = insert_text(members, alloc, "url", path);
-        let report = insert_report(members, alloc, self.reported);
-        status.and(token).and(kind).and(url).and(report)
+        write_reported(text, alloc, self.reported)?;
+        text.member("status", self.status.as_str())?;
+        text.made_member("token", token_text(alloc, self.token))?;
+        text.member("type", self.kind.as_str())?;
+        text.made_member("url", numbered_url(alloc, by, "/chall/", self.number))?;
+        write_validated(text, alloc, self.reported)
     }
 }
 
@@ -105,9 +108,9 @@ fn is_reported(challenges: &[ChallengeRow]) -> bool
 impl<'a> ListItem<(&'a Policy, bool)> for ChallengeRow {
     ghost values = { λ by c. shown_challenge by.0.now by.1 c };
 
-    fn push_shown(
+    fn write_shown(
         &self,
-        shown: &mut Vec<Value>,
+        text: &mut JsonText,
         alloc: Global,
         by: &(&'a Policy, bool),
     ) -> Result<(), AllocError> {
@@ -115,44 +118,37 @@ impl<'a> ListItem<(&'a Policy, bool)> for ChallengeRow {
         if reported && self.reported.is_none() {
             return Ok(());
         }
-        push_value(shown, shown_object(alloc, self, policy))
+        write_object(text, alloc, self, policy)
     }
 }
 
-// Adds that the authorization is for a wildcard name, where it is.
-fn insert_wildcard(
-    members: &mut Map<String, Value>,
-    alloc: Global,
-    wildcard: bool,
-) -> Result<(), AllocError>
-    ensures { OnOk result (members_view members.new.entries
-        ≡ with_members (when wildcard (codes "wildcard", boolean true)) (members_view members.old.entries)) }
+// Writes that the authorization is for a wildcard name, where it is.
+fn write_wildcard(text: &mut JsonText, wildcard: bool) -> Result<(), AllocError>
+    ensures { OnOk result (HasMembers text.old text.new (when wildcard (codes "wildcard", boolean true))) }
 {
     if !wildcard {
         return Ok(());
     }
-    put(members, alloc, "wildcard", Value::Bool(true))
+    text.true_member("wildcard")
 }
 
 // An authorization (RFC 8555, 7.1.4).
 impl ShowsObject<Policy> for AuthorizationRow {
-    ghost document = { λ t a. authorization_document t (capped_authorization a) };
+    ghost members = { λ t a. authorization_members t (capped_authorization a) };
 
-    fn insert_members(
+    fn write_members(
         &self,
-        members: &mut Map<String, Value>,
+        text: &mut JsonText,
         alloc: Global,
         by: &Policy,
     ) -> Result<(), AllocError> {
         let challenges = self.challenges.as_slice();
         let told = (by, is_reported(challenges));
-        let shown = insert_each(members, alloc, "challenges", challenges, &told);
-        let end = capped_moment_text(alloc, self.expires);
-        let expires = insert_text(members, alloc, "expires", end);
-        let name = identifier_value(alloc, self.name.base());
-        let identifier = insert_value(members, alloc, "identifier", name);
-        let status = insert_str(members, alloc, "status", self.status.as_str());
-        let wildcard = insert_wildcard(members, alloc, self.name.is_wildcard());
-        shown.and(expires).and(identifier).and(status).and(wildcard)
+        write_list(text, alloc, "challenges", challenges, &told)?;
+        text.made_member("expires", capped_moment_text(alloc, self.expires))?;
+        text.name("identifier")?;
+        write_identifier(text, self.name.base())?;
+        text.member("status", self.status.as_str())?;
+        write_wildcard(text, self.name.is_wildcard())
     }
 }

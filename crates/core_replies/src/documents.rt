@@ -1,51 +1,54 @@
 //! The documents of the directory and of accounts (RFC 8555, 7.1.1, 7.1.2).
-ghost use Rattle.desk_model.specs.Document.{directory, account_document};
+ghost use Rattle.std.specs.Prelude.{◌∷◌, []};
+ghost use Rattle.serde_json.specs.Data.{string};
+ghost use Rattle.core_replies.specs.Shown.{account_members, directory_members};
 
-use crate::document_values::{ShowsObject, insert_str, insert_text, insert_value};
+use crate::json_text::JsonText;
+use crate::lists::{ListItem, write_list};
+use crate::objects::ShowsObject;
 use crate::urls::{url, url_below};
-use desk_model::{AccountRow, Policy};
-use json_texts::text_list;
-use serde_json::{Map, Value};
+use desk_model::{AccountRow, Policy, Text};
 use std::alloc::{AllocError, Global};
 
 // The directory (RFC 8555, 7.1.1).
 impl ShowsObject<()> for Policy {
-    ghost document = { λ u t. directory t };
+    ghost members = { λ u t. directory_members t };
 
-    fn insert_members(
+    fn write_members(
         &self,
-        members: &mut Map<String, Value>,
+        text: &mut JsonText,
         alloc: Global,
         _by: &(),
     ) -> Result<(), AllocError> {
-        let change = insert_text(members, alloc, "keyChange", url(alloc, self, "/key-change"));
-        let account = insert_text(
-            members,
-            alloc,
-            "newAccount",
-            url(alloc, self, "/new-account"),
-        );
-        let nonce = insert_text(members, alloc, "newNonce", url(alloc, self, "/new-nonce"));
-        let order = insert_text(members, alloc, "newOrder", url(alloc, self, "/new-order"));
-        change.and(account).and(nonce).and(order)
+        text.made_member("keyChange", url(alloc, self, "/key-change"))?;
+        text.made_member("newAccount", url(alloc, self, "/new-account"))?;
+        text.made_member("newNonce", url(alloc, self, "/new-nonce"))?;
+        text.made_member("newOrder", url(alloc, self, "/new-order"))
+    }
+}
+
+// A contact of an account.
+impl ListItem<()> for Text {
+    ghost values = { λ u contact. string contact ∷ [] };
+
+    fn write_shown(&self, text: &mut JsonText, _alloc: Global, _by: &()) -> Result<(), AllocError> {
+        text.string(self.as_str())
     }
 }
 
 // An account (RFC 8555, 7.1.2).
 impl ShowsObject<Policy> for AccountRow {
-    ghost document = { account_document };
+    ghost members = { account_members };
 
-    fn insert_members(
+    fn write_members(
         &self,
-        members: &mut Map<String, Value>,
+        text: &mut JsonText,
         alloc: Global,
         by: &Policy,
     ) -> Result<(), AllocError> {
-        let texts = text_list(alloc, self.contacts.as_slice());
-        let contact = insert_value(members, alloc, "contact", texts);
-        let url = url_below(alloc, by, "/account/", self.number, "/orders");
-        let orders = insert_text(members, alloc, "orders", url);
-        let status = insert_str(members, alloc, "status", self.status.as_str());
-        contact.and(orders).and(status)
+        write_list(text, alloc, "contact", self.contacts.as_slice(), &())?;
+        let orders = url_below(alloc, by, "/account/", self.number, "/orders");
+        text.made_member("orders", orders)?;
+        text.member("status", self.status.as_str())
     }
 }

@@ -1,13 +1,12 @@
 //! The documents of keys (RFC 7638, 3).
 ghost use Rattle.std.specs.Prelude.{◌≡◌, ◌==◌, map, IfOk, OnOk};
 ghost use Rattle.std.specs.List.{slice_split};
-ghost use Rattle.serde_json.specs.View.{members_view};
-ghost use Rattle.desk_model.specs.Document.{key_members, key_document};
-ghost use Rattle.core_replies.specs.Shown.{with_members};
+ghost use Rattle.desk_model.specs.Document.{key_members};
+ghost use Rattle.core_replies.specs.Texts.{HasMembers};
 
-use crate::document_values::{ShowsObject, insert_str};
+use crate::json_text::JsonText;
+use crate::objects::ShowsObject;
 use desk_model::Jwk;
-use serde_json::{Map, Value};
 use std::alloc::{AllocError, Global};
 
 // The parts of a text between its quotation marks.
@@ -17,18 +16,14 @@ fn parts_of(alloc: Global, text: &str) -> Result<Vec<&str>, AllocError>
     text.split('"').collect(alloc)
 }
 
-// Adds the members of a canonical key text, whose names and values are every second of its parts.
-fn insert_parts(
-    members: &mut Map<String, Value>,
-    alloc: Global,
-    parts: &[&str],
-) -> Result<(), AllocError>
-    ensures { OnOk result (members_view members.new.entries ≡ with_members (key_members (map (λ p. p.now) parts.now)) (members_view members.old.entries)) }
+// Writes the members of a canonical key text, whose names and values are every second of its parts.
+fn write_parts(text: &mut JsonText, parts: &[&str]) -> Result<(), AllocError>
+    ensures { OnOk result (HasMembers text.old text.new (key_members (map (λ p. p.now) parts.now))) }
 {
     match parts {
         [_, name, _, value, rest @ ..] => {
-            insert_str(members, alloc, name, value)?;
-            insert_parts(members, alloc, rest)
+            text.member(name, value)?;
+            write_parts(text, rest)
         }
         _ => Ok(()),
     }
@@ -36,15 +31,15 @@ fn insert_parts(
 
 // A key: the object that its canonical text spells.
 impl ShowsObject<()> for Jwk {
-    ghost document = { λ u key. key_document key };
+    ghost members = { λ u key. key_members (slice_split (λ c. c == 34) key) };
 
-    fn insert_members(
+    fn write_members(
         &self,
-        members: &mut Map<String, Value>,
+        text: &mut JsonText,
         alloc: Global,
         _by: &(),
     ) -> Result<(), AllocError> {
         let parts = parts_of(alloc, self.canonical())?;
-        insert_parts(members, alloc, parts.as_slice())
+        write_parts(text, parts.as_slice())
     }
 }

@@ -2,12 +2,13 @@
 #![tactic(auto)]
 
 mod authorization_documents;
-mod document_values;
 mod documents;
+mod json_text;
 mod key_documents;
 mod list_replies;
 mod lists;
 mod object_replies;
+mod objects;
 mod order_documents;
 mod replies;
 mod urls;

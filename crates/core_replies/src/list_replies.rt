@@ -2,9 +2,9 @@
 ghost use Rattle.std.specs.Prelude.{◌≡◌, IfOk};
 ghost use Rattle.desk_model.specs.Shown.{list_reply};
 
-use crate::document_values::shown_object;
-use crate::lists::listing_value;
+use crate::lists::listing_document;
 use crate::object_replies::json_reply;
+use crate::objects::shown_document;
 use desk_book::At;
 use desk_model::{Listing, Reply};
 use std::alloc::{AllocError, Global};
@@ -19,19 +19,19 @@ pub fn list_reply(alloc: Global, at: &At, listing: Listing) -> Result<Reply, All
 {
     let (book, moment) = at.parts();
     match listing {
-        Listing::Directory => json_reply(alloc, shown_object(alloc, at.policy(), &())),
+        Listing::Directory => json_reply(shown_document(alloc, at.policy(), &())),
         Listing::Orders(number) => {
             let by = (book, moment, number);
-            let orders = listing_value(alloc, "orders", book.orders(), &by);
-            json_reply(alloc, orders)
+            let orders = listing_document(alloc, "orders", book.orders(), &by);
+            json_reply(orders)
         }
         Listing::ChallengeWork => {
-            let work = listing_value(alloc, "challenges", book.authorizations(), &moment);
-            json_reply(alloc, work)
+            let work = listing_document(alloc, "challenges", book.authorizations(), &moment);
+            json_reply(work)
         }
         Listing::OrderWork => {
-            let waiting = listing_value(alloc, "orders", book.orders(), &(book, moment));
-            json_reply(alloc, waiting)
+            let waiting = listing_document(alloc, "orders", book.orders(), &(book, moment));
+            json_reply(waiting)
         }
     }
 }

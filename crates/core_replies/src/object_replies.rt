@@ -1,45 +1,27 @@
 //! Replies with one object, by its row (RFC 8555, 7).
-ghost use Rattle.std.specs.Prelude.{ℕ, List, ◌≡◌, ◌≤◌, map, string_bytes, IfOk, IsTrue, Some};
+ghost use Rattle.std.specs.Prelude.{ℕ, List, ◌≡◌, ◌≤◌, map, string_bytes, IfOk, Some};
 ghost use Rattle.serde_json.specs.Data.{Data};
-ghost use Rattle.serde_json.specs.View.{view};
 ghost use Rattle.desk_model.specs.Limits.{last_end};
 ghost use Rattle.desk_model.specs.Document.{authorization_url, key_document, listed_rows};
-ghost use Rattle.desk_model.specs.Plain.{is_document};
 ghost use Rattle.desk_model.specs.Shown.{account_reply, at, authorization_reply, below, certificate_reply, challenge_reply};
 ghost use Rattle.desk_model.specs.Shown.{located_account, located_order, ok, order_reply, taken_reply};
 ghost use Rattle.desk_model.specs.Tables.{Tables};
 ghost use Rattle.core_replies.specs.Shown.{HasDatedReport, HasMoments};
 
-use crate::document_values::shown_object;
+use crate::objects::shown_document;
 use crate::replies::refusal_reply;
 use crate::urls::numbered_url;
 use desk_model::{
     AccountRow, AuthorizationRow, Body, ChallengeRow, DatedBytes, DnsName, Document, OrderRow,
     Policy, Refusal, Reply, Sequence, Text,
 };
-use serde_json::Value;
 use std::alloc::{AllocError, Global};
 
-// The document of a value, if that could be made.
-fn document_of(alloc: Global, value: Result<Value, AllocError>) -> Result<Document, AllocError>
-    requires { IfOk value (λ v. IsTrue (is_document (view v))) }
-    ensures { (shown : Data) → IfOk value (λ v. view v ≡ shown) → IfOk result (λ d. d ≡ shown) }
-{
-    let value = value?;
-    let text = value.to_string(alloc);
-    drop(value);
-    Ok(Document::of_text(text?))
-}
-
 /// A reply with a document, if that could be made.
-pub(crate) fn json_reply(
-    alloc: Global,
-    value: Result<Value, AllocError>,
-) -> Result<Reply, AllocError>
-    requires { IfOk value (λ v. IsTrue (is_document (view v))) }
-    ensures { (shown : Data) → IfOk value (λ v. view v ≡ shown) → IfOk result (λ r. r ≡ ok 200 shown) }
+pub(crate) fn json_reply(document: Result<Document, AllocError>) -> Result<Reply, AllocError>
+    ensures { (shown : Data) → IfOk document (λ d. d ≡ shown) → IfOk result (λ r. r ≡ ok 200 shown) }
 {
-    let document = document_of(alloc, value)?;
+    let document = document?;
     Ok(Reply {
         status: 200,
         location: None,
@@ -51,16 +33,13 @@ pub(crate) fn json_reply(
 
 // A reply with a status, the URL of its object and a document, if these could be made.
 fn located_reply(
-    alloc: Global,
     status: u16,
     url: Result<String, AllocError>,
-    value: Result<Value, AllocError>,
+    document: Result<Document, AllocError>,
 ) -> Result<Reply, AllocError>
-    requires { IfOk value (λ v. IsTrue (is_document (view v))) }
-    ensures { (location : List ℕ) (shown : Data) → IfOk url (λ s. string_bytes s ≡ location) → IfOk value (λ v. view v ≡ shown)
+    ensures { (location : List ℕ) (shown : Data) → IfOk url (λ s. string_bytes s ≡ location) → IfOk document (λ d. d ≡ shown)
         → IfOk result (λ r. r ≡ at location (ok status shown)) }
 {
-    let document = document_of(alloc, value);
     let location = Text::new(url?);
     let document = document?;
     Ok(Reply {
@@ -80,8 +59,8 @@ fn located_reply(
 pub fn account_reply(alloc: Global, policy: &Policy, row: &AccountRow) -> Result<Reply, AllocError>
     ensures { IfOk result (λ r. (T : Tables) → T.meta.policy ≡ policy.now → r ≡ account_reply 200 T row.now) }
 {
-    let account = shown_object(alloc, row, policy);
-    json_reply(alloc, account)
+    let account = shown_document(alloc, row, policy);
+    json_reply(account)
 }
 
 /// The reply with an account and its Location (RFC 8555, 7.3).
@@ -98,8 +77,8 @@ pub fn located_account(
     ensures { IfOk result (λ r. (T : Tables) → T.meta.policy ≡ policy.now → r ≡ located_account status T row.now) }
 {
     let url = numbered_url(alloc, policy, "/account/", row.number);
-    let account = shown_object(alloc, row, policy);
-    located_reply(alloc, status, url, account)
+    let account = shown_document(alloc, row, policy);
+    located_reply(status, url, account)
 }
 
 /// The refusal of a key that an account has, with the Location of that account (RFC 8555, 7.3.5).
@@ -136,8 +115,8 @@ pub fn order_reply(
     ensures { IfOk result (λ r. (T : Tables) → T.meta.policy ≡ policy.now → map (λ a. a.name) (listed_rows T row.now) ≡ names.now
         → row.now.expires ≤ last_end → r ≡ order_reply 200 T row.now) }
 {
-    let order = shown_object(alloc, row, &(policy, names));
-    json_reply(alloc, order)
+    let order = shown_document(alloc, row, &(policy, names));
+    json_reply(order)
 }
 
 /// The reply with an order and its Location (RFC 8555, 7.4).
@@ -156,8 +135,8 @@ pub fn located_order(
         → row.now.expires ≤ last_end → r ≡ located_order status T row.now) }
 {
     let url = numbered_url(alloc, policy, "/order/", row.number);
-    let order = shown_object(alloc, row, &(policy, names));
-    located_reply(alloc, status, url, order)
+    let order = shown_document(alloc, row, &(policy, names));
+    located_reply(status, url, order)
 }
 
 /// The reply with a certificate (RFC 8555, 7.4.2).
@@ -190,8 +169,8 @@ pub fn authorization_reply(
 ) -> Result<Reply, AllocError>
     ensures { IfOk result (λ r. (T : Tables) → T.meta.policy ≡ policy.now → HasMoments row.now → r ≡ authorization_reply T row.now) }
 {
-    let authorization = shown_object(alloc, row, policy);
-    json_reply(alloc, authorization)
+    let authorization = shown_document(alloc, row, policy);
+    json_reply(authorization)
 }
 
 /// The reply with a challenge (RFC 8555, 8).
@@ -206,8 +185,8 @@ pub fn challenge_reply(
 ) -> Result<Reply, AllocError>
     ensures { IfOk result (λ r. (T : Tables) → T.meta.policy ≡ policy.now → HasDatedReport row.now.reported → r ≡ challenge_reply T row.now) }
 {
-    let challenge = shown_object(alloc, row, policy);
-    json_reply(alloc, challenge)
+    let challenge = shown_document(alloc, row, policy);
+    json_reply(challenge)
 }
 
 /// The reply with a challenge to its client, which names the authorization of this number (RFC 8555, 7.5.1).
@@ -240,6 +219,6 @@ pub fn client_challenge_reply(
 pub fn key_reply(alloc: Global, row: &AccountRow) -> Result<Reply, AllocError>
     ensures { IfOk result (λ r. r ≡ ok 200 (key_document row.now.key)) }
 {
-    let key = shown_object(alloc, &row.key, &());
-    json_reply(alloc, key)
+    let key = shown_document(alloc, &row.key, &());
+    json_reply(key)
 }

@@ -1,42 +1,35 @@
 //! The documents of orders (RFC 8555, 7.1.3).
 ghost use Rattle.std.specs.Prelude.{ℕ, ◌≡◌, ◌++◌, ◌∷◌, [], map, codes, is_some, IfOk, OnOk};
 ghost use Rattle.serde_json.specs.Data.{string};
-ghost use Rattle.serde_json.specs.View.{members_view};
 ghost use Rattle.desk_model.specs.Json.{when};
 ghost use Rattle.desk_model.specs.Derived.{numbers_of};
 ghost use Rattle.desk_model.specs.Names.{shown_name};
 ghost use Rattle.desk_model.specs.Effect.{swept, swept_order};
 ghost use Rattle.desk_model.specs.Document.{order_error, identifier, certificate_url, authorization_url};
 ghost use Rattle.desk_model.specs.Document.{rows_of, listed_rows, is_listed};
-ghost use Rattle.desk_model.specs.Document.{order_with_names};
-ghost use Rattle.core_replies.specs.Shown.{capped_order, listed_order, with_members};
+ghost use Rattle.core_replies.specs.Shown.{capped_order, listed_order, order_members};
+ghost use Rattle.core_replies.specs.Texts.{HasMembers};
 
-use crate::document_values::{
-    ShowsObject, error_value, identifier_value, insert_str, insert_text, insert_value, push_text,
-    push_value,
-};
-use crate::lists::{ListItem, insert_each};
+use crate::json_text::JsonText;
+use crate::lists::{ListItem, write_list};
+use crate::objects::{ShowsObject, write_error, write_identifier};
 use crate::urls::{numbered_url, url_below};
 use desk_book::{Book, Table, order_status};
 use desk_model::{AuthorizationRow, DatedProblem, DnsName, Listed, OrderRow, OrderStatus, Policy};
 use moments::capped_moment_text;
-use serde_json::{Map, Value};
 use std::alloc::{AllocError, Global};
 
 // The URL of a listed authorization.
 impl ListItem<Policy> for Listed {
     ghost values = { λ t l. string (authorization_url t l.authorization) ∷ [] };
 
-    fn push_shown(
+    fn write_shown(
         &self,
-        shown: &mut Vec<Value>,
+        text: &mut JsonText,
         alloc: Global,
         by: &Policy,
     ) -> Result<(), AllocError> {
-        push_text(
-            shown,
-            numbered_url(alloc, by, "/authz/", self.authorization),
-        )
+        text.made_string(numbered_url(alloc, by, "/authz/", self.authorization))
     }
 }
 
@@ -44,79 +37,72 @@ impl ListItem<Policy> for Listed {
 impl ListItem<()> for DnsName {
     ghost values = { λ u n. identifier (shown_name n) ∷ [] };
 
-    fn push_shown(
-        &self,
-        shown: &mut Vec<Value>,
-        alloc: Global,
-        _by: &(),
-    ) -> Result<(), AllocError> {
-        let text = self.shown(alloc)?;
-        push_value(shown, identifier_value(alloc, text.as_str()))
+    fn write_shown(&self, text: &mut JsonText, alloc: Global, _by: &()) -> Result<(), AllocError> {
+        let name = self.shown(alloc)?;
+        write_identifier(text, name.as_str())
     }
 }
 
-// Adds the URL of the certificate, where there is one.
-fn insert_certificate(
-    members: &mut Map<String, Value>,
+// Writes the URL of the certificate, where there is one.
+fn write_certificate(
+    text: &mut JsonText,
     alloc: Global,
     policy: &Policy,
     row: &OrderRow,
 ) -> Result<(), AllocError>
-    ensures { OnOk result (members_view members.new.entries
-        ≡ with_members (when (is_some row.now.certified) (codes "certificate", string (certificate_url policy.now row.now.number)))
-        (members_view members.old.entries)) }
+    ensures { OnOk result (HasMembers text.old text.new
+        (when (is_some row.now.certified) (codes "certificate", string (certificate_url policy.now row.now.number)))) }
 {
     let Some(_certified) = &row.certified else {
         return Ok(());
     };
-    let url = numbered_url(alloc, policy, "/cert/", row.number);
-    insert_text(members, alloc, "certificate", url)
+    text.made_member(
+        "certificate",
+        numbered_url(alloc, policy, "/cert/", row.number),
+    )
 }
 
-// Adds why the order failed, where the signing office failed it.
-fn insert_error(
-    members: &mut Map<String, Value>,
+// Writes why the order failed, where the signing office failed it.
+fn write_problem(
+    text: &mut JsonText,
     alloc: Global,
     failed: &Option<DatedProblem>,
 ) -> Result<(), AllocError>
-    ensures { OnOk result (members_view members.new.entries ≡ with_members (order_error failed.now) (members_view members.old.entries)) }
+    ensures { OnOk result (HasMembers text.old text.new (order_error failed.now)) }
 {
     let Some(failed) = failed else {
         return Ok(());
     };
     let problem = &failed.problem;
     let detail = problem.detail.as_str();
-    let error = error_value(alloc, problem.kind.as_str(), detail, problem.status());
-    insert_value(members, alloc, "error", error)
+    write_error(text, alloc, problem.kind.as_str(), detail, problem.status())
 }
 
 // An order (RFC 8555, 7.1.3), told the names of the authorizations that it lists, in their places.
 impl<'a> ShowsObject<(&'a Policy, &'a [DnsName])> for OrderRow {
-    ghost document = { λ by o. order_with_names by.0.now by.1.now (capped_order o) };
+    ghost members = { λ by o. order_members by.0.now by.1.now (capped_order o) };
 
-    fn insert_members(
+    fn write_members(
         &self,
-        members: &mut Map<String, Value>,
+        text: &mut JsonText,
         alloc: Global,
         by: &(&'a Policy, &'a [DnsName]),
     ) -> Result<(), AllocError> {
         let (policy, names) = *by;
-        let listed = self.listed.as_slice();
-        let authorizations = insert_each(members, alloc, "authorizations", listed, policy);
-        let end = capped_moment_text(alloc, self.expires);
-        let expires = insert_text(members, alloc, "expires", end);
-        let url = url_below(alloc, policy, "/order/", self.number, "/finalize");
-        let finalize = insert_text(members, alloc, "finalize", url);
-        let identifiers = insert_each(members, alloc, "identifiers", names, &());
-        let status = insert_str(members, alloc, "status", self.status.as_str());
-        let certificate = insert_certificate(members, alloc, policy, self);
-        let error = insert_error(members, alloc, &self.failed);
-        let dated = authorizations.and(expires).and(finalize);
-        dated
-            .and(identifiers)
-            .and(status)
-            .and(certificate)
-            .and(error)
+        write_list(
+            text,
+            alloc,
+            "authorizations",
+            self.listed.as_slice(),
+            policy,
+        )?;
+        write_certificate(text, alloc, policy, self)?;
+        write_problem(text, alloc, &self.failed)?;
+        text.made_member("expires", capped_moment_text(alloc, self.expires))?;
+        let finalize = url_below(alloc, policy, "/order/", self.number, "/finalize");
+        text.made_member("finalize", finalize)?;
+        write_list(text, alloc, "identifiers", names, &())?;
+        text.member("status", self.status.as_str())
     }
 }
 
@@ -160,9 +146,9 @@ fn is_listed_at(book: &Book, moment: u64, account: u64, row: &OrderRow) -> bool
 impl<'a> ListItem<(&'a Book, u64, u64)> for OrderRow {
     ghost values = { λ by o. listed_order by.0.now by.1 by.2 o };
 
-    fn push_shown(
+    fn write_shown(
         &self,
-        shown: &mut Vec<Value>,
+        text: &mut JsonText,
         alloc: Global,
         by: &(&'a Book, u64, u64),
     ) -> Result<(), AllocError> {
@@ -170,9 +156,7 @@ impl<'a> ListItem<(&'a Book, u64, u64)> for OrderRow {
         if !is_listed_at(book, moment, account, self) {
             return Ok(());
         }
-        push_text(
-            shown,
-            numbered_url(alloc, &book.meta().policy, "/order/", self.number),
-        )
+        let policy = &book.meta().policy;
+        text.made_string(numbered_url(alloc, policy, "/order/", self.number))
     }
 }

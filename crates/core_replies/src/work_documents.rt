@@ -2,38 +2,34 @@
 ghost use Rattle.std.specs.Prelude.{◌≡◌, string_bytes, IfOk};
 ghost use Rattle.desk_model.specs.Derived.{authorization_numbered};
 ghost use Rattle.desk_model.specs.Tokens.{base64url};
-ghost use Rattle.desk_model.specs.Document.{bytes_of, order_work_document, work_document};
-ghost use Rattle.core_replies.specs.Shown.{answered, listed_name, order_work_at, work_at};
+ghost use Rattle.desk_model.specs.Document.{bytes_of};
+ghost use Rattle.core_replies.specs.Shown.{answered, listed_name, order_work_at, order_work_members, work_at, work_members};
 
-use crate::document_values::{
-    ShowsObject, insert_str, insert_text, push_text, push_value, shown_object,
-};
-use crate::lists::{ListItem, insert_each, push_each};
+use crate::json_text::JsonText;
+use crate::lists::{ListItem, write_each, write_list};
+use crate::objects::{ShowsObject, write_object};
 use base64::engine::general_purpose::URL_SAFE_NO_PAD;
 use desk_book::{Book, authorization_status, order_status};
 use desk_model::{AuthorizationRow, ChallengeRow, DatedBytes, Listed, OrderRow};
-use keys::expected_text;
-use serde_json::{Map, Value, put};
+use keys::{expected_text, token_text};
 use std::alloc::{AllocError, Global};
 
 // A challenge that waits for the validator, told its authorization: with what has to be found (RFC 8555, 8.3, 8.4).
 impl ShowsObject<AuthorizationRow> for ChallengeRow {
-    ghost document = { work_document };
+    ghost members = { work_members };
 
-    fn insert_members(
+    fn write_members(
         &self,
-        members: &mut Map<String, Value>,
+        text: &mut JsonText,
         alloc: Global,
         by: &AuthorizationRow,
     ) -> Result<(), AllocError> {
-        let challenge = put(members, alloc, "challenge", Value::from(self.number));
-        let answer = expected_text(alloc, self.kind, self.token, self.answer_thumb());
-        let expected = insert_text(members, alloc, "expected", answer);
-        let name = insert_str(members, alloc, "name", by.name.base());
-        let text = keys::token_text(alloc, self.token);
-        let token = insert_text(members, alloc, "token", text);
-        let kind = insert_str(members, alloc, "type", self.kind.as_str());
-        challenge.and(expected).and(name).and(token).and(kind)
+        text.number_member("challenge", self.number)?;
+        let expected = expected_text(alloc, self.kind, self.token, self.answer_thumb());
+        text.made_member("expected", expected)?;
+        text.member("name", by.name.base())?;
+        text.made_member("token", token_text(alloc, self.token))?;
+        text.member("type", self.kind.as_str())
     }
 }
 
@@ -41,16 +37,16 @@ impl ShowsObject<AuthorizationRow> for ChallengeRow {
 impl ListItem<AuthorizationRow> for ChallengeRow {
     ghost values = { answered };
 
-    fn push_shown(
+    fn write_shown(
         &self,
-        shown: &mut Vec<Value>,
+        text: &mut JsonText,
         alloc: Global,
         by: &AuthorizationRow,
     ) -> Result<(), AllocError> {
         if !self.status.is_processing() {
             return Ok(());
         }
-        push_value(shown, shown_object(alloc, self, by))
+        write_object(text, alloc, self, by)
     }
 }
 
@@ -58,16 +54,11 @@ impl ListItem<AuthorizationRow> for ChallengeRow {
 impl ListItem<u64> for AuthorizationRow {
     ghost values = { work_at };
 
-    fn push_shown(
-        &self,
-        shown: &mut Vec<Value>,
-        alloc: Global,
-        by: &u64,
-    ) -> Result<(), AllocError> {
+    fn write_shown(&self, text: &mut JsonText, alloc: Global, by: &u64) -> Result<(), AllocError> {
         if !authorization_status(*by, self).is_pending() {
             return Ok(());
         }
-        push_each(shown, alloc, self.challenges.as_slice(), self)
+        write_each(text, alloc, self.challenges.as_slice(), self)
     }
 }
 
@@ -75,16 +66,11 @@ impl ListItem<u64> for AuthorizationRow {
 impl ListItem<Book> for Listed {
     ghost values = { λ T l. listed_name (authorization_numbered l.authorization T.authorizations) };
 
-    fn push_shown(
-        &self,
-        shown: &mut Vec<Value>,
-        alloc: Global,
-        by: &Book,
-    ) -> Result<(), AllocError> {
+    fn write_shown(&self, text: &mut JsonText, alloc: Global, by: &Book) -> Result<(), AllocError> {
         let Some(row) = by.authorizations().get(self.authorization) else {
             return Ok(());
         };
-        push_text(shown, row.name.shown(alloc))
+        text.made_string(row.name.shown(alloc))
     }
 }
 
@@ -104,19 +90,17 @@ fn csr_text(alloc: Global, finalized: &Option<DatedBytes>) -> Result<String, All
 
 // An order that waits for the signing office.
 impl ShowsObject<Book> for OrderRow {
-    ghost document = { order_work_document };
+    ghost members = { order_work_members };
 
-    fn insert_members(
+    fn write_members(
         &self,
-        members: &mut Map<String, Value>,
+        text: &mut JsonText,
         alloc: Global,
         by: &Book,
     ) -> Result<(), AllocError> {
-        let text = csr_text(alloc, &self.finalized);
-        let csr = insert_text(members, alloc, "csr", text);
-        let names = insert_each(members, alloc, "names", self.listed.as_slice(), by);
-        let order = put(members, alloc, "order", Value::from(self.number));
-        csr.and(names).and(order)
+        text.made_member("csr", csr_text(alloc, &self.finalized))?;
+        write_list(text, alloc, "names", self.listed.as_slice(), by)?;
+        text.number_member("order", self.number)
     }
 }
 
@@ -124,9 +108,9 @@ impl ShowsObject<Book> for OrderRow {
 impl<'a> ListItem<(&'a Book, u64)> for OrderRow {
     ghost values = { λ by o. order_work_at by.1 by.0.now o };
 
-    fn push_shown(
+    fn write_shown(
         &self,
-        shown: &mut Vec<Value>,
+        text: &mut JsonText,
         alloc: Global,
         by: &(&'a Book, u64),
     ) -> Result<(), AllocError> {
@@ -134,6 +118,6 @@ impl<'a> ListItem<(&'a Book, u64)> for OrderRow {
         if !order_status(book, moment, self).is_processing() {
             return Ok(());
         }
-        push_value(shown, shown_object(alloc, self, book))
+        write_object(text, alloc, self, book)
     }
 }

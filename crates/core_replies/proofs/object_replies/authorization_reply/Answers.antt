@@ -3,14 +3,12 @@ use Rattle.desk_model.specs.Document.{authorization_document}
 use Rattle.core_replies.specs.Shown.{capped_authorization}
 use Rattle.core_replies.proofs.ShownAuthorizations.{capped_authorization-same}
 use Rattle.desk_model.specs.Shown.{ok}
-use Rattle.core_replies.proofs.PlainDocuments.{authorization_plain, plain_value}
+use Rattle.core_replies.proofs.PlainDocuments.{authorization_plain}
 use Rattle.core_replies.proofs.Results.{ok_so}
 use Rattle.core_replies.proofs.object_replies.authorization_reply.Goals as goal
 
-pub json_reply-requires : goal.json_reply-requires
-json_reply-requires c =
-    plain_value c.shown_object-authorization.result _ (authorization_plain c.args.policy.now (capped_authorization c.args.row.now))
-    c.shown_object-authorization.ensures
+pub shown_document-authorization-requires : goal.shown_document-authorization-requires
+shown_document-authorization-requires c = authorization_plain c.args.policy.now (capped_authorization c.args.row.now)
 
 pub returns : goal.returns
 returns c =
@@ -18,4 +16,4 @@ returns c =
     (λ r is T same dated. is
     ∙ ap (ok 200) (ap (authorization_document c.args.policy.now) (capped_authorization-same c.args.row.now dated)
     ∙ ap (λ t. authorization_document t c.args.row.now) (sym same)))
-    (c.json_reply.ensures _ c.shown_object-authorization.ensures)
+    (c.json_reply.ensures _ c.shown_document-authorization.ensures)

@@ -3,14 +3,12 @@ use Rattle.desk_model.specs.Document.{challenge_document}
 use Rattle.core_replies.specs.Shown.{capped_challenge}
 use Rattle.core_replies.proofs.ShownAuthorizations.{capped_challenge-same}
 use Rattle.desk_model.specs.Shown.{ok}
-use Rattle.core_replies.proofs.PlainDocuments.{challenge_plain, plain_value}
+use Rattle.core_replies.proofs.PlainDocuments.{challenge_plain}
 use Rattle.core_replies.proofs.Results.{ok_so}
 use Rattle.core_replies.proofs.object_replies.challenge_reply.Goals as goal
 
-pub json_reply-requires : goal.json_reply-requires
-json_reply-requires c =
-    plain_value c.shown_object-challenge.result _ (challenge_plain c.args.policy.now (capped_challenge c.args.row.now))
-    c.shown_object-challenge.ensures
+pub shown_document-challenge-requires : goal.shown_document-challenge-requires
+shown_document-challenge-requires c = challenge_plain c.args.policy.now (capped_challenge c.args.row.now)
 
 pub returns : goal.returns
 returns c =
@@ -18,4 +16,4 @@ returns c =
     (λ r is T same dated. is
     ∙ ap (ok 200) (ap (challenge_document c.args.policy.now) (capped_challenge-same c.args.row.now dated)
     ∙ ap (λ t. challenge_document t c.args.row.now) (sym same)))
-    (c.json_reply.ensures _ c.shown_object-challenge.ensures)
+    (c.json_reply.ensures _ c.shown_document-challenge.ensures)

@@ -1,8 +1,8 @@
-use Rattle.core_replies.proofs.PlainDocuments.{key_plain, plain_value}
+use Rattle.core_replies.proofs.PlainDocuments.{key_plain}
 use Rattle.core_replies.proofs.object_replies.key_reply.Goals as goal
 
-pub json_reply-requires : goal.json_reply-requires
-json_reply-requires c = plain_value c.shown_object-key.result _ (key_plain c.args.row.now.key) c.shown_object-key.ensures
+pub shown_document-key-requires : goal.shown_document-key-requires
+shown_document-key-requires c = key_plain c.args.row.now.key
 
 pub returns : goal.returns
-returns c = c.json_reply.ensures _ c.shown_object-key.ensures
+returns c = c.json_reply.ensures _ c.shown_document-key.ensures

@@ -2,14 +2,13 @@ use Rattle.std.proofs.Common.{◌∙◌, ap, sym}
 use Rattle.desk_model.specs.Document.{order_document, order_url}
 use Rattle.desk_model.specs.Shown.{at, ok}
 use Rattle.core_replies.specs.Shown.{capped_order}
-use Rattle.core_replies.proofs.PlainDocuments.{order_plain, plain_value}
+use Rattle.core_replies.proofs.PlainDocuments.{order_plain}
 use Rattle.core_replies.proofs.ShownOrders.{order_with_names-is}
 use Rattle.core_replies.proofs.Results.{ok_so}
 use Rattle.core_replies.proofs.object_replies.located_order.Goals as goal
 
-pub located_reply-requires : goal.located_reply-requires
-located_reply-requires c =
-    plain_value c.shown_object-order.result _ (order_plain c.args.policy.now c.args.names.now (capped_order c.args.row.now)) c.shown_object-order.ensures
+pub shown_document-order-requires : goal.shown_document-order-requires
+shown_document-order-requires c = order_plain c.args.policy.now c.args.names.now (capped_order c.args.row.now)
 
 pub returns : goal.returns
 returns c =
@@ -18,4 +17,4 @@ returns c =
     ∙ ap (λ d. at (order_url c.args.policy.now c.args.row.now.number) (ok c.args.status d))
     (order_with_names-is T c.args.policy.now c.args.names.now c.args.row.now same named ends)
     ∙ ap (λ t. at (order_url t c.args.row.now.number) (ok c.args.status (order_document T c.args.row.now))) (sym same))
-    (c.located_reply.ensures _ _ c.numbered_url-url.ensures c.shown_object-order.ensures)
+    (c.located_reply.ensures _ _ c.numbered_url-url.ensures c.shown_document-order.ensures)

@@ -1,0 +1,177 @@
+-- What is written of documents, one part behind the other, and that it is read as they are.
+use Rattle.std.proofs.Common.{◌≡◌, ◌≤◌, ◌<◌, ◌^◌, ◌∙◌, ℕ, suc, max, true, List, [], ◌∷◌, ◌++◌, Option, Some, option_map, option_and_then, refl, sym, ap, subst, append-nil, append_assoc}
+use Rattle.std.specs.List.{flat_map}
+use Rattle.std.proofs.lemmas.Grind.{flat_map-append}
+use Rattle.json.specs.Json as json
+use Rattle.json.specs.Lex.{tokens}
+use Rattle.json.specs.Print.{print}
+use Rattle.json.specs.Token.{Token, begin_array, begin_object, end_array, end_object, key}
+use Rattle.json.specs.Tree as tree
+use Rattle.json.proofs.Printed.Trees.{value-json_tokens}
+use Rattle.serde_json.specs.Data.{Data, Items, Members, array, boolean, depth, items_depth, item, member, members_depth, no_items, no_members, null, number, object, put, string, unsigned}
+use Rattle.serde_json.specs.Read.{max_depth, of_items, of_json, of_members, read}
+use Rattle.serde_json.specs.View.{items_of}
+use Rattle.serde_json.specs.Written.{compact_text, items_outline, members_outline, outline}
+use Rattle.serde_json.proofs.Numbers.{number_of-decimal}
+use Rattle.serde_json.proofs.Texts.{print-outline}
+use Rattle.desk_model.proofs.PlainData.{document_fits}
+use Rattle.desk_model.specs.Json.{document, list, members}
+use Rattle.desk_model.specs.Kept.{EachOf}
+use Rattle.desk_model.specs.Plain.{is_document}
+use Rattle.core_replies.specs.Shown.{with_members}
+use Rattle.core_replies.specs.Texts.{AreInOrder, HasMembers, HasValues, ReadsBack, member_tokens, tokens_of}
+
+-- ---- what each of two lists has, their one list has
+
+pub each_and : {X : Type 0} (P : X → Type 0) (xs ys : List X) → EachOf P xs → EachOf P ys → EachOf P (xs ++ ys)
+each_and P [] ys p q = q
+each_and P (x ∷ xs) ys p q = (p.0, each_and P xs ys p.1 q)
+
+-- ---- members and values, one behind the other
+
+more : {X : Type 0} (f : X → List Token) (xs ys : List X) (a b c : List Token) → b ≡ a ++ flat_map f xs → c ≡ b ++ flat_map f ys
+    → c ≡ a ++ flat_map f (xs ++ ys)
+more f xs ys a b c p q =
+    q ∙ ap (λ ts. ts ++ flat_map f ys) p ∙ append_assoc a (flat_map f xs) (flat_map f ys) ∙ ap (λ ts. a ++ ts) (sym (flat_map-append f xs ys))
+
+-- nothing is written
+pub none_written : (a : List Token) → HasMembers a a []
+none_written a = record { text = sym (append-nil a); back = tt }
+
+pub nothing_written : (a : List Token) → HasValues a a []
+nothing_written a = record { text = sym (append-nil a); back = tt }
+
+pub members_then : {a b c : List Token} {ms ns : List (List ℕ × Data)} → HasMembers a b ms → HasMembers b c ns → HasMembers a c (ms ++ ns)
+members_then {a} {b} {c} {ms} {ns} p q = record { text = more member_tokens ms ns a b c p.text q.text; back = each_and (λ m. ReadsBack m.1) ms ns p.back q.back }
+
+pub values_then : {a b c : List Token} {ds es : List Data} → HasValues a b ds → HasValues b c es → HasValues a c (ds ++ es)
+values_then {a} {b} {c} {ds} {es} p q = record { text = more tokens_of ds es a b c p.text q.text; back = each_and ReadsBack ds es p.back q.back }
+
+-- ---- one value
+
+-- one token more
+pub one_value : {a b : List Token} (d : Data) → b ≡ a ++ tokens_of d → ReadsBack d → HasValues a b (d ∷ [])
+one_value {a} {b} d p back = record { text = p ∙ ap (λ ts. a ++ ts) (sym (append-nil (tokens_of d))); back = (back, tt) }
+
+-- a name and its value
+pub one_member : {a b c : List Token} (name : List ℕ) (d : Data) → b ≡ a ++ key name ∷ [] → c ≡ b ++ tokens_of d → ReadsBack d
+    → HasMembers a c ((name, d) ∷ [])
+one_member {a} {b} {c} name d named p back = record {
+  text = p ∙ ap (λ ts. ts ++ tokens_of d) named ∙ append_assoc a (key name ∷ []) (tokens_of d)
+      ∙ ap (λ ts. a ++ key name ∷ ts) (sym (append-nil (tokens_of d)));
+  back = (back, tt);
+}
+
+-- a number of 64 bits is read as it is
+pub number_back : (n : ℕ) → n < 2 ^ 64 → ReadsBack (number (unsigned n))
+number_back n low = ap (option_map number) (number_of-decimal n low)
+
+-- ---- objects and lists
+
+members-tokens : (ms : List (List ℕ × Data)) → tree.members_tokens (members_outline (members ms)) ≡ flat_map member_tokens ms ++ end_object ∷ []
+members-tokens [] = refl
+members-tokens (m ∷ ms) =
+    ap (λ ts. key m.0 ∷ (tokens_of m.1 ++ ts)) (members-tokens ms)
+    ∙ sym (ap (λ ts. key m.0 ∷ ts) (append_assoc (tokens_of m.1) (flat_map member_tokens ms) (end_object ∷ [])))
+
+items-tokens : (ds : List Data) → tree.items_tokens (items_outline (items_of ds)) ≡ flat_map tokens_of ds ++ end_array ∷ []
+items-tokens [] = refl
+items-tokens (d ∷ ds) =
+    ap (λ ts. tokens_of d ++ ts) (items-tokens ds) ∙ sym (append_assoc (tokens_of d) (flat_map tokens_of ds) (end_array ∷ []))
+
+items-back : (ds : List Data) → EachOf ReadsBack ds → of_items (items_outline (items_of ds)) ≡ Some (items_of ds)
+items-back [] back = refl
+items-back (d ∷ ds) back =
+    ap (option_and_then (λ e. option_map (item e) (of_items (items_outline (items_of ds))))) back.0
+    ∙ ap (option_map (item d)) (items-back ds back.1)
+
+-- a list is read as it is, where each of its values is
+pub list_back : (ds : List Data) → EachOf ReadsBack ds → ReadsBack (list ds)
+list_back ds back = ap (option_map array) (items-back ds back)
+
+members-back : (ms : List (List ℕ × Data)) (found : Members) → EachOf (λ m. ReadsBack m.1) ms
+    → of_members (members_outline (members ms)) found ≡ Some (with_members ms found)
+members-back [] found back = refl
+members-back (m ∷ ms) found back =
+    ap (option_and_then (λ d. of_members (members_outline (members ms)) (put m.0 d found))) back.0 ∙ members-back ms (put m.0 m.1 found) back.1
+
+-- an object is, where its members stand in order
+pub document_back : (ms : List (List ℕ × Data)) → EachOf (λ m. ReadsBack m.1) ms → AreInOrder ms → ReadsBack (document ms)
+document_back ms back ordered = ap (option_map object) (members-back ms no_members back ∙ ap Some ordered)
+
+between : (a b c d first last middle : List Token) → b ≡ a ++ first → c ≡ b ++ middle → d ≡ c ++ last → d ≡ a ++ (first ++ (middle ++ last))
+between a b c d first last middle p q r =
+    r ∙ ap (λ ts. ts ++ last) (q ∙ ap (λ ts. ts ++ middle) p) ∙ append_assoc (a ++ first) middle last ∙ append_assoc a first (middle ++ last)
+
+-- an object with these members is one value
+pub object_value : {a b c d : List Token} (ms : List (List ℕ × Data)) → b ≡ a ++ begin_object ∷ [] → HasMembers b c ms → AreInOrder ms
+    → d ≡ c ++ end_object ∷ [] → HasValues a d (document ms ∷ [])
+object_value {a} {b} {c} {d} ms begun has ordered ended =
+    one_value (document ms)
+    (between a b c d (begin_object ∷ []) (end_object ∷ []) (flat_map member_tokens ms) begun has.text ended
+    ∙ ap (λ ts. a ++ begin_object ∷ ts) (sym (members-tokens ms)))
+    (document_back ms has.back ordered)
+
+-- a member that is a list of these values
+pub list_member : {a b c d e : List Token} (name : List ℕ) (ds : List Data) → b ≡ a ++ key name ∷ [] → c ≡ b ++ begin_array ∷ []
+    → HasValues c d ds → e ≡ d ++ end_array ∷ [] → HasMembers a e ((name, list ds) ∷ [])
+list_member {a} {b} {c} {d} {e} name ds named begun has ended =
+    one_member name (list ds) named
+    (between b c d e (begin_array ∷ []) (end_array ∷ []) (flat_map tokens_of ds) begun has.text ended
+    ∙ ap (λ ts. b ++ begin_array ∷ ts) (sym (items-tokens ds)))
+    (list_back ds has.back)
+
+-- ---- the text of a document
+
+mutual
+  depth-outline : (d : Data) → tree.depth (outline d) ≡ depth d
+  depth-outline null = refl
+  depth-outline (boolean b) = refl
+  depth-outline (number n) = refl
+  depth-outline (string s) = refl
+  depth-outline (array ds) = ap suc (items_depth-outline ds)
+  depth-outline (object ms) = ap suc (members_depth-outline ms)
+
+  items_depth-outline : (ds : Items) → tree.items_depth (items_outline ds) ≡ items_depth ds
+  items_depth-outline no_items = refl
+  items_depth-outline (item d ds) = ap (λ n. max n (tree.items_depth (items_outline ds))) (depth-outline d) ∙ ap (max (depth d)) (items_depth-outline ds)
+
+  members_depth-outline : (ms : Members) → tree.members_depth (members_outline ms) ≡ members_depth ms
+  members_depth-outline no_members = refl
+  members_depth-outline (member k d ms) =
+      ap (λ n. max n (tree.members_depth (members_outline ms))) (depth-outline d) ∙ ap (max (depth d)) (members_depth-outline ms)
+
+-- what the tokens of a value are read as
+abbrev whole : Option (json.Json × List Token) → Option Data
+whole o = option_and_then of_json (option_and_then (λ p. json.if_last p.0 p.1) o)
+
+-- a document is read in the text of its tokens
+pub document_reads : (d : Data) (ts : List Token) (text : List ℕ) → is_document d ≡ true → HasValues [] ts (d ∷ []) → text ≡ print ts
+    → tokens (print ts) ≡ ts → (read text ≡ Some d) × (text ≡ compact_text d)
+document_reads d ts text plain has written reads =
+    let are : ts ≡ tokens_of d = has.text ∙ append-nil (tokens_of d) in
+    let shallow : tree.depth (outline d) ≤ max_depth = subst (λ n. n ≤ max_depth) (sym (depth-outline d)) (document_fits d plain) in (
+      ap read written ∙ ap (λ l. whole (json.value max_depth l)) (reads ∙ are ∙ sym (append-nil (tokens_of d)))
+          ∙ ap whole (value-json_tokens (outline d) max_depth [] shallow) ∙ has.back.0,
+      written ∙ ap print are ∙ print-outline d,
+    )
+
+-- ---- clauses, by what a member or a value is
+
+-- a member that is another text
+pub member_is : {a b : List Token} {name s t : List ℕ} → s ≡ t → HasMembers a b ((name, string s) ∷ []) → HasMembers a b ((name, string t) ∷ [])
+member_is {a} {b} {name} same = subst (λ u. HasMembers a b ((name, string u) ∷ [])) same
+
+-- another number
+pub number_is : {a b : List Token} {name : List ℕ} {m n : ℕ} → m ≡ n → HasMembers a b ((name, number (unsigned m)) ∷ [])
+    → HasMembers a b ((name, number (unsigned n)) ∷ [])
+number_is {a} {b} {name} same = subst (λ k. HasMembers a b ((name, number (unsigned k)) ∷ [])) same
+
+-- a list of other values
+pub list_is : {a b : List Token} {name : List ℕ} {ds es : List Data} → ds ≡ es → HasMembers a b ((name, list ds) ∷ [])
+    → HasMembers a b ((name, list es) ∷ [])
+list_is {a} {b} {name} same = subst (λ vs. HasMembers a b ((name, list vs) ∷ [])) same
+
+-- a name, and then its value
+pub named_value : {a b c : List Token} (name : List ℕ) (d : Data) → b ≡ a ++ key name ∷ [] → HasValues b c (d ∷ []) → HasMembers a c ((name, d) ∷ [])
+named_value {b = b} name d named has = one_member name d named (has.text ∙ ap (λ ts. b ++ ts) (append-nil (tokens_of d))) has.back.0

@@ -1,0 +1,12 @@
+use Rattle.std.proofs.Common.{ap, map, ◌∙◌}
+use Rattle.serde_json.specs.Data.{string}
+use Rattle.core_replies.proofs.Results.{on_ok}
+use Rattle.core_replies.proofs.Gathered.{each-shows-one}
+use Rattle.core_replies.proofs.Writing.{list_is, member_is, members_then}
+use Rattle.core_replies.proofs.documents.AccountRowShowsObjectPolicy.write_members.Goals as goal
+
+pub returns-clause-written : goal.returns-clause-written
+returns-clause-written c =
+    on_ok c.member.result (λ status.
+    members_then (list_is (each-shows-one string c.as_slice.result.now ∙ ap (map string) c.as_slice.ensures) c.in_ok-write_list.ensures)
+    (members_then (c.in_ok-made_member.ensures _ c.url_below-orders.ensures) (member_is c.as_str.ensures status))) c.member.ensures
