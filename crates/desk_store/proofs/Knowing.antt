@@ -21,12 +21,14 @@ use Rattle.desk_model.specs.declared.status.AuthzStatus.TheVariants as authz
 use Rattle.desk_model.specs.declared.status.OrderStatus.{OrderStatus}
 use Rattle.desk_model.specs.declared.status.OrderStatus.TheVariants as order
 use Rattle.model_laws.proofs.Keeps.{each-filter}
-use Rattle.model_lives.specs.LookUps.{authorizations_past, nonces_before, orders_past}
+use Rattle.model_laws.specs.Ordered.{Ascends}
+use Rattle.model_lives.specs.LookUps.{authorizations_past, nonces_before, nonces_numbered, orders_past}
 use Rattle.sql_tables.proofs.Keyed.{ranked}
 use Rattle.sql_tables.proofs.Sorting.{each_put}
 use Rattle.sql_read.specs.Earliest.{IsEarliest, authorization_ends, issues, order_ends}
-use Rattle.desk_store.specs.Known.{EndFrom, IsKnownOf, bound_of, earlier, lowered, nothing}
+use Rattle.desk_store.specs.Known.{EndFrom, IsKnownOf, bound_of, earlier, known_nonce, lowered, nonce_place, nothing, without}
 use Rattle.desk_store.specs.declared.known.Known.{Known}
+use Rattle.desk_store.proofs.KnownNonces.{found_alone, none_there, nonce_there, nonces_left, nonces_put}
 
 -- ---- nothing
 
@@ -60,6 +62,7 @@ authorization_zeros authz.Revoked = refl
 pub nothing_known : (T : Tables) → IsKnownOf nothing T
 nothing_known T = record {
   meta = tt;
+  nonces = none_there T.nonces;
   issues = from_zero (λ n. n.issued) T.nonces;
   orders = zeros_from _ _ (replicate 5 0) (λ (o : OrderRow). order_zeros o.status) T.orders;
   authorizations = zeros_from _ _ (replicate 6 0) (λ (r : AuthorizationRow). authorization_zeros r.status) T.authorizations;
@@ -119,32 +122,45 @@ pub meta_followed : (old new : Known) (x : Meta) → IfSome new.meta (λ meta. m
     → IsKnownOf old T → IsKnownOf new (applied_one (PutMeta x) T)
 meta_followed old new x noted rest T known =
     subst (λ k. IsKnownOf k (applied_one (PutMeta x) T)) (sym rest)
-    (record { meta = noted; issues = known.issues; orders = known.orders; authorizations = known.authorizations })
+    (record { meta = noted; nonces = known.nonces; issues = known.issues; orders = known.orders; authorizations = known.authorizations })
 
 -- a nonce
-pub nonce_followed : (old : Known) (m : ℕ) (x : Nonce) → m ≡ earlier old.first_issue x.issued → (T : Tables) → IsKnownOf old T
-    → IsKnownOf (record old { first_issue = m }) (applied_one (PutNonce x) T)
-nonce_followed old m x is T known = record {
-  meta = known.meta;
-  issues = each_put (λ n. n.serial) (λ n. m ≤ n.issued) x T.nonces
-      (let second = earlier_second old.first_issue x.issued in omega (arith, is, second))
-      (each _ _ T.nonces (λ n low. let first = earlier_first old.first_issue x.issued in omega (arith, is, first, low)) known.issues);
-  orders = known.orders;
-  authorizations = known.authorizations;
-}
+pub nonce_followed : (old new : Known) (x : Nonce)
+    → new ≡ record old { first_issue = earlier old.first_issue x.issued; nonces = slice_set old.nonces (nonce_place x.serial) (Some x) } → (T : Tables)
+    → IsKnownOf old T → IsKnownOf new (applied_one (PutNonce x) T)
+nonce_followed old new x is T known =
+    subst (λ k. IsKnownOf k (applied_one (PutNonce x) T)) (sym is)
+    (record {
+      meta = known.meta;
+      nonces = nonces_put old.nonces x T.nonces known.nonces;
+      issues = each_put (λ n. n.serial) (λ n. earlier old.first_issue x.issued ≤ n.issued) x T.nonces (earlier_second old.first_issue x.issued)
+          (each _ _ T.nonces (λ n low. let first = earlier_first old.first_issue x.issued in omega (arith, first, low)) known.issues);
+      orders = known.orders;
+      authorizations = known.authorizations;
+    })
 
 -- a nonce that is gone
-pub removal_followed : (known : Known) (n : ℕ) (T : Tables) → IsKnownOf known T → IsKnownOf known (applied_one (RemoveNonce n) T)
-removal_followed known n T is = record {
-  meta = is.meta;
-  issues = each-filter _ _ T.nonces is.issues;
-  orders = is.orders;
-  authorizations = is.authorizations;
-}
+pub removal_followed : (old new : Known) (n : ℕ) → new ≡ record old { nonces = without old.nonces n } → (T : Tables) → IsKnownOf old T
+    → IsKnownOf new (applied_one (RemoveNonce n) T)
+removal_followed old new n is T known =
+    subst (λ k. IsKnownOf k (applied_one (RemoveNonce n) T)) (sym is)
+    (record {
+      meta = known.meta;
+      nonces = nonces_left old.nonces n T.nonces known.nonces;
+      issues = each-filter _ _ T.nonces known.issues;
+      orders = known.orders;
+      authorizations = known.authorizations;
+    })
 
 -- an account
 pub account_followed : (known : Known) (x : _) (T : Tables) → IsKnownOf known T → IsKnownOf known (applied_one (PutAccount x) T)
-account_followed known x T is = record { meta = is.meta; issues = is.issues; orders = is.orders; authorizations = is.authorizations }
+account_followed known x T is = record {
+  meta = is.meta;
+  nonces = is.nonces;
+  issues = is.issues;
+  orders = is.orders;
+  authorizations = is.authorizations;
+}
 
 -- an authorization
 pub authorization_followed : (old : Known) (ends : List ℕ) (place : ℕ) (x : AuthorizationRow) → place ≡ authz_code x.status
@@ -152,6 +168,7 @@ pub authorization_followed : (old : Known) (ends : List ℕ) (place : ℕ) (x : 
     → IsKnownOf (record old { authorization_ends = ends }) (applied_one (PutAuthorization x) T)
 authorization_followed old ends place x at is T known = record {
   meta = known.meta;
+  nonces = known.nonces;
   issues = known.issues;
   orders = known.orders;
   authorizations = subst (λ es. EndFrom (λ (r : AuthorizationRow). authz_code r.status) (λ r. r.expires) es (put (λ r. r.number) x T.authorizations))
@@ -165,6 +182,7 @@ pub order_followed : (old : Known) (ends : List ℕ) (place : ℕ) (x : OrderRow
     → IsKnownOf (record old { order_ends = ends }) (applied_one (PutOrder x) T)
 order_followed old ends place x at is T known = record {
   meta = known.meta;
+  nonces = known.nonces;
   issues = known.issues;
   orders = subst (λ es. EndFrom (λ (o : OrderRow). order_code o.status) (λ o. o.expires) es (put (λ o. o.number) x T.orders))
       (sym (is ∙ ap (λ n. lowered old.order_ends n x.expires) at))
@@ -243,6 +261,7 @@ meta_noted old new x noted rest T is known =
     subst (λ k. IsKnownOf k T) (sym rest)
     (record {
       meta = subst (λ m. IfSome new.meta (λ meta. meta ≡ m)) is noted;
+      nonces = known.nonces;
       issues = known.issues;
       orders = known.orders;
       authorizations = known.authorizations;
@@ -255,6 +274,7 @@ issue_noted old new found rest T earliest known =
     subst (λ k. IsKnownOf k T) (sym rest)
     (record {
       meta = known.meta;
+      nonces = known.nonces;
       issues = found_ends (λ n. n.issued) found T.nonces earliest;
       orders = known.orders;
       authorizations = known.authorizations;
@@ -268,6 +288,7 @@ order_end_noted old new s found rest T earliest known =
     subst (λ k. IsKnownOf k T) (sym rest)
     (record {
       meta = known.meta;
+      nonces = known.nonces;
       issues = known.issues;
       orders = noted_ends (λ o. order_code o.status) (λ o. o.expires) old.order_ends (order_code s) found T.orders earliest known.orders;
       authorizations = known.authorizations;
@@ -281,6 +302,7 @@ authorization_end_noted old new s found rest T earliest known =
     subst (λ k. IsKnownOf k T) (sym rest)
     (record {
       meta = known.meta;
+      nonces = known.nonces;
       issues = known.issues;
       orders = known.orders;
       authorizations = noted_ends (λ r. authz_code r.status) (λ r. r.expires) old.authorization_ends (authz_code s) found T.authorizations earliest
@@ -306,6 +328,11 @@ none_past {X} code end ends place m xs h late =
         let from = subst (λ n. slice_index ends n ≤ end x) same low in
         le-ltb (end x) m (omega (arith, from, late))
     one x low false is = refl
+
+-- the nonce that is known is the one of its serial
+pub serial_found : (known : Known) (T : Tables) (n : ℕ) (x : Nonce) → IsKnownOf known T → Ascends (λ y. y.serial) 1 T.nonces
+    → known_nonce known.nonces n ≡ Some x → nonces_numbered T n ≡ x ∷ []
+serial_found known T n x is ascends here = found_alone (λ y. y.serial) n 1 x T.nonces ascends (nonce_there known.nonces T.nonces n x is.nonces here)
 
 -- no nonce was issued before
 pub no_nonces_before : (known : Known) (T : Tables) (m first : ℕ) → IsKnownOf known T → first ≡ known.first_issue → m ≤ first → nonces_before T m ≡ []

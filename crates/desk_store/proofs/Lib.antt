@@ -3,6 +3,7 @@ pub mod EitherFormat
 pub mod Failing
 pub mod FirstBooks
 pub mod Knowing
+pub mod KnownNonces
 pub mod NewDesks
 pub mod OpeningFaults
 pub mod SavedDesks

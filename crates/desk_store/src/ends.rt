@@ -5,7 +5,7 @@ ghost use Rattle.store_api.specs.Sight.{ForTables, Reads};
 ghost use Rattle.desk_store.specs.Desks.{store_sight};
 
 use crate::store::Store;
-use desk_model::{AuthzStatus, Meta, OrderStatus};
+use desk_model::{AuthzStatus, Meta, Nonce, OrderStatus};
 use model_lives::{AuthorizationsWhere, NoncesWhere, OrdersWhere};
 use sql_read as rows;
 use sqlite::Alter;
@@ -103,12 +103,32 @@ impl<S: Alter> Store<S> {
         }
     }
 
+    /// The nonces of a query, read where there may be some.
+    ///
+    /// # Errors
+    ///
+    /// As of a look-up.
+    pub(crate) fn read_nonces(
+        &mut self,
+        alloc: Global,
+        which: NoncesWhere,
+    ) -> Result<Vec<Nonce>, StorageFault>
+        ensures reads { Reads (store_sight S.Store) self.old self.new result }
+        ensures found { ForTables (store_sight S.Store) self.old self.new (λ T. IfOk result (λ rows. rows.items ≡ nonces_where T which)) }
+    {
+        if self.has_no_nonces(which)? {
+            return Ok(Vec::new(alloc));
+        }
+        let read = rows::find_nonces(alloc, &mut self.conn, which);
+        self.told(read)
+    }
+
     /// Whether a query has no nonces; where it answers `false`, it may have some.
     ///
     /// # Errors
     ///
     /// As of a look-up.
-    pub(crate) fn has_no_nonces(&mut self, which: NoncesWhere) -> Result<bool, StorageFault>
+    fn has_no_nonces(&mut self, which: NoncesWhere) -> Result<bool, StorageFault>
         ensures reads { Reads (store_sight S.Store) self.old self.new result }
         ensures found { ForTables (store_sight S.Store) self.old self.new (λ T. IfOk result (λ none. IsTrue none → nonces_where T which ≡ [])) }
     {

@@ -1,25 +1,38 @@
 //! What a store knows of its tables from one call to the next: nobody else writes them, so what was read of them and saved since is
 //! so of them.
-ghost use Rattle.std.specs.Prelude.{◌≡◌, ◌<◌, IfOk, IfSome, slice_index, slice_set};
+ghost use Rattle.std.specs.Prelude.{◌≡◌, ◌<◌, IfOk, IfSome, Some, slice_index, slice_set};
 ghost use Rattle.desk_model.specs.Change.{applied, applied_one};
 ghost use Rattle.desk_model.specs.Derived.{authz_code, order_code};
 ghost use Rattle.desk_model.specs.Tables.{Tables};
-ghost use Rattle.desk_store.specs.Known.{IsKnownOf, bound_of, earlier, lowered, nothing};
+ghost use Rattle.model_laws.specs.Ordered.{Ascends};
+ghost use Rattle.model_lives.specs.LookUps.{nonces_where};
+ghost use Rattle.desk_store.specs.Known.{IsKnownOf, bound_of, earlier, known_nonce, lowered, nonce_place, nothing, without};
 
-use desk_model::{AuthzStatus, Change, Meta, OrderStatus};
-use std::alloc::AllocError;
+use desk_model::{AuthzStatus, Change, Meta, Nonce, OrderStatus};
+use model_lives::NoncesWhere;
+use std::alloc::{AllocError, Global};
 
 /// What is known of the tables of a store without asking for it.
 #[derive(Drop)]
 pub(crate) struct Known {
     // The desk's own row, where it was read or saved.
     meta: Option<Meta>,
+    // Nonces that are there, each in the place of its serial: the newest of those that were saved.
+    nonces: [Option<Nonce>; 8],
     // A moment, in seconds since 1970, before which no nonce was issued that is there.
     first_issue: u64,
     // For each status of an order, a moment, in seconds since 1970, before which no order of that status ends.
     order_ends: [u64; 5],
     // For each status of an authorization, a moment before which none of that status ends.
     authorization_ends: [u64; 6],
+}
+
+// The place of a serial among the nonces.
+fn nonce_place(serial: u64) -> usize
+    ensures place { result ≡ nonce_place serial }
+    ensures in_range { result < 8 }
+{
+    (serial % 8) as usize
 }
 
 // The place of a status among the ends.
@@ -80,6 +93,7 @@ impl Known {
     {
         Known {
             meta: None,
+            nonces: [None; 8],
             first_issue: 0,
             order_ends: [0; 5],
             authorization_ends: [0; 6],
@@ -96,6 +110,39 @@ impl Known {
     {
         match &self.meta {
             Some(meta) => Ok(Some(meta.clone()?)),
+            None => Ok(None),
+        }
+    }
+
+    // The nonce of a serial, or `None` where it is not known that there is one.
+    fn nonce(&self, serial: u64) -> Option<Nonce>
+        ensures { result ≡ known_nonce self.now.nonces serial }
+    {
+        let kept = self.nonces[nonce_place(serial)];
+        match kept {
+            Some(nonce) if nonce.serial == serial => Some(nonce),
+            _ => None,
+        }
+    }
+
+    /// The nonces that a query has, or `None` where these are not known.
+    ///
+    /// # Errors
+    ///
+    /// Where there is no memory for them.
+    pub(crate) fn find_nonces(
+        &self,
+        alloc: Global,
+        which: NoncesWhere,
+    ) -> Result<Option<Vec<Nonce>>, AllocError>
+        ensures { (T : Tables) → IsKnownOf self.now T → Ascends (λ n. n.serial) 1 T.nonces
+            → IfOk result (λ found. IfSome found (λ nonces. nonces.items ≡ nonces_where T which)) }
+    {
+        let NoncesWhere::Serial(serial) = which else {
+            return Ok(None);
+        };
+        match self.nonce(serial) {
+            Some(nonce) => Ok(Some(vec![in alloc; nonce]?)),
             None => Ok(None),
         }
     }
@@ -150,13 +197,33 @@ impl Known {
         self.authorization_ends[authorization_place(status)] = bound_of(earliest);
     }
 
+    // Knows a nonce that is put.
+    fn add_nonce(&mut self, nonce: &Nonce)
+        ensures { self.new ≡ record self.old {
+          first_issue = earlier self.old.first_issue nonce.now.issued;
+          nonces = slice_set self.old.nonces (nonce_place nonce.now.serial) (Some nonce.now);
+        } }
+    {
+        self.first_issue = earlier(self.first_issue, nonce.issued);
+        self.nonces[nonce_place(nonce.serial)] = Some(*nonce);
+    }
+
+    // Knows no nonce of a serial that is removed.
+    fn remove_nonce(&mut self, serial: u64)
+        ensures { self.new ≡ record self.old { nonces = without self.old.nonces serial } }
+    {
+        if self.nonce(serial).is_some() {
+            self.nonces[nonce_place(serial)] = None;
+        }
+    }
+
     // What is known after a change.
     fn follow_one(&mut self, change: &Change)
         ensures { (T : Tables) → IsKnownOf self.old T → IsKnownOf self.new (applied_one change.now T) }
     {
         match change {
             Change::PutMeta(meta) => self.note_meta(meta),
-            Change::PutNonce(nonce) => self.first_issue = earlier(self.first_issue, nonce.issued),
+            Change::PutNonce(nonce) => self.add_nonce(nonce),
             Change::PutAuthorization(row) => lower(
                 &mut self.authorization_ends,
                 authorization_place(row.status),
@@ -167,7 +234,7 @@ impl Known {
                 order_place(row.status),
                 row.expires,
             ),
-            Change::RemoveNonce(_) => {}
+            Change::RemoveNonce(serial) => self.remove_nonce(*serial),
             Change::PutAccount(_) => {}
         }
     }

@@ -27,11 +27,10 @@ impl<S: Alter> LookUps for Store<S> {
         alloc: Global,
         which: NoncesWhere,
     ) -> Result<Vec<Nonce>, StorageFault> {
-        if self.has_no_nonces(which)? {
-            return Ok(Vec::new(alloc));
+        match self.known.find_nonces(alloc, which)? {
+            Some(known) => Ok(known),
+            None => self.read_nonces(alloc, which),
         }
-        let read = rows::find_nonces(alloc, &mut self.conn, which);
-        self.told(read)
     }
 
     fn find_accounts(

@@ -3,7 +3,7 @@ use Rattle.desk_store.proofs.known.Known.follow_one.Goals as goal
 
 pub returns-in-PutNonce : goal.returns-in-PutNonce
 returns-in-PutNonce c T known =
-    followed_as _ _ _ T c.in-PutNonce.is (nonce_followed c.args.self.now _ c.in-PutNonce.nonce c.earlier-self.ensures T known)
+    followed_as _ _ _ T c.in-PutNonce.is (nonce_followed c.args.self.now _ c.in-PutNonce.nonce c.add_nonce.ensures T known)
 
 pub returns-in-PutAuthorization : goal.returns-in-PutAuthorization
 returns-in-PutAuthorization c T known =
@@ -16,4 +16,5 @@ returns-in-PutOrder c T known =
     (order_followed c.args.self.now _ _ c.in-PutOrder.row c.order_place.ensures.code c.lower-in-PutOrder.ensures T known)
 
 pub returns-in-RemoveNonce : goal.returns-in-RemoveNonce
-returns-in-RemoveNonce c T known = followed_as _ _ _ T c.in-RemoveNonce.is (removal_followed c.args.self.now _ T known)
+returns-in-RemoveNonce c T known =
+    followed_as _ _ _ T c.in-RemoveNonce.is (removal_followed c.args.self.now _ c.in-RemoveNonce.serial c.remove_nonce.ensures T known)

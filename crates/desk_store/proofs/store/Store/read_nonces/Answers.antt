@@ -2,7 +2,7 @@ use Rattle.std.proofs.Common.{refl}
 use Rattle.sqlite.specs.Held.{state}
 use Rattle.store_api.proofs.Readings.{reads_then, stands_read}
 use Rattle.desk_store.proofs.Standing.{hands_on}
-use Rattle.desk_store.proofs.look_ups.StoreLookUps.find_nonces.Goals as goal
+use Rattle.desk_store.proofs.store.Store.read_nonces.Goals as goal
 
 pub returns-clause-reads : goal.returns-clause-reads
 returns-clause-reads g c =
