@@ -1,11 +1,12 @@
 //! The store as a source of rows: one statement a look-up, and one more for the children of each row; none for what it knows.
 use crate::store::Store;
-use desk_model::{AccountRow, AuthorizationRow, Meta, Nonce, OrderRow};
+use desk_model::{AccountRow, AuthorizationRow, ChallengeRow, Meta, Nonce, OrderRow};
 use model_lives::{AccountsWhere, AuthorizationsWhere, NoncesWhere, OrdersWhere};
 use sql_read as rows;
 use sqlite::Alter;
 use std::alloc::Global;
 use store_api::{LookUps, StorageFault};
+use store_columns::Owned;
 
 impl<S: Alter> LookUps for Store<S> {
     ghost use Rattle.sqlite.specs.Tree.{Trees};
@@ -98,8 +99,11 @@ impl<S: Alter> LookUps for Store<S> {
         self.told(read)
     }
 
-    fn owners_processing(&mut self, alloc: Global) -> Result<Vec<u64>, StorageFault> {
-        let read = rows::owners_processing(alloc, &mut self.conn);
+    fn waiting_challenges(
+        &mut self,
+        alloc: Global,
+    ) -> Result<Vec<Owned<ChallengeRow>>, StorageFault> {
+        let read = rows::waiting_challenges(alloc, &mut self.conn);
         self.told(read)
     }
 }

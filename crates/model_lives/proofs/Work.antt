@@ -7,7 +7,7 @@ use Rattle.serde_json.specs.Data.{Data, number, string, unsigned}
 use Rattle.desk_model.specs.Asked.{asks_orders}
 use Rattle.desk_model.specs.Authorization.{is_pending}
 use Rattle.desk_model.specs.Derived.{numbers_of}
-use Rattle.desk_model.specs.Document.{bytes_of, order_work, order_work_document, work_document, work_of}
+use Rattle.desk_model.specs.Document.{bytes_of, challenge_work, order_work, order_work_document, work_document, work_of}
 use Rattle.desk_model.specs.Effect.{falls, is_overdue, swept, swept_authorization, swept_order}
 use Rattle.desk_model.specs.Json.{document, list}
 use Rattle.desk_model.specs.Kept.{EachOf, IsClosed, Kept, restricted}
@@ -40,7 +40,7 @@ use Rattle.model_lives.specs.AnswersAs.{AnswersAs, CarriesOutAs, SettlesAs}
 use Rattle.model_lives.specs.Few.{IsStatedFor, needed_rows}
 use Rattle.model_lives.specs.IsEnough.{IsEnoughFor, challenge_work_rows, enough, enough_at, has_work, is_worked_on, order_work_rows}
 use Rattle.model_lives.specs.IsPart.{IsPartFor}
-use Rattle.model_lives.specs.Thinned.{Thinning, all_challenges, all_listed, in_whole, no_challenges, thin, thinned}
+use Rattle.model_lives.specs.Thinned.{Thinning, all_challenges, all_listed, in_whole, no_challenges, thin, thinned, waiting_challenges, with_challenges}
 use Rattle.model_lives.proofs.Between.{authorizations_stand, none_listed, open_kept, orders_end, parts_answer}
 use Rattle.model_lives.proofs.Cut.{at_number, no_part, no_rows, numbered}
 use Rattle.model_lives.proofs.Enough.{answers_at, restricted_ordered}
@@ -130,14 +130,19 @@ validator_kept T =
 validator_same : (T : Tables) → IsOrdered T → EachOf (λ r. (validator_kept T).authorizations r.number ≡ has_work r) T.authorizations
 validator_same T h = numbered (λ (r : AuthorizationRow). r.number) has_work 1 T.authorizations h.authorizations.0
 
-validator_cut : (T : Tables) → IsOrdered T → challenge_work_rows T ≡ restricted (validator_kept T) T
+-- with the challenges that wait alone
+abbrev validator_thinning : Tables → Thinning
+validator_thinning T = record { rows = validator_kept T; challenges = waiting_challenges; listed = all_listed }
+
+validator_cut : (T : Tables) → IsOrdered T → challenge_work_rows T ≡ thinned (validator_thinning T) T
 validator_cut T h =
     λ i. record {
       meta = T.meta;
       nonces = filter_nothing T.nonces i;
       accounts = filter_nothing T.accounts i;
-      authorizations = filter_same has_work _ T.authorizations (each _ _ T.authorizations (λ r e. sym e) (validator_same T h)) i;
-      orders = filter_nothing T.orders i;
+      authorizations = map (with_challenges waiting_challenges)
+          (filter_same has_work _ T.authorizations (each _ _ T.authorizations (λ r e. sym e) (validator_same T h)) i);
+      orders = (filter_nothing T.orders ∙ sym (whole_orders (restricted (validator_kept T) T).orders)) i;
     }
 
 validator_settles : (T : Tables) (m : ℕ) → IsOrdered T → SettlesAs m office.ChallengeWork T (restricted (validator_kept T) T)
@@ -147,6 +152,46 @@ validator_settles T m h =
       verdict = shows_as (validator_kept T) T m (show.List listing.ChallengeWork) h
           (ap (λ (items : List Data). ok 200 (document ((codes "challenges", list items) ∷ [])))
           (work_left m (λ r. (validator_kept T).authorizations r.number) T.authorizations (validator_same T h)));
+      records = refl;
+    }
+
+-- what passes a test passes it again
+filter_again : {X : Type 0} (p : X → Bool) (xs : List X) → filter p (filter p xs) ≡ filter p xs
+filter_again p [] = refl
+filter_again p (x ∷ xs) = by (p x) refl (filter_again p xs)
+  where
+    by : (b : Bool) → p x ≡ b → filter p (filter p xs) ≡ filter p xs →
+        filter p (cond b (x ∷ filter p xs) (filter p xs)) ≡ cond b (x ∷ filter p xs) (filter p xs)
+    by true e ih = ap (λ b. cond b (x ∷ filter p (filter p xs)) (filter p (filter p xs))) e ∙ ap (λ l. x ∷ l) ih
+    by false e ih = ih
+
+-- an authorization shows no challenge but those that wait
+work_thin : (r : AuthorizationRow) → work_of (with_challenges waiting_challenges r) ≡ work_of r
+work_thin r = by (is_pending r.status)
+  where
+    waits : ChallengeRow → Bool
+    waits c = is_processing_challenge c.status
+
+    by : (b : Bool) → cond b (map (work_document (with_challenges waiting_challenges r)) (filter waits (filter waits r.challenges))) []
+        ≡ cond b (map (work_document r) (filter waits r.challenges)) []
+    by true = ap (map (work_document r)) (filter_again waits r.challenges)
+    by false = refl
+
+challenge_work_thin : (S : Tables) → challenge_work (thin waiting_challenges all_listed S) ≡ challenge_work S
+challenge_work_thin S = ap (λ (items : List Data). document ((codes "challenges", list items) ∷ [])) (items S.authorizations)
+  where
+    items : (rows : List AuthorizationRow) → flat_map work_of (map (with_challenges waiting_challenges) rows) ≡ flat_map work_of rows
+    items [] = refl
+    items (r ∷ rows) = λ i. work_thin r i ++ items rows i
+
+-- so it needs no others
+validator_thin : (T P : Tables) (m : ℕ) → SettlesAs m office.ChallengeWork T P → SettlesAs m office.ChallengeWork T (thin waiting_challenges all_listed P)
+validator_thin T P m h =
+    record {
+      judged = refl;
+      verdict =
+          carries_thin T P m (answers (show.List listing.ChallengeWork)) waiting_challenges all_listed
+          (swept_thin waiting_challenges all_listed m P (all_falling m P)) (λ index. ap (ok 200) (challenge_work_thin (swept m P))) h.verdict;
       records = refl;
     }
 
@@ -314,7 +359,8 @@ few_enough T call h stated = by call.ask refl
 
     by : (a : Ask) → call.ask ≡ a → IsEnoughFor call T (enough T call)
     by (ask.Office office.ChallengeWork) is =
-        enough_by T call (ask.Office office.ChallengeWork) (validator_kept T) is (validator_cut T h) (validator_settles T m h)
+        thinned_by T call (ask.Office office.ChallengeWork) (validator_thinning T) is (validator_cut T h)
+        (validator_thin T (restricted (validator_kept T) T) m (validator_settles T m h))
     by (ask.Office office.OrderWork) is = thinned_by T call (ask.Office office.OrderWork) (issuer_thinning T) is (issuer_cut T h)
         (issuer_thin T (restricted (issuer_kept T) T) m (issuer_settles T m h))
     by (ask.Office office.Directory) is =

@@ -12,7 +12,7 @@ use Rattle.desk_model.specs.declared.call.OfficeAsk.TheVariants as office
 use Rattle.desk_model.specs.declared.rows.AuthorizationRow.{AuthorizationRow}
 use Rattle.model_lives.specs.AnswersAs.{AnswersAs}
 use Rattle.model_lives.specs.Few.{needed_rows}
-use Rattle.model_lives.specs.Thinned.{Thinning, thinned, without_challenges}
+use Rattle.model_lives.specs.Thinned.{Thinning, thinned, waiting_challenges, with_challenges, without_challenges}
 
 -- the part is cut from the whole, of whose rows it may lack what belongs to them, and answers the call as the whole does
 pub record IsEnoughFor (call : Call) (whole part : Tables) : Type 0 where
@@ -30,10 +30,16 @@ has_work r = list_any (λ c. is_processing_challenge c.status) r.challenges
 abbrev pub is_worked_on : Tables → AuthorizationRow → Bool
 is_worked_on T r = list_any (λ o. is_processing o.status && lists o r.number) T.orders
 
--- for the work of the validator: these authorizations, whose ends tell whether they are still pending
+-- for the work of the validator: these authorizations, whose ends tell whether they are still pending, with the challenges that wait alone
 abbrev pub challenge_work_rows : Tables → Tables
 challenge_work_rows T =
-    record { meta = T.meta; nonces = []; accounts = []; authorizations = filter has_work T.authorizations; orders = [] }
+    record {
+      meta = T.meta;
+      nonces = [];
+      accounts = [];
+      authorizations = map (with_challenges waiting_challenges) (filter has_work T.authorizations);
+      orders = [];
+    }
 
 -- for the work of the issuer: these orders, and the authorizations that they list, whose ends let an order fall, without challenges
 abbrev pub order_work_rows : Tables → Tables

@@ -2,12 +2,14 @@
 use Rattle.std.specs.Prelude.{ℕ, ◌≡◌, ◌==◌, ◌&&◌, Bool, true, nat_lt, bytes_eq, List, map}
 use Rattle.std.specs.List.{filter, flat_map, list_any}
 use Rattle.desk_model.specs.Derived.{authz_code, numbers_of, order_code}
+use Rattle.desk_model.specs.Kept.{EachOf}
 use Rattle.desk_model.specs.Legal.{is_processing_challenge}
 use Rattle.desk_model.specs.Order.{is_processing}
 use Rattle.desk_model.specs.Tables.{Tables}
 use Rattle.desk_model.specs.declared.objects.Nonce.{Nonce}
 use Rattle.desk_model.specs.declared.rows.AccountRow.{AccountRow}
 use Rattle.desk_model.specs.declared.rows.AuthorizationRow.{AuthorizationRow}
+use Rattle.desk_model.specs.declared.rows.ChallengeRow.{ChallengeRow}
 use Rattle.desk_model.specs.declared.rows.OrderRow.{OrderRow}
 use Rattle.desk_model.specs.declared.status.AuthzStatus.{AuthzStatus}
 use Rattle.desk_model.specs.declared.status.OrderStatus.{OrderStatus}
@@ -151,10 +153,19 @@ orders_listing T n = map (λ p. p.0) (filter (λ p. p.1 == n) (places T))
 abbrev pub owners_of : Tables → ℕ → List ℕ
 owners_of T n = map (λ p. p.1) (filter (λ p. p.0 == n) (challenges T))
 
--- the authorizations of challenges that are stored as waiting for the validator, each once for each of them
+-- the challenges of an authorization that are stored as waiting for the validator
+abbrev pub waiting_of : AuthorizationRow → List ChallengeRow
+waiting_of r = filter (λ c. is_processing_challenge c.status) r.challenges
+
+-- the authorizations of these, each once for each of them
 abbrev pub owners_processing : Tables → List ℕ
-owners_processing T = flat_map (λ r. map (λ c. r.number) (filter (λ c. is_processing_challenge c.status) r.challenges)) T.authorizations
+owners_processing T = flat_map (λ r. map (λ c. r.number) (waiting_of r)) T.authorizations
 
 -- the same numbers, in whatever order and however often
 abbrev pub AreNumbers : List ℕ → List ℕ → Type 0
 AreNumbers ns ms = (p : ℕ → Bool) → list_any p ns ≡ list_any p ms
+
+-- the challenges that wait, each behind the number of its authorization: those of one authorization in their order, and of no others
+pub record AreWaiting (T : Tables) (rows : List (ℕ × ChallengeRow)) : Type 0 where
+  pub owners : AreNumbers (map (λ p. p.0) rows) (owners_processing T)
+  pub own : EachOf (λ r. map (λ p. p.1) (filter (λ p. p.0 == r.number) rows) ≡ waiting_of r) T.authorizations

@@ -2,6 +2,7 @@
 use Rattle.std.specs.Prelude.{ℕ, [], Bool, true, false, map, if◌then◌else◌}
 use Rattle.std.specs.List.{filter}
 use Rattle.desk_model.specs.Kept.{Kept, restricted}
+use Rattle.desk_model.specs.Legal.{is_processing_challenge}
 use Rattle.desk_model.specs.Tables.{Tables}
 use Rattle.desk_model.specs.declared.rows.AuthorizationRow.{AuthorizationRow}
 use Rattle.desk_model.specs.declared.rows.ChallengeRow.{ChallengeRow}
@@ -50,6 +51,10 @@ all_challenges n c = true
 
 abbrev pub no_challenges : ℕ → ChallengeRow → Bool
 no_challenges n c = false
+
+-- those that are stored as waiting for the validator are kept
+abbrev pub waiting_challenges : ℕ → ChallengeRow → Bool
+waiting_challenges n c = is_processing_challenge c.status
 
 -- what each order lists is kept
 abbrev pub all_listed : ℕ → Bool

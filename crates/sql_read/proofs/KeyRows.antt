@@ -13,6 +13,7 @@ use Rattle.model_laws.proofs.Basics.{each, each-map, each_both}
 use Rattle.model_laws.proofs.Keeps.{each-filter}
 use Rattle.model_laws.specs.Distinct.{Distinct}
 use Rattle.desk_model.specs.Kept.{EachOf}
+use Rattle.desk_model.specs.Legal.{is_processing_challenge}
 use Rattle.desk_model.specs.Tables.{Tables}
 use Rattle.desk_model.specs.declared.objects.Answer.{Answer}
 use Rattle.desk_model.specs.declared.rows.ChallengeRow.{ChallengeRow}
@@ -131,7 +132,14 @@ module _ (T : Tables) (apart : Distinct number (challenge_rows T.authorizations)
       each-map (HasItsKey T) (λ (c : Owned ChallengeRow). c.row) (filter (λ c. c.owner == n) all)
       (each-filter (λ (c : Owned ChallengeRow). HasItsKey T c.row) (λ c. c.owner == n) all (keys_own all apart))
 
-  -- so has the first above a number
+  -- so has each that waits
+  pub keys_waiting : EachOf (λ c. HasItsKey T c.row) (filter (λ c. is_processing_challenge c.row.status) (sorted_by number (challenge_rows T.authorizations)))
+  keys_waiting =
+      let P = λ (c : Owned ChallengeRow). HasItsKey T c.row in
+      let rows = challenge_rows T.authorizations in
+      each-filter P (λ c. is_processing_challenge c.row.status) (sorted_by number rows) (each_sorted number P rows (keys_own rows apart))
+
+  -- and the first above a number
   pub keys_above : (n : ℕ) → EachOf (HasItsKey T) (first_of (challenges_above T n))
   keys_above n =
       let P = λ (c : Owned ChallengeRow). HasItsKey T c.row in

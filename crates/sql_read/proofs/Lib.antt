@@ -39,5 +39,5 @@ pub mod TableFailures
 pub mod Tests
 pub mod Told
 pub mod UnderLemmas
-pub mod WaitingOwners
+pub mod WaitingChallenges
 pub mod WholeTables

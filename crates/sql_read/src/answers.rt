@@ -2,8 +2,9 @@
 ghost use Rattle.std.specs.Prelude.{◌≡◌, [], ◌∷◌, List, Some, IfErr, IfOk, IsTrue, OnOk, map, option_map};
 ghost use Rattle.sqlite.specs.State.{HasCleanDisk, IsUnchanged};
 ghost use Rattle.sqlite.specs.Held.{state};
-ghost use Rattle.store_columns.specs.Flat.{bare};
+ghost use Rattle.store_columns.specs.Flat.{bare, bare_row};
 ghost use Rattle.store_columns.specs.declared.flat_rows.AnswerKey.{AnswerKey as KeyRow};
+ghost use Rattle.store_columns.specs.declared.flat_rows.Owned.{Owned as OwnedRow};
 ghost use Rattle.desk_model.specs.Kept.{EachOf};
 ghost use Rattle.desk_model.specs.declared.rows.ChallengeRow.{ChallengeRow as Challenge};
 ghost use Rattle.sql_schema.specs.Stays.{Asks};
@@ -24,7 +25,7 @@ use desk_model::{Answer, ChallengeRow};
 use sql_schema::keys;
 use sqlite::{Alter, Connection, Error, Row};
 use std::alloc::Global;
-use store_columns::{AnswerKey, BareChallenge, ChallKeyColumns};
+use store_columns::{AnswerKey, BareChallenge, ChallKeyColumns, Owned};
 
 impl Selected for ChallKeyColumns {
     ghost spelled = { key_in };
@@ -121,6 +122,35 @@ pub(crate) fn with_answers<S: Alter>(
     for row in heads {
         let answered = answer_to(alloc, conn, row)?;
         rows.push(with_answer(row, answered))?;
+    }
+    Ok(rows)
+}
+
+/// The challenges under their authorizations, each with its answer: one statement for each that was answered. It fails as `find_rows`
+/// does.
+pub(crate) fn with_owned_answers<S: Alter>(
+    alloc: Global,
+    conn: &mut Connection<S>,
+    heads: &[Owned<BareChallenge>],
+) -> Result<Vec<Owned<ChallengeRow>>, ReadFault>
+    ensures found { ForHeld (state S.Store conn.old) (state S.Store conn.new) (λ T. IsStoredBook T → IsTrue (state S.Store conn.old).is_open
+        → (rows : List (OwnedRow Challenge)) → EachOf (λ c. HasItsKey T c.row) rows → heads.now ≡ map bare_row rows
+        → IfOk result (λ found. found.items ≡ rows)) }
+    ensures caused { ForHeld (state S.Store conn.old) (state S.Store conn.new) (λ T. IsStoredBook T → MayRead (state S.Store conn.old)
+        → (rows : List (OwnedRow Challenge)) → EachOf (λ c. HasItsKey T c.row) rows → heads.now ≡ map bare_row rows
+        → IfErr result (IsOfMemoryOrDisk (state S.Store conn.old) (state S.Store conn.new))) }
+    ensures unchanged { HasCleanDisk (state S.Store conn.new) → IsTrue (state S.Store conn.old).is_open
+        → OnOk result (IsUnchanged (state S.Store conn.old) (state S.Store conn.new)) }
+    ensures asks { Asks (state S.Store conn.old) (state S.Store conn.new) }
+{
+    let mut rows = Vec::new(alloc);
+    for head in heads {
+        let answered = answer_to(alloc, conn, &head.row)?;
+        let row = with_answer(&head.row, answered);
+        rows.push(Owned {
+            owner: head.owner,
+            row,
+        })?;
     }
     Ok(rows)
 }

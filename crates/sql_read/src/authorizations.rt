@@ -1,10 +1,10 @@
 //! Authorizations, each with its challenges, read from the rows of answers and looked up.
-ghost use Rattle.std.specs.Prelude.{◌≡◌, IfErr, IfOk, OnOk};
+ghost use Rattle.std.specs.Prelude.{◌≡◌, map, IfErr, IfOk, OnOk};
 ghost use Rattle.sqlite.specs.State.{HasCleanDisk, IsUnchanged};
 ghost use Rattle.sqlite.specs.Held.{state};
 ghost use Rattle.store_columns.specs.Flat.{without_challenges};
 ghost use Rattle.model_lives.specs.Above.{authorizations_above, challenges_above, first_of};
-ghost use Rattle.model_lives.specs.LookUps.{AreNumbers, authorizations_where, bare_authorizations, owners_of, owners_processing};
+ghost use Rattle.model_lives.specs.LookUps.{AreWaiting, authorizations_where, bare_authorizations, owners_of};
 ghost use Rattle.sql_schema.specs.Stays.{Asks};
 ghost use Rattle.sql_read.specs.Earliest.{IsEarliest, authorization_ends};
 ghost use Rattle.sql_read.specs.Failures.{MayRead};
@@ -16,7 +16,7 @@ ghost use Rattle.sql_read.specs.Spelled.{authorization_in, challenge_in};
 ghost use Rattle.store_book.specs.IsBook.{IsStoredBook};
 ghost use Rattle.sql_read.specs.Under.{HasItsChallenges};
 
-use crate::answers::with_answers;
+use crate::answers::{with_answers, with_owned_answers};
 use crate::columns::Selected;
 use crate::earliest::earliest;
 use crate::fault::ReadFault;
@@ -30,7 +30,7 @@ use model_lives::AuthorizationsWhere;
 use sql_schema::{authorizations, challenges};
 use sqlite::{Alter, Connection, Error, Row};
 use std::alloc::Global;
-use store_columns::{AuthzColumns, ChallColumns};
+use store_columns::{AuthzColumns, ChallColumns, Owned};
 
 impl Selected for AuthzColumns {
     ghost spelled = { authorization_in };
@@ -195,26 +195,27 @@ pub fn owners_of<S: Alter>(
     owners(alloc, rows)
 }
 
-/// The numbers of the authorizations of challenges that are stored as waiting for the validator, in any order.
+/// The challenges that are stored as waiting for the validator, each with the number of its authorization; those of one
+/// authorization by number.
 ///
 /// # Errors
 ///
 /// The engine's, and `NotARow` where a row is not one of a desk; nothing is changed. Of a desk's tables it fails for memory or the
 /// disk alone.
-pub fn owners_processing<S: Alter>(
+pub fn waiting_challenges<S: Alter>(
     alloc: Global,
     conn: &mut Connection<S>,
-) -> Result<Vec<u64>, ReadFault>
+) -> Result<Vec<Owned<ChallengeRow>>, ReadFault>
     ensures found { ForHeld (state S.Store conn.old) (state S.Store conn.new) (λ T. IsStoredBook T
-        → IfOk result (λ numbers. AreNumbers numbers.items (owners_processing T))) }
+        → IfOk result (λ rows. AreWaiting T (map (λ c. (c.owner, c.row)) rows.items))) }
     ensures caused { ForHeld (state S.Store conn.old) (state S.Store conn.new) (λ T. IsStoredBook T → MayRead (state S.Store conn.old)
         → IfErr result (IsOfMemoryOrDisk (state S.Store conn.old) (state S.Store conn.new))) }
     ensures unchanged { HasCleanDisk (state S.Store conn.new) → OnOk result (IsUnchanged (state S.Store conn.old) (state S.Store conn.new)) }
     ensures asks { Asks (state S.Store conn.old) (state S.Store conn.new) }
 {
     let params = text_param(ChallengeStatus::Processing.as_str());
-    let rows = find_rows::<S, ChallColumns>(alloc, conn, challenges::SELECT_WITH_STATUS, &params)?;
-    owners(alloc, rows)
+    let heads = find_rows::<S, ChallColumns>(alloc, conn, challenges::SELECT_WITH_STATUS, &params)?;
+    with_owned_answers(alloc, conn, &heads)
 }
 
 /// The authorization of the least number above this one, if there is one.

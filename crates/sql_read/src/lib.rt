@@ -26,7 +26,7 @@ mod values;
 pub use accounts::{account_above, find_accounts};
 pub use authorizations::{
     authorization_above, bare_authorizations, challenge_above, earliest_authorization_end,
-    find_authorizations, owners_of, owners_processing,
+    find_authorizations, owners_of, waiting_challenges,
 };
 pub use checked::has_book_rows;
 pub use fault::ReadFault;

@@ -11,12 +11,12 @@ use Rattle.desk_model.specs.declared.rows.OrderRow.{OrderRow}
 use Rattle.model_laws.proofs.Basics.{find-map}
 use Rattle.model_laws.specs.Ordered.{IsOrdered}
 use Rattle.model_laws.specs.Placing.{puts}
-use Rattle.model_lives.specs.IsEnough.{is_worked_on}
+use Rattle.model_lives.specs.IsEnough.{has_work, is_worked_on}
 use Rattle.model_lives.specs.Loaded.{listed_authorizations}
-use Rattle.model_lives.specs.LookUps.{authorizations_numbered, bare_authorizations, orders_processing}
+use Rattle.model_lives.specs.LookUps.{AreNumbers, authorizations_numbered, bare_authorizations, orders_processing, owners_processing}
 use Rattle.model_lives.specs.Thinned.{without_challenges}
 use Rattle.model_lives.proofs.Lists.{filter_nothing}
-use Rattle.model_lives.proofs.WorkLoading.{listed_loaded}
+use Rattle.model_lives.proofs.WorkLoading.{listed_loaded, work_loaded}
 use Rattle.store_api.proofs.Missing.{missings_put}
 use Rattle.store_api.specs.Needing.{missing, missings}
 
@@ -71,21 +71,32 @@ nested T (o ∷ os) =
     flat_map-append (authorizations_numbered T) (numbers_of o.listed) (flat_map (λ o. numbers_of o.listed) os)
     ∙ ap (λ l. flat_map (authorizations_numbered T) (numbers_of o.listed) ++ l) (nested T os)
 
+-- the authorizations of numbers without challenges, each put once
+bare_loaded : (T : Tables) → IsOrdered T → (numbers : List ℕ) →
+    missings (λ r. r.number) (bare_authorizations T) numbers []
+    ≡ map without_challenges (puts (λ r. r.number) (flat_map (authorizations_numbered T) numbers) [])
+bare_loaded T h numbers =
+    missings_bare number without_challenges (λ r. refl) (authorizations_numbered T) numbers []
+    ∙ ap (map without_challenges)
+    (ap (missings number (authorizations_numbered T) numbers) (filter_nothing T.authorizations)
+    ∙ missings_put number T.authorizations h.authorizations.0 numbers (λ r. false)
+    ∙ ap (puts number (flat_map (authorizations_numbered T) numbers)) (sym (filter_nothing T.authorizations)))
+  where
+    number : AuthorizationRow → ℕ
+    number r = r.number
+
+-- those of challenges that wait, without these
+pub bare_working : (T : Tables) → IsOrdered T → (numbers : List ℕ) → AreNumbers numbers (owners_processing T) →
+    missings (λ r. r.number) (bare_authorizations T) numbers [] ≡ map without_challenges (filter has_work T.authorizations)
+bare_working T h numbers are = bare_loaded T h numbers ∙ ap (map without_challenges) (work_loaded T numbers h are)
+
 -- what the orders list that wait for a certificate, without challenges
 pub worked_on : (T : Tables) → IsOrdered T →
     missings (λ r. r.number) (bare_authorizations T) (flat_map (λ o. numbers_of o.listed) (orders_processing T)) []
     ≡ map without_challenges (filter (is_worked_on T) T.authorizations)
 worked_on T h =
-    missings_bare number without_challenges (λ r. refl) (authorizations_numbered T) listed []
-    ∙ ap (map without_challenges)
-    (ap (missings number (authorizations_numbered T) listed) (filter_nothing T.authorizations)
-    ∙ missings_put number T.authorizations h.authorizations.0 listed (λ r. false)
-    ∙ ap (puts number (flat_map (authorizations_numbered T) listed)) (sym (filter_nothing T.authorizations))
-    ∙ ap (λ rows. puts number rows []) (nested T (orders_processing T))
-    ∙ listed_loaded T h)
+    bare_loaded T h (flat_map (λ (o : OrderRow). numbers_of o.listed) (orders_processing T))
+    ∙ ap (map without_challenges) (ap (λ rows. puts number rows []) (nested T (orders_processing T)) ∙ listed_loaded T h)
   where
     number : AuthorizationRow → ℕ
     number r = r.number
-
-    listed : List ℕ
-    listed = flat_map (λ (o : OrderRow). numbers_of o.listed) (orders_processing T)

@@ -33,7 +33,7 @@ use Rattle.store_api.proofs.Missing.{missing_put, put_number, rows_at, with_numb
 use Rattle.store_api.specs.Needing.{lacking, missing, missings}
 
 -- the rows of a number that is found are that row
-rows_one : {X : Type 0} (number : X → ℕ) (m n : ℕ) (z : X) (xs : List X) → Ascends number m xs → find (λ x. number x == n) xs ≡ Some z →
+pub rows_one : {X : Type 0} (number : X → ℕ) (m n : ℕ) (z : X) (xs : List X) → Ascends number m xs → find (λ x. number x == n) xs ≡ Some z →
     rows_at number xs n ≡ z ∷ []
 rows_one number m n z [] up is = cc
 rows_one number m n z (x ∷ xs) up is = by (number x == n) refl is (rows_one number (number x + 1) n z xs up.1)

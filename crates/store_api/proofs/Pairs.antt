@@ -1,24 +1,17 @@
 -- Look-ups of numbers, row by row.
 use Rattle.std.proofs.Common.{◌≡◌, ℕ, List, [], ◌∷◌, ◌++◌, map, filter, refl, sym, ap, ◌∙◌, true, false, Bool, cond}
-use Rattle.std.proofs.Common.{append-nil, append_assoc, Result, Ok, Err, IfOk}
+use Rattle.std.proofs.Common.{append-nil, append_assoc}
 use Rattle.std.proofs.Common.{◌≢◌, ◌+◌, ◌<◌, add-one, drop, drop-cons, get_or, length}
-use Rattle.std.specs.Prelude.{◌==◌, ◌&&◌, ◌||◌}
-use Rattle.std.specs.List.{flat_map, list_any}
+use Rattle.std.specs.Prelude.{◌==◌}
+use Rattle.std.specs.List.{flat_map}
 use Rattle.std.proofs.lemmas.Bool.{eq-eqb, ne_eqb}
 use Rattle.std.proofs.lemmas.List.{map-append}
 use Rattle.std.proofs.lemmas.List.Elements.{filter-append}
 use Rattle.std.proofs.lemmas.Simd.{map-map}
-use Rattle.model_laws.proofs.Basics.{list_any-map, list_any-same}
-use Rattle.desk_model.specs.Legal.{is_processing_challenge}
 use Rattle.desk_model.specs.Tables.{Tables}
 use Rattle.desk_model.specs.declared.rows.AuthorizationRow.{AuthorizationRow}
-use Rattle.desk_model.specs.declared.rows.ChallengeRow.{ChallengeRow}
 use Rattle.desk_model.specs.declared.rows.OrderRow.{OrderRow}
-use Rattle.store_api.specs.Finding.{working}
-use Rattle.model_lives.specs.IsEnough.{has_work}
-use Rattle.model_lives.specs.LookUps.{AreNumbers, orders_listing, owners_of, owners_processing}
-use Rattle.model_lives.proofs.Found.{any_filter}
-use Rattle.model_lives.proofs.Loading.{any_beside, any_flat}
+use Rattle.model_lives.specs.LookUps.{orders_listing, owners_of}
 
 -- what is picked of the items of all rows is what is picked of each row's
 picked-flat_map : {X Y Z : Type 0} (value : Y → Z) (test : Y → Bool) (items : X → List Y) (xs : List X) →
@@ -66,31 +59,6 @@ owners_of_rows T n =
     ∙ flat_map-same _ _ (λ (r : AuthorizationRow).
     picked-map (λ (p : ℕ × ℕ). p.1) (λ (p : ℕ × ℕ). p.0 == n) (λ c. (c.number, r.number)) r.challenges) T.authorizations
 
--- the authorizations with work are those of the challenges that wait
-pub working_are_owners : (T : Tables) → AreNumbers (flat_map working T.authorizations) (owners_processing T)
-working_are_owners T p =
-    any_flat p working T.authorizations
-    ∙ list_any-same _ _ T.authorizations (λ r. one r ∙ sym (
-    list_any-map p (λ (c : ChallengeRow). r.number) (filter (λ c. is_processing_challenge c.status) r.challenges)
-    ∙ any_filter (λ (c : ChallengeRow). is_processing_challenge c.status) (λ c. p r.number) r.challenges
-    ∙ any_beside (λ (c : ChallengeRow). is_processing_challenge c.status) (p r.number) r.challenges))
-    ∙ sym (any_flat p (λ r. map (λ c. r.number) (filter (λ c. is_processing_challenge c.status) r.challenges)) T.authorizations)
-  where
-    one : (r : AuthorizationRow) → list_any p (working r) ≡ (p r.number && has_work r)
-    one r = by (has_work r)
-      where
-        alone : (b : Bool) → (b || false) ≡ (b && true)
-        alone true = refl
-        alone false = refl
-
-        none : (b : Bool) → false ≡ (b && false)
-        none true = refl
-        none false = refl
-
-        by : (b : Bool) → list_any p (cond b (r.number ∷ []) []) ≡ (p r.number && b)
-        by true = alone (p r.number)
-        by false = none (p r.number)
-
 -- what is found for the next one goes to the end of the numbers before
 pub found_next : {X Y : Type 0} (f : X → List Y) (x : X) (before rest : List X) (found later all : List Y) → before ≡ x ∷ rest → later ≡ found ++ f x →
     found ++ flat_map f before ≡ all →
@@ -105,7 +73,7 @@ found_all f rest found all none h = sym (append-nil found) ∙ ap (λ l. found +
 -- ---- numbers of the items of a slice that are picked
 
 -- what is left is one more and the rest
-one_more : {X : Type 0} (xs : List X) (i : ℕ) (d : X) → i < length xs → drop i xs ≡ get_or xs i d ∷ drop (i + 1) xs
+pub one_more : {X : Type 0} (xs : List X) (i : ℕ) (d : X) → i < length xs → drop i xs ≡ get_or xs i d ∷ drop (i + 1) xs
 one_more xs i d low = drop-cons xs i d low ∙ ap (λ j. get_or xs i d ∷ drop j xs) (sym (add-one i))
 
 -- an item that is picked adds its number

@@ -1,8 +1,6 @@
 -- Look-ups whose rows are put into tables.
-use Rattle.std.specs.Prelude.{◌≡◌, ℕ, List, [], ◌∷◌, if◌then◌else◌, Result, OnOk}
+use Rattle.std.specs.Prelude.{◌≡◌, [], Result, OnOk}
 use Rattle.desk_model.specs.Tables.{Tables}
-use Rattle.desk_model.specs.declared.rows.AuthorizationRow.{AuthorizationRow}
-use Rattle.model_lives.specs.IsEnough.{has_work}
 use Rattle.store_api.specs.Sight.{ForTables, Reads, Sight}
 use Rattle.store_api.specs.declared.fault.StorageFault.{StorageFault}
 use Rattle.store_api.specs.declared.fault.StorageFault.TheVariants as fault
@@ -31,7 +29,3 @@ pub record AreNone (rows : Rows) : Type 0 where
   pub accounts : rows.accounts ≡ []
   pub authorizations : rows.authorizations ≡ []
   pub orders : rows.orders ≡ []
-
--- the number of an authorization with work for the validator
-abbrev pub working : AuthorizationRow → List ℕ
-working r = if has_work r then r.number ∷ [] else []

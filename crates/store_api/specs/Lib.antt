@@ -3,5 +3,6 @@ pub mod InMemory
 pub mod Laws
 pub mod Naming
 pub mod Needing
+pub mod Nesting
 pub mod Sight
 pub mod Storing

@@ -1,16 +1,21 @@
 //! A book in memory as a source of rows.
 ghost use Rattle.std.specs.Prelude.{◌≡◌, ◌==◌, ◌++◌, [], ◌∷◌, ℕ, List, map, filter, IfErr, IfOk, OnOk};
 ghost use Rattle.std.specs.List.{flat_map};
-ghost use Rattle.store_api.specs.Finding.{LacksMemory, working};
-ghost use Rattle.model_lives.specs.IsEnough.{has_work as has_some};
+ghost use Rattle.store_api.specs.Finding.{LacksMemory};
+ghost use Rattle.desk_model.specs.Legal.{is_processing_challenge};
+ghost use Rattle.model_lives.specs.LookUps.{waiting_of};
+ghost use Rattle.store_columns.specs.Flat.{owned_by};
 ghost use Rattle.model_lives.specs.Thinned.{without_challenges, without_listed};
 
 use crate::fault::StorageFault;
 use crate::look_ups::LookUps;
 use desk_book::{Book, Row, Table};
-use desk_model::{AccountRow, AuthorizationRow, ChallengeStatus, Meta, Nonce, OrderRow, Sequence};
+use desk_model::{
+    AccountRow, AuthorizationRow, ChallengeRow, ChallengeStatus, Meta, Nonce, OrderRow, Sequence,
+};
 use model_lives::{AccountsWhere, AuthorizationsWhere, NoncesWhere, OrdersWhere, Query};
 use std::alloc::{AllocError, Global};
+use store_columns::Owned;
 
 // ---- rows
 
@@ -152,38 +157,59 @@ fn holders<R: Holder + Drop>(
     Ok(numbers)
 }
 
-// Whether a challenge of the authorization waits for the validator.
-fn has_work(row: &AuthorizationRow) -> bool
-    ensures { result ≡ has_some row.now }
+// ---- challenges
+
+// Whether it is stored as waiting for the validator.
+fn waits(challenge: &ChallengeRow) -> bool
+    ensures { result ≡ is_processing_challenge challenge.now.status }
 {
-    for challenge in row.challenges.as_slice() {
-        if challenge.status == ChallengeStatus::Processing {
-            return true;
-        }
-    }
-    false
+    challenge.status == ChallengeStatus::Processing
 }
 
-// Adds the number of the authorization, if a challenge of it waits for the validator.
-fn push_working(numbers: &mut Vec<u64>, row: &AuthorizationRow) -> Result<(), AllocError>
-    ensures { OnOk result (numbers.new.items ≡ numbers.old.items ++ working row.now) }
+// Adds a challenge, with the number of its authorization, if it waits.
+fn push_one(
+    rows: &mut Vec<Owned<ChallengeRow>>,
+    owner: u64,
+    challenge: &ChallengeRow,
+) -> Result<(), AllocError>
+    ensures { OnOk result (rows.new.items ≡ rows.old.items
+        ++ owned_by owner (filter (λ c. is_processing_challenge c.status) (challenge.now ∷ []))) }
 {
-    if has_work(row) {
-        numbers.push(row.number)?;
+    if waits(challenge) {
+        rows.push(Owned {
+            owner,
+            row: *challenge,
+        })?;
     }
     Ok(())
 }
 
-// The numbers of the authorizations of which a challenge waits for the validator.
-fn all_working(alloc: Global, table: &Table<AuthorizationRow>) -> Result<Vec<u64>, StorageFault>
-    ensures found { IfOk result (λ numbers. numbers.items ≡ flat_map working table.now) }
+// Adds the challenges of an authorization that wait.
+fn push_waiting(
+    rows: &mut Vec<Owned<ChallengeRow>>,
+    row: &AuthorizationRow,
+) -> Result<(), AllocError>
+    ensures { OnOk result (rows.new.items ≡ rows.old.items ++ owned_by row.now.number (waiting_of row.now)) }
+{
+    for challenge in row.challenges.as_slice() {
+        push_one(rows, row.number, challenge)?;
+    }
+    Ok(())
+}
+
+// Those of all authorizations.
+fn all_waiting(
+    alloc: Global,
+    table: &Table<AuthorizationRow>,
+) -> Result<Vec<Owned<ChallengeRow>>, StorageFault>
+    ensures found { IfOk result (λ rows. rows.items ≡ flat_map (λ r. owned_by r.number (waiting_of r)) table.now) }
     ensures lacks { IfErr result LacksMemory }
 {
-    let mut numbers = Vec::new(alloc);
+    let mut rows = Vec::new(alloc);
     for row in table.iter() {
-        push_working(&mut numbers, row)?;
+        push_waiting(&mut rows, row)?;
     }
-    Ok(numbers)
+    Ok(rows)
 }
 
 // ---- the source
@@ -264,7 +290,10 @@ impl LookUps for Book {
         holders(alloc, self.authorizations(), challenge)
     }
 
-    fn owners_processing(&mut self, alloc: Global) -> Result<Vec<u64>, StorageFault> {
-        all_working(alloc, self.authorizations())
+    fn waiting_challenges(
+        &mut self,
+        alloc: Global,
+    ) -> Result<Vec<Owned<ChallengeRow>>, StorageFault> {
+        all_waiting(alloc, self.authorizations())
     }
 }

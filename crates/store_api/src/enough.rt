@@ -3,7 +3,7 @@ ghost use Rattle.std.specs.Prelude.{◌≡◌, [], filter, map, IfOk};
 ghost use Rattle.model_laws.specs.Ordered.{IsOrdered};
 ghost use Rattle.desk_model.specs.Touched.{only_meta};
 ghost use Rattle.store_api.specs.Finding.{Finds};
-ghost use Rattle.model_lives.specs.IsEnough.{challenge_work_rows, enough, has_work, is_worked_on, order_work_rows};
+ghost use Rattle.model_lives.specs.IsEnough.{challenge_work_rows, enough, is_worked_on, order_work_rows};
 ghost use Rattle.model_lives.specs.LookUps.{orders_processing};
 ghost use Rattle.model_lives.specs.Thinned.{without_challenges};
 ghost use Rattle.store_api.specs.Sight.{ForTables, Reads};
@@ -11,9 +11,10 @@ ghost use Rattle.store_api.specs.Storing.{Loads};
 
 use crate::fault::StorageFault;
 use crate::few::few_book;
-use crate::gathering::{add_each, add_found};
+use crate::gathering::add_found;
 use crate::listed::add_bare_listed;
 use crate::look_ups::LookUps;
+use crate::waiting::add_working;
 use desk_book::{Book, Table};
 use desk_model::{Ask, AuthorizationRow, Call, OfficeAsk, OrderRow};
 use model_lives::OrdersWhere;
@@ -21,20 +22,7 @@ use std::alloc::Global;
 
 // ---- the work of the validator
 
-// Puts the authorizations of which a challenge waits for the validator into an empty table.
-fn add_working<S: LookUps>(
-    alloc: Global,
-    source: &mut S,
-    authorizations: &mut Table<AuthorizationRow>,
-) -> Result<(), StorageFault>
-    ensures { Finds S.sight source.old source.new result (λ T. IsOrdered T → authorizations.old ≡ []
-        → authorizations.new ≡ filter has_work T.authorizations) }
-{
-    let numbers = source.owners_processing(alloc)?;
-    add_each(alloc, source, authorizations, numbers.as_slice())
-}
-
-// The book of these authorizations.
+// The book of the authorizations of which a challenge waits.
 fn challenge_work_book<S: LookUps>(alloc: Global, source: &mut S) -> Result<Book, StorageFault>
     ensures reads { Reads S.sight source.old source.new result }
     ensures found { ForTables S.sight source.old source.new (λ T. IsOrdered T → IfOk result (λ book. book ≡ challenge_work_rows T)) }

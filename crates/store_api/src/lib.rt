@@ -17,6 +17,7 @@ mod objects;
 mod rows_above;
 mod storage;
 mod touched;
+mod waiting;
 
 pub use enough::load_enough;
 pub use fault::StorageFault;

@@ -13,10 +13,10 @@ use desk_book::Table;
 use desk_model::{AuthorizationRow, Listed, OrderRow};
 use std::alloc::Global;
 
-// An authorization without its challenges, by its number.
+/// An authorization without its challenges, by its number.
 #[derive(Clone, Copy)]
-struct Bare {
-    authorization: u64,
+pub(crate) struct Bare {
+    pub(crate) authorization: u64,
 }
 
 impl LeadsTo<AuthorizationRow> for Bare {

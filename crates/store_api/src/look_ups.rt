@@ -1,13 +1,15 @@
 //! Look-ups in the tables of a desk.
-ghost use Rattle.std.specs.Prelude.{◌≡◌, List, IfOk};
+ghost use Rattle.std.specs.Prelude.{◌≡◌, List, IfOk, map};
 ghost use Rattle.model_lives.specs.LookUps.{accounts_where, authorizations_where, nonces_where, orders_where};
-ghost use Rattle.model_lives.specs.LookUps.{AreNumbers, bare_authorizations, bare_orders_of, orders_listing, owners_of, owners_processing};
+ghost use Rattle.model_lives.specs.LookUps.{AreWaiting, bare_authorizations, bare_orders_of, orders_listing, owners_of};
+ghost use Rattle.model_laws.specs.Ordered.{IsOrdered};
 ghost use Rattle.store_api.specs.Sight.{ForTables, Reads, Sight};
 
 use crate::fault::StorageFault;
-use desk_model::{AccountRow, AuthorizationRow, Meta, Nonce, OrderRow};
+use desk_model::{AccountRow, AuthorizationRow, ChallengeRow, Meta, Nonce, OrderRow};
 use model_lives::{AccountsWhere, AuthorizationsWhere, NoncesWhere, OrdersWhere};
 use std::alloc::Global;
+use store_columns::Owned;
 
 /// The tables of a desk, in which rows are looked up by queries, and numbers by those of others.
 ///
@@ -85,8 +87,13 @@ pub trait LookUps {
         ensures reads { Reads sight self.old self.new result }
         ensures found { ForTables sight self.old self.new (λ T. IfOk result (λ numbers. numbers.items ≡ owners_of T challenge)) };
 
-    /// The numbers of the authorizations of challenges that are stored as waiting for the validator, in any order.
-    fn owners_processing(&mut self, alloc: Global) -> Result<Vec<u64>, StorageFault>
+    /// The challenges that are stored as waiting for the validator, each with the number of its authorization; those of one
+    /// authorization by number.
+    fn waiting_challenges(
+        &mut self,
+        alloc: Global,
+    ) -> Result<Vec<Owned<ChallengeRow>>, StorageFault>
         ensures reads { Reads sight self.old self.new result }
-        ensures found { ForTables sight self.old self.new (λ T. IfOk result (λ numbers. AreNumbers numbers.items (owners_processing T))) };
+        ensures found { ForTables sight self.old self.new (λ T. IsOrdered T
+            → IfOk result (λ rows. AreWaiting T (map (λ c. (c.owner, c.row)) rows.items))) };
 }

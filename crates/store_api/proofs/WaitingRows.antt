@@ -1,0 +1,209 @@
+-- Challenges that wait, and the authorizations under which they are put.
+use Rattle.std.proofs.Common.{◌≡◌, ℕ, List, [], ◌∷◌, ◌++◌, map, find, Some, None, refl, sym, ap, ◌∙◌, true, false, Bool, cond}
+use Rattle.std.proofs.Common.{append-nil, append_assoc}
+use Rattle.std.specs.Prelude.{◌==◌}
+use Rattle.std.specs.List.{filter, flat_map, list_any}
+use Rattle.std.proofs.lemmas.List.{map-append}
+use Rattle.std.proofs.lemmas.List.Elements.{filter-append}
+use Rattle.std.proofs.lemmas.Simd.{map-map}
+use Rattle.desk_model.specs.Change.{put}
+use Rattle.desk_model.specs.Tables.{Tables}
+use Rattle.desk_model.specs.declared.rows.AuthorizationRow.{AuthorizationRow}
+use Rattle.desk_model.specs.declared.rows.ChallengeRow.{ChallengeRow}
+use Rattle.model_laws.specs.Ordered.{Ascends, IsOrdered}
+use Rattle.model_laws.specs.Placing.{puts}
+use Rattle.model_laws.proofs.Basics.{each, eq_turn, map-each}
+use Rattle.model_laws.proofs.RowLists.{ascends_filter, ascends_found, ascends_map, puts_moved}
+use Rattle.model_lives.specs.IsEnough.{has_work}
+use Rattle.model_lives.specs.LookUps.{AreWaiting, waiting_of}
+use Rattle.model_lives.specs.Thinned.{waiting_challenges, with_challenges, without_challenges}
+use Rattle.model_lives.proofs.Lists.{filtered_each}
+use Rattle.store_api.proofs.Lacking.{rows_one}
+use Rattle.store_api.specs.Nesting.{joined, nested}
+use Rattle.store_columns.specs.Flat.{owned_by}
+use Rattle.store_columns.specs.declared.flat_rows.Owned.{Owned}
+
+-- ---- the challenges of rows
+
+-- a challenge behind the number of its authorization
+abbrev pub numbered : Owned ChallengeRow → ℕ × ChallengeRow
+numbered c = (c.owner, c.row)
+
+-- the number
+abbrev first : ℕ × ChallengeRow → ℕ
+first p = p.0
+
+-- the challenge
+abbrev second : ℕ × ChallengeRow → ChallengeRow
+second p = p.1
+
+-- whether the number is this one
+abbrev is_under : ℕ → ℕ × ChallengeRow → Bool
+is_under n p = p.0 == n
+
+-- those of an authorization that wait
+abbrev pub waiting_under : AuthorizationRow → List (Owned ChallengeRow)
+waiting_under r = owned_by r.number (waiting_of r)
+
+-- one more is added, if it passes
+pub kept_next : {X Y : Type 0} (value : X → Y) (test : X → Bool) (x : X) (before rest : List X) (found later all : List Y) → before ≡ x ∷ rest →
+    later ≡ found ++ map value (filter test (x ∷ [])) →
+    found ++ map value (filter test before) ≡ all →
+    later ++ map value (filter test rest) ≡ all
+kept_next value test x before rest found later all next is h =
+    ap (λ l. l ++ map value (filter test rest)) is
+    ∙ append_assoc found (map value (filter test (x ∷ []))) (map value (filter test rest))
+    ∙ ap (λ l. found ++ l) (by (test x))
+    ∙ ap (λ l. found ++ map value (filter test l)) (sym next)
+    ∙ h
+  where
+    by : (b : Bool) → map value (cond b (x ∷ []) []) ++ map value (filter test rest) ≡ map value (cond b (x ∷ filter test rest) (filter test rest))
+    by true = refl
+    by false = refl
+
+-- the numbers are those of the owners
+owners_are : (rows : List AuthorizationRow) →
+    map first (map numbered (flat_map waiting_under rows)) ≡ flat_map (λ r. map (λ c. r.number) (waiting_of r)) rows
+owners_are [] = refl
+owners_are (r ∷ rs) =
+    ap (map first) (map-append numbered (waiting_under r) (flat_map waiting_under rs))
+    ∙ map-append first (map numbered (waiting_under r)) (map numbered (flat_map waiting_under rs))
+    ∙ (λ i. one (waiting_of r) i ++ owners_are rs i)
+  where
+    one : (cs : List ChallengeRow) → map first (map numbered (owned_by r.number cs)) ≡ map (λ c. r.number) cs
+    one [] = refl
+    one (c ∷ cs) = ap (λ l. r.number ∷ l) (one cs)
+
+-- those under a number
+abbrev under_number : ℕ → List (ℕ × ChallengeRow) → List ChallengeRow
+under_number n ps = map second (filter (is_under n) ps)
+
+-- of two lists
+under_append : (n : ℕ) (ps qs : List (ℕ × ChallengeRow)) → under_number n (ps ++ qs) ≡ under_number n ps ++ under_number n qs
+under_append n ps qs =
+    ap (map second) (filter-append (is_under n) ps qs)
+    ∙ map-append second (filter (is_under n) ps) (filter (is_under n) qs)
+
+-- no challenges
+abbrev none : List ChallengeRow
+none = []
+
+-- of one authorization, all or none
+under_own : (n k : ℕ) (cs : List ChallengeRow) → under_number n (map numbered (owned_by k cs)) ≡ cond (k == n) cs none
+under_own n k [] = by (k == n)
+  where
+    by : (b : Bool) → none ≡ cond b none none
+    by true = refl
+    by false = refl
+under_own n k (c ∷ cs) = by (k == n) (under_own n k cs)
+  where
+    by : (b : Bool) → under_number n (map numbered (owned_by k cs)) ≡ cond b cs none →
+        map second (cond b ((k, c) ∷ filter (is_under n) (map numbered (owned_by k cs))) (filter (is_under n) (map numbered (owned_by k cs))))
+        ≡ cond b (c ∷ cs) none
+    by true ih = ap (λ l. c ∷ l) ih
+    by false ih = ih
+
+-- of all authorizations, those of the number
+under_rows : (n : ℕ) (rows : List AuthorizationRow) →
+    under_number n (map numbered (flat_map waiting_under rows)) ≡ flat_map waiting_of (filter (λ r. r.number == n) rows)
+under_rows n [] = refl
+under_rows n (r ∷ rs) =
+    ap (under_number n) (map-append numbered (waiting_under r) (flat_map waiting_under rs))
+    ∙ under_append n (map numbered (waiting_under r)) (map numbered (flat_map waiting_under rs))
+    ∙ (λ i. under_own n r.number (waiting_of r) i ++ under_rows n rs i)
+    ∙ by (r.number == n)
+  where
+    by : (b : Bool) → cond b (waiting_of r) [] ++ flat_map waiting_of (filter (λ r. r.number == n) rs)
+        ≡ flat_map waiting_of (cond b (r ∷ filter (λ r. r.number == n) rs) (filter (λ r. r.number == n) rs))
+    by true = refl
+    by false = refl
+
+-- the challenges of all rows that wait
+pub rows_wait : (T : Tables) → IsOrdered T → AreWaiting T (map numbered (flat_map waiting_under T.authorizations))
+rows_wait T h =
+    record {
+      owners = λ p. ap (list_any p) (owners_are T.authorizations);
+      own = each _ _ T.authorizations (λ r found.
+          under_rows r.number T.authorizations
+          ∙ ap (flat_map waiting_of) (rows_one (λ (x : AuthorizationRow). x.number) 1 r.number r T.authorizations h.authorizations.0 found)
+          ∙ append-nil (waiting_of r))
+          (ascends_found (λ (x : AuthorizationRow). x.number) 1 T.authorizations h.authorizations.0);
+    }
+
+-- ---- a challenge under its authorization
+
+-- its number stays
+joined_number : (c : ℕ × ChallengeRow) (r : AuthorizationRow) → (joined c r).number ≡ r.number
+joined_number c r = by (r.number == c.0)
+  where
+    by : (b : Bool) → (cond b (record r { challenges = r.challenges ++ c.1 ∷ [] }) r).number ≡ r.number
+    by true = refl
+    by false = refl
+
+-- so the numbers ascend as before
+pub joined_ascend : (c : ℕ × ChallengeRow) (rows : List AuthorizationRow) → Ascends (λ r. r.number) 1 rows → Ascends (λ r. r.number) 1 (map (joined c) rows)
+joined_ascend c rows up = ascends_map (λ (r : AuthorizationRow). r.number) (λ (r : AuthorizationRow). r.number) (joined c) (joined_number c) 1 rows up
+
+-- an authorization with one challenge more
+abbrev with_more : ChallengeRow → AuthorizationRow → AuthorizationRow
+with_more c r = record r { challenges = r.challenges ++ c ∷ [] }
+
+-- it is put
+pub put_joined : (c : ℕ × ChallengeRow) (r : AuthorizationRow) (rows : List AuthorizationRow) → Ascends (λ r. r.number) 1 rows →
+    find (λ r. r.number == c.0) rows ≡ Some r →
+    put (λ r. r.number) (with_more c.1 r) rows ≡ map (joined c) rows
+put_joined c r rows up found =
+    ap (λ rs. puts (λ (x : AuthorizationRow). x.number) (map (with_more c.1) rs) rows)
+    (sym (rows_one (λ (x : AuthorizationRow). x.number) 1 c.0 r rows up found))
+    ∙ puts_moved (λ (x : AuthorizationRow). x.number) (λ (x : AuthorizationRow). x.number == c.0) (with_more c.1) (λ x. refl) 1 rows up
+
+-- where there is none, nothing changes
+pub none_joined : (c : ℕ × ChallengeRow) (rows : List AuthorizationRow) → find (λ r. r.number == c.0) rows ≡ None → rows ≡ map (joined c) rows
+none_joined c [] none = refl
+none_joined c (r ∷ rs) none = by (r.number == c.0) none (none_joined c rs)
+  where
+    by : (b : Bool) → cond b (Some r) (find (λ r. r.number == c.0) rs) ≡ None → (find (λ r. r.number == c.0) rs ≡ None → rs ≡ map (joined c) rs) →
+        r ∷ rs ≡ cond b (record r { challenges = r.challenges ++ c.1 ∷ [] }) r ∷ map (joined c) rs
+    by true here ih = cc
+    by false later ih = ap (λ l. r ∷ l) (ih later)
+
+-- ---- all of them
+
+-- an authorization with those of the challenges that are its own
+abbrev with_own : List (ℕ × ChallengeRow) → AuthorizationRow → AuthorizationRow
+with_own cs r = record r { challenges = r.challenges ++ under_number r.number cs }
+
+-- those that get each challenge of theirs, one after the other
+nested_own : (cs : List (ℕ × ChallengeRow)) (rows : List AuthorizationRow) → nested cs rows ≡ map (with_own cs) rows
+nested_own [] [] = refl
+nested_own [] (r ∷ rs) = λ i. record r { challenges = sym (append-nil r.challenges) i } ∷ nested_own [] rs i
+nested_own (c ∷ cs) rows = nested_own cs (map (joined c) rows) ∙ each_row rows
+  where
+    one : (r : AuthorizationRow) → with_own cs (joined c r) ≡ with_own (c ∷ cs) r
+    one r = by (r.number == c.0)
+        ∙ ap (λ b. record r { challenges = r.challenges ++ map second (cond b (c ∷ filter (is_under r.number) cs) (filter (is_under r.number) cs)) })
+        (eq_turn r.number c.0)
+      where
+        by : (b : Bool) → with_own cs (cond b (record r { challenges = r.challenges ++ c.1 ∷ [] }) r)
+            ≡ record r { challenges = r.challenges ++ map second (cond b (c ∷ filter (is_under r.number) cs) (filter (is_under r.number) cs)) }
+        by true = λ i. record r { challenges = append_assoc r.challenges (c.1 ∷ []) (under_number r.number cs) i }
+        by false = refl
+
+    each_row : (rs : List AuthorizationRow) → map (with_own cs) (map (joined c) rs) ≡ map (with_own (c ∷ cs)) rs
+    each_row [] = refl
+    each_row (r ∷ rs) = λ i. one r i ∷ each_row rs i
+
+-- the authorizations with work get the challenges that wait
+pub nested_working : (T : Tables) (cs : List (ℕ × ChallengeRow)) → AreWaiting T cs →
+    nested cs (map without_challenges (filter has_work T.authorizations)) ≡ map (with_challenges waiting_challenges) (filter has_work T.authorizations)
+nested_working T cs are =
+    nested_own cs (map without_challenges (filter has_work T.authorizations))
+    ∙ map-map (with_own cs) without_challenges (filter has_work T.authorizations)
+    ∙ map-each (λ r. with_own cs (without_challenges r)) (with_challenges waiting_challenges) (filter has_work T.authorizations)
+    (filtered_each _ has_work T.authorizations (each _ _ T.authorizations (λ r own yes i. record r { challenges = own i }) are.own))
+
+-- which stand by number
+pub working_ascend : (T : Tables) → IsOrdered T → Ascends (λ r. r.number) 1 (map without_challenges (filter has_work T.authorizations))
+working_ascend T h =
+    ascends_map (λ (r : AuthorizationRow). r.number) (λ (r : AuthorizationRow). r.number) without_challenges (λ r. refl) 1 (filter has_work T.authorizations)
+    (ascends_filter (λ (r : AuthorizationRow). r.number) has_work 1 T.authorizations h.authorizations.0)

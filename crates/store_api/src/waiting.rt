@@ -1,0 +1,96 @@
+//! The authorizations of which a challenge waits for the validator, with those alone that wait.
+ghost use Rattle.std.specs.Prelude.{◌≡◌, ◌++◌, ◌∷◌, [], filter, map, IfErr, IfOk, OnOk};
+ghost use Rattle.model_laws.specs.Ordered.{Ascends, IsOrdered};
+ghost use Rattle.model_lives.specs.IsEnough.{has_work};
+ghost use Rattle.model_lives.specs.LookUps.{bare_authorizations};
+ghost use Rattle.model_lives.specs.Thinned.{waiting_challenges, with_challenges};
+ghost use Rattle.store_api.specs.Finding.{Finds, LacksMemory};
+ghost use Rattle.store_api.specs.Needing.{missings};
+ghost use Rattle.store_api.specs.Nesting.{joined, nested};
+
+use crate::fault::StorageFault;
+use crate::gathering::add_missing;
+use crate::listed::Bare;
+use crate::look_ups::LookUps;
+use desk_book::Table;
+use desk_model::{AuthorizationRow, ChallengeRow, Sequence};
+use std::alloc::{AllocError, Global};
+use store_columns::Owned;
+
+// Puts the authorizations of these challenges into a table, without challenges, those alone that it lacks.
+fn add_bare_owners<S: LookUps>(
+    alloc: Global,
+    source: &mut S,
+    authorizations: &mut Table<AuthorizationRow>,
+    waiting: &[Owned<ChallengeRow>],
+) -> Result<(), StorageFault>
+    ensures { Finds S.sight source.old source.new result (λ T.
+        authorizations.new ≡ missings (λ r. r.number) (bare_authorizations T) (map (λ c. c.owner) waiting.now) authorizations.old) }
+{
+    for challenge in waiting {
+        let bare = Bare {
+            authorization: challenge.owner,
+        };
+        add_missing(alloc, source, authorizations, challenge.owner, &bare)?;
+    }
+    Ok(())
+}
+
+// A copy of an authorization with one challenge more.
+fn with_one(row: &AuthorizationRow, challenge: ChallengeRow) -> Result<AuthorizationRow, AllocError>
+    ensures { IfOk result (λ copy. copy ≡ record row.now { challenges = row.now.challenges ++ challenge ∷ [] }) }
+{
+    let mut challenges = row.challenges.clone()?.into_vec();
+    challenges.push(challenge)?;
+    let mut copy = row.clone()?;
+    copy.challenges = Sequence::new(challenges);
+    Ok(copy)
+}
+
+// Puts a challenge under its authorization, if that is in the table.
+fn nest(
+    authorizations: &mut Table<AuthorizationRow>,
+    owner: u64,
+    challenge: ChallengeRow,
+) -> Result<(), AllocError>
+    ensures { OnOk result (Ascends (λ r. r.number) 1 authorizations.old
+        → authorizations.new ≡ map (joined (owner, challenge)) authorizations.old) }
+{
+    match authorizations.get(owner) {
+        Some(row) => {
+            let row = with_one(row, challenge)?;
+            authorizations.put(row)
+        }
+        None => Ok(()),
+    }
+}
+
+// Puts these challenges under their authorizations, one after the other.
+fn nest_each(
+    authorizations: &mut Table<AuthorizationRow>,
+    waiting: &[Owned<ChallengeRow>],
+) -> Result<(), StorageFault>
+    ensures nested { OnOk result (Ascends (λ r. r.number) 1 authorizations.old
+        → authorizations.new ≡ nested (map (λ c. (c.owner, c.row)) waiting.now) authorizations.old) }
+    ensures lacks { IfErr result LacksMemory }
+{
+    for challenge in waiting {
+        nest(authorizations, challenge.owner, challenge.row)?;
+    }
+    Ok(())
+}
+
+/// Puts the authorizations of which a challenge waits for the validator into an empty table, with the challenges that wait alone.
+pub(crate) fn add_working<S: LookUps>(
+    alloc: Global,
+    source: &mut S,
+    authorizations: &mut Table<AuthorizationRow>,
+) -> Result<(), StorageFault>
+    ensures { Finds S.sight source.old source.new result (λ T. IsOrdered T → authorizations.old ≡ []
+        → authorizations.new ≡ map (with_challenges waiting_challenges) (filter has_work T.authorizations)) }
+{
+    let waiting = source.waiting_challenges(alloc)?;
+    let challenges = waiting.as_slice();
+    add_bare_owners(alloc, source, authorizations, challenges)?;
+    nest_each(authorizations, challenges)
+}
