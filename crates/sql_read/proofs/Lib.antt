@@ -31,7 +31,6 @@ pub mod ShownRows
 pub mod ShownTables
 pub mod StatusTests
 pub mod Streaming
-pub mod SureLookUps
 pub mod SureQueries
 pub mod SureTables
 pub mod SureTexts

@@ -75,12 +75,12 @@ use Rattle.sql_read.proofs.LookUpReadings.{is_equal, is_lower, keys_of_reading, 
 use Rattle.sql_read.proofs.LookUpReadings.{nonces_numbered_reading, orders_numbered_reading, orders_of_reading, orders_past_reading}
 use Rattle.sql_read.proofs.LookUpReadings.{orders_processing_reading, past}
 use Rattle.sql_read.proofs.Readings.{accounts_reading, authorizations_reading, meta_reading, nonces_reading, orders_reading}
-use Rattle.sql_read.proofs.SureLookUps.{account_above_sure, accounts_numbered_sure, accounts_with_key_sure, authorization_above_sure}
-use Rattle.sql_read.proofs.SureLookUps.{authorization_end_sure, authorizations_named_sure, authorizations_numbered_sure, authorizations_of_sure}
-use Rattle.sql_read.proofs.SureLookUps.{authorizations_past_sure, challenge_above_sure, challenges_numbered_sure, challenges_of_sure}
-use Rattle.sql_read.proofs.SureLookUps.{challenges_processing_sure, issue_sure, keys_of_sure, listed_by_sure, listing_sure}
-use Rattle.sql_read.proofs.SureLookUps.{nonces_before_sure, nonces_numbered_sure, order_above_sure, order_end_sure}
-use Rattle.sql_read.proofs.SureLookUps.{orders_numbered_sure, orders_of_sure, orders_past_sure, orders_processing_sure}
+use Rattle.sql_read.proofs.LookUpReadings.{account_above_sure, accounts_numbered_sure, accounts_with_key_sure, authorization_above_sure}
+use Rattle.sql_read.proofs.LookUpReadings.{authorization_end_sure, authorizations_named_sure, authorizations_numbered_sure, authorizations_of_sure}
+use Rattle.sql_read.proofs.LookUpReadings.{authorizations_past_sure, challenge_above_sure, challenges_numbered_sure, challenges_of_sure}
+use Rattle.sql_read.proofs.LookUpReadings.{challenges_processing_sure, issue_sure, keys_of_sure, listed_by_sure, listing_sure}
+use Rattle.sql_read.proofs.LookUpReadings.{nonces_before_sure, nonces_numbered_sure, order_above_sure, order_end_sure}
+use Rattle.sql_read.proofs.LookUpReadings.{orders_numbered_sure, orders_of_sure, orders_past_sure, orders_processing_sure}
 use Rattle.sql_read.proofs.SureQueries.{IsSureUpTo, query_fails, sure_keyed, table_rows}
 use Rattle.sql_read.proofs.SureTexts.{accounts_sure, authorizations_sure, meta_sure, nonces_sure, orders_sure}
 use Rattle.sql_read.proofs.Tests.{number_test}
