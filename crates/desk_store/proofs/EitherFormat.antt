@@ -169,6 +169,13 @@ module _ {S : Type 0} (g : Ghosts S) where
     shows = record { stored = whole.shows.stored; shown = first_before g old mid whole.shows.stored same whole.shows.shown; is_book = whole.shows.is_book };
   }
 
+  -- the book of format 1, too
+  pub first_book_still : {R E : Type 0} (old mid : Held S) (r : Result R E) → (state g mid).now ≡ (state g old).now
+      → OnOk r ((book : Tables) × ShowsFirstBook g mid book) → OnOk r ((book : Tables) × ShowsFirstBook g old book)
+  first_book_still old mid (Ok done) same (book, shows) =
+      (book, record { stored = shows.stored; shown = first_before g old mid shows.stored same shows.shown; is_book = shows.is_book })
+  first_book_still old mid (Err why) same shows = tt
+
   -- that no book has the rows was so before a call that changed nothing, too
   pub no_book_still : (old mid : Held S) → (state g mid).now ≡ (state g old).now → ShowsNoBook g mid → ShowsNoBook g old
   no_book_still old mid same (inl it) = inl (record { error = it.error; fails = table_still g old mid it.error same it.fails; other = it.other })

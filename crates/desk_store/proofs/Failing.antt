@@ -87,8 +87,8 @@ module _ {S : Type 0} (g : Ghosts S) (old mid new : Held S) (asked : Asks (state
   upgrade_behind why it = record {
     from = it.from;
     asked = asks_then (state g old) (state g mid) (state g it.from) asked it.asked;
-    book = it.book;
-    rows = λ clean T has. it.rows clean T (first (let le = it.asked.survives.clean in omega (arith, clean, le)) T has);
+    additions = it.additions;
+    added = λ clean T has. it.added clean T (first (let le = it.asked.survives.clean in omega (arith, clean, le)) T has);
     save = it.save;
   }
 

@@ -1,5 +1,5 @@
 -- What a desk's tables in format 1 are to a file.
-use Rattle.std.proofs.Common.{◌≡◌, Result, Ok, Err, inl, inr}
+use Rattle.std.proofs.Common.{◌≡◌, Result, Ok, Err, inl, inr, sym, ◌∙◌}
 use Rattle.std.specs.Prelude.{◌⊎◌, IfErr, IfOk}
 use Rattle.sqlite.specs.Effect.{Database}
 use Rattle.sqlite.specs.Held.{Held}
@@ -14,10 +14,11 @@ use Rattle.sql_read.specs.First.{AreFirstShown}
 use Rattle.sql_read.specs.Shown.{AreColumnsOf}
 use Rattle.sql_read.proofs.Loading.{reordered}
 use Rattle.store_api.specs.declared.fault.StorageFault.TheVariants.{Memory}
+use Rattle.desk_store.specs.Causes.{IsMetFault}
 use Rattle.desk_store.specs.Making.{IsOfStorage}
 use Rattle.desk_store.specs.Opening.{ShowsFirstBook}
 use Rattle.desk_store.specs.declared.open_fault.OpenFault.{OpenFault}
-use Rattle.desk_store.specs.declared.open_fault.OpenFault.TheVariants.{NotADesk, Storage}
+use Rattle.desk_store.specs.declared.open_fault.OpenFault.TheVariants.{NewerFormat, NotADesk, Storage}
 use Rattle.sql_tables.specs.Holds.{HoldsFirst}
 use Rattle.sql_upgrade.specs.FirstDesks.{HasFirst, IsFirstDesk}
 use Rattle.store_book.specs.IsBook.{IsBookOfStored}
@@ -56,3 +57,38 @@ pub first_shown : {S E : Type 0} (g : Ghosts S) (conn : Held S) (stored : Stored
     → IfOk made (λ book. IsBookOfStored stored book) → AreFirstShown g conn stored → IfOk made (ShowsFirstBook g conn)
 first_shown g conn stored (Ok book) is shown = record { stored = stored; shown = shown; is_book = is }
 first_shown g conn stored (Err why) is shown = tt
+
+-- ---- where only memory can fail
+
+module _ {R : Type 0} (made : Result R OpenFault) (memory : IfErr made (λ why. why ≡ Storage Memory)) where
+  -- it tells of no later format
+  pub memory_is_known : made ≡ Err NewerFormat → ⊥
+  memory_is_known = by made memory
+    where
+      by : (r : Result R OpenFault) → IfErr r (λ why. why ≡ Storage Memory) → r ≡ Err NewerFormat → ⊥
+      by (Ok done) is newer = absurd cc
+      by (Err why) is newer = absurd (let e = is in cc)
+
+  -- and of no missing desk
+  pub memory_keeps_desk : {P : Type 0} → made ≡ Err NotADesk → P
+  memory_keeps_desk {P} = by made memory
+    where
+      by : (r : Result R OpenFault) → IfErr r (λ why. why ≡ Storage Memory) → r ≡ Err NotADesk → P
+      by (Ok done) is none = absurd cc
+      by (Err why) is none = absurd (let e = is in cc)
+
+  -- it is the store's
+  pub memory_of_storage : (s : State) → IfErr made (λ why. (T : Tables) → HasFirst s T → IsOfStorage why)
+  memory_of_storage s = by made memory
+    where
+      by : (r : Result R OpenFault) → IfErr r (λ why. why ≡ Storage Memory) → IfErr r (λ why. (T : Tables) → HasFirst s T → IsOfStorage why)
+      by (Ok done) is = tt
+      by (Err why) is = λ T has. (Memory, is)
+
+  -- and not the disk's
+  pub memory_met : (old new : State) → IfErr made (IsMetFault old new)
+  memory_met old new = by made memory
+    where
+      by : (r : Result R OpenFault) → IfErr r (λ why. why ≡ Storage Memory) → IfErr r (IsMetFault old new)
+      by (Ok done) is = tt
+      by (Err why) is = λ device. absurd (let e = sym is ∙ device in cc)

@@ -1,11 +1,13 @@
 -- What an upgrade leaves of a desk.
-use Rattle.std.proofs.Common.{◌≡◌, ap, sym, subst, ◌∙◌}
+use Rattle.std.proofs.Common.{◌≡◌, IfOk, Result, Ok, Err, ap, sym, subst, ◌∙◌}
 use Rattle.sqlite.specs.State.{State, IsUnchanged}
 use Rattle.sqlite.specs.Tree.{Trees}
 use Rattle.desk_model.specs.Tables.{Tables}
 use Rattle.sql_write.specs.Committing.{IsLeft}
 use Rattle.desk_store.specs.Desks.{AreOfDesk}
-use Rattle.sql_upgrade.specs.FirstDesks.{HasFirst, IsFirstDesk, UpgradesDesk}
+use Rattle.sql_upgrade.specs.FirstDesks.{HasFirst, IsAdded, IsFirstDesk, IsOfBook, UpgradesDesk}
+use Rattle.sql_upgrade.specs.declared.additions.Additions.{Additions}
+use Rattle.sql_upgrade.proofs.FirstDesksKept.{books_have_additions}
 use Rattle.store_laws.proofs.BlankBooks.{blank_books}
 use Rattle.store_laws.specs.Blank.{blank}
 
@@ -23,12 +25,25 @@ first_unchanged old new T limit same has = record {
 pub same_blank : (T B : Tables) → B ≡ blank T → blank T ≡ blank B
 same_blank T B is = sym (ap blank is ∙ blank_books.twice T)
 
--- and what a stop leaves is the same desk
-pub desk_left_by : (old mid : State) (B : Tables) (trees : Trees) → mid.step_limit ≡ old.step_limit → IsUnchanged old mid
-    → ((T : Tables) → HasFirst old T → B ≡ blank T) → IsLeft (UpgradesDesk B mid.now) trees → (T : Tables) → HasFirst old T → AreOfDesk trees T
-desk_left_by old mid B trees limit same book left T has =
+-- so what is made of that book is added to the desk
+pub added_by_book : {E : Type 0} (s : State) (B : Tables) (made : Result Additions E) → IfOk made (IsOfBook B)
+    → ((T : Tables) → HasFirst s T → B ≡ blank T) → IfOk made (λ additions. (T : Tables) → HasFirst s T → IsAdded additions T)
+added_by_book s B (Ok additions) is book = λ T has. books_have_additions B additions is s.now T has.desk (same_blank T B (book T has))
+added_by_book s B (Err why) is book = tt
+
+-- what a stop leaves is the same desk
+pub desk_left_by : (old mid : State) (additions : Additions) (trees : Trees) → mid.step_limit ≡ old.step_limit → IsUnchanged old mid
+    → ((T : Tables) → HasFirst old T → IsAdded additions T) → IsLeft (UpgradesDesk additions mid.now) trees → (T : Tables) → HasFirst old T
+    → AreOfDesk trees T
+desk_left_by old mid additions trees limit same added left T has =
     let there = first_unchanged old mid T limit same has in (
       left.0,
       left.1,
-      record { holds = left.2 T there.desk (same_blank T B (book T has)); book = there.desk.book },
+      record { holds = left.2 T there.desk (added T has); book = there.desk.book },
     )
+
+-- what is added to a desk was added to it before a call that changed nothing
+pub added_behind : {E : Type 0} (old mid : State) (r : Result Additions E) → mid.step_limit ≡ old.step_limit → IsUnchanged old mid
+    → IfOk r (λ additions. (T : Tables) → HasFirst mid T → IsAdded additions T) → IfOk r (λ additions. (T : Tables) → HasFirst old T → IsAdded additions T)
+added_behind old mid (Ok additions) limit same added = λ T has. added T (first_unchanged old mid T limit same has)
+added_behind old mid (Err why) limit same added = tt

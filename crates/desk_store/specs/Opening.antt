@@ -22,9 +22,8 @@ use Rattle.desk_store.specs.Desks.{AreOfDesk}
 use Rattle.desk_store.specs.declared.faults.Cause.TheVariants as cause
 use Rattle.desk_store.specs.declared.open_fault.OpenFault.{OpenFault}
 use Rattle.desk_store.specs.declared.open_fault.OpenFault.TheVariants.{NewerFormat, NotADesk, Storage}
-use Rattle.sql_upgrade.specs.FirstDesks.{HasFirst}
-use Rattle.sql_upgrade.specs.FirstKeys.{first_keys}
-use Rattle.store_laws.specs.Blank.{blank}
+use Rattle.sql_upgrade.specs.FirstDesks.{HasFirst, IsAdded}
+use Rattle.sql_upgrade.specs.declared.additions.Additions.{Additions}
 use Rattle.store_book.specs.IsBook.{IsBookOfStored}
 
 -- a reading failed so, for what is neither memory nor the disk
@@ -100,17 +99,18 @@ pub record HasLaterFormat (s : State) : Type 0 where
   pub later : IsOfLaterFormat s.now
 
 module _ {S : Type 0} (g : Ghosts S) where
-  -- the transaction that makes today's format of format 1, by the book of the rows, was not saved
-  abbrev pub FailedToWiden : Tables → Held S → Held S → StorageFault → Type 0
-  FailedToWiden book = FailedToSave g (FitsUpgrade book.meta (first_keys book)) (upgrade_statements book.meta (first_keys book))
+  -- the transaction that makes today's format of format 1, by what is added to it, was not saved
+  abbrev pub FailedToWiden : Additions → Held S → Held S → StorageFault → Type 0
+  FailedToWiden additions =
+      FailedToSave g (FitsUpgrade additions.meta additions.keys.items) (upgrade_statements additions.meta additions.keys.items)
 
-  -- the same behind readings, by which the rows are those of whatever desk was there
+  -- the same behind readings, by which these are the additions to whatever desk was there
   pub record FailedToUpgrade (old new : Held S) (why : StorageFault) : Type 0 where
     pub from : Held S
     pub asked : Asks (state g old) (state g from)
-    pub book : Tables
-    pub rows : HasCleanDisk (state g from) → (T : Tables) → HasFirst (state g old) T → book ≡ blank T
-    pub save : FailedToWiden book from new why
+    pub additions : Additions
+    pub added : HasCleanDisk (state g from) → (T : Tables) → HasFirst (state g old) T → IsAdded additions T
+    pub save : FailedToWiden additions from new why
 
   -- an opening failed: a reading did, or the store in the upgrade; or the database is refused, and nothing was written
   abbrev pub FailedToOpen : Held S → Held S → OpenFault → Type 0

@@ -15,7 +15,7 @@ ghost use Rattle.desk_store.specs.Opening.{FailedToOpen, FailedToWiden, HasLater
 ghost use Rattle.desk_store.specs.Opening.{RefusesFormat, ShowsKnownFormat, ShowsNewerFormat};
 ghost use Rattle.desk_store.specs.Opening.{ShowsNoBook, ShowsNoDesk, ShowsNoFirstBook, ShowsNoLaterFormat};
 ghost use Rattle.desk_store.specs.declared.open_fault.OpenFault.TheVariants.{NewerFormat as newer_format, NotADesk as not_a_desk, Storage as of_storage};
-ghost use Rattle.sql_upgrade.specs.FirstDesks.{BringsDesk, HasFirst, HasSecond, UpgradesDesk};
+ghost use Rattle.sql_upgrade.specs.FirstDesks.{BringsDesk, HasFirst, HasSecond, IsAdded, IsOfBook, UpgradesDesk};
 ghost use Rattle.store_laws.specs.Blank.{blank};
 ghost use Rattle.store_book.specs.IsBook.{IsBookOfStored};
 
@@ -24,7 +24,7 @@ use crate::open_fault::OpenFault;
 use desk_book::Book;
 use sql_read::{has_book_rows, is_newer, load_first, load_stored};
 use sql_schema::{has_indexes, uses_key_table};
-use sql_upgrade::upgrade;
+use sql_upgrade::{Additions, book_additions, read_additions, upgrade};
 use sqlite::{Alter, Connection, Error};
 use std::alloc::Global;
 use store_api::StorageFault;
@@ -105,15 +105,8 @@ pub(crate) fn read_book<S: Alter>(
     }
 }
 
-/// The book of the tables of format 1, with zeros in the place of the keys of answers.
-///
-/// # Errors
-///
-/// As of `read_book`.
-pub(crate) fn read_first<S: Alter>(
-    alloc: Global,
-    conn: &mut Connection<S>,
-) -> Result<Book, OpenFault>
+// The book of the tables of format 1, with zeros in the place of the keys of answers. It fails as `read_book` does.
+fn read_first<S: Alter>(alloc: Global, conn: &mut Connection<S>) -> Result<Book, OpenFault>
     ensures book { HasCleanDisk (state S.Store conn.new) → IfOk result (λ book. (T : Tables) → HasFirst (state S.Store conn.old) T → book ≡ blank T) }
     ensures shown { HasCleanDisk (state S.Store conn.new) → IfOk result (ShowsFirstBook S.Store conn.old) }
     ensures no_newer { result ≢ Err newer_format }
@@ -130,32 +123,87 @@ pub(crate) fn read_first<S: Alter>(
     }
 }
 
-// Makes of the desk of this book, in format 1, one of today's format, in one transaction.
-fn upgrade_book<S: Alter>(
+// What is added to the desk of this book.
+fn additions_of(alloc: Global, book: Book) -> Result<Additions, OpenFault>
+    ensures of_book { IfOk result (IsOfBook book) }
+    ensures fault { IfErr result (λ why. why ≡ of_storage memory) }
+{
+    let additions = book_additions(alloc, &book);
+    drop(book);
+    match additions {
+        Ok(additions) => Ok(additions),
+        Err(_refused) => Err(OpenFault::Storage(StorageFault::Memory)),
+    }
+}
+
+// What today's format adds to the desk, by the book of its rows. It fails as `read_book` does.
+fn additions_by_book<S: Alter>(
     alloc: Global,
     conn: &mut Connection<S>,
-    book: Book,
+) -> Result<Additions, OpenFault>
+    ensures added { HasCleanDisk (state S.Store conn.new)
+        → IfOk result (λ additions. (T : Tables) → HasFirst (state S.Store conn.old) T → IsAdded additions T) }
+    ensures shown { HasCleanDisk (state S.Store conn.new) → OnOk result ((book : Tables) × ShowsFirstBook S.Store conn.old book) }
+    ensures no_newer { result ≢ Err newer_format }
+    ensures no_desk { HasCleanDisk (state S.Store conn.new) → result ≡ Err not_a_desk → ShowsNoFirstBook S.Store conn.old }
+    ensures unchanged { HasCleanDisk (state S.Store conn.new) → OnOk result (IsUnchanged (state S.Store conn.old) (state S.Store conn.new)) }
+    ensures desk { HasCleanDisk (state S.Store conn.new) → IfErr result (λ why. (T : Tables) → HasFirst (state S.Store conn.old) T → IsOfStorage why) }
+    ensures met { HasCleanDisk (state S.Store conn.new) → IfErr result (IsMetFault (state S.Store conn.old) (state S.Store conn.new)) }
+    ensures answering { HasCleanDisk (state S.Store conn.new) → result ≡ Err (of_storage memory) → IsTrue (state S.Store conn.new).is_open }
+    ensures asks { Asks (state S.Store conn.old) (state S.Store conn.new) }
+{
+    match read_first(alloc, conn) {
+        Ok(book) => additions_of(alloc, book),
+        Err(fault) => Err(fault),
+    }
+}
+
+// What today's format adds to the desk. The rows are read one after the other, so that of each no more than what is added is held;
+// where one does not pass so, the book of them all tells. It fails as `read_book` does.
+fn find_additions<S: Alter>(alloc: Global, conn: &mut Connection<S>) -> Result<Additions, OpenFault>
+    ensures added { HasCleanDisk (state S.Store conn.new)
+        → IfOk result (λ additions. (T : Tables) → HasFirst (state S.Store conn.old) T → IsAdded additions T) }
+    ensures shown { HasCleanDisk (state S.Store conn.new) → OnOk result ((book : Tables) × ShowsFirstBook S.Store conn.old book) }
+    ensures no_newer { result ≢ Err newer_format }
+    ensures no_desk { HasCleanDisk (state S.Store conn.new) → result ≡ Err not_a_desk → ShowsNoFirstBook S.Store conn.old }
+    ensures unchanged { HasCleanDisk (state S.Store conn.new) → OnOk result (IsUnchanged (state S.Store conn.old) (state S.Store conn.new)) }
+    ensures desk { HasCleanDisk (state S.Store conn.new) → IfErr result (λ why. (T : Tables) → HasFirst (state S.Store conn.old) T → IsOfStorage why) }
+    ensures met { HasCleanDisk (state S.Store conn.new) → IfErr result (IsMetFault (state S.Store conn.old) (state S.Store conn.new)) }
+    ensures answering { HasCleanDisk (state S.Store conn.new) → result ≡ Err (of_storage memory) → IsTrue (state S.Store conn.new).is_open }
+    ensures asks { Asks (state S.Store conn.old) (state S.Store conn.new) }
+{
+    match read_additions(alloc, conn) {
+        Ok(Some(additions)) => Ok(additions),
+        Ok(None) => additions_by_book(alloc, conn),
+        Err(error) => Err(opening_fault(conn, error)),
+    }
+}
+
+// Makes of the desk in format 1 to which these are added one of today's format, in one transaction.
+fn upgrade_with<S: Alter>(
+    conn: &mut Connection<S>,
+    additions: Additions,
 ) -> Result<(), StorageFault>
     requires idle { conn.old.in_transaction ≡ false }
     ensures idle { conn.new.in_transaction ≡ false }
-    ensures brings { HasCleanDisk (state S.Store conn.new) → OnOk result (BringsDesk book (state S.Store conn.old) (state S.Store conn.new)) }
+    ensures brings { HasCleanDisk (state S.Store conn.new) → OnOk result (BringsDesk additions (state S.Store conn.old) (state S.Store conn.new)) }
     ensures back { (state S.Store conn.old).now ≡ (state S.Store conn.old).committed → HasCleanDisk (state S.Store conn.new)
         → OnErr result (GoesBack (state S.Store conn.old) (state S.Store conn.new)) }
-    ensures failed { IfErr result (FailedToWiden S.Store book conn.old conn.new) }
+    ensures failed { IfErr result (FailedToWiden S.Store additions conn.old conn.new) }
     ensures answering { HasCleanDisk (state S.Store conn.new) → result ≡ Err memory → IsTrue (state S.Store conn.new).is_open }
-    ensures left { Survives (state S.Store conn.old) (state S.Store conn.new) (IsLeft (UpgradesDesk book (state S.Store conn.old).now)) }
+    ensures left { Survives (state S.Store conn.old) (state S.Store conn.new) (IsLeft (UpgradesDesk additions (state S.Store conn.old).now)) }
     ensures spared { result ≡ Err memory → Survives (state S.Store conn.old) (state S.Store conn.new) (λ _. ⊥) }
 {
-    let upgraded = upgrade(alloc, conn, &book);
+    let upgraded = upgrade(conn, &additions);
     // Before the ways part, so that it is dropped in one place.
-    drop(book);
+    drop(additions);
     match upgraded {
         Ok(()) => Ok(()),
         Err(fault) => Err(saving_fault(conn, fault)),
     }
 }
 
-// Makes of a desk in format 1 the same desk in today's format, in one transaction; or says why not, as `read_first` or `upgrade_book`.
+// Makes of a desk in format 1 the same desk in today's format, in one transaction; or says why not, as `find_additions` or `upgrade_with`.
 fn upgrade_desk<S: Alter>(alloc: Global, conn: &mut Connection<S>) -> Result<(), OpenFault>
     requires idle { conn.old.in_transaction ≡ false }
     ensures idle { conn.new.in_transaction ≡ false }
@@ -174,8 +222,8 @@ fn upgrade_desk<S: Alter>(alloc: Global, conn: &mut Connection<S>) -> Result<(),
     ensures failed { IfErr result (FailedToOpen S.Store conn.old conn.new) }
     ensures answering { HasCleanDisk (state S.Store conn.new) → result ≡ Err (of_storage memory) → IsTrue (state S.Store conn.new).is_open }
 {
-    match read_first(alloc, conn) {
-        Ok(book) => match upgrade_book(alloc, conn, book) {
+    match find_additions(alloc, conn) {
+        Ok(additions) => match upgrade_with(conn, additions) {
             Ok(()) => Ok(()),
             Err(fault) => Err(OpenFault::Storage(fault)),
         },

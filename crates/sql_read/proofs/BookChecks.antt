@@ -11,16 +11,17 @@ use Rattle.sqlite.specs.declared.error.Error.{Error}
 use Rattle.sqlite.proofs.Callers.{unchanged_then}
 use Rattle.desk_model.specs.Tables.{Tables}
 use Rattle.sql_read.specs.AllTables.{FailsAtFirst, FailsAtTable}
-use Rattle.sql_read.specs.BookShown.{Checks}
+use Rattle.sql_read.specs.BookShown.{Checks, FailsIn, HoldsIn}
 use Rattle.sql_read.specs.Checking.{ShowsTable}
 use Rattle.sql_read.specs.Failures.{FailsHere, HasTexts, IsMet, IsOutOfMemory, MayRead}
+use Rattle.sql_read.specs.declared.formats.Format.{Format}
+use Rattle.sql_read.specs.declared.formats.Format.TheVariants.{First, Second}
 use Rattle.sql_read.proofs.Failing.{may_read_still}
 use Rattle.sql_read.proofs.MetFaults.{met_behind}
 use Rattle.sql_read.proofs.Results.{failed_as, fails_then}
 use Rattle.sql_schema.specs.Failing.{IsFailure}
 use Rattle.sql_schema.specs.Stays.{Asks}
 use Rattle.sql_schema.proofs.StaysLemmas.{asks_then}
-use Rattle.sql_tables.specs.Holds.{Holds}
 
 module _ {S : Type 0} (g : Ghosts S) where
   -- a reading that failed over a database failed wherever it stood as that
@@ -43,31 +44,43 @@ module _ {S : Type 0} (g : Ghosts S) where
   table_still old mid e is (inl first) = inl (first_still old mid e is first)
   table_still old mid e is (inr keys) = inr (here_still old mid _ _ e is keys)
 
+  -- of those of a format
+  format_still : (format : Format) (old mid : Held S) (e : Error) → (state g mid).now ≡ (state g old).now → FailsIn format g mid e → FailsIn format g old e
+  format_still First old mid e is fails = first_still old mid e is fails
+  format_still Second old mid e is fails = table_still old mid e is fails
+
+  -- each format has the tables of format 1
+  pub in_format : (format : Format) (here : Held S) (e : Error) → FailsAtFirst g here e → FailsIn format g here e
+  in_format First here e fails = fails
+  in_format Second here e fails = inl fails
+
   -- a reading that failed so failed at its table
-  pub at_table : (here : Held S) (text : List ℕ) (Fits : Row → Type 0) (e : Error) → (FailsHere g here text Fits e → FailsAtTable g here e)
-      → IsOutOfMemory e ⊎ FailsHere g here text Fits e → IsOutOfMemory e ⊎ FailsAtTable g here e
-  at_table here text Fits e is (inl memory) = inl memory
-  at_table here text Fits e is (inr fails) = inr (is fails)
+  pub at_table : (format : Format) (here : Held S) (text : List ℕ) (Fits : Row → Type 0) (e : Error)
+      → (FailsHere g here text Fits e → FailsIn format g here e)
+      → IsOutOfMemory e ⊎ FailsHere g here text Fits e → IsOutOfMemory e ⊎ FailsIn format g here e
+  at_table format here text Fits e is (inl memory) = inl memory
+  at_table format here text Fits e is (inr fails) = inr (is fails)
 
   -- the reading of a table failed
-  pub checks_failed : (Readable : Type 0) (P : Database → Type 0) (old new : Held S) (e : Error) (r : Result Bool Error) → IsErr r → IsErrAnd r (λ x. x ≡ e)
-      → ((T : Tables) → Holds (state g old).now T → HasTexts T → Readable)
+  pub checks_failed : (format : Format) (Readable : Type 0) (P : Database → Type 0) (old new : Held S) (e : Error) (r : Result Bool Error) → IsErr r
+      → IsErrAnd r (λ x. x ≡ e)
+      → ((T : Tables) → HoldsIn format (state g old).now T → HasTexts T → Readable)
       → (HasCleanDisk (state g new) → MayRead (state g old) → Readable → IsFailure e)
-      → (HasCleanDisk (state g new) → IsOutOfMemory e ⊎ FailsAtTable g old e)
-      → (HasCleanDisk (state g new) → IsMet (state g old) (state g new) e) → Asks (state g old) (state g new) → Checks g old new P r
-  checks_failed Readable P old new e r is_err same readable fails refused met asks = record {
+      → (HasCleanDisk (state g new) → IsOutOfMemory e ⊎ FailsIn format g old e)
+      → (HasCleanDisk (state g new) → IsMet (state g old) (state g new) e) → Asks (state g old) (state g new) → Checks g format old new P r
+  checks_failed format Readable P old new e r is_err same readable fails refused met asks = record {
     known = λ clean. IfOk-from_err r _ is_err;
     fails = λ clean T has may texts. failed_as r e IsFailure (fails clean may (readable T has texts)) same;
-    refused = λ clean. failed_as r e (λ e. IsOutOfMemory e ⊎ FailsAtTable g old e) (refused clean) same;
+    refused = λ clean. failed_as r e (λ e. IsOutOfMemory e ⊎ FailsIn format g old e) (refused clean) same;
     met = λ clean. failed_as r e (IsMet (state g old) (state g new)) (met clean) same;
     unchanged = λ clean. IfOk-from_err r _ is_err;
     asks = asks;
   }
 
   -- a row did not pass
-  pub checks_stopped : (P : Database → Type 0) (old new : Held S) → (HasCleanDisk (state g new) → IsUnchanged (state g old) (state g new))
-      → Asks (state g old) (state g new) → Checks g old new P (Ok false)
-  checks_stopped P old new same asks = record {
+  pub checks_stopped : (format : Format) (P : Database → Type 0) (old new : Held S) → (HasCleanDisk (state g new) → IsUnchanged (state g old) (state g new))
+      → Asks (state g old) (state g new) → Checks g format old new P (Ok false)
+  checks_stopped format P old new same asks = record {
     known = λ clean is. absurd (cc is);
     fails = λ clean T has may texts. tt;
     refused = λ clean. tt;
@@ -77,9 +90,10 @@ module _ {S : Type 0} (g : Ghosts S) where
   }
 
   -- all rows of the last table passed
-  pub checks_last : (P : Database → Type 0) (old new : Held S) → (HasCleanDisk (state g new) → P (state g old).now)
-      → (HasCleanDisk (state g new) → IsUnchanged (state g old) (state g new)) → Asks (state g old) (state g new) → Checks g old new P (Ok true)
-  checks_last P old new known same asks = record {
+  pub checks_last : (format : Format) (P : Database → Type 0) (old new : Held S) → (HasCleanDisk (state g new) → P (state g old).now)
+      → (HasCleanDisk (state g new) → IsUnchanged (state g old) (state g new)) → Asks (state g old) (state g new)
+      → Checks g format old new P (Ok true)
+  checks_last format P old new known same asks = record {
     known = λ clean _. known clean;
     fails = λ clean T has may texts. tt;
     refused = λ clean. tt;
@@ -89,17 +103,18 @@ module _ {S : Type 0} (g : Ghosts S) where
   }
 
   -- all rows of this table passed, and then those below it are checked
-  pub checks_then : (P Q : Database → Type 0) (old mid new : Held S) (r : Result Bool Error)
+  pub checks_then : (format : Format) (P Q : Database → Type 0) (old mid new : Held S) (r : Result Bool Error)
       → (HasCleanDisk (state g mid) → Q (state g old).now → P (state g old).now)
-      → (HasCleanDisk (state g mid) → IsUnchanged (state g old) (state g mid)) → Asks (state g old) (state g mid) → Checks g mid new Q r → Checks g old new P r
-  checks_then P Q old mid new r so same asks rest = record {
+      → (HasCleanDisk (state g mid) → IsUnchanged (state g old) (state g mid)) → Asks (state g old) (state g mid) → Checks g format mid new Q r
+      → Checks g format old new P r
+  checks_then format P Q old mid new r so same asks rest = record {
     known = λ clean. told r (honest clean) (rest.known clean);
     fails = λ clean T has may texts.
         let still = same (honest clean) in
-        rest.fails clean T (subst (λ db. Holds db T) (sym still.0.now_is) has) (may_read_still (state g old) (state g mid) still asks may) texts;
+        rest.fails clean T (subst (λ db. HoldsIn format db T) (sym still.0.now_is) has) (may_read_still (state g old) (state g mid) still asks may) texts;
     refused = λ clean. fails_then r (rest.refused clean) (λ e fails. elim fails [
       | inl memory ↦ inl memory
-      | inr at ↦ inr (table_still old mid e (same (honest clean)).0.now_is at)
+      | inr at ↦ inr (format_still format old mid e (same (honest clean)).0.now_is at)
     ]);
     met = λ clean. fails_then r (rest.met clean) (λ e is. met_behind (state g old) (state g mid) (state g new) e asks is);
     unchanged = λ clean. unchanged r (honest clean) (rest.unchanged clean);

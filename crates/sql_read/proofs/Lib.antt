@@ -6,11 +6,13 @@ pub mod BookOfShown
 pub mod ColumnNames
 pub mod EarliestRows
 pub mod Failing
+pub mod FirstChecked
 pub mod FirstLoading
 pub mod FirstReadings
 pub mod FirstTables
 pub mod Fits
 pub mod FormatLemmas
+pub mod FormatTables
 pub mod FoundRows
 pub mod KeyRows
 pub mod KeyedReadings

@@ -1,5 +1,5 @@
 -- Results, and tests.
-use Rattle.std.proofs.Common.{◌≡◌, Bool, true, false, IsTrue, IfErr, IfOk, IsErrAnd, OnOk, Result, Ok, Err, refl, subst, sym}
+use Rattle.std.proofs.Common.{◌≡◌, Bool, true, false, IsTrue, IfErr, IfOk, IfSome, IsErrAnd, OnOk, Option, Some, None, Result, Ok, Err, refl, subst, sym}
 use Rattle.sqlite.specs.State.{State, IsUnchanged}
 use Rattle.sqlite.proofs.Callers.{unchanged_then}
 
@@ -7,6 +7,11 @@ use Rattle.sqlite.proofs.Callers.{unchanged_then}
 pub read_then : {A E : Type 0} (r : Result A E) {P Q : A → Type 0} → IfOk r P → ((a : A) → P a → Q a) → IfOk r Q
 read_then (Ok a) p f = f a p
 read_then (Err e) p f = tt
+
+-- so is what is so of what was found
+pub found_then : {A : Type 0} (found : Option A) {P Q : A → Type 0} → IfSome found P → ((a : A) → P a → Q a) → IfSome found Q
+found_then (Some a) p f = f a p
+found_then None p f = tt
 
 -- what a failure of a result says
 pub fails_then : {A E : Type 0} (r : Result A E) {P Q : E → Type 0} → IfErr r P → ((e : E) → P e → Q e) → IfErr r Q

@@ -1,15 +1,17 @@
 -- Readings of a desk in format 1, whose rows count as those of today's format.
-use Rattle.std.specs.Prelude.{◌≡◌, ℤ, List, map, filter_map, if◌then◌else◌, Option, option_map}
+use Rattle.std.specs.Prelude.{◌≡◌, ℤ, List, [], ◌∷◌, map, filter_map, if◌then◌else◌, Option, option_map}
 use Rattle.std.specs.Ordering.{int_eq}
 use Rattle.sqlite.specs.Held.{Held}
 use Rattle.sqlite.specs.State.{State, HasCleanDisk}
 use Rattle.sqlite.specs.Store.{Ghosts}
-use Rattle.store_columns.specs.Columns.{first_format, known_format}
+use Rattle.store_columns.specs.Columns.{first_format, known_format, meta_columns}
+use Rattle.store_columns.specs.Limits.{IsStoredMeta}
 use Rattle.store_columns.specs.declared.columns.ChallColumns.{ChallColumns}
 use Rattle.store_columns.specs.declared.columns.ChallKeyColumns.{ChallKeyColumns}
 use Rattle.store_columns.specs.declared.columns.MetaColumns.{MetaColumns}
 use Rattle.store_columns.specs.declared.columns.StoredRows.{StoredRows}
 use Rattle.desk_model.specs.Tables.{Tables}
+use Rattle.desk_model.specs.declared.rows.Meta.{Meta}
 use Rattle.sql_read.specs.Shown.{IsShown}
 use Rattle.sql_read.specs.Spelled.{account_in, authorization_in, challenge_in, listed_in, meta_in, nonce_in, order_in}
 use Rattle.sql_schema.specs.declared.accounts.TheConstants as account
@@ -39,6 +41,13 @@ abbrev pub blank_key : ChallColumns → Option ChallKeyColumns
 blank_key c = option_map (λ _. record { chall = c.num; thumb = zeros }) c.answered
 
 module _ {S : Type 0} (g : Ghosts S) where
+  -- the database showed one row of `meta`, which in today's format is this one's
+  pub record ShowsFirstMeta (conn : Held S) (row : Meta) : Type 0 where
+    pub read : List MetaColumns
+    pub shown : IsShown g meta.SELECT.now meta_in conn read
+    pub raised : map raised_meta read ≡ map meta_columns (row ∷ [])
+    pub stored : IsStoredMeta row
+
   -- the database has the tables of format 1 with all columns, and showed these rows of them, and zeros stand for keys of answers
   pub record AreFirstShown (conn : Held S) (stored : StoredRows) : Type 0 where
     pub read : List MetaColumns

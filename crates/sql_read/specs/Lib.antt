@@ -5,6 +5,7 @@ pub mod Earliest
 pub mod Checking
 pub mod Failures
 pub mod First
+pub mod FirstRows
 pub mod Fitting
 pub mod Format
 pub mod Heads

@@ -7,6 +7,7 @@ ghost use Rattle.desk_model.specs.Tables.{Tables};
 ghost use Rattle.sql_read.specs.AllTables.{FailsAtTable};
 ghost use Rattle.sql_read.specs.BookShown.{Checks, ShowsAccounts, ShowsAuthorizations, ShowsBookRows, ShowsChallenges};
 ghost use Rattle.sql_read.specs.BookShown.{ShowsKeys, ShowsListed, ShowsNonces, ShowsOrders};
+ghost use Rattle.sql_read.specs.declared.formats.Format.TheVariants.{Second as second};
 ghost use Rattle.sql_read.specs.Failures.{HasTexts, IsMet, IsOutOfMemory, MayRead};
 ghost use Rattle.sql_read.specs.Held.{ForHeld};
 ghost use Rattle.sql_read.specs.Shown.{AreShown};
@@ -15,6 +16,7 @@ ghost use Rattle.sql_schema.specs.Stays.{Asks};
 ghost use Rattle.store_book.specs.IsBook.{IsBookOfStored};
 
 use crate::checking::check_table;
+use crate::formats::Format;
 use desk_model::Counters;
 use sql_schema::{accounts, authorizations, challenges, keys, listed, meta, nonces, orders};
 use sqlite::{Alter, Connection, Error};
@@ -34,7 +36,7 @@ fn check_keys<S: Alter>(
     conn: &mut Connection<S>,
     answered: &Numbers,
 ) -> Result<bool, Error>
-    ensures { Checks S.Store conn.old conn.new (λ db. ShowsKeys S.Store db answered.now) result }
+    ensures { Checks S.Store second conn.old conn.new (λ db. ShowsKeys S.Store db answered.now) result }
 {
     let check = KeyCheck::new(answered);
     let Some(()) = check_table::<S, ChallKeyColumns, _>(alloc, conn, keys::SELECT, check)? else {
@@ -46,44 +48,50 @@ fn check_keys<S: Alter>(
 fn check_challenges<S: Alter>(
     alloc: Global,
     conn: &mut Connection<S>,
+    format: Format,
     last: Counters,
     authorizations: &Numbers,
 ) -> Result<bool, Error>
-    ensures { Checks S.Store conn.old conn.new (λ db. ShowsChallenges S.Store db last authorizations.now) result }
+    ensures { Checks S.Store format conn.old conn.new (λ db. ShowsChallenges S.Store db format last authorizations.now) result }
 {
     let check = ChallengeCheck::new(alloc, last.challenges, authorizations);
     let Some(answered) = check_table::<S, ChallColumns, _>(alloc, conn, challenges::SELECT, check)?
     else {
         return Ok(false);
     };
-    check_keys(alloc, conn, &answered)
+    match format {
+        Format::First => Ok(true),
+        Format::Second => check_keys(alloc, conn, &answered),
+    }
 }
 
 fn check_listed<S: Alter>(
     alloc: Global,
     conn: &mut Connection<S>,
+    format: Format,
     last: Counters,
     orders: &Numbers,
     authorizations: &Numbers,
 ) -> Result<bool, Error>
-    ensures { Checks S.Store conn.old conn.new (λ db. ShowsListed S.Store db last orders.now authorizations.now) result }
+    ensures { Checks S.Store format conn.old conn.new (λ db. ShowsListed S.Store db format last orders.now authorizations.now) result }
 {
     let check = ListedCheck::new(orders, authorizations);
     let Some(()) = check_table::<S, OrderAuthzColumns, _>(alloc, conn, listed::SELECT, check)?
     else {
         return Ok(false);
     };
-    check_challenges(alloc, conn, last, authorizations)
+    check_challenges(alloc, conn, format, last, authorizations)
 }
 
 fn check_authorizations<S: Alter>(
     alloc: Global,
     conn: &mut Connection<S>,
+    format: Format,
     last: Counters,
     accounts: &Numbers,
     orders: &Numbers,
 ) -> Result<bool, Error>
-    ensures { Checks S.Store conn.old conn.new (λ db. ShowsAuthorizations S.Store db last accounts.now orders.now) result }
+    ensures { Checks S.Store format conn.old conn.new (λ db. ShowsAuthorizations S.Store db format last accounts.now orders.now) result }
 {
     let check = OwnedCheck::new(alloc, last.authorizations, accounts);
     let Some(authorizations) = check_table::<S, AuthzColumns, _>(
@@ -95,61 +103,65 @@ fn check_authorizations<S: Alter>(
     else {
         return Ok(false);
     };
-    check_listed(alloc, conn, last, orders, &authorizations)
+    check_listed(alloc, conn, format, last, orders, &authorizations)
 }
 
 fn check_orders<S: Alter>(
     alloc: Global,
     conn: &mut Connection<S>,
+    format: Format,
     last: Counters,
     accounts: &Numbers,
 ) -> Result<bool, Error>
-    ensures { Checks S.Store conn.old conn.new (λ db. ShowsOrders S.Store db last accounts.now) result }
+    ensures { Checks S.Store format conn.old conn.new (λ db. ShowsOrders S.Store db format last accounts.now) result }
 {
     let check = OwnedCheck::new(alloc, last.orders, accounts);
     let Some(orders) = check_table::<S, OrderColumns, _>(alloc, conn, orders::SELECT, check)? else {
         return Ok(false);
     };
-    check_authorizations(alloc, conn, last, accounts, &orders)
+    check_authorizations(alloc, conn, format, last, accounts, &orders)
 }
 
 fn check_accounts<S: Alter>(
     alloc: Global,
     conn: &mut Connection<S>,
+    format: Format,
     last: Counters,
 ) -> Result<bool, Error>
-    ensures { Checks S.Store conn.old conn.new (λ db. ShowsAccounts S.Store db last) result }
+    ensures { Checks S.Store format conn.old conn.new (λ db. ShowsAccounts S.Store db format last) result }
 {
     let check = AccountCheck::new(alloc, last.accounts);
     let Some(accounts) = check_table::<S, AccountColumns, _>(alloc, conn, accounts::SELECT, check)?
     else {
         return Ok(false);
     };
-    check_orders(alloc, conn, last, &accounts)
+    check_orders(alloc, conn, format, last, &accounts)
 }
 
-fn check_nonces<S: Alter>(
+/// As `has_book_rows`, of all tables but `meta`, in this format; the last numbers given.
+pub(crate) fn check_nonces<S: Alter>(
     alloc: Global,
     conn: &mut Connection<S>,
+    format: Format,
     last: Counters,
 ) -> Result<bool, Error>
-    ensures { Checks S.Store conn.old conn.new (λ db. ShowsNonces S.Store db last) result }
+    ensures { Checks S.Store format conn.old conn.new (λ db. ShowsNonces S.Store db format last) result }
 {
     let check = NonceCheck::new(last.nonces);
     let Some(()) = check_table::<S, NonceColumns, _>(alloc, conn, nonces::SELECT, check)? else {
         return Ok(false);
     };
-    check_accounts(alloc, conn, last)
+    check_accounts(alloc, conn, format, last)
 }
 
 fn check_meta<S: Alter>(alloc: Global, conn: &mut Connection<S>) -> Result<bool, Error>
-    ensures { Checks S.Store conn.old conn.new (λ db. ShowsBookRows S.Store db) result }
+    ensures { Checks S.Store second conn.old conn.new (λ db. ShowsBookRows S.Store db) result }
 {
     let check = MetaCheck::new();
     let Some(last) = check_table::<S, MetaColumns, _>(alloc, conn, meta::SELECT, check)? else {
         return Ok(false);
     };
-    check_nonces(alloc, conn, last)
+    check_nonces(alloc, conn, Format::Second, last)
 }
 
 /// Whether the rows of the tables are known to be those of a book: in the order of their keys each passes. One row is held at a

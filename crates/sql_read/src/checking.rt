@@ -80,7 +80,7 @@ fn check_each<S: Alter, C: Selected, K: RowCheck<C>>(
 /// # Errors
 ///
 /// The engine's; the connection is as it was, or what was not committed is undone.
-pub(crate) fn check_table<S: Alter, C: Selected, K: RowCheck<C>>(
+pub fn check_table<S: Alter, C: Selected, K: RowCheck<C>>(
     alloc: Global,
     conn: &mut Connection<S>,
     text: &str,

@@ -9,7 +9,7 @@ use std::alloc::Global;
 use store_columns::Columns;
 
 /// Columns that a row of an answer spells.
-pub(crate) trait Selected: Columns {
+pub trait Selected: Columns {
     // The columns that a row spells.
     ghost spelled: { SqlRow → Self };
 

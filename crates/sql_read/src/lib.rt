@@ -11,6 +11,7 @@ mod earliest;
 mod fault;
 mod first;
 mod format;
+mod formats;
 mod meta;
 mod nonces;
 mod orders;
@@ -29,8 +30,10 @@ pub use authorizations::{
     find_authorizations, owners_of, waiting_challenges,
 };
 pub use checked::has_book_rows;
+pub use checking::check_table;
+pub use columns::Selected;
 pub use fault::ReadFault;
-pub use first::load_first;
+pub use first::{first_meta, load_first};
 pub use format::is_newer;
 pub use meta::meta_row;
 pub use nonces::{earliest_issue, find_nonces};

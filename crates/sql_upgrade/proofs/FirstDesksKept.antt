@@ -1,14 +1,21 @@
 -- A desk in format 1, made format 2, is the same desk.
-use Rattle.std.proofs.Common.{◌≡◌, false, Result, Ok, Err, OnOk, sym, ap, subst, ◌∙◌}
+use Rattle.std.proofs.Common.{◌≡◌, [], false, Result, Ok, Err, OnOk, sym, ap, subst, ◌∙◌}
 use Rattle.sqlite.specs.State.{State}
 use Rattle.sqlite.specs.Tree.{Trees}
 use Rattle.sql_write.specs.Committing.{HasCommitted, IsLeft}
 use Rattle.sqlite.specs.Effect.{Database}
+use Rattle.store_columns.specs.Flat.{challenge_rows, key_rows}
 use Rattle.model_laws.proofs.FirstKeys.{rows_under}
+use Rattle.model_laws.specs.Placing.{puts}
 use Rattle.desk_model.specs.History.{clock}
 use Rattle.desk_model.specs.Tables.{Tables}
-use Rattle.sql_upgrade.specs.FirstDesks.{BringsDesk, FirstDesksUpgrade, PicturesAreFirstDesks, UpgradesDesk}
+use Rattle.sql_upgrade.specs.FirstDesks.{BooksHaveAdditions, BringsDesk, PicturesAreFirstDesks, UpgradesDesk}
+use Rattle.sql_upgrade.specs.declared.additions.Additions.{Additions}
+use Rattle.sql_write.specs.Upgrading.{Upgrades}
+use Rattle.sql_tables.proofs.AnswerKeys.{keys_apart}
+use Rattle.sql_tables.proofs.Sorting.{puts_sorted}
 use Rattle.sql_tables.specs.Holds.{Holds}
+use Rattle.sql_tables.specs.Layouts.{key_layout}
 use Rattle.sql_upgrade.proofs.FirstKeysFound.{blank_keys, first_keys_are}
 use Rattle.store_laws.proofs.FlatTexts.{picture_is_stored_book}
 
@@ -20,10 +27,20 @@ pictures_are_first db F legal keeps holds = record {
   keys = rows_under F legal.each keeps (clock F);
 }
 
--- with the keys that the accounts have
-pub desks_upgrade : FirstDesksUpgrade
-desks_upgrade B old new upgrades T desk same =
-    upgrades T desk.holds (ap (λ (t : Tables). t.meta) same) (sym (first_keys_are T desk.keys) ∙ blank_keys T B same)
+-- a book of such a desk has what is added
+pub books_have_additions : BooksHaveAdditions
+books_have_additions B additions of_book db T desk same =
+    let all = key_rows (challenge_rows T.authorizations) in
+    let keys : additions.keys.items ≡ all = of_book.keys ∙ sym (blank_keys T B same) ∙ first_keys_are T desk.keys in
+    record {
+      meta = of_book.meta ∙ sym (ap (λ (t : Tables). t.meta) same);
+      keys = ap (λ ks. puts key_layout.key ks []) keys
+          ∙ puts_sorted key_layout.key all (keys_apart (challenge_rows T.authorizations) desk.holds.rising.challenges);
+    }
+
+-- so what was written makes format 2 of each desk to which it is added
+pub desks_upgrade : (additions : Additions) (old new : Database) → Upgrades additions.meta additions.keys.items old new → UpgradesDesk additions old new
+desks_upgrade additions old new upgrades T desk added = upgrades T desk.holds (sym added.meta) added.keys
 
 -- what was committed, in other words
 pub committed_as : {A E : Type 0} (r : Result A E) (old new : State) (Does Says : Database → Database → Type 0)
@@ -38,11 +55,11 @@ pub left_as : (old : Database) (trees : Trees) (Does Says : Database → Databas
 left_as old trees Does Says means left = (left.0, left.1, means left.0 left.2)
 
 -- what was committed is the desk, and a stop leaves it alone
-pub desk_brought : {A E : Type 0} (r : Result A E) (B : Tables) (old new : State) → new.in_transaction ≡ false → new.step_limit ≡ old.step_limit
-    → OnOk r (HasCommitted old new (UpgradesDesk B)) → OnOk r (BringsDesk B old new)
-desk_brought (Err e) B old new idle limit it = tt
-desk_brought (Ok x) B old new idle limit it = λ T has same.
-    let holds = it.does T has.desk same in
+pub desk_brought : {A E : Type 0} (r : Result A E) (additions : Additions) (old new : State) → new.in_transaction ≡ false
+    → new.step_limit ≡ old.step_limit → OnOk r (HasCommitted old new (UpgradesDesk additions)) → OnOk r (BringsDesk additions old new)
+desk_brought (Err e) additions old new idle limit it = tt
+desk_brought (Ok x) additions old new idle limit it = λ T has added.
+    let holds = it.does T has.desk added in
     record {
       is_open = it.is_open;
       idle = idle;

@@ -8,9 +8,10 @@ use Rattle.desk_model.specs.Entry.{History}
 use Rattle.desk_model.specs.Legal.{Legal}
 use Rattle.desk_model.specs.Tables.{Tables, picture}
 use Rattle.sql_write.specs.Committing.{IsLeft}
-use Rattle.sql_write.specs.Upgrading.{Upgrades}
+use Rattle.sql_write.specs.Upgrading.{AreKeysOf}
 use Rattle.sql_tables.specs.Holds.{Holds, HoldsFirst}
 use Rattle.sql_upgrade.specs.FirstKeys.{first_keys}
+use Rattle.sql_upgrade.specs.declared.additions.Additions.{Additions}
 use Rattle.store_laws.specs.Blank.{blank}
 use Rattle.store_book.specs.IsBook.{IsStoredBook}
 
@@ -25,13 +26,28 @@ pub record IsFirstDesk (db : Database) (T : Tables) : Type 0 where
 abbrev pub PicturesAreFirstDesks : Type 0
 PicturesAreFirstDesks = (db : Database) (F : History) → Legal F → KeepsKeys F → HoldsFirst db (picture F) → IsFirstDesk db (picture F)
 
--- whatever desk of these rows, but for the keys of answers, the database holds in format 1, it then holds it in format 2
-abbrev pub UpgradesDesk : Tables → Database → Database → Type 0
-UpgradesDesk B old new = (T : Tables) → IsFirstDesk old T → blank T ≡ blank B → Holds new T
+-- these are the row of the desk and the keys of all answers
+pub record IsAdded (additions : Additions) (T : Tables) : Type 0 where
+  pub meta : additions.meta ≡ T.meta
+  pub keys : AreKeysOf additions.keys.items T
 
--- so it is where the keys are put that the accounts have
-abbrev pub FirstDesksUpgrade : Type 0
-FirstDesksUpgrade = (B : Tables) (old new : Database) → Upgrades B.meta (first_keys B) old new → UpgradesDesk B old new
+-- they are so of whatever desk the database holds in format 1
+abbrev pub AreOfDesks : Database → Additions → Type 0
+AreOfDesks db additions = (T : Tables) → IsFirstDesk db T → IsAdded additions T
+
+-- they are the row of a book, and the keys of its answers, each the one that the account has
+pub record IsOfBook (B : Tables) (additions : Additions) : Type 0 where
+  pub meta : additions.meta ≡ B.meta
+  pub keys : additions.keys.items ≡ first_keys B
+
+-- whatever desk the database holds in format 1 to which these are added, it then holds it in format 2
+abbrev pub UpgradesDesk : Additions → Database → Database → Type 0
+UpgradesDesk additions old new = (T : Tables) → IsFirstDesk old T → IsAdded additions T → Holds new T
+
+-- so they are added to the desk of a book, whatever keys of answers this has
+abbrev pub BooksHaveAdditions : Type 0
+BooksHaveAdditions =
+    (B : Tables) (additions : Additions) → IsOfBook B additions → (db : Database) (T : Tables) → IsFirstDesk db T → blank T ≡ blank B → IsAdded additions T
 
 -- ---- over a connection
 
@@ -52,6 +68,6 @@ pub record HasSecond (s : State) (T : Tables) : Type 0 where
   pub holds : Holds s.now T
   pub left : (trees : Trees) → s.may_leave trees → IsLeft (λ db. Holds db T) trees
 
--- whatever desk of these rows the connection had in format 1, it has it in format 2
-abbrev pub BringsDesk : Tables → State → State → Type 0
-BringsDesk B old new = (T : Tables) → HasFirst old T → blank T ≡ blank B → HasSecond new T
+-- whatever desk the connection had in format 1 to which these are added, it has it in format 2
+abbrev pub BringsDesk : Additions → State → State → Type 0
+BringsDesk additions old new = (T : Tables) → HasFirst old T → IsAdded additions T → HasSecond new T

@@ -1,2 +1,4 @@
+pub mod Checked
 pub mod FirstDesks
 pub mod FirstKeys
+pub mod FoundKeys

@@ -1,9 +1,13 @@
 //! A desk in a database of format 1 becomes the same desk in format 2.
 #![tactic(auto)]
 
+mod additions;
+mod answer_keys;
 mod first_keys;
+mod key_checks;
 mod laws;
 mod upgrading;
 
+pub use additions::{Additions, book_additions, read_additions};
 pub use laws::first_desks_upgrade;
 pub use upgrading::upgrade;

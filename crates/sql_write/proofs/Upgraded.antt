@@ -10,18 +10,14 @@ use Rattle.sql_write.specs.declared.fault.SaveFault.{SaveFault}
 use Rattle.std.proofs.Common.{◌≡◌, ℕ, List, [], ◌∷◌, map, Result, refl, sym, ap, subst, ◌∙◌, arith}
 use Rattle.sqlite.specs.Effect.{Database}
 use Rattle.store_columns.specs.Columns.{first_format, known_format}
-use Rattle.store_columns.specs.Flat.{challenge_rows, key_rows}
 use Rattle.store_columns.specs.declared.flat_rows.AnswerKey.{AnswerKey}
-use Rattle.model_laws.specs.Placing.{puts}
 use Rattle.desk_model.specs.declared.rows.Meta.{Meta}
 use Rattle.sql_schema.specs.Defined.{AddsKeyTable}
 use Rattle.sql_write.specs.Upgrading.{Fills, Upgrades}
 use Rattle.sql_tables.specs.Images.{formatted_image, key_image}
 use Rattle.sql_tables.specs.Layouts.{HasRows, formatted_layout, key_layout}
-use Rattle.sql_tables.proofs.AnswerKeys.{keys_apart}
 use Rattle.sql_tables.proofs.NoIndexes.{no_index_account, no_index_authorization, no_index_challenge, no_index_key, no_index_listed}
 use Rattle.sql_tables.proofs.NoIndexes.{no_index_meta, no_index_nonce, no_index_order}
-use Rattle.sql_tables.proofs.Sorting.{puts_sorted}
 
 -- the table that format 1 lacks, then its rows, then the row of `meta`
 pub upgrades : (meta : Meta) (keys : List AnswerKey) (old mid new : Database) → AddsKeyTable old mid → Fills meta keys mid new → Upgrades meta keys old new
@@ -33,8 +29,6 @@ upgrades meta keys old mid new adds fills T has same are =
     let first : HasRows formatted_layout late ((first_format, T.meta) ∷ []) =
     record { schema = q.has.schema; rows_are = q.others 0 (λ e. cc) no_index_meta ∙ k.kept.0 ∙ has.meta; rising = (omega arith, tt) } in
     let p = fills.2 ((first_format, T.meta) ∷ []) first in
-    let all = key_rows (challenge_rows T.authorizations) in
-    let there = puts_sorted key_layout.key all (keys_apart (challenge_rows T.authorizations) has.rising.challenges) in
     record {
       sound = p.sound;
       schema = p.has.schema;
@@ -50,7 +44,7 @@ upgrades meta keys old mid new adds fills T has same are =
         same = has.listed.same;
       };
       challenges = p.others 8 (λ e. cc) no_index_challenge ∙ q.others 8 (λ e. cc) no_index_challenge ∙ k.kept.1.1.1.1.1.1.0 ∙ has.challenges;
-      keys = p.others 17 (λ e. cc) no_index_key ∙ q.has.rows_are ∙ ap (λ ks. map key_image (puts key_layout.key ks [])) (sym are) ∙ ap (map key_image) there;
+      keys = p.others 17 (λ e. cc) no_index_key ∙ q.has.rows_are ∙ ap (map key_image) are;
       rising = has.rising;
     }
 

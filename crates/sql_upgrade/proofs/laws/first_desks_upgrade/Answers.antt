@@ -1,8 +1,8 @@
-use Rattle.sql_upgrade.proofs.FirstDesksKept.{desks_upgrade, pictures_are_first}
+use Rattle.sql_upgrade.proofs.FirstDesksKept.{books_have_additions, pictures_are_first}
 use Rattle.sql_upgrade.proofs.laws.first_desks_upgrade.Goals as goal
 
-pub returns-clause-upgraded : goal.returns-clause-upgraded
-returns-clause-upgraded c = desks_upgrade
+pub returns-clause-added : goal.returns-clause-added
+returns-clause-added c = books_have_additions
 
 pub returns-clause-pictures : goal.returns-clause-pictures
 returns-clause-pictures c = pictures_are_first

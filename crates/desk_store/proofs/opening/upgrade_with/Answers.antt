@@ -4,7 +4,7 @@ use Rattle.sqlite.specs.Held.{state}
 use Rattle.sqlite.specs.State.{HasCleanDisk}
 use Rattle.desk_store.proofs.Standing.{back_then, same_fault}
 use Rattle.desk_store.proofs.Failing.{failed_to_save}
-use Rattle.desk_store.proofs.opening.upgrade_book.Goals as goal
+use Rattle.desk_store.proofs.opening.upgrade_with.Goals as goal
 
 pub returns-in-Err-clause-back : goal.returns-in-Err-clause-back
 returns-in-Err-clause-back g c settled clean =

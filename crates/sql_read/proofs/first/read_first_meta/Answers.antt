@@ -1,0 +1,45 @@
+use Rattle.std.proofs.Common.{inl, inr, refl}
+use Rattle.sqlite.specs.Held.{state}
+use Rattle.sql_read.specs.Spelled.{meta_in}
+use Rattle.sql_read.proofs.MetFaults.{memory_is_none, no_device}
+use Rattle.sql_read.proofs.Readings.{meta_reading}
+use Rattle.sql_read.proofs.Results.{fails_then, found_then, read_then}
+use Rattle.sql_read.proofs.ShownRows.{shown_now}
+use Rattle.sql_schema.specs.declared.meta.TheConstants as meta
+use Rattle.sql_read.proofs.first.read_first_meta.Goals as goal
+
+pub read_query-requires : goal.read_query-requires
+read_query-requires g c = meta_reading.selecting
+
+pub returns-in-Ok : goal.returns-in-Ok
+returns-in-Ok g c =
+    let old = c.args.conn.now in
+    let new = c.read_query.new.conn in
+    let r = c.only_meta.result in
+    record {
+      shown = λ clean.
+          let it = c.in-Ok.ensures.read clean in
+          read_then r c.only_meta.ensures.row (λ found is. found_then found is (λ row both. record {
+            read = c.in-Ok.read;
+            shown = shown_now g.S.Store meta.SELECT.now meta_in old new it.0 _ it.1 it.2;
+            raised = both.1;
+            stored = both.0;
+          }));
+      fails = λ clean may readable. fails_then r c.only_meta.ensures.fails (λ e memory. inl memory);
+      refused = λ clean. fails_then r c.only_meta.ensures.fails (λ e memory. inl memory);
+      met = λ clean. fails_then r c.only_meta.ensures.fails (λ e memory. no_device (state g.S.Store old) (state g.S.Store new) e (memory_is_none e memory));
+      unchanged = λ clean. read_then r c.only_meta.ensures.row (λ _ _. c.in-Ok.ensures.unchanged clean);
+      asks = c.read_query.ensures.asks;
+    }
+
+pub returns-in-Err : goal.returns-in-Err
+returns-in-Err g c =
+    let old = c.args.conn.now in
+    record {
+      shown = λ clean. tt;
+      fails = λ clean may readable. readable old c.read_query.new.conn c.in-Err.error refl may (c.in-Err.ensures.fails clean);
+      refused = λ clean. inr (record { before = old; after = c.read_query.new.conn; same = refl; fails = c.in-Err.ensures.fails clean });
+      met = c.in-Err.ensures.met;
+      unchanged = λ clean. tt;
+      asks = c.read_query.ensures.asks;
+    }

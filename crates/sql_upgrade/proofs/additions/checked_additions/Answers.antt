@@ -1,0 +1,51 @@
+use Rattle.std.proofs.Common.{◌≡◌, IfSome, refl, subst, sym, ◌∙◌}
+use Rattle.std.specs.Prelude.{IsSome}
+use Rattle.sqlite.specs.Held.{state}
+use Rattle.sql_upgrade.specs.Checked.{AreChecked}
+use Rattle.sql_upgrade.specs.FoundKeys.{HasKeys, ShowsThumbs}
+use Rattle.sql_upgrade.proofs.FoundKeysAre.{found_keys_are}
+use Rattle.sql_upgrade.proofs.KeyReadings.{tables_then}
+use Rattle.sql_upgrade.proofs.additions.checked_additions.Goals as goal
+
+pub returns-in-Ok-Some : goal.returns-in-Ok-Some
+returns-in-Ok-Some g c =
+    let store = g.S.Store in
+    let old = c.args.conn.now in
+    let mid = c.first_meta.new.conn in
+    tables_then store (AreChecked store old) (HasKeys store (state store mid).now c.in-Ok-Some.meta) old mid c.with_keys.new.conn c.with_keys.result
+    (λ clean additions has.
+    let book = c.in-Ok-Some.ensures.book clean (subst IsSome (sym c.in-Ok-Some.field-0-is) refl) in
+    let found = subst (λ db. ShowsThumbs store db additions.keys.items) (c.in-Ok-Some.ensures.unchanged clean).0.now_is has.found in
+    record {
+      stored = book.0;
+      shown = book.1;
+      book = book.2;
+      is_book = book.3;
+      added = λ T desk.
+          let same : IfSome c.in-Ok-Some.field-0 (λ row. row ≡ T.meta) = c.in-Ok-Some.ensures.found clean T desk.holds desk.book in
+          record {
+            meta = has.same ∙ (rw c.in-Ok-Some.field-0-is at same);
+            keys = found_keys_are store old T desk additions.keys.items found;
+          };
+    })
+    c.in-Ok-Some.ensures.unchanged c.in-Ok-Some.ensures.asks c.with_keys.ensures
+
+pub returns-in-Ok-None : goal.returns-in-Ok-None
+returns-in-Ok-None g c = record {
+  shown = λ clean. tt;
+  fails = λ clean may is. tt;
+  refused = λ clean. tt;
+  met = λ clean. tt;
+  unchanged = c.in-Ok-None.ensures.unchanged;
+  asks = c.in-Ok-None.ensures.asks;
+}
+
+pub returns-in-Err : goal.returns-in-Err
+returns-in-Err g c = record {
+  shown = λ clean. tt;
+  fails = λ clean may is. c.in-Err.ensures.fails clean is.tables is.holds may is.texts;
+  refused = c.in-Err.ensures.refused;
+  met = c.in-Err.ensures.met;
+  unchanged = λ clean. tt;
+  asks = c.in-Err.ensures.asks;
+}

@@ -1,0 +1,102 @@
+//! What format 2 adds to a desk of format 1.
+ghost use Rattle.std.specs.Prelude.{◌≡◌, ◌⊎◌, IfErr, IfOk, IfSome, IsSome, OnOk};
+ghost use Rattle.sqlite.specs.State.{HasCleanDisk, IsUnchanged};
+ghost use Rattle.sqlite.specs.Held.{state};
+ghost use Rattle.desk_model.specs.Tables.{Tables};
+ghost use Rattle.sql_read.specs.AllTables.{FailsAtFirst};
+ghost use Rattle.sql_read.specs.Failures.{HasTexts, IsMet, IsOutOfMemory, MayRead};
+ghost use Rattle.sql_read.specs.First.{AreFirstShown, ForFirst};
+ghost use Rattle.sql_read.specs.FirstRows.{IsFirstReadable};
+ghost use Rattle.sql_read.specs.Reads.{Reads};
+ghost use Rattle.sql_schema.specs.Failing.{IsFailure};
+ghost use Rattle.sql_schema.specs.Stays.{Asks};
+ghost use Rattle.sql_upgrade.specs.Checked.{AreChecked};
+ghost use Rattle.sql_upgrade.specs.FirstDesks.{AreOfDesks, IsOfBook};
+ghost use Rattle.sql_upgrade.specs.FoundKeys.{HasKeys};
+ghost use Rattle.store_book.specs.IsBook.{IsBookOfStored};
+ghost use Rattle.store_columns.specs.declared.columns.StoredRows.{StoredRows};
+
+use crate::answer_keys::read_keys;
+use crate::first_keys::first_keys;
+use desk_book::Book;
+use desk_model::Meta;
+use sql_read::first_meta;
+use sqlite::{Alter, Connection, Error};
+use std::alloc::{AllocError, Global};
+use store_columns::AnswerKey;
+
+/// What format 2 adds to a desk of format 1: the format in the row of the desk, and the keys of all answers.
+#[derive(Drop)]
+pub struct Additions {
+    /// The row of the desk.
+    pub meta: Meta,
+    /// The keys of all answers.
+    pub keys: Vec<AnswerKey>,
+}
+
+// This row with the keys of all answers.
+fn with_keys<S: Alter>(
+    alloc: Global,
+    conn: &mut Connection<S>,
+    meta: Meta,
+) -> Result<Option<Additions>, Error>
+    ensures { Reads S.Store conn.old conn.new (λ found. IfSome found (HasKeys S.Store (state S.Store conn.old).now meta))
+        (IsFirstReadable S.Store conn.old) (λ e. IsOutOfMemory e ⊎ FailsAtFirst S.Store conn.old e) result }
+{
+    match read_keys(alloc, conn) {
+        Ok(Some(keys)) => Ok(Some(Additions { meta, keys })),
+        Ok(None) => Ok(None),
+        Err(error) => Err(error),
+    }
+}
+
+// As `read_additions`.
+fn checked_additions<S: Alter>(
+    alloc: Global,
+    conn: &mut Connection<S>,
+) -> Result<Option<Additions>, Error>
+    ensures { Reads S.Store conn.old conn.new (λ found. IfSome found (AreChecked S.Store conn.old))
+        (IsFirstReadable S.Store conn.old) (λ e. IsOutOfMemory e ⊎ FailsAtFirst S.Store conn.old e) result }
+{
+    match first_meta(alloc, conn) {
+        Ok(Some(meta)) => with_keys(alloc, conn, meta),
+        Ok(None) => Ok(None),
+        Err(error) => Err(error),
+    }
+}
+
+/// What is added, where the rows of the tables of format 1 are known to be those of a book: in the order of their keys each passes.
+/// One row is held at a time; of the rows before it numbers, thumbprints and the keys of accounts, and the keys of answers.
+///
+/// # Errors
+///
+/// The engine's; the connection is as it was, or what was not committed is undone.
+pub fn read_additions<S: Alter>(
+    alloc: Global,
+    conn: &mut Connection<S>,
+) -> Result<Option<Additions>, Error>
+    ensures book { HasCleanDisk (state S.Store conn.new) → IfOk result (λ known. IsSome known
+        → (stored : StoredRows) × AreFirstShown S.Store conn.old stored × (T : Tables) × IsBookOfStored stored T) }
+    ensures added { HasCleanDisk (state S.Store conn.new)
+        → IfOk result (λ known. IfSome known (AreOfDesks (state S.Store conn.old).now)) }
+    ensures fails { ForFirst (state S.Store conn.old) (state S.Store conn.new) (λ T. MayRead (state S.Store conn.old) → HasTexts T → IfErr result IsFailure) }
+    ensures refused { HasCleanDisk (state S.Store conn.new) → IfErr result (λ e. IsOutOfMemory e ⊎ FailsAtFirst S.Store conn.old e) }
+    ensures met { HasCleanDisk (state S.Store conn.new) → IfErr result (IsMet (state S.Store conn.old) (state S.Store conn.new)) }
+    ensures unchanged { HasCleanDisk (state S.Store conn.new) → OnOk result (IsUnchanged (state S.Store conn.old) (state S.Store conn.new)) }
+    ensures asks { Asks (state S.Store conn.old) (state S.Store conn.new) }
+{
+    checked_additions(alloc, conn)
+}
+
+/// What is added to the desk of this book; whatever keys of answers it has, they are not looked at.
+///
+/// # Errors
+///
+/// Where there is no memory for it.
+pub fn book_additions(alloc: Global, book: &Book) -> Result<Additions, AllocError>
+    ensures { IfOk result (IsOfBook book.now) }
+{
+    let keys = first_keys(alloc, book)?;
+    let meta = book.meta().clone()?;
+    Ok(Additions { meta, keys })
+}
