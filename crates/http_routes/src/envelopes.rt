@@ -1,12 +1,10 @@
 //! Signed requests, by the envelopes that stand for them (RFC 8555, 6.2).
 ghost use Rattle.std.specs.Prelude.{◌≡◌, IfOk};
-ghost use Rattle.serde_json.specs.View.{view};
 ghost use Rattle.http_routes.specs.Envelopes.{IsKeyRead, IsSignedAskIn, formed_nonce, has_nonce_form, nonce_in};
 
 use desk_model::{Ask, BadKey, Jwk, Signed, Target, Text, has_base64url_bytes};
-use json_texts::text_of;
+use json_texts::{JsonValue, text_member};
 use keys::{KeyFault, read_jwk};
-use serde_json::Value;
 use std::alloc::{AllocError, Global};
 
 /// What a signed request asks of this target by the value of its envelope, or `None` where the value is none (RFC 8555,
@@ -15,14 +13,15 @@ use std::alloc::{AllocError, Global};
 /// # Errors
 ///
 /// Where there is no memory for it.
-pub(crate) fn signed_ask_in(
+pub(crate) fn signed_ask_in<V: JsonValue>(
     alloc: Global,
     target: Target,
-    envelope: &Value,
+    envelope: &V,
 ) -> Result<Option<Ask>, AllocError>
-    ensures { IfOk result (λ o. IsSignedAskIn target (view envelope.now) o) }
+    ensures { IfOk result (λ o. IsSignedAskIn target (V.meaning envelope.now) o) }
 {
-    let (Some(jwk), Some(payload)) = (envelope.get("jwk"), text_of(envelope, "payload")) else {
+    let (Some(jwk), Some(payload)) = (envelope.member("jwk"), text_member(envelope, "payload"))
+    else {
         return Ok(None);
     };
     let Some(nonce) = nonce_of(alloc, envelope)? else {
@@ -38,12 +37,12 @@ pub(crate) fn signed_ask_in(
 }
 
 // The key that a value spells, or that it spells none, and the payload.
-fn key_and_payload(
+fn key_and_payload<V: JsonValue>(
     alloc: Global,
-    jwk: &Value,
+    jwk: &V,
     payload: &str,
 ) -> Result<(Result<Jwk, BadKey>, Text), AllocError>
-    ensures { IfOk result (λ r. IsKeyRead (view jwk.now) r.0 × (r.1 ≡ payload.now)) }
+    ensures { IfOk result (λ r. IsKeyRead (V.meaning jwk.now) r.0 × (r.1 ≡ payload.now)) }
 {
     let payload = Text::new(String::from_str(alloc, payload)?);
     let key = key_of(alloc, jwk)?;
@@ -51,8 +50,8 @@ fn key_and_payload(
 }
 
 // The key that a value spells, or that it spells none.
-fn key_of(alloc: Global, jwk: &Value) -> Result<Result<Jwk, BadKey>, AllocError>
-    ensures { IfOk result (λ r. IsKeyRead (view jwk.now) r) }
+fn key_of<V: JsonValue>(alloc: Global, jwk: &V) -> Result<Result<Jwk, BadKey>, AllocError>
+    ensures { IfOk result (λ r. IsKeyRead (V.meaning jwk.now) r) }
 {
     match read_jwk(alloc, jwk) {
         Ok(key) => Ok(Ok(key)),
@@ -62,13 +61,13 @@ fn key_of(alloc: Global, jwk: &Value) -> Result<Result<Jwk, BadKey>, AllocError>
 }
 
 // The nonce of an envelope, which may lack it.
-fn nonce_of(alloc: Global, envelope: &Value) -> Result<Option<Option<Text>>, AllocError>
-    ensures { IfOk result (λ o. o ≡ nonce_in (view envelope.now)) }
+fn nonce_of<V: JsonValue>(alloc: Global, envelope: &V) -> Result<Option<Option<Text>>, AllocError>
+    ensures { IfOk result (λ o. o ≡ nonce_in (V.meaning envelope.now)) }
 {
-    let Some(value) = envelope.get("nonce") else {
+    let Some(value) = envelope.member("nonce") else {
         return Ok(Some(None));
     };
-    match value.as_str() {
+    match value.text() {
         Some(text) => formed_nonce(alloc, text),
         None => Ok(None),
     }

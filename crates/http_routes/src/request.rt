@@ -10,7 +10,8 @@ use crate::paths::resource_at;
 use crate::router::Routes;
 use crate::routes::{OfficeResource, Resource, has_index, methods_of, serves};
 use desk_model::{Allow, Ask, OfficeAsk, Refusal, Reply, Sequence, Target};
-use json_texts::{order_problem, value_of};
+use json::Scratch;
+use json_texts::{object_in, order_problem, value_of};
 use std::alloc::{AllocError, Global};
 
 /// What a request asks, or how one that is no call is refused.
@@ -123,10 +124,22 @@ fn signed_ask(alloc: Global, target: Target, body: &[u8]) -> Result<Option<Ask>,
     let Ok(text) = str::from_utf8(body) else {
         return Ok(None);
     };
-    match value_of(alloc, text)? {
+    let mut scratch = Scratch::new(alloc);
+    match object_in(alloc, text, &mut scratch)? {
         Some(envelope) => signed_ask_in(alloc, target, &envelope),
-        None => Ok(None),
+        None => odd_ask(alloc, target, text),
     }
+}
+
+// What a signed request asks by the text of an envelope that holds more than strings and objects of strings, or `None` where it
+// is none.
+fn odd_ask(alloc: Global, target: Target, text: &str) -> Result<Option<Ask>, AllocError>
+    ensures { IfOk result (λ o. IsSignedAsk target text.now o) }
+{
+    let Some(value) = value_of(alloc, text)? else {
+        return Ok(None);
+    };
+    signed_ask_in(alloc, target, &value)
 }
 
 // What the validator, the signing office or the operator asks, or `None` where the body is none for it.

@@ -1,3 +1,4 @@
+pub mod Objects
 pub mod Problems
 pub mod RefusalReplies
 pub mod Refused

@@ -2,6 +2,7 @@
 #![tactic(auto)]
 
 mod lists;
+mod objects;
 mod problems;
 mod refusal_replies;
 mod refused;
@@ -9,6 +10,7 @@ mod short_lists;
 mod values;
 
 pub use lists::{text_list, texts_in};
+pub use objects::{JsonValue, object_in, text_member};
 pub use problems::order_problem;
 pub use refusal_replies::refusal_reply;
 pub use refused::{problem_document, problem_text, type_text};

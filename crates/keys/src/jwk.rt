@@ -7,7 +7,7 @@ ghost use Rattle.desk_model.specs.Payload.{key_text_in};
 ghost use Rattle.desk_model.specs.Keys.{Key, IsKeyOf, IsEc, IsRsa, IsOkp, IsCurve, number_member, canonical_text, ec, rsa, okp};
 
 use desk_model::{Jwk, is_number, is_same_text};
-use json_texts::text_of;
+use json_texts::{JsonValue, text_member};
 use serde_json::Value;
 use std::alloc::{AllocError, Global};
 use thiserror::Error;
@@ -54,11 +54,11 @@ pub fn key_of(alloc: Global, value: &Value) -> Result<Option<Jwk>, AllocError>
 /// # Errors
 ///
 /// `Bad` where it spells none, `Memory` where there is no memory (RFC 7638, 3.2).
-pub fn read_jwk(alloc: Global, value: &Value) -> Result<Jwk, KeyFault>
-    ensures key { IfOk result (λ jwk. (k : Key) × IsKeyOf (view value.now) k × (jwk ≡ canonical_text k)) }
-    ensures bad { result ≡ Err KeyFault.Bad → (k : Key) → ¬ (IsKeyOf (view value.now) k) }
+pub fn read_jwk<V: JsonValue>(alloc: Global, value: &V) -> Result<Jwk, KeyFault>
+    ensures key { IfOk result (λ jwk. (k : Key) × IsKeyOf (V.meaning value.now) k × (jwk ≡ canonical_text k)) }
+    ensures bad { result ≡ Err KeyFault.Bad → (k : Key) → ¬ (IsKeyOf (V.meaning value.now) k) }
 {
-    let Some(kty) = text_of(value, "kty") else {
+    let Some(kty) = text_member(value, "kty") else {
         return Err(KeyFault::Bad);
     };
     if is_same_text(kty, "EC") {
@@ -73,11 +73,11 @@ pub fn read_jwk(alloc: Global, value: &Value) -> Result<Jwk, KeyFault>
 }
 
 // The key of a curve of the NIST that the members spell.
-fn read_ec(alloc: Global, value: &Value) -> Result<Jwk, KeyFault>
-    ensures key { IfOk result (λ j. (crv x y : List ℕ) × IsEc (view value.now) crv x y × (j ≡ canonical_text (ec crv x y))) }
-    ensures bad { result ≡ Err KeyFault.Bad → (crv x y : List ℕ) → ¬ (IsEc (view value.now) crv x y) }
+fn read_ec<V: JsonValue>(alloc: Global, value: &V) -> Result<Jwk, KeyFault>
+    ensures key { IfOk result (λ j. (crv x y : List ℕ) × IsEc (V.meaning value.now) crv x y × (j ≡ canonical_text (ec crv x y))) }
+    ensures bad { result ≡ Err KeyFault.Bad → (crv x y : List ℕ) → ¬ (IsEc (V.meaning value.now) crv x y) }
 {
-    let Some(crv) = text_of(value, "crv") else {
+    let Some(crv) = text_member(value, "crv") else {
         return Err(KeyFault::Bad);
     };
     if !is_curve(crv) {
@@ -93,9 +93,9 @@ fn read_ec(alloc: Global, value: &Value) -> Result<Jwk, KeyFault>
 }
 
 // The RSA key that the members spell.
-fn read_rsa(alloc: Global, value: &Value) -> Result<Jwk, KeyFault>
-    ensures key { IfOk result (λ j. (e n : List ℕ) × IsRsa (view value.now) e n × (j ≡ canonical_text (rsa e n))) }
-    ensures bad { result ≡ Err KeyFault.Bad → (e n : List ℕ) → ¬ (IsRsa (view value.now) e n) }
+fn read_rsa<V: JsonValue>(alloc: Global, value: &V) -> Result<Jwk, KeyFault>
+    ensures key { IfOk result (λ j. (e n : List ℕ) × IsRsa (V.meaning value.now) e n × (j ≡ canonical_text (rsa e n))) }
+    ensures bad { result ≡ Err KeyFault.Bad → (e n : List ℕ) → ¬ (IsRsa (V.meaning value.now) e n) }
 {
     let Some(e) = number_of(value, "e") else {
         return Err(KeyFault::Bad);
@@ -107,11 +107,11 @@ fn read_rsa(alloc: Global, value: &Value) -> Result<Jwk, KeyFault>
 }
 
 // The Ed25519 key that the members spell.
-fn read_okp(alloc: Global, value: &Value) -> Result<Jwk, KeyFault>
-    ensures key { IfOk result (λ j. (x : List ℕ) × IsOkp (view value.now) x × (j ≡ canonical_text (okp x))) }
-    ensures bad { result ≡ Err KeyFault.Bad → (x : List ℕ) → ¬ (IsOkp (view value.now) x) }
+fn read_okp<V: JsonValue>(alloc: Global, value: &V) -> Result<Jwk, KeyFault>
+    ensures key { IfOk result (λ j. (x : List ℕ) × IsOkp (V.meaning value.now) x × (j ≡ canonical_text (okp x))) }
+    ensures bad { result ≡ Err KeyFault.Bad → (x : List ℕ) → ¬ (IsOkp (V.meaning value.now) x) }
 {
-    if text_of(value, "crv") != Some("Ed25519") {
+    if text_member(value, "crv") != Some("Ed25519") {
         return Err(KeyFault::Bad);
     }
     let Some(x) = number_of(value, "x") else {
@@ -142,10 +142,10 @@ fn okp_text(alloc: Global, x: &str) -> Result<String, AllocError>
 }
 
 // The number of this member.
-fn number_of<'v>(value: &'v Value, name: &str) -> Option<&'v str>
-    ensures { option_map (λ s. s.now) result ≡ number_member name.now (view value.now) }
+fn number_of<'v, V: JsonValue>(value: &'v V, name: &str) -> Option<&'v str>
+    ensures { option_map (λ s. s.now) result ≡ number_member name.now (V.meaning value.now) }
 {
-    let text = text_of(value, name)?;
+    let text = text_member(value, name)?;
     if is_number(text) { Some(text) } else { None }
 }
 

@@ -1,0 +1,147 @@
+-- Values that are read without a map are those that `serde_json` reads.
+use Rattle.std.proofs.Common.{◌≡◌, ℕ, List, [], ◌∷◌, Bor, Vec, rules, Bool, true, false, Option, Some, None, option_map, bytes_eq}
+use Rattle.std.proofs.Common.{cond, refl, sym, ap, subst, ◌∙◌}
+use Rattle.std.specs.Prelude.{◌&&◌, option_and_then}
+use Rattle.std.specs.List.{list_all}
+use Rattle.std.proofs.lemmas.Slice.Eq.{bytes_eq-Decides}
+use Rattle.json.specs.Json as json
+use Rattle.json.specs.Find as json_find
+use Rattle.json.specs.Lex.{tokens}
+use Rattle.json.specs.Value.{members_view, value_view}
+use Rattle.json.specs.declared.value.Value.{Value as TextValue, Object, the_lemmas}
+use Rattle.serde_json.specs.Data.{Data, object, Members, no_members, put}
+use Rattle.serde_json.specs.Find.{as_str, get, get_member}
+use Rattle.serde_json.specs.Read.{max_depth, of_json, of_members, read}
+use Rattle.serde_json.proofs.Views.{get_member-put, get_member-put_other}
+use Rattle.json_texts.specs.Objects.{are_shallow, are_texts, is_shallow, is_text, is_text_or_texts, plain_members, plain_value}
+
+-- ---- what is read
+
+-- a string
+text_read : (j : json.Json) → is_text j ≡ true → of_json j ≡ Some (plain_value j)
+text_read (json.string s) is = refl
+text_read json.null is = absurd (let e = is in cc)
+text_read (json.boolean b) is = absurd (let e = is in cc)
+text_read (json.number s) is = absurd (let e = is in cc)
+text_read (json.array js) is = absurd (let e = is in cc)
+text_read (json.object ms) is = absurd (let e = is in cc)
+
+both : (a b : Bool) → (a && b) ≡ true → (a ≡ true) × (b ≡ true)
+both true b is = (refl, is)
+both false b is = absurd (let e = is in cc)
+
+-- strings
+texts_read : (ms : json.Members) (found : Members) → are_texts ms ≡ true → of_members ms found ≡ Some (plain_members ms found)
+texts_read json.no_members found are = refl
+texts_read (json.member k j ms) found are =
+    let split = both (is_text j) (are_texts ms) are in
+    ap (λ o. option_and_then (λ d. of_members ms (put k d found)) o) (text_read j split.0) ∙ texts_read ms (put k (plain_value j) found) split.1
+
+-- a string, or an object of strings
+member_read : (j : json.Json) → is_text_or_texts j ≡ true → of_json j ≡ Some (plain_value j)
+member_read (json.string s) is = refl
+member_read (json.object ms) is = ap (λ o. option_map object o) (texts_read ms no_members is)
+member_read json.null is = absurd (let e = is in cc)
+member_read (json.boolean b) is = absurd (let e = is in cc)
+member_read (json.number s) is = absurd (let e = is in cc)
+member_read (json.array js) is = absurd (let e = is in cc)
+
+-- members
+shallow_members_read : (ms : json.Members) (found : Members) → are_shallow ms ≡ true → of_members ms found ≡ Some (plain_members ms found)
+shallow_members_read json.no_members found are = refl
+shallow_members_read (json.member k j ms) found are =
+    let split = both (is_text_or_texts j) (are_shallow ms) are in
+    ap (λ o. option_and_then (λ d. of_members ms (put k d found)) o) (member_read j split.0) ∙ shallow_members_read ms (put k (plain_value j) found) split.1
+
+-- an object of them
+pub shallow_read : (j : json.Json) → is_shallow j ≡ true → of_json j ≡ Some (plain_value j)
+shallow_read (json.object ms) is = ap (λ o. option_map object o) (shallow_members_read ms no_members is)
+shallow_read json.null is = absurd (let e = is in cc)
+shallow_read (json.boolean b) is = absurd (let e = is in cc)
+shallow_read (json.number s) is = absurd (let e = is in cc)
+shallow_read (json.string s) is = absurd (let e = is in cc)
+shallow_read (json.array js) is = absurd (let e = is in cc)
+
+-- ---- members
+
+-- what a value has beside what was there before
+abbrev or_before : Option json.Json → Option Data → Option Data
+or_before None before = before
+or_before (Some j) before = Some (plain_value j)
+
+-- the last member of a name stands
+found_member : (name : List ℕ) (ms : json.Members) (found : Members)
+    → get_member name (plain_members ms found) ≡ or_before (json_find.get_member name ms) (get_member name found)
+found_member name json.no_members found = refl
+found_member name (json.member k j ms) found =
+    found_member name ms (put k (plain_value j) found) ∙ by (json_find.get_member name ms) (bytes_eq k name) refl
+  where
+    by : (later : Option json.Json) (same : Bool) → bytes_eq k name ≡ same
+        → or_before later (get_member name (put k (plain_value j) found))
+        ≡ or_before (json_find.later_or later (cond same (Some j) None)) (get_member name found)
+    by (Some l) same is = refl
+    by None true is =
+        let one : k ≡ name = (bytes_eq-Decides k name).0 is in
+        subst (λ n. get_member n (put k (plain_value j) found) ≡ Some (plain_value j)) one (get_member-put k (plain_value j) found)
+    by None false is = get_member-put_other name k (plain_value j) found
+        (λ one. absurd (let e = sym ((bytes_eq-Decides k name).1 (sym one)) ∙ is in cc))
+
+-- so it is found in the value as in what was read
+pub plain_get : (name : List ℕ) (j : json.Json) → get name (plain_value j) ≡ option_map plain_value (json_find.get name j)
+plain_get name json.null = refl
+plain_get name (json.boolean b) = refl
+plain_get name (json.number s) = refl
+plain_get name (json.string s) = refl
+plain_get name (json.array js) = refl
+plain_get name (json.object ms) = found_member name ms no_members ∙ by (json_find.get_member name ms)
+  where
+    by : (o : Option json.Json) → or_before o None ≡ option_map plain_value o
+    by None = refl
+    by (Some j) = refl
+
+-- as what is looked up there shows it
+pub member_found : {X : Type 0} (f : X → json.Json) (found : Option X) (name : List ℕ) (j : json.Json) → option_map f found ≡ json_find.get name j
+    → option_map (λ x. plain_value (f x)) found ≡ get name (plain_value j)
+member_found {X} f found name j is = by found ∙ ap (option_map plain_value) is ∙ sym (plain_get name j)
+  where
+    by : (o : Option X) → option_map (λ x. plain_value (f x)) o ≡ option_map plain_value (option_map f o)
+    by None = refl
+    by (Some x) = refl
+
+-- and its text
+pub plain_text : (j : json.Json) → as_str (plain_value j) ≡ json_find.as_str j
+plain_text json.null = refl
+plain_text (json.boolean b) = refl
+plain_text (json.number s) = refl
+plain_text (json.string s) = refl
+plain_text (json.array js) = refl
+plain_text (json.object ms) = refl
+
+-- ---- what the code looks at
+
+-- an object
+object_viewed : {A : Type 0} (v : Vec (Bor (List ℕ) × TextValue A) A) → value_view (Object v) ≡ json.object (members_view v.items)
+object_viewed v = search (rules, the_lemmas)
+
+all_texts : {A : Type 0} (ms : List (Bor (List ℕ) × TextValue A)) → list_all (λ m. is_text (value_view m.1)) ms ≡ are_texts (members_view ms)
+all_texts [] = refl
+all_texts (m ∷ ms) = ap (λ b. is_text (value_view m.1) && b) (all_texts ms)
+
+-- whose members are all strings
+pub texts_told : {A : Type 0} (v : Vec (Bor (List ℕ) × TextValue A) A)
+    → list_all (λ m. is_text (value_view m.1)) v.items ≡ is_text_or_texts (value_view (Object v))
+texts_told v = all_texts v.items ∙ sym (ap is_text_or_texts (object_viewed v))
+
+all_shallow : {A : Type 0} (ms : List (Bor (List ℕ) × TextValue A)) → list_all (λ m. is_text_or_texts (value_view m.1)) ms ≡ are_shallow (members_view ms)
+all_shallow [] = refl
+all_shallow (m ∷ ms) = ap (λ b. is_text_or_texts (value_view m.1) && b) (all_shallow ms)
+
+-- or objects of strings
+pub shallow_told : {A : Type 0} (v : Vec (Bor (List ℕ) × TextValue A) A)
+    → list_all (λ m. is_text_or_texts (value_view m.1)) v.items ≡ is_shallow (value_view (Object v))
+shallow_told v = all_shallow v.items ∙ sym (ap is_shallow (object_viewed v))
+
+-- a text of nothing else
+pub whole_read : (text : List ℕ) (j : json.Json) → json.value max_depth (tokens text) ≡ Some (j, []) → is_shallow j ≡ true
+    → read text ≡ Some (plain_value j)
+whole_read text j is shallow = ap (λ o. option_and_then of_json (option_and_then (λ p. json.if_last p.0 p.1) o)) is ∙ shallow_read j shallow
