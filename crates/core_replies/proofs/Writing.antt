@@ -42,7 +42,10 @@ pub nothing_written : (a : List Token) → HasValues a a []
 nothing_written a = record { text = sym (append-nil a); back = tt }
 
 pub members_then : {a b c : List Token} {ms ns : List (List ℕ × Data)} → HasMembers a b ms → HasMembers b c ns → HasMembers a c (ms ++ ns)
-members_then {a} {b} {c} {ms} {ns} p q = record { text = more member_tokens ms ns a b c p.text q.text; back = each_and (λ m. ReadsBack m.1) ms ns p.back q.back }
+members_then {a} {b} {c} {ms} {ns} p q = record {
+  text = more member_tokens ms ns a b c p.text q.text;
+  back = each_and (λ m. ReadsBack m.1) ms ns p.back q.back;
+}
 
 pub values_then : {a b c : List Token} {ds es : List Data} → HasValues a b ds → HasValues b c es → HasValues a c (ds ++ es)
 values_then {a} {b} {c} {ds} {es} p q = record { text = more tokens_of ds es a b c p.text q.text; back = each_and ReadsBack ds es p.back q.back }

@@ -5,4 +5,5 @@ use Rattle.core_replies.proofs.objects.write_error_members.Goals as goal
 pub returns : goal.returns
 returns c =
     on_ok c.made_member.result
-    (λ kind. members_then c.in_ok-member.ensures (members_then (number_is c.from.ensures c.in_ok-number_member.ensures) (kind _ c.type_text.ensures))) c.made_member.ensures
+    (λ kind. members_then c.in_ok-member.ensures
+    (members_then (number_is c.from.ensures c.in_ok-number_member.ensures) (kind _ c.type_text.ensures))) c.made_member.ensures

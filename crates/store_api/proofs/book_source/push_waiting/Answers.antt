@@ -8,7 +8,8 @@ use Rattle.store_api.proofs.book_source.push_waiting.Goals as goal
 pub loop-challenge-preserved : goal.loop-challenge-preserved
 loop-challenge-preserved c =
     kept_next (λ (k : ChallengeRow). record { owner = c.args.row.now.number; row = k }) (λ k. is_processing_challenge k.status) _ _ _ _ _ _
-    (one_more c.as_slice-challenge-items.result.now c.loop-challenge.challenge-index _ c.loop-challenge-test.true) c.in_ok-push_one.ensures c.loop-challenge.invariant
+    (one_more c.as_slice-challenge-items.result.now c.loop-challenge.challenge-index _ c.loop-challenge-test.true) c.in_ok-push_one.ensures
+    c.loop-challenge.invariant
 
 pub returns-in_err-push_one : goal.returns-in_err-push_one
 returns-in_err-push_one c = IfOk-from_err c.from_residual.result _ c.from_residual.ensures.0
