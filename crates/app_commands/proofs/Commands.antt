@@ -32,10 +32,9 @@ module _ {D : Type 0} (g : disk.Ghosts D) (image : Image) (bytes was is : Option
   as_command o it how left same ends = subst (λ x. Ends g image bytes was is x how left) (sym same) ends
 
   -- a check ends in the form that is asked for
-  pub as_check : (o : Command) (file : _) (json : Bool) (f : Form) (how : Result ℕ Fault) (left : Left D g) → o ≡ command.Check file json
-      → f ≡ form_of json → EndsOverFiles g image (ChecksStatuses f) was is how left → Ends g image bytes was is o how left
-  as_check o file json f how left same form ends =
-      as_command o (command.Check file json) how left same (subst (λ x. EndsOverFiles g image (ChecksStatuses x) was is how left) form ends)
+  pub as_check : (json : Bool) (f : Form) (how : Result ℕ Fault) (left : Left D g) → f ≡ form_of json
+      → EndsOverFiles g image (ChecksStatuses f) was is how left → EndsOverFiles g image (ChecksStatuses (form_of json)) was is how left
+  as_check json f how left form ends = subst (λ x. EndsOverFiles g image (ChecksStatuses x) was is how left) form ends
 
   -- a list of rows ends in the form that is asked for
   pub as_rows : {X : Type 0} (rows : Tables → List X) (Keeps : Tables → X → Type 0) (line : Form → X → List ℕ) (noun : List ℕ) (f : Form) (json : Bool)

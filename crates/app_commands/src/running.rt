@@ -3,7 +3,7 @@ ghost use Rattle.std.specs.Prelude.{◌≡◌, ◌≤◌, IfErr, IfOk, MatchOpti
 ghost use Rattle.sqlite.specs.WalFiles.{image_at};
 ghost use Rattle.desk_model.specs.Terms.{are_terms};
 ghost use Rattle.desk.specs.declared.fault.DeskFault.TheVariants as deskfault;
-ghost use Rattle.app_commands.specs.Deeds.{ListsRows, TellsPage};
+ghost use Rattle.app_commands.specs.Deeds.{ChecksStatuses, ListsRows, ServesCount, TellsPage};
 ghost use Rattle.app_commands.specs.Faults.{IsOfOpening};
 ghost use Rattle.app_commands.specs.Statuses.{Ends, EndsAbout, EndsBy, EndsMake, EndsOverFiles, EndsUnasked, IsToldMade, form_of, status_of};
 ghost use Rattle.app_commands.specs.Statuses.{supposes, syncs_of, terms_in_memory, terms_of};
@@ -22,8 +22,8 @@ use crate::revoking::Revoke;
 use app_files::{Left, Task, Unknown, Wary, make_desk, run_in_memory, run_over_file, wait_for};
 use app_reports::{AllAccounts, Beside, RowList};
 use app_words::{
-    AUTHZ_LIFE, Asked, AuthorizationListing, Command, Listing, NONCE_LIFE, ORDER_LIFE, SyncedFile,
-    Syncs, Terms, WordsFault, read_words,
+    AUTHZ_LIFE, Asked, AuthorizationListing, Command, Listing, NONCE_LIFE, ORDER_LIFE, Serving,
+    SyncedFile, Syncs, Terms, WordsFault, read_words,
 };
 use desk::DeskFault;
 use desk_http::moment;
@@ -157,15 +157,7 @@ fn try_command<S: Start, R: Read + Drop, W: Write, E: Write>(
 {
     match command {
         Command::Make { file, terms } => make_file(rt, file, terms, start, out, errors),
-        Command::Serve { file, serving } => {
-            let task = ServeConnections {
-                rt,
-                path: file.path,
-                serving,
-                errors,
-            };
-            run_over_file(rt, file.path, start, task, out)
-        }
+        Command::Serve { file, serving } => serve_file(rt, file, serving, start, out, errors),
         Command::About { file } => about_file(rt, file, start, out),
         Command::Page { file } => show_page(rt, file, start, out),
         Command::Status { file, listing } => {
@@ -177,15 +169,7 @@ fn try_command<S: Start, R: Read + Drop, W: Write, E: Write>(
             let filter = authorization_filter(rt.alloc(), listing);
             list_asked(rt, file, filter, listing.json, start, out, errors)
         }
-        Command::Check { file, json } => {
-            let task = CheckStatuses {
-                alloc: rt.alloc(),
-                form: form(json),
-                now: moment(rt).ok(),
-                errors,
-            };
-            run_over_file(rt, file, start, task, out)
-        }
+        Command::Check { file, json } => check_file(rt, file, json, start, out, errors),
         Command::BackUp { file, to } => back_up(rt, file, to, start, out, errors),
         Command::Revoke { file, target } => {
             run_over_file(rt, file, start, Revoke { rt, target }, out)
@@ -229,6 +213,26 @@ fn tell_made<W: Write>(out: &mut W, made: Result<(), OpenFault>) -> Result<u8, F
         },
         Err(fault) => Err(Fault::from(fault)),
     }
+}
+
+// Serves the desk in a file.
+fn serve_file<S: Start, W: Write, E: Write>(
+    rt: &HostRuntime,
+    file: SyncedFile<'_>,
+    serving: Serving,
+    start: S,
+    out: &mut W,
+    errors: &mut E,
+) -> (Result<u8, Fault>, Left<FileFrom<S>>)
+    ensures { EndsOverFiles ⟦<FileFrom<S> as Disk>⟧ (image_at S.Start) (ServesCount serving.count) (W.contents out.old) (W.contents out.new) result.0 result.1 }
+{
+    let task = ServeConnections {
+        rt,
+        path: file.path,
+        serving,
+        errors,
+    };
+    run_over_file(rt, file.path, start, task, out)
 }
 
 // Tells about the desk in a file, and how large the log beside it was.
@@ -279,6 +283,26 @@ fn show_page<S: Start, W: Write>(
     ensures { EndsOverFiles ⟦<FileFrom<S> as Disk>⟧ (image_at S.Start) TellsPage (W.contents out.old) (W.contents out.new) result.0 result.1 }
 {
     let task = ShowPage { alloc: rt.alloc() };
+    run_over_file(rt, file, start, task, out)
+}
+
+// Checks the stored statuses of the desk in a file.
+fn check_file<S: Start, W: Write, E: Write>(
+    rt: &HostRuntime,
+    file: &str,
+    json: bool,
+    start: S,
+    out: &mut W,
+    errors: &mut E,
+) -> (Result<u8, Fault>, Left<FileFrom<S>>)
+    ensures { EndsOverFiles ⟦<FileFrom<S> as Disk>⟧ (image_at S.Start) (ChecksStatuses (form_of json)) (W.contents out.old) (W.contents out.new) result.0 result.1 }
+{
+    let task = CheckStatuses {
+        alloc: rt.alloc(),
+        form: form(json),
+        now: moment(rt).ok(),
+        errors,
+    };
     run_over_file(rt, file, start, task, out)
 }
 

@@ -1,13 +1,13 @@
 use Rattle.std.proofs.Common.{None, refl}
 use Rattle.sqlite.specs.WalFiles.{image_at}
-use Rattle.app_commands.proofs.Commands.{as_check, as_list, as_command}
+use Rattle.app_commands.proofs.Commands.{as_list, as_command}
 use Rattle.app_commands.proofs.running.try_command.Goals as goal
 
 pub returns-in-Make : goal.returns-in-Make
 returns-in-Make g c = as_command _ _ _ _ _ c.args.command _ _ _ c.in-Make.is c.make_file.ensures
 
 pub returns-in-Serve : goal.returns-in-Serve
-returns-in-Serve g c = as_command _ _ _ _ _ c.args.command _ _ _ c.in-Serve.is c.run_over_file.ensures
+returns-in-Serve g c = as_command _ _ _ _ _ c.args.command _ _ _ c.in-Serve.is c.serve_file.ensures
 
 pub returns-in-About : goal.returns-in-About
 returns-in-About g c = as_command _ _ _ _ _ c.args.command _ _ _ c.in-About.is c.about_file.ensures
@@ -32,14 +32,13 @@ returns-in-Authorizations g c =
     (λ filter asks does. record { filter = filter; asks = asks; ends = does }))
 
 pub returns-in-Check : goal.returns-in-Check
-returns-in-Check g c =
-    as_check _ _ _ _ _ c.args.command _ c.in-Check.json c.form.result _ _ c.in-Check.is c.form.ensures c.run_over_file-in-Check.ensures
+returns-in-Check g c = as_command _ _ _ _ _ c.args.command _ _ _ c.in-Check.is c.check_file.ensures
 
 pub returns-in-BackUp : goal.returns-in-BackUp
 returns-in-BackUp g c = as_command _ _ _ _ _ c.args.command _ _ _ c.in-BackUp.is c.back_up.ensures
 
 pub returns-in-Revoke : goal.returns-in-Revoke
-returns-in-Revoke g c = as_command _ _ _ _ _ c.args.command _ _ _ c.in-Revoke.is c.run_over_file-in-Revoke.ensures
+returns-in-Revoke g c = as_command _ _ _ _ _ c.args.command _ _ _ c.in-Revoke.is c.run_over_file.ensures
 
 pub returns-in-RevokeServed : goal.returns-in-RevokeServed
 returns-in-RevokeServed g c = as_command _ _ _ _ _ c.args.command _ _ _ c.in-RevokeServed.is (c.revoke_served.ensures, refl)
