@@ -569,18 +569,17 @@ def missed(run):
         of calls that differ in it; the parts are differences of two times, so small ones are mostly noise."""
 
 
-WHERE = """What is past its end, and the desk's own row, the program knows from the calls before, and of the rows that a
-call changes it writes those alone that differ, so a small call asks for little that C does not ask for, too; but each
-statement costs the program several times what it costs SQLite. Most of what a small call takes (288,000 instructions of a
-newAccount of a known key, 184,000 of a newNonce, by `valgrind --tool=callgrind`) is the engine's: rows that are written,
-the commit, and tables of its page cache, which it clears some ten times; the kit's JSON reader clears a stack of its own
-for each text that it reads. The program reads whole rows, all columns of an order with its CSR and its certificate, where C
-reads the columns that it needs, and of a row that changes it writes all columns that calls move, where C writes those that
-change; what an order lists, and each challenge that changes, are a statement each. The list of an account's orders reads
-all of its orders whole, but for what they list, and an account that ends all its authorizations with the orders that list
-them. The two lists of work find what waits by the index on the status, as C does, and read its rows whole, but for
-challenges that they do not show: some two statements for each challenge, some two for each order of one name, where C joins
-the tables in one or two."""
+WHERE = """What is past its end, the desk's own row and the newest nonces the program knows from the calls before, and
+of the rows that a call changes it writes those alone that differ, so a small call asks for little that C does not ask
+for, too; but each statement costs the program several times what it costs SQLite. Most of what a small call takes is
+the engine's: rows that are written, the commit, and tables of its page cache, which it clears some ten times. The
+program reads whole rows, all columns of an order with its CSR and its certificate, where C reads the columns that it
+needs, and of a row that changes it writes all columns that calls move, where C writes those that change; what an
+order lists, and each challenge that changes, are a statement each. The list of an account's orders reads all of its
+orders whole, but for what they list, and an account that ends all its authorizations with the orders that list them.
+The two lists of work find what waits by the index on the status, as C does, and read its rows whole, but for
+challenges that they do not show: some two statements for each challenge, some two for each order of one name, where C
+joins the tables in one or two."""
 
 CAPACITY = """Some millions of certificates a day is what a public certificate authority issues (Let's Encrypt's own
 statistics); an in-house one seldom issues more than thousands. A house that outgrows one desk runs several, each with a
