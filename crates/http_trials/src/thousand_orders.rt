@@ -173,7 +173,7 @@ fn answers_load_what_is_enough_of_a_thousand(rt: HostRuntime) -> Result<(), Fail
         loaded
             == [
                 [1000, 1000, 2, 1],
-                [1, 1, 2, 1],
+                [1, 1, 0, 1],
                 [0, 0, 0, 1],
                 [1000, 0, 0, 1]
             ]
