@@ -53,7 +53,7 @@ def cells_of(size, length, found, memory):
 def page(rows, limits):
     """The lines of the section."""
     text = f"""`bench/million.py` writes this section. Each file has so many pending orders of one name each, 10 to an account. A call is timed as
-        in the first section, {CALLS} at a time in {TURNS} turns; beside each rate stands the ratio to C's. {limits}"""
+        in the first section, {CALLS} at a time in {TURNS} turns; beside each rate stands the ratio to C's. Measured on a machine that was shared with other work. {limits}"""
     titles = ("orders", "file", "time to open", "memory", *(it for name in ASKED for it in (f"{name}, a second", "by C's")))
     return ["", "## A million orders", "", *textwrap.wrap(" ".join(text.split()), 118), "", row(*titles), "|" + "---|" * len(titles), *rows]
 
