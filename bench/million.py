@@ -50,10 +50,10 @@ def cells_of(size, length, found, memory):
     return row(f"{size:,}", f"{length / 1e6:,.0f} MB", f"{opening:,.1f} s", f"{memory / 2**20:,.0f} MB", *rates)
 
 
-def page(rows, limits):
+def page(rows, turns, limits):
     """The lines of the section."""
     text = f"""`bench/million.py` writes this section. Each file has so many pending orders of one name each, 10 to an account. A call is timed as
-        in the first section, {CALLS} at a time in {TURNS} turns; beside each rate stands the ratio to C's. Measured on a machine that was shared with other work. {limits}"""
+        in the section on rates, {CALLS} at a time in {turns} turns; beside each rate stands the ratio to C's. Measured on a machine that was shared with other work. {limits}"""
     titles = ("orders", "file", "time to open", "memory", *(it for name in ASKED for it in (f"{name}, a second", "by C's")))
     return ["", "## A million orders", "", *textwrap.wrap(" ".join(text.split()), 118), "", row(*titles), "|" + "---|" * len(titles), *rows]
 
@@ -86,7 +86,7 @@ def main():
                     os.remove(f"{folder}/{name}")
     if len(openings) != 2:
         sys.exit("million: two sizes are compared")
-    print("\n".join(page(rows, limits_of(openings))))
+    print("\n".join(page(rows, given.turns, limits_of(openings))))
 
 
 if __name__ == "__main__":
