@@ -28,7 +28,7 @@ SIZE, TURNS = 10000, 8
 HEAD = "## Instructions of a call"
 # What is said of the goals that are missed.
 WHY = """Each statement costs the engine several times what it costs SQLite, most of it fixed. A list of work is one
-statement, and two more for each item, where C joins the tables in one or two; a join is tried in lemmas (docs/DECISIONS.md),
+statement, and two more for each item, where C joins the tables in one or two; a join was tried (docs/DECISIONS.md),
 and no look-up has one yet. The list of an account's orders reads them whole, with CSR and certificate, where C reads two
 columns. A report looks up the authorization of its challenge by a statement of its own, and then reads all its challenges and
 their keys."""
