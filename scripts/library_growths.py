@@ -29,7 +29,7 @@ use desk_book::{Book, Row, Table};
 use desk::{Desk, DeskFault, Memory};
 use desk_core::decide;
 use desk_model::*;
-use store_api::{Storage, StorageFault};
+use store_api::{ParsedCall, Storage, StorageFault};
 use std::alloc::Global;
 use std::io::BufRead;
 use std::marker::Model;
@@ -129,8 +129,9 @@ fn shape(book: &Book) -> [u64; 10] {
 
 // Makes the changes of a call; after a refusal the book is as it was, and they are made again. It says whether they were refused.
 fn apply_call(alloc: Global, book: &mut Book, call: &Call) -> Option<bool> {
-    let outcome = decide(alloc, book, call).ok()?;
-    let again = decide(alloc, book, call).ok()?;
+    let parsed = ParsedCall::read(alloc, call).ok()?;
+    let outcome = decide(alloc, book, &parsed).ok()?;
+    let again = decide(alloc, book, &parsed).ok()?;
     let before = shape(book);
     if book.apply(outcome.changes).is_err() {
         expect(shape(book) == before);
@@ -318,7 +319,7 @@ impl Storage for Unsaved {
         self.memory.policy(alloc)
     }
 
-    fn load_part(&mut self, alloc: Global, call: &Call) -> Result<Book, StorageFault> {
+    fn load_part(&mut self, alloc: Global, call: &ParsedCall) -> Result<Book, StorageFault> {
         self.memory.load_part(alloc, call)
     }
 

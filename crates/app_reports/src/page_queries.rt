@@ -35,8 +35,8 @@ pub(crate) struct EndingOrders(pub(crate) u64);
 impl Query<OrderRow> for EndingOrders {
     ghost wanted = { λ which. is_past_order which.0 };
 
-    fn wants(&self, row: &OrderRow) -> bool {
-        row.status.is_live() && row.expires < self.0
+    fn wants(&self, order: &OrderRow) -> bool {
+        order.status.is_live() && order.expires < self.0
     }
 }
 
@@ -47,7 +47,7 @@ pub(crate) struct EndingAuthorizations(pub(crate) u64);
 impl Query<AuthorizationRow> for EndingAuthorizations {
     ghost wanted = { λ which. is_overdue which.0 };
 
-    fn wants(&self, row: &AuthorizationRow) -> bool {
-        row.status.is_live() && row.expires < self.0
+    fn wants(&self, authorization: &AuthorizationRow) -> bool {
+        authorization.status.is_live() && authorization.expires < self.0
     }
 }

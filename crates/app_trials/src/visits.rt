@@ -10,7 +10,7 @@ use sqlite::{Alter, Connection, FileStore, Options};
 use sqlite_disk::{Disk, Files};
 use std::alloc::{AllocError, Global};
 use std::io::Write;
-use store_api::{Storage, StorageFault};
+use store_api::{ParsedCall, Storage, StorageFault};
 use store_book::check;
 use store_passes::{FaultKind, moment_of};
 
@@ -146,7 +146,9 @@ fn touched_accounts<S: Alter>(alloc: Global, store: &mut Store<S>) -> Result<usi
         random: Sequence::new(Vec::new(alloc)),
         ask: Ask::Office(OfficeAsk::KeyOf(1)),
     };
-    let part = store.load_part(alloc, &call);
+    let parsed = ParsedCall::read(alloc, &call)?;
+    let part = store.load_part(alloc, &parsed);
+    drop(parsed);
     drop(call);
     Ok(part?.accounts().iter().count())
 }

@@ -1,3 +1,4 @@
+pub mod AskedOrders
 pub mod ContactTests
 pub mod KeyVerdicts
 pub mod Looking

@@ -1,3 +1,4 @@
 pub mod Lists
 pub mod Making
 pub mod Needs
+pub mod OrderVerdicts

@@ -2,46 +2,24 @@
 ghost use Rattle.std.specs.Prelude.{◌≡◌, drop, MatchResult, option_map};
 ghost use Rattle.serde_json.specs.View.{view};
 ghost use Rattle.core_rules.specs.Needs.{NumbersLeft, BytesLeft, IsNeedFault};
-ghost use Rattle.desk_model.specs.Payload.{new_order, object_in};
+ghost use Rattle.desk_model.specs.Payload.{object_in};
 ghost use Rattle.desk_model.specs.Questions.{account_with_key};
-ghost use Rattle.desk_model.specs.Rules.{key_verdict, new_order_verdict, signed_verdict, target_verdict};
-ghost use Rattle.desk_model.specs.Verdict.{given};
+ghost use Rattle.desk_model.specs.Rules.{key_verdict, signed_verdict, target_verdict};
+ghost use Rattle.identifiers.specs.AskedOrders.{target_order};
 
 use crate::accounts::unknown_key_verdict;
 use crate::fault::CoreFault;
-use crate::new_orders::new_order_verdict;
-use crate::payload::{Payload, new_order};
+use crate::new_orders::order_verdict;
+use crate::payload::Payload;
 use crate::targets::{
     account_target, authorization_target, certificate_target, challenge_target, finalize_target,
     key_change_target, new_account_target, order_target, orders_target,
 };
 use crate::verdicts::refused;
 use desk_book::At;
-use desk_model::{Jwk, Refusal, Signed, Target, Verdict};
-use json_texts::value_of;
+use desk_model::{Jwk, Refusal, Target, Verdict};
+use identifiers::{AskedOrder, ParsedSigned};
 use std::alloc::Global;
-
-// A request for a new order (RFC 8555, 7.4).
-#[tactic(auto, unfolding(desk_model::specs::Verdict::given))]
-fn new_order_target(
-    alloc: Global,
-    at: &At,
-    random: &[u8],
-    sender: u64,
-    payload: Payload,
-) -> Result<Verdict, CoreFault>
-    requires { option_map (λ v. view v.now) payload.object ≡ object_in payload.text.now }
-    ensures { let asked = given (new_order payload.entry.text.now) Refusal.Malformed (new_order_verdict at.now (drop 16 random.now) sender) in
-        MatchResult result (λ v. (v ≡ asked) × NumbersLeft at.now.meta.counters v × BytesLeft random.now v)
-        (λ e. IsNeedFault at.now.meta.counters random.now asked e) }
-{
-    match new_order(alloc, payload)? {
-        Some(identifiers) => {
-            new_order_verdict(alloc, at, random, sender, identifiers.as_slice())
-        }
-        None => Ok(refused(alloc, Refusal::Malformed)),
-    }
-}
 
 // A request of the holder of a valid account, by its target (RFC 8555, 7.3 to 7.5).
 fn target_verdict(
@@ -50,9 +28,11 @@ fn target_verdict(
     random: &[u8],
     sender: u64,
     payload: Payload,
+    order: &AskedOrder,
     target: Target,
 ) -> Result<Verdict, CoreFault>
-    requires { option_map (λ v. view v.now) payload.object ≡ object_in payload.text.now }
+    requires object { option_map (λ v. view v.now) payload.object ≡ object_in payload.text.now }
+    requires order { order.now ≡ target_order target payload.text.now }
     ensures { let asked = target_verdict at.now (drop 16 random.now) sender payload.entry.text.now target in
         MatchResult result (λ v. (v ≡ asked) × NumbersLeft at.now.meta.counters v × BytesLeft random.now v)
         (λ e. IsNeedFault at.now.meta.counters random.now asked e) }
@@ -60,7 +40,7 @@ fn target_verdict(
     match target {
         Target::NewAccount => new_account_target(alloc, sender, payload),
         Target::KeyChange => key_change_target(alloc, at, sender, payload),
-        Target::NewOrder => new_order_target(alloc, at, random, sender, payload),
+        Target::NewOrder => order_verdict(alloc, at, random, sender, order),
         Target::Account(number) => account_target(alloc, sender, number, payload),
         Target::Orders(number) => Ok(orders_target(alloc, sender, number, payload.text)),
         Target::Order(number) => Ok(order_target(alloc, at, sender, number, payload.text)),
@@ -78,9 +58,11 @@ fn key_verdict(
     random: &[u8],
     key: &Jwk,
     payload: Payload,
+    order: &AskedOrder,
     target: Target,
 ) -> Result<Verdict, CoreFault>
-    requires { option_map (λ v. view v.now) payload.object ≡ object_in payload.text.now }
+    requires object { option_map (λ v. view v.now) payload.object ≡ object_in payload.text.now }
+    requires order { order.now ≡ target_order target payload.text.now }
     ensures { let asked = key_verdict at.now (drop 16 random.now) key.now payload.entry.text.now target (account_with_key at.now key.now) in
         MatchResult result (λ v. (v ≡ asked) × NumbersLeft at.now.meta.counters v × BytesLeft random.now v)
         (λ e. IsNeedFault at.now.meta.counters random.now asked e) }
@@ -91,11 +73,11 @@ fn key_verdict(
     if !row.status.is_valid() {
         return Ok(refused(alloc, Refusal::Unauthorized));
     }
-    target_verdict(alloc, at, random, row.number, payload, target)
+    target_verdict(alloc, at, random, row.number, payload, order, target)
 }
 
-/// The verdict on a signed request that has passed the test of its nonce, by the tables of a book at a moment. The
-/// first 16 random bytes are the fresh nonce's.
+/// The verdict on a signed request that has passed the test of its nonce, by what its payload says and the tables of a book at
+/// a moment. The first 16 random bytes are the fresh nonce's.
 ///
 /// # Errors
 ///
@@ -105,17 +87,24 @@ pub fn judge_signed(
     alloc: Global,
     at: &At,
     random: &[u8],
-    signed: &Signed,
+    signed: &ParsedSigned,
 ) -> Result<Verdict, CoreFault>
     ensures { let asked = signed_verdict at.now (drop 16 random.now) signed.now in
         MatchResult result (λ v. (v ≡ asked) × NumbersLeft at.now.meta.counters v × BytesLeft random.now v)
         (λ e. IsNeedFault at.now.meta.counters random.now asked e) }
 {
-    let Ok(key) = &signed.key else {
+    let request = signed.request();
+    let Ok(key) = &request.key else {
         return Ok(refused(alloc, Refusal::BadPublicKey));
     };
-    let text = signed.payload.as_str();
-    let value = value_of(alloc, text)?;
-    let payload = Payload::new(text, &value);
-    key_verdict(alloc, at, random, key, payload, signed.target)
+    let payload = Payload::new(request.payload.as_str(), signed.value());
+    key_verdict(
+        alloc,
+        at,
+        random,
+        key,
+        payload,
+        signed.order(),
+        request.target,
+    )
 }

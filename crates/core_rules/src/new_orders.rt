@@ -4,16 +4,17 @@ ghost use Rattle.core_rules.specs.Needs.{NumbersLeft, BytesLeft, IsNeedFault};
 ghost use Rattle.desk_model.specs.Authorization.{kinds_of};
 ghost use Rattle.core_rules.specs.Making.{drawn_for, made_for};
 ghost use Rattle.desk_model.specs.Limits.{last_number};
-ghost use Rattle.desk_model.specs.Rules.{new_order_verdict, pieces, wanted};
+ghost use Rattle.core_rules.specs.OrderVerdicts.{order_verdict};
+ghost use Rattle.desk_model.specs.Rules.{pieces, wanted};
 ghost use Rattle.desk_model.specs.Run.{count_tokens};
 ghost use Rattle.desk_model.specs.declared.verdict.Verdict.TheVariants.{Orders as orders};
 
 use crate::fault::CoreFault;
 use crate::limits::{first_piece, has_room, has_room_for, has_tokens, later_random};
-use crate::verdicts::refused;
+use crate::verdicts::{refused, refused_by};
 use desk_book::At;
-use desk_model::{Counters, DnsName, Identifier, MOST_NAMES, Refusal, Sequence, Verdict, Wanted};
-use identifiers::{Identified, identify};
+use desk_model::{Counters, DnsName, Refusal, Sequence, Verdict, Wanted};
+use identifiers::AskedOrder;
 use std::alloc::{AllocError, Global};
 
 // How many authorizations an order of the account makes for a name.
@@ -136,28 +137,40 @@ fn order_for(
     Ok(Verdict::Orders(account, Sequence::new(wanted)))
 }
 
-/// A newOrder request of a valid account: refused by the first faulty identifier, with all of them listed.
-#[tactic(auto, unfolding(desk_model::specs::Verdict::check))]
-pub(crate) fn new_order_verdict(
+// An order for the names that were read, which the verdict has as its own.
+fn order_of_names(
     alloc: Global,
     at: &At,
     random: &[u8],
     account: u64,
-    identifiers: &[Identifier],
+    names: &Sequence<DnsName>,
 ) -> Result<Verdict, CoreFault>
-    ensures { let asked = new_order_verdict at.now (drop 16 random.now) account identifiers.now in
+    ensures { let asked = orders account (wanted at.now account names.now (drop 16 random.now)) in
         MatchResult result (λ v. (v ≡ asked) × NumbersLeft at.now.meta.counters v × BytesLeft random.now v)
         (λ e. IsNeedFault at.now.meta.counters random.now asked e) }
 {
-    if identifiers.is_empty() || identifiers.len() > MOST_NAMES {
-        return Ok(refused(alloc, Refusal::Malformed));
+    order_for(alloc, at, random, account, names.clone()?.into_vec())
+}
+
+/// The verdict on what a newOrder request of a valid account asks for: refused by the first faulty identifier, with all of them
+/// listed, or an order for its names.
+pub(crate) fn order_verdict(
+    alloc: Global,
+    at: &At,
+    random: &[u8],
+    account: u64,
+    order: &AskedOrder,
+) -> Result<Verdict, CoreFault>
+    ensures { let asked = order_verdict at.now (drop 16 random.now) account order.now in
+        MatchResult result (λ v. (v ≡ asked) × NumbersLeft at.now.meta.counters v × BytesLeft random.now v)
+        (λ e. IsNeedFault at.now.meta.counters random.now asked e) }
+{
+    match order {
+        AskedOrder::Malformed => Ok(refused(alloc, Refusal::Malformed)),
+        AskedOrder::Faulty {
+            refusal,
+            subproblems,
+        } => Ok(refused_by(alloc, *refusal, subproblems.as_slice())?),
+        AskedOrder::Names(names) => order_of_names(alloc, at, random, account, names),
     }
-    let Identified { names, faulty } = identify(alloc, identifiers)?;
-    if let Some(first) = faulty.first() {
-        return Ok(Verdict::Refused {
-            refusal: first.refusal,
-            subproblems: Sequence::new(faulty),
-        });
-    }
-    order_for(alloc, at, random, account, names)
 }

@@ -4,15 +4,13 @@ ghost use Rattle.serde_json.specs.View.{view};
 ghost use Rattle.desk_model.specs.Payload.{object_in, texts_in, optional, new_account};
 ghost use Rattle.desk_model.specs.Payload.{says_deactivated, account_change, key_change};
 ghost use Rattle.desk_model.specs.Payload.{authorization_change, challenge_change};
-ghost use Rattle.desk_model.specs.Payload.{new_order, finalize};
+ghost use Rattle.desk_model.specs.Payload.{finalize};
 ghost use Rattle.serde_json.specs.Find.{get, as_bool, as_str};
 ghost use Rattle.serde_json.specs.Read.{read};
 
 use desk_model::{
-    AccountChange, AuthorizationChange, ChallengeChange, Identifier, KeyChange, NewAccount,
-    Sequence, Text,
+    AccountChange, AuthorizationChange, ChallengeChange, KeyChange, NewAccount, Sequence, Text,
 };
-use identifiers::new_order_in;
 use json_texts::{text_of, texts_in};
 use keys::key_change_of;
 use serde_json::Value;
@@ -163,20 +161,6 @@ pub(crate) fn challenge_change(payload: Payload) -> Option<ChallengeChange>
         Some(_) => Some(ChallengeChange::Answer),
         None => None,
     }
-}
-
-/// The identifiers that a newOrder payload asks for, `None` where it has another form (RFC 8555, 7.4).
-pub(crate) fn new_order(
-    alloc: Global,
-    payload: Payload,
-) -> Result<Option<Vec<Identifier>>, AllocError>
-    requires { option_map (λ v. view v.now) payload.object ≡ object_in payload.text.now }
-    ensures { IfOk result (λ o. option_map (λ v. v.items) o ≡ new_order payload.entry.text.now) }
-{
-    let Some(value) = payload.object else {
-        return Ok(None);
-    };
-    new_order_in(alloc, value)
 }
 
 /// The text of the CSR that a finalize payload hands in, `None` where it has another form (RFC 8555, 7.4).

@@ -158,6 +158,17 @@ module _ {S C : Type 0} (v : Sight S C) where
   abbrev pub Refuses : Call → Tables → CoreFault → Type 0
   Refuses call book e = (F : History) → Legal F → IsEnoughFor call (picture F) book → IsFaultOf F call e
 
+  -- the payload is not read, out of memory
+  pub unread : (call : Call) (here : S) (result : Result Reply DeskFault) → IsFormedCall call → Faults result deskfault.Memory → Answers v call here here result
+  unread call here (Ok reply) formed is = absurd is
+  unread call here (Err why) formed is =
+      record {
+        formed = formed;
+        honest = λ h. h;
+        unchanged = λ going. stands_here here;
+        exit = λ h F legal keeps. subst (λ w. ExitsBy v F call w here) (sym is) (record { cause = tt; keeps = keeps });
+      }
+
   -- the decision is a fault
   pub refused : (call : Call) (old new : S) (book : Tables) (e : CoreFault) (result : Result Reply DeskFault) → IsFormedCall call →
       Loads v call old new (Ok book) → Refuses call book e → Faults result (core_fault e) → Answers v call old new result
@@ -236,6 +247,11 @@ module _ {S C : Type 0} (v : Sight S C) where
     storage_caused old mid new saving storagefault.Memory stood is = tt
     storage_caused old mid new saving storagefault.Device stood is = record { from = mid; stood = stood; saving = saving; cause = is }
     storage_caused old mid new saving storagefault.Reopen stood is = record { from = mid; stood = stood; saving = saving; cause = is }
+
+    -- want of memory comes of no store
+    pub memory_caused : (old new : S) (result : Result Reply DeskFault) → Faults result deskfault.Memory → IfErr result (IsCaused v causes old new)
+    memory_caused old new (Ok reply) is = absurd is
+    memory_caused old new (Err why) is = subst (IsCaused v causes old new) (sym is) tt
 
     -- and so of results
     pub core_result_caused : (old new : S) (e : CoreFault) (result : Result Reply DeskFault) → Faults result (core_fault e) →

@@ -14,7 +14,7 @@ use desk_core::decide;
 use desk_model::{Call, LAST_MOMENT, Policy, Reply, keep_form};
 use std::alloc::Global;
 use std::marker::Model;
-use store_api::{Storage, StorageFault};
+use store_api::{ParsedCall, Storage, StorageFault};
 
 /// A desk over a store, which contracts see as the store, the policy, and whether the desk is closed.
 #[derive(Drop)]
@@ -46,13 +46,13 @@ fn attempt_by<K: Storage + Drop>(
     alloc: Global,
     store: &mut K,
     part: &Book,
-    call: &Call,
+    call: &ParsedCall,
 ) -> Result<Reply, DeskFault>
     ensures late { result ≡ Err fault.Moment → last_moment < call.now.at }
     ensures caused { (was : K) → Stands K.Storage.sight was store.old → IfErr result (IsCaused K.Storage.sight K.Storage.causes was store.new) }
     ensures exit { (was : K) → Loads K.Storage.sight call.now was store.old (Ok part.now) → Answers K.Storage.sight call.now was store.new result }
 {
-    keep_form(call);
+    keep_form(call.call());
     let outcome = decide(alloc, part, call)?;
     let changes = outcome.changes.as_slice();
     if changes.is_empty() {
@@ -62,15 +62,16 @@ fn attempt_by<K: Storage + Drop>(
     Ok(outcome.reply)
 }
 
-// The reply to a call, over an open store.
+// The reply to a call, over an open store: its payload is read once, for the rows that are loaded and for the decision.
 fn attempt<K: Storage + Drop>(alloc: Global, store: &mut K, call: &Call) -> Result<Reply, DeskFault>
     ensures late { result ≡ Err fault.Moment → last_moment < call.now.at }
     ensures caused { IfErr result (IsCaused K.Storage.sight K.Storage.causes store.old store.new) }
     ensures exit { Answers K.Storage.sight call.now store.old store.new result }
 {
     keep_form(call);
-    let part = store.load_part(alloc, call)?;
-    let attempted = attempt_by(alloc, store, &part, call);
+    let parsed = ParsedCall::read(alloc, call)?;
+    let part = store.load_part(alloc, &parsed)?;
+    let attempted = attempt_by(alloc, store, &part, &parsed);
     drop(part);
     attempted
 }

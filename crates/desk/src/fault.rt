@@ -3,6 +3,7 @@ ghost use Rattle.std.specs.Prelude.{◌≡◌};
 ghost use Rattle.desk.specs.Faults.{closes, number_of};
 
 use desk_core::CoreFault;
+use std::alloc::AllocError;
 use std::error::Error;
 use std::fmt;
 use store_api::StorageFault;
@@ -84,6 +85,17 @@ impl From<CoreFault> for DeskFault {
             CoreFault::ShortRandom => DeskFault::ShortRandom,
             CoreFault::Full => DeskFault::Full,
         }
+    }
+}
+
+impl From<AllocError> for DeskFault {
+    ghost use Rattle.std.specs.Prelude.{◌≡◌};
+    ghost use Rattle.desk.specs.declared.fault.DeskFault.TheVariants.{Memory};
+
+    ghost from_gives = { λ _ e. e ≡ Memory };
+
+    fn from(_refused: AllocError) -> DeskFault {
+        DeskFault::Memory
     }
 }
 

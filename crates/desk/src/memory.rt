@@ -5,10 +5,10 @@ ghost use Rattle.desk_model.specs.Legal.{Legal};
 ghost use Rattle.desk_model.specs.Tables.{picture};
 
 use desk_book::Book;
-use desk_model::{Call, Change, Clock, Policy};
+use desk_model::{Change, Clock, Policy};
 use std::alloc::Global;
 use std::marker::Model;
-use store_api::{Storage, StorageFault, load_enough};
+use store_api::{ParsedCall, Storage, StorageFault, load_enough};
 
 /// The tables of a desk in memory, which contracts see as these tables.
 #[derive(Drop)]
@@ -67,7 +67,7 @@ impl Storage for Memory {
     }
 
     // A book in memory is never out of reach: each fault of looking things up is that of memory.
-    fn load_part(&mut self, alloc: Global, call: &Call) -> Result<Book, StorageFault> {
+    fn load_part(&mut self, alloc: Global, call: &ParsedCall) -> Result<Book, StorageFault> {
         match load_enough(alloc, &mut self.book, call) {
             Ok(book) => Ok(book),
             Err(_) => Err(StorageFault::Memory),

@@ -16,6 +16,7 @@ ghost use Rattle.desk_model.specs.Tables.{picture};
 ghost use Rattle.desk_model.specs.Tokens.{nonce_text};
 ghost use Rattle.desk_core.specs.HasTexts.{HasTexts};
 ghost use Rattle.desk_core.specs.Decided.{IsDecision, IsFaultOf};
+ghost use Rattle.identifiers.specs.Parsed.{ask_of};
 ghost use Rattle.model_lives.specs.IsEnough.{IsEnoughFor};
 ghost use Rattle.core_rules.specs.Needs.{BytesLeft, IsNeedFault, NumbersLeft};
 ghost use Rattle.desk_core.specs.Outcomes.{IsAskFault, IsLater, IsPassedFault, IsShort, IsSignedFault, MeetsAsk, MeetsSigned, Passes, Settles};
@@ -29,9 +30,8 @@ use core_changes::Recording;
 use core_replies::{nonce_reply, refusal_reply, taken_reply, with_nonce};
 use core_rules::{CoreFault, first_random, has_room, judge_office, judge_signed, open_nonce};
 use desk_book::{At, Book};
-use desk_model::{
-    Ask, Call, Change, LAST_MOMENT, OfficeAsk, Refusal, Reply, Sequence, Signed, Verdict, keep_form,
-};
+use desk_model::{Change, LAST_MOMENT, OfficeAsk, Refusal, Reply, Sequence, Verdict, keep_form};
+use identifiers::{ParsedAsk, ParsedCall, ParsedSigned};
 use std::alloc::{AllocError, Global};
 
 /// What a call does: the changes that it makes, none where nothing is recorded, and the reply.
@@ -184,7 +184,7 @@ fn signed_verdict(
     book: &Book,
     moment: u64,
     random: &[u8],
-    signed: &Signed,
+    signed: &ParsedSigned,
 ) -> Result<Verdict, CoreFault>
     ensures judged { MatchResult result
         (λ v. (v ≡ verdict_of (swept moment book.now) (drop 16 random.now) signed.now) × NumbersLeft book.now.meta.counters v × BytesLeft random.now v)
@@ -202,7 +202,7 @@ fn spend_and_act(
     moment: u64,
     random: &[u8],
     serial: u64,
-    signed: &Signed,
+    signed: &ParsedSigned,
 ) -> Result<Outcome, CoreFault>
     requires { moment ≤ last_moment }
     ensures { let v = verdict_of (swept moment book.now) (drop 16 random.now) signed.now in
@@ -221,7 +221,7 @@ fn signed(
     book: &Book,
     moment: u64,
     random: &[u8],
-    signed: &Signed,
+    signed: &ParsedSigned,
 ) -> Result<Outcome, CoreFault>
     requires { moment ≤ last_moment }
     ensures later { IfErr result (λ e. IsLater e) }
@@ -230,7 +230,7 @@ fn signed(
         (λ o. MeetsSigned moment book.now random.now signed.now found o.changes.items o.reply)
         (λ e. IsSignedFault moment book.now random.now signed.now found e)) }
 {
-    match open_nonce(book, moment, &signed.nonce) {
+    match open_nonce(book, moment, &signed.request().nonce) {
         Some(serial) => spend_and_act(alloc, book, moment, random, serial, signed),
         None => {
             let refusal = refusal_reply(Refusal::BadNonce, Sequence::new(Vec::new(alloc)), true);
@@ -327,39 +327,40 @@ fn decide_at(
     book: &Book,
     moment: u64,
     random: &[u8],
-    ask: &Ask,
+    ask: &ParsedAsk,
 ) -> Result<Outcome, CoreFault>
     requires { moment ≤ last_moment }
     ensures later { IfErr result (λ e. IsLater e) }
     ensures meets { IsOrdered book.now → MatchResult result
-        (λ o. MeetsAsk moment book.now random.now ask.now o.changes.items o.reply)
-        (λ e. IsAskFault moment book.now random.now ask.now e) }
+        (λ o. MeetsAsk moment book.now random.now (ask_of ask.now) o.changes.items o.reply)
+        (λ e. IsAskFault moment book.now random.now (ask_of ask.now) e) }
 {
     match ask {
-        Ask::NewNonce { head } => issued(alloc, book, moment, random, nonce_reply(*head)),
-        Ask::Signed(request) => signed(alloc, book, moment, random, request),
-        Ask::Office(ask) => office(alloc, book, moment, ask),
+        ParsedAsk::NewNonce { head } => issued(alloc, book, moment, random, nonce_reply(*head)),
+        ParsedAsk::Signed(request) => signed(alloc, book, moment, random, request),
+        ParsedAsk::Office(ask) => office(alloc, book, moment, ask),
     }
 }
 
-/// Decides on a call: the changes that it makes, none where nothing is recorded, and the reply. The book may hold a part
-/// of a desk's rows that is enough for the call: it answers as all of them do.
+/// Decides on a call, by what its payload says: the changes that it makes, none where nothing is recorded, and the reply. The
+/// book may hold a part of a desk's rows that is enough for the call: it answers as all of them do.
 ///
 /// # Errors
 ///
 /// `Moment`, `Full` and `ShortRandom` are the faults 24, 26 and 25 of the call, tested in this order; `Memory` comes
 /// where a growth was refused. The book stays as it was.
-pub fn decide(alloc: Global, book: &Book, call: &Call) -> Result<Outcome, CoreFault>
+pub fn decide(alloc: Global, book: &Book, call: &ParsedCall) -> Result<Outcome, CoreFault>
     ensures late { (result ≡ Err CoreFault.Moment) ↔ (last_moment < call.now.at) }
     ensures decided { IfOk result (λ o. (F : History) → Legal F → IsEnoughFor call.now (picture F) book.now
         → IsDecision F call.now o.changes.items o.reply) }
     ensures faulty { IfErr result (λ e. (F : History) → Legal F → IsEnoughFor call.now (picture F) book.now
         → IsFaultOf F call.now e) }
 {
-    if call.at > LAST_MOMENT {
+    let whole = call.call();
+    if whole.at > LAST_MOMENT {
         return Err(CoreFault::Moment);
     }
-    keep_form(call);
-    let moment = call.at.max(book.meta().counters.clock.moment());
-    decide_at(alloc, book, moment, call.random.as_slice(), &call.ask)
+    keep_form(whole);
+    let moment = whole.at.max(book.meta().counters.clock.moment());
+    decide_at(alloc, book, moment, whole.random.as_slice(), call.ask())
 }

@@ -1,10 +1,10 @@
 //! The store, as a desk asks for it.
 use crate::store::Store;
 use desk_book::Book;
-use desk_model::{Call, Change, Policy};
+use desk_model::{Change, Policy};
 use sqlite::Alter;
 use std::alloc::Global;
-use store_api::{Storage, StorageFault, load_enough};
+use store_api::{ParsedCall, Storage, StorageFault, load_enough};
 
 impl<S: Alter> Storage for Store<S> {
     ghost use Rattle.sqlite.specs.Tree.{Trees};
@@ -21,7 +21,7 @@ impl<S: Alter> Storage for Store<S> {
         Store::policy(self, alloc)
     }
 
-    fn load_part(&mut self, alloc: Global, call: &Call) -> Result<Book, StorageFault> {
+    fn load_part(&mut self, alloc: Global, call: &ParsedCall) -> Result<Book, StorageFault> {
         load_enough(alloc, self, call)
     }
 

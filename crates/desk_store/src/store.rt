@@ -31,13 +31,13 @@ use crate::making::make_desk;
 use crate::open_fault::OpenFault;
 use crate::opening::{open_desk, read_book};
 use desk_book::Book;
-use desk_model::{Call, Change, Clock, Policy};
+use desk_model::{Change, Clock, Policy};
 use sql_read::{ReadFault, meta_row};
 use sql_schema::uses_names;
 use sql_write::save_all;
 use sqlite::{Alter, Connection};
 use std::alloc::Global;
-use store_api::{StorageFault, load_part};
+use store_api::{ParsedCall, StorageFault, load_part};
 
 /// The tables of a desk over a connection, which is in no transaction between two calls.
 #[derive(Drop)]
@@ -199,7 +199,7 @@ impl<S: Alter> Store<S> {
     /// # Errors
     ///
     /// As of `load`.
-    pub fn load_part(&mut self, alloc: Global, call: &Call) -> Result<Book, StorageFault>
+    pub fn load_part(&mut self, alloc: Global, call: &ParsedCall) -> Result<Book, StorageFault>
         ensures loads { Loads (store_sight S.Store) call.now self.old self.new result }
         ensures touched { ForTables (store_sight S.Store) self.old self.new (λ T. IfOk result (λ book. book ≡ touched T call.now)) }
     {

@@ -7,7 +7,7 @@ use desk_model::{Ask, AuthorizationRow, Call, Target, Text};
 use std::alloc::{AllocError, Global};
 use std::process::Abort;
 use std::test::Fail;
-use store_api::{Storage, load_part};
+use store_api::{ParsedCall, Storage, load_part};
 
 const ORDERS: u64 = 1000;
 
@@ -98,7 +98,8 @@ fn touched_by(
     target: Target,
 ) -> Result<[usize; 4], Fail> {
     let asked = reading(rt, alloc, target)?;
-    let part = load_part(alloc, book, &asked).ok().expect(rt, "rows");
+    let parsed = ParsedCall::read(alloc, &asked)?;
+    let part = load_part(alloc, book, &parsed).ok().expect(rt, "rows");
     Ok(counts(&part))
 }
 
@@ -140,7 +141,8 @@ fn loaded_for(
     target: Target,
 ) -> Result<[usize; 4], Fail> {
     let asked = reading(rt, alloc, target)?;
-    let part = store.load_part(alloc, &asked).ok().expect(rt, "rows");
+    let parsed = ParsedCall::read(alloc, &asked)?;
+    let part = store.load_part(alloc, &parsed).ok().expect(rt, "rows");
     Ok(counts(&part))
 }
 

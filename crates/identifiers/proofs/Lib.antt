@@ -1,3 +1,4 @@
+pub mod AskedNames
 pub mod NameOf
 pub mod NamesKept
 pub mod NamesRead

@@ -1,1 +1,3 @@
+pub mod AskedOrders
 pub mod NameLaws
+pub mod Parsed

@@ -1,56 +1,78 @@
-//! The names that a request for a new order asks for, before it is judged.
-ghost use Rattle.std.specs.Prelude.{◌≡◌, option_and_then, option_map, IfOk};
-ghost use Rattle.desk_model.specs.Asked.{asked_names};
-ghost use Rattle.desk_model.specs.Payload.{new_order};
-ghost use Rattle.desk_model.specs.Rules.{names_asked};
+//! What the payload of a request for a new order asks for.
+ghost use Rattle.std.specs.Prelude.{◌≡◌, option_map, IfOk};
+ghost use Rattle.identifiers.specs.AskedOrders.{asked_order, order_names, order_of};
+ghost use Rattle.serde_json.specs.Read.{read};
+ghost use Rattle.serde_json.specs.View.{view};
 
 use crate::identified::{Identified, identify};
-use crate::listed::new_order;
-use desk_model::{Ask, DnsName, Identifier, MOST_NAMES, Target};
+use crate::listed::{new_order_in, object_of};
+use desk_model::{DnsName, Identifier, MOST_NAMES, Refusal, Sequence, Subproblem};
+use serde_json::Value;
 use std::alloc::{AllocError, Global};
 
-// The names that identifiers stand for, `None` where one of them is refused.
-fn names_asked(
-    alloc: Global,
-    identifiers: &[Identifier],
-) -> Result<Option<Vec<DnsName>>, AllocError>
-    ensures { IfOk result (λ o. option_map (λ v. v.items) o ≡ names_asked identifiers.now) }
+/// What the payload of a newOrder request asks for (RFC 8555, 7.4).
+#[derive(Drop)]
+pub enum AskedOrder {
+    /// Its form is another, or it has no identifiers, or more than fifty.
+    Malformed,
+    /// Identifiers are refused.
+    Faulty {
+        /// Why the first of them is.
+        refusal: Refusal,
+        /// Each of them, in order.
+        subproblems: Sequence<Subproblem>,
+    },
+    /// An order for these names, each once.
+    Names(Sequence<DnsName>),
+}
+
+impl AskedOrder {
+    /// The names that are asked for, `None` where there is no order to be made.
+    pub fn names(&self) -> Option<&[DnsName]>
+        ensures { option_map (λ v. v.now) result ≡ order_names self.now }
+    {
+        match self {
+            AskedOrder::Names(names) => Some(names.as_slice()),
+            _ => None,
+        }
+    }
+}
+
+// What identifiers ask for.
+fn order_of(alloc: Global, identifiers: &[Identifier]) -> Result<AskedOrder, AllocError>
+    ensures { IfOk result (λ o. o ≡ order_of identifiers.now) }
 {
     if identifiers.is_empty() || identifiers.len() > MOST_NAMES {
-        return Ok(None);
+        return Ok(AskedOrder::Malformed);
     }
     let Identified { names, faulty } = identify(alloc, identifiers)?;
-    if faulty.is_empty() {
-        Ok(Some(names))
-    } else {
-        Ok(None)
+    if let Some(first) = faulty.first() {
+        return Ok(AskedOrder::Faulty {
+            refusal: first.refusal,
+            subproblems: Sequence::new(faulty),
+        });
     }
+    Ok(AskedOrder::Names(Sequence::new(names)))
 }
 
-// The names that a payload asks for.
-fn names_in(alloc: Global, text: &str) -> Result<Option<Vec<DnsName>>, AllocError>
-    ensures { IfOk result (λ o. option_map (λ v. v.items) o ≡ option_and_then names_asked (new_order text.now)) }
-{
-    match new_order(alloc, text)? {
-        Some(identifiers) => names_asked(alloc, identifiers.as_slice()),
-        None => Ok(None),
-    }
-}
-
-/// The names that an ask for a new order asks for, those that are equal once; `None` for any other, and where its payload or
-/// one of its identifiers is refused.
+/// What a payload asks for, by the value that was read in its text.
 ///
 /// # Errors
 ///
-/// Where there is no memory for them.
-pub fn asked_names(alloc: Global, ask: &Ask) -> Result<Option<Vec<DnsName>>, AllocError>
-    ensures { IfOk result (λ o. option_map (λ v. v.items) o ≡ asked_names ask.now) }
+/// Where there is no memory for it.
+pub(crate) fn asked_order(
+    alloc: Global,
+    text: &str,
+    value: &Option<Value>,
+) -> Result<AskedOrder, AllocError>
+    requires { option_map (λ v. view v) value.now ≡ read text.now }
+    ensures { IfOk result (λ o. o ≡ asked_order text.now) }
 {
-    let Ask::Signed(request) = ask else {
-        return Ok(None);
+    let Some(object) = object_of(text, value) else {
+        return Ok(AskedOrder::Malformed);
     };
-    match request.target {
-        Target::NewOrder => names_in(alloc, request.payload.as_str()),
-        _ => Ok(None),
+    match new_order_in(alloc, object)? {
+        Some(identifiers) => order_of(alloc, identifiers.as_slice()),
+        None => Ok(AskedOrder::Malformed),
     }
 }

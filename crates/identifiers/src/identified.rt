@@ -12,11 +12,11 @@ use std::alloc::{AllocError, Global};
 /// The names that identifiers stand for, those that are equal in their first place, and a subproblem for each that is
 /// faulty, both in order.
 #[derive(Drop)]
-pub struct Identified {
+pub(crate) struct Identified {
     /// The names, each once.
-    pub names: Vec<DnsName>,
+    pub(crate) names: Vec<DnsName>,
     /// Why identifiers are refused.
-    pub faulty: Vec<Subproblem>,
+    pub(crate) faulty: Vec<Subproblem>,
 }
 
 // The name that an identifier stands for, or why it is refused.
@@ -91,7 +91,7 @@ fn read_each(
 /// # Errors
 ///
 /// Where there is no memory for them.
-pub fn identify(alloc: Global, identifiers: &[Identifier]) -> Result<Identified, AllocError>
+pub(crate) fn identify(alloc: Global, identifiers: &[Identifier]) -> Result<Identified, AllocError>
     ensures faulty { IfOk result (λ read. read.faulty.items ≡ subproblems identifiers.now) }
     ensures named { IfOk result (λ read. read.faulty.items ≡ [] → read.names.items ≡ kept (names_in identifiers.now)) }
 {

@@ -1,13 +1,13 @@
-//! The names of identifiers, and those that a new order asks for (RFC 8555, 7.1.3, 7.1.4 and 7.4).
+//! The names of identifiers, what a new order asks for, and calls with what their payloads say (RFC 8555, 7.1.3, 7.1.4 and 7.4).
 #![tactic(auto)]
 
 mod asked;
 mod identified;
 mod listed;
 mod names;
+mod parsed;
 
-pub use asked::asked_names;
+pub use asked::AskedOrder;
 pub use desk_model::DnsName;
-pub use identified::{Identified, identify};
-pub use listed::new_order_in;
 pub use names::{NameFault, names_are_unique, read_name};
+pub use parsed::{ParsedAsk, ParsedCall, ParsedSigned};

@@ -1,17 +1,17 @@
 //! The payload of a request for a new order: a JSON text.
 ghost use Rattle.std.specs.Prelude.{◌≡◌, option_map, IfOk};
 ghost use Rattle.serde_json.specs.View.{view, items_view};
-ghost use Rattle.desk_model.specs.Payload.{each_in, identifier_in, new_order, new_order_in, object_in};
+ghost use Rattle.desk_model.specs.Payload.{each_in, identifier_in, new_order_in, object_in};
 ghost use Rattle.serde_json.specs.Read.{read};
 
 use desk_model::{Identifier, Text};
-use json_texts::{text_of, value_of};
+use json_texts::text_of;
 use serde_json::Value;
 use std::alloc::{AllocError, Global};
 
-// The object that was read in a text, if it is one.
+/// The object that was read in a text, if it is one.
 #[tactic(auto, unfolding(desk_model::specs::Payload::object_in))]
-fn object_of<'a>(text: &str, value: &'a Option<Value>) -> Option<&'a Value>
+pub(crate) fn object_of<'a>(text: &str, value: &'a Option<Value>) -> Option<&'a Value>
     requires { option_map (λ v. view v) value.now ≡ read text.now }
     ensures { option_map (λ v. view v.now) result ≡ object_in text.now }
 {
@@ -55,7 +55,10 @@ fn identifiers(alloc: Global, items: &[Value]) -> Result<Option<Vec<Identifier>>
 /// # Errors
 ///
 /// Where there is no memory for them.
-pub fn new_order_in(alloc: Global, value: &Value) -> Result<Option<Vec<Identifier>>, AllocError>
+pub(crate) fn new_order_in(
+    alloc: Global,
+    value: &Value,
+) -> Result<Option<Vec<Identifier>>, AllocError>
     ensures { IfOk result (λ o. option_map (λ v. v.items) o ≡ new_order_in (view value.now)) }
 {
     if value.get("notBefore").is_some() || value.get("notAfter").is_some() {
@@ -66,17 +69,6 @@ pub fn new_order_in(alloc: Global, value: &Value) -> Result<Option<Vec<Identifie
     };
     match listed.as_array() {
         Some(items) => identifiers(alloc, items.as_slice()),
-        None => Ok(None),
-    }
-}
-
-/// The identifiers that a newOrder payload asks for, `None` where it has another form.
-pub(crate) fn new_order(alloc: Global, text: &str) -> Result<Option<Vec<Identifier>>, AllocError>
-    ensures { IfOk result (λ o. option_map (λ v. v.items) o ≡ new_order text.now) }
-{
-    let value = value_of(alloc, text)?;
-    match object_of(text, &value) {
-        Some(object) => new_order_in(alloc, object),
         None => Ok(None),
     }
 }

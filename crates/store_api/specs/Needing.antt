@@ -23,7 +23,7 @@ pub record NeedsFor (a : Ask) (m : ℕ) (needs : Needs) : Type 0 where
   pub restated : needs.restates ≡ restates a
   pub listed : needs.needs_listed ≡ needs_listed a
   pub holders : needs.needs_holders ≡ needs_holders a
-  pub names : option_map (λ v. v.items) needs.names ≡ asked_names a
+  pub names : option_map (λ v. v.now) needs.names ≡ asked_names a
 
 -- the rows of a number are put into a table that has no row of it
 abbrev pub missing : {X : Type 0} → (X → ℕ) → (ℕ → List X) → ℕ → List X → List X

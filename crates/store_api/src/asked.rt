@@ -101,14 +101,14 @@ pub(crate) fn add_asked_names<S: LookUps>(
     alloc: Global,
     source: &mut S,
     authorizations: &mut Table<AuthorizationRow>,
-    names: &Option<Vec<DnsName>>,
+    names: Option<&[DnsName]>,
     accounts: &Table<AccountRow>,
 ) -> Result<(), StorageFault>
     ensures { Finds S.sight source.old source.new result (λ T.
-        authorizations.new ≡ puts (λ r. r.number) (authorizations_asked_of T (option_map (λ v. v.items) names.now) accounts.now) authorizations.old) }
+        authorizations.new ≡ puts (λ r. r.number) (authorizations_asked_of T (option_map (λ v. v.now) names.entry) accounts.now) authorizations.old) }
 {
     match names {
-        Some(names) => add_each_named(alloc, source, authorizations, names.as_slice(), accounts),
+        Some(names) => add_each_named(alloc, source, authorizations, names, accounts),
         None => Ok(()),
     }
 }

@@ -16,7 +16,8 @@ use crate::listed::add_bare_listed;
 use crate::look_ups::LookUps;
 use crate::waiting::add_working;
 use desk_book::{Book, Table};
-use desk_model::{Ask, AuthorizationRow, Call, OfficeAsk, OrderRow};
+use desk_model::{Ask, AuthorizationRow, OfficeAsk, OrderRow};
+use identifiers::ParsedCall;
 use model_lives::OrdersWhere;
 use std::alloc::Global;
 
@@ -92,11 +93,15 @@ fn directory_book<S: LookUps>(alloc: Global, source: &mut S) -> Result<Book, Sto
 // ---- each call
 
 // The book of the rows that are enough for a call.
-fn enough_book<S: LookUps>(alloc: Global, source: &mut S, call: &Call) -> Result<Book, StorageFault>
+fn enough_book<S: LookUps>(
+    alloc: Global,
+    source: &mut S,
+    call: &ParsedCall,
+) -> Result<Book, StorageFault>
     ensures reads { Reads S.sight source.old source.new result }
     ensures enough { ForTables S.sight source.old source.new (λ T. IsOrdered T → IfOk result (λ book. book ≡ enough T call.now)) }
 {
-    match &call.ask {
+    match &call.call().ask {
         Ask::Office(OfficeAsk::ChallengeWork) => challenge_work_book(alloc, source),
         Ask::Office(OfficeAsk::OrderWork) => order_work_book(alloc, source),
         Ask::Office(OfficeAsk::Directory) => directory_book(alloc, source),
@@ -113,7 +118,7 @@ fn enough_book<S: LookUps>(alloc: Global, source: &mut S, call: &Call) -> Result
 pub fn load_enough<S: LookUps>(
     alloc: Global,
     source: &mut S,
-    call: &Call,
+    call: &ParsedCall,
 ) -> Result<Book, StorageFault>
     ensures loads { Loads S.sight call.now source.old source.new result }
     ensures enough { ForTables S.sight source.old source.new (λ T. IsOrdered T → IfOk result (λ book. book ≡ enough T call.now)) }

@@ -22,9 +22,8 @@ use crate::needs::{Needs, needs_of};
 use crate::objects::{add_asked, add_keyed, add_new_keyed, add_owner};
 use crate::touched::{Rows, add_nonces};
 use desk_book::{Book, Table};
-use desk_model::{
-    AccountRow, Ask, AuthorizationRow, AuthzStatus, Call, OrderRow, OrderStatus, Policy,
-};
+use desk_model::{AccountRow, Ask, AuthorizationRow, AuthzStatus, OrderRow, OrderStatus, Policy};
+use identifiers::ParsedCall;
 use std::alloc::Global;
 
 // ---- accounts, and the authorizations that are named
@@ -218,10 +217,10 @@ fn add_wanted<S: LookUps>(
     accounts: &Table<AccountRow>,
 ) -> Result<(), StorageFault>
     ensures { Finds S.sight source.old source.new result (λ T. authorizations.new ≡ puts (λ r. r.number)
-        (moved.now ++ authorizations_asked_of T (option_map (λ v. v.items) needs.now.names) accounts.now) authorizations.old) }
+        (moved.now ++ authorizations_asked_of T (option_map (λ v. v.now) needs.now.names) accounts.now) authorizations.old) }
 {
     add_linked(alloc, source, authorizations, moved)?;
-    add_asked_names(alloc, source, authorizations, &needs.names, accounts)
+    add_asked_names(alloc, source, authorizations, needs.names, accounts)
 }
 
 // Puts the authorizations that are named, and those that a new order asks for, into a table, and then those that these orders
@@ -237,7 +236,7 @@ fn add_others<S: LookUps>(
 ) -> Result<(), StorageFault>
     ensures { Finds S.sight source.old source.new result (λ T.
         authorizations.new ≡ missings (λ r. r.number) (bare_authorizations T) (flat_map (λ o. numbers_of o.listed) orders.now)
-        (puts (λ r. r.number) (moved.now ++ authorizations_asked_of T (option_map (λ v. v.items) needs.now.names) accounts.now)
+        (puts (λ r. r.number) (moved.now ++ authorizations_asked_of T (option_map (λ v. v.now) needs.now.names) accounts.now)
         authorizations.old)) }
 {
     add_wanted(alloc, source, authorizations, moved, needs, accounts)?;
@@ -336,7 +335,7 @@ fn add_few<S: LookUps>(
 pub(crate) fn few_book<S: LookUps>(
     alloc: Global,
     source: &mut S,
-    call: &Call,
+    call: &ParsedCall,
 ) -> Result<Book, StorageFault>
     ensures reads { Reads S.sight source.old source.new result }
     ensures found { ForTables S.sight source.old source.new (λ T. IsOrdered T
@@ -344,8 +343,9 @@ pub(crate) fn few_book<S: LookUps>(
 {
     let meta = source.meta_row(alloc)?;
     let counters = meta.counters;
-    let moment = call.at.max(counters.clock.moment());
-    let needs = needs_of(alloc, &call.ask, moment)?;
+    let whole = call.call();
+    let moment = whole.at.max(counters.clock.moment());
+    let needs = needs_of(call, moment);
     let mut moved = Table::new(alloc);
     let mut rows = Rows {
         nonces: Table::new(alloc),
@@ -359,7 +359,7 @@ pub(crate) fn few_book<S: LookUps>(
         &mut rows,
         &mut moved,
         &meta.policy,
-        &call.ask,
+        &whole.ask,
         &needs,
     )
     .and(Ok(Book::of_tables(

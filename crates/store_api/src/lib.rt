@@ -21,6 +21,7 @@ mod waiting;
 
 pub use enough::load_enough;
 pub use fault::StorageFault;
+pub use identifiers::ParsedCall;
 pub use laws::touched_rows_are_a_book;
 pub use look_ups::LookUps;
 pub use rows_above::RowsAbove;

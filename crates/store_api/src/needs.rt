@@ -1,21 +1,21 @@
 //! What is enough for an ask, by numbers, and what leads to more.
-ghost use Rattle.std.specs.Prelude.{◌≡◌, ◌&&◌, IfOk};
+ghost use Rattle.std.specs.Prelude.{◌≡◌, ◌&&◌};
 ghost use Rattle.store_api.specs.Needing.{NeedsFor};
 ghost use Rattle.desk_model.specs.Lookup.{holds};
 ghost use Rattle.desk_model.specs.Payload.{account_change, says_deactivated};
+ghost use Rattle.identifiers.specs.Parsed.{ask_of};
 ghost use Rattle.model_lives.specs.Few.{is_end, needs_holders, needs_listed, restates, target_restates};
 ghost use Rattle.serde_json.specs.View.{view};
 
 use crate::named::{Named, named_in};
 use desk_model::{Ask, DnsName, OfficeAsk, Target};
-use identifiers::asked_names;
-use json_texts::{text_of, value_of};
+use identifiers::{ParsedAsk, ParsedCall, ParsedSigned};
+use json_texts::text_of;
 use serde_json::Value;
-use std::alloc::{AllocError, Global};
 
 /// What is enough for an ask: what it names, and what leads to more.
 #[derive(Drop)]
-pub(crate) struct Needs {
+pub(crate) struct Needs<'a> {
     pub(crate) named: Named,
     /// When the call acts.
     pub(crate) moment: u64,
@@ -26,10 +26,10 @@ pub(crate) struct Needs {
     /// Whether the accounts of the authorizations that are named are needed.
     pub(crate) needs_holders: bool,
     /// The names that a new order asks for.
-    pub(crate) names: Option<Vec<DnsName>>,
+    pub(crate) names: Option<&'a [DnsName]>,
 }
 
-impl Needs {
+impl<'a> Needs<'a> {
     /// Whether an account that is named ends, and its authorizations with it.
     pub(crate) fn ends_account(&self) -> bool
         ensures { result ≡ (self.now.restates && self.now.named.asks_authorizations) }
@@ -48,43 +48,42 @@ fn says_deactivated(value: &Value) -> bool
     }
 }
 
-// Whether a payload ends the account that it is sent to.
+// Whether a request ends the account that it is sent to.
 #[tactic(auto, unfolding(desk_model::specs::Payload::object_in))]
-fn ends_account(alloc: Global, payload: &str) -> Result<bool, AllocError>
-    ensures { IfOk result (λ b. b ≡ holds is_end (account_change payload.now)) }
+fn ends_account(request: &ParsedSigned) -> bool
+    ensures { result ≡ holds is_end (account_change request.now.payload) }
 {
-    if payload.is_empty() {
-        return Ok(false);
+    if request.request().payload.as_str().is_empty() {
+        return false;
     }
-    match value_of(alloc, payload)? {
-        Some(value) if value.is_object() => Ok(says_deactivated(&value)),
-        _ => Ok(false),
+    match request.value() {
+        Some(value) if value.is_object() => says_deactivated(value),
+        _ => false,
     }
 }
 
-// Whether a request with a payload may change statuses of authorizations.
-fn target_restates(alloc: Global, target: &Target, payload: &str) -> Result<bool, AllocError>
-    ensures { IfOk result (λ b. b ≡ target_restates target.now payload.now) }
+// Whether a request may change statuses of authorizations.
+fn target_restates(request: &ParsedSigned) -> bool
+    ensures { result ≡ target_restates request.now.target request.now.payload }
 {
-    match target {
-        Target::Account(_) => ends_account(alloc, payload),
-        Target::Authz(_) => Ok(!payload.is_empty()),
-        _ => Ok(false),
+    let signed = request.request();
+    match &signed.target {
+        Target::Account(_) => ends_account(request),
+        Target::Authz(_) => !signed.payload.as_str().is_empty(),
+        _ => false,
     }
 }
 
 // Whether an ask may change statuses of authorizations.
-fn restates(alloc: Global, ask: &Ask) -> Result<bool, AllocError>
-    ensures { IfOk result (λ b. b ≡ restates ask.now) }
+fn restates(ask: &ParsedAsk) -> bool
+    ensures { result ≡ restates (ask_of ask.now) }
 {
     match ask {
-        Ask::Signed(request) => {
-            target_restates(alloc, &request.target, request.payload.as_str())
-        }
-        Ask::Office(OfficeAsk::Report { .. }) => Ok(true),
-        Ask::Office(OfficeAsk::RevokeAuthz(_)) => Ok(true),
-        Ask::Office(OfficeAsk::RevokeAccount(_)) => Ok(true),
-        _ => Ok(false),
+        ParsedAsk::Signed(request) => target_restates(request),
+        ParsedAsk::Office(OfficeAsk::Report { .. }) => true,
+        ParsedAsk::Office(OfficeAsk::RevokeAuthz(_)) => true,
+        ParsedAsk::Office(OfficeAsk::RevokeAccount(_)) => true,
+        _ => false,
     }
 }
 
@@ -112,22 +111,17 @@ fn needs_holders(ask: &Ask) -> bool
     }
 }
 
-/// What is enough for an ask at a moment.
-///
-/// # Errors
-///
-/// Where there is no memory for the names.
-pub(crate) fn needs_of(alloc: Global, ask: &Ask, moment: u64) -> Result<Needs, AllocError>
-    ensures { IfOk result (NeedsFor ask.now moment) }
+/// What is enough for a call that acts at a moment, by what its payload says.
+pub(crate) fn needs_of<'a>(call: &'a ParsedCall, moment: u64) -> Needs<'a>
+    ensures { NeedsFor call.now.ask moment result }
 {
-    let restates = restates(alloc, ask)?;
-    let names = asked_names(alloc, ask)?;
-    Ok(Needs {
+    let ask = &call.call().ask;
+    Needs {
         named: named_in(ask),
         moment,
-        restates,
+        restates: restates(call.ask()),
         needs_listed: needs_listed(ask),
         needs_holders: needs_holders(ask),
-        names,
-    })
+        names: call.names(),
+    }
 }

@@ -165,12 +165,12 @@ pub(crate) fn add_further<S: LookUps>(
     accounts: &mut Table<AccountRow>,
     authorizations: &mut Table<AuthorizationRow>,
     orders: &mut Table<OrderRow>,
-    names: &Option<Vec<DnsName>>,
+    names: Option<&[DnsName]>,
 ) -> Result<(), StorageFault>
     ensures { Finds S.sight source.old source.new result (λ T.
         (orders.new ≡ puts (λ o. o.number) (listing_orders T authorizations.old) orders.old)
         × (authorizations.new ≡ puts (λ r. r.number)
-        (listed_authorizations T orders.new ++ authorizations_asked_of T (option_map (λ v. v.items) names.now) accounts.old) authorizations.old)
+        (listed_authorizations T orders.new ++ authorizations_asked_of T (option_map (λ v. v.now) names.entry) accounts.old) authorizations.old)
         × (accounts.new ≡ puts (λ x. x.number)
         (flat_map (λ o. accounts_numbered T o.account) orders.new ++ flat_map (λ r. accounts_numbered T r.account) authorizations.new) accounts.old)) }
 {

@@ -5,7 +5,8 @@ ghost use Rattle.store_api.specs.Storing.{Causes, Loads, SavesFrom};
 
 use crate::fault::StorageFault;
 use desk_book::Book;
-use desk_model::{Call, Change, Policy};
+use desk_model::{Change, Policy};
+use identifiers::ParsedCall;
 use std::alloc::Global;
 
 /// A store of the tables of a desk.
@@ -35,7 +36,7 @@ pub trait Storage {
     /// # Errors
     ///
     /// `Memory`: the store has what it had. `Device` or `Reopen`: it is to be opened again.
-    fn load_part(&mut self, alloc: Global, call: &Call) -> Result<Book, StorageFault>
+    fn load_part(&mut self, alloc: Global, call: &ParsedCall) -> Result<Book, StorageFault>
         ensures loads { Loads sight call.now self.old self.new result }
         ensures caused { IfErr result (causes None self.old self.new) };
 

@@ -18,9 +18,9 @@ use crate::objects::{
 };
 use desk_book::{Book, Table};
 use desk_model::{
-    AccountRow, Ask, AuthorizationRow, Call, DnsName, Meta, Nonce, OfficeAsk, OrderRow, Policy,
+    AccountRow, Ask, AuthorizationRow, DnsName, Meta, Nonce, OfficeAsk, OrderRow, Policy,
 };
-use identifiers::asked_names;
+use identifiers::ParsedCall;
 use model_lives::{AccountsWhere, AuthorizationsWhere, NoncesWhere, OrdersWhere};
 use std::alloc::Global;
 
@@ -63,9 +63,9 @@ fn add_touched<S: LookUps>(
     policy: &Policy,
     moment: u64,
     ask: &Ask,
-    names: &Option<Vec<DnsName>>,
+    names: Option<&[DnsName]>,
 ) -> Result<(), StorageFault>
-    requires { option_map (λ v. v.items) names.now ≡ asked_names ask.now }
+    requires { option_map (λ v. v.now) names ≡ asked_names ask.now }
     ensures { Finds S.sight source.old source.new result (λ T. policy.now ≡ T.meta.policy → AreNone rows.old
         → AreRowsOf (loaded_rows T moment ask.now) rows.new) }
 {
@@ -134,9 +134,9 @@ fn add_rows_at<S: LookUps>(
     policy: &Policy,
     moment: u64,
     ask: &Ask,
-    names: &Option<Vec<DnsName>>,
+    names: Option<&[DnsName]>,
 ) -> Result<(), StorageFault>
-    requires { option_map (λ v. v.items) names.now ≡ asked_names ask.now }
+    requires { option_map (λ v. v.now) names ≡ asked_names ask.now }
     ensures { Finds S.sight source.old source.new result (λ T. policy.now ≡ T.meta.policy → IsOrdered T → AreNone rows.old
         → AreRowsOf (loaded_at T moment ask.now) rows.new) }
 {
@@ -158,15 +158,15 @@ fn add_rows_at<S: LookUps>(
 pub fn touched_book<S: LookUps>(
     alloc: Global,
     source: &mut S,
-    call: &Call,
+    call: &ParsedCall,
 ) -> Result<Book, StorageFault>
     ensures reads { Reads S.sight source.old source.new result }
     ensures touched { ForTables S.sight source.old source.new (λ T. IsOrdered T → IfOk result (λ book. book ≡ touched T call.now)) }
 {
-    let names = asked_names(alloc, &call.ask)?;
+    let whole = call.call();
     let meta = source.meta_row(alloc)?;
     let counters = meta.counters;
-    let moment = call.at.max(counters.clock.moment());
+    let moment = whole.at.max(counters.clock.moment());
     let mut rows = Rows {
         nonces: Table::new(alloc),
         accounts: Table::new(alloc),
@@ -179,8 +179,8 @@ pub fn touched_book<S: LookUps>(
         &mut rows,
         &meta.policy,
         moment,
-        &call.ask,
-        &names,
+        &whole.ask,
+        call.names(),
     )
     .and(Ok(Book::of_tables(
         meta,
@@ -199,7 +199,7 @@ pub fn touched_book<S: LookUps>(
 pub fn load_part<S: LookUps>(
     alloc: Global,
     source: &mut S,
-    call: &Call,
+    call: &ParsedCall,
 ) -> Result<Book, StorageFault>
     ensures loads { Loads S.sight call.now source.old source.new result }
     ensures touched { ForTables S.sight source.old source.new (λ T. IsOrdered T → IfOk result (λ book. book ≡ touched T call.now)) }

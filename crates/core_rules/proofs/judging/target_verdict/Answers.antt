@@ -1,5 +1,7 @@
-use Rattle.std.proofs.Common.{drop}
+use Rattle.std.proofs.Common.{drop, subst}
 use Rattle.desk_model.specs.declared.call.Target.TheVariants as to
+use Rattle.core_rules.proofs.AskedOrders.{order_judged}
+use Rattle.core_rules.proofs.KeyVerdicts.{IsJudged}
 use Rattle.core_rules.proofs.Sparing.{account_target-spares, authorization_target-spares, certificate_target-spares}
 use Rattle.core_rules.proofs.Sparing.{challenge_target-spares, finalize_target-spares, key_change_target-spares}
 use Rattle.core_rules.proofs.Sparing.{new_account_target-spares, order_target-spares, orders_target-spares}
@@ -59,3 +61,10 @@ returns-in-KeyChange c =
     target-made c.args.at.now.meta.counters c.args.at.now c.args.random.now c.args.sender c.args.payload.text.now c.args.target
     to.KeyChange c.key_change_target.result c.in-KeyChange.is c.key_change_target.ensures
     (key_change_target-spares c.args.at.now (drop 16 c.args.random.now) c.args.sender c.args.payload.text.now)
+
+pub returns-in-NewOrder : goal.returns-in-NewOrder
+returns-in-NewOrder c =
+    subst (IsJudged c.args.at.now.meta.counters c.args.random.now c.order_verdict.result)
+    (order_judged c.args.at.now (drop 16 c.args.random.now) c.args.sender c.args.payload.text.now c.args.target c.args.order.now
+    c.in-NewOrder.is c.requires.order)
+    c.order_verdict.ensures

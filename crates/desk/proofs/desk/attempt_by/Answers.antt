@@ -1,4 +1,5 @@
-use Rattle.std.proofs.Common.{◌≡◌, [], Some, sym, ap, ◌∙◌, length}
+use Rattle.std.proofs.Common.{◌≡◌, [], Some, sym, ap, subst, ◌∙◌, length}
+use Rattle.desk_model.specs.Run.{IsFormedCall}
 use Rattle.std.specs.Prelude.{nat_eq}
 use Rattle.desk.proofs.Exiting.{answered_alone, core_result_caused, nothing, refused, saved, storage_result_caused}
 use Rattle.desk.proofs.Exiting.{storage_result_in_time, unsaved}
@@ -11,7 +12,7 @@ returns-in_err-outcome-clause-caused g c was stood =
 pub returns-in_err-outcome-clause-exit : goal.returns-in_err-outcome-clause-exit
 returns-in_err-outcome-clause-exit g c was loads =
     refused g.K.Storage.sight c.args.call.now was c.args.store.now c.args.part.now c.in_err-outcome.field-0.0 _
-    c.keep_form.ensures loads c.in_err-outcome.ensures.faulty c.from_residual.ensures.1
+    (subst IsFormedCall c.call.ensures c.keep_form.ensures) loads c.in_err-outcome.ensures.faulty c.from_residual.ensures.1
 
 pub returns-then-is_empty-clause-exit : goal.returns-then-is_empty-clause-exit
 returns-then-is_empty-clause-exit g c was loads =
@@ -19,7 +20,7 @@ returns-then-is_empty-clause-exit g c was loads =
     let none : outcome.changes.items ≡ [] = nothing outcome.changes.items
     (ap (λ l. nat_eq (length l) 0) (sym c.as_slice-changes.ensures.value) ∙ sym c.is_empty.ensures ∙ c.if-is_empty.true) in
     answered_alone g.K.Storage.sight c.args.call.now was c.args.store.now c.args.part.now outcome.changes.items outcome.reply
-    c.keep_form.ensures loads c.in_ok-outcome.ensures.decided none
+    (subst IsFormedCall c.call.ensures c.keep_form.ensures) loads c.in_ok-outcome.ensures.decided none
 
 pub returns-in_err-save-clause-late : goal.returns-in_err-save-clause-late
 returns-in_err-save-clause-late g c late = absurd (storage_result_in_time c.in_err-save.field-0.0 _ c.from_residual-in_err-save.ensures.1 late)
@@ -35,11 +36,11 @@ returns-in_err-save-clause-exit g c was loads =
     let outcome = c.in_ok-outcome.outcome in
     unsaved g.K.Storage.sight _ c.args.call.now was c.args.store.now c.save.new.self c.args.part.now outcome.changes.items outcome.reply
     c.in_err-save.field-0.0 _
-    c.keep_form.ensures loads c.in_ok-outcome.ensures.decided c.in_err-save.ensures.saves c.from_residual-in_err-save.ensures.1
+    (subst IsFormedCall c.call.ensures c.keep_form.ensures) loads c.in_ok-outcome.ensures.decided c.in_err-save.ensures.saves c.from_residual-in_err-save.ensures.1
 
 pub returns-clause-exit : goal.returns-clause-exit
 returns-clause-exit g c was loads =
     let outcome = c.in_ok-outcome.outcome in
     saved g.K.Storage.sight c.args.call.now was c.args.store.now c.save.new.self c.args.part.now outcome.changes.items outcome.reply
     c.in_ok-save.field-0
-    c.keep_form.ensures loads c.in_ok-outcome.ensures.decided c.in_ok-save.ensures.saves
+    (subst IsFormedCall c.call.ensures c.keep_form.ensures) loads c.in_ok-outcome.ensures.decided c.in_ok-save.ensures.saves

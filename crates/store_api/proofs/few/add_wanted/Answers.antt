@@ -12,7 +12,7 @@ pub returns : goal.returns
 returns g c =
     let number = λ (a : AuthorizationRow). a.number in
     finds_then c.add_asked_names.result c.in_ok-add_linked.ensures c.add_asked_names.ensures (λ T moved asked.
-    put_then number c.args.moved.now (authorizations_asked_of T (option_map (λ v. v.items) c.args.needs.now.names) c.args.accounts.now) _ _ _
+    put_then number c.args.moved.now (authorizations_asked_of T (option_map (λ v. v.now) c.args.needs.now.names) c.args.accounts.now) _ _ _
     (moved ∙ ap (λ l. puts number l c.args.authorizations.now) (themselves c.args.moved.now)) asked)
 
 pub returns-in_err-add_linked : goal.returns-in_err-add_linked

@@ -1,9 +1,10 @@
 use Rattle.std.proofs.Common.{ap, max, ◌∙◌}
 use Rattle.std.proofs.lemmas.Result.{IfOk-from_err}
+use Rattle.desk_model.specs.declared.call.Call.{Call}
 use Rattle.desk_model.specs.declared.rows.Meta.{Meta}
 use Rattle.model_lives.specs.Few.{needed_rows}
 use Rattle.store_api.proofs.Gathered.{made_of}
-use Rattle.store_api.proofs.Readings.{reads_and, reads_failing, lacks_by, reads_standing, reads_then, stands_read}
+use Rattle.store_api.proofs.Readings.{reads_and, reads_failing, reads_then, stands_read}
 use Rattle.store_api.proofs.Tabled.{book_are}
 use Rattle.store_api.proofs.few.few_book.Goals as goal
 
@@ -21,19 +22,14 @@ returns-clause-found g c = λ honest T held ordered.
     let are = put_now ordered (λ i. (same i).policy)
     (record { nonces = c.new.ensures; accounts = c.new-2.ensures; authorizations = c.new-3.ensures; orders = c.new-4.ensures }) c.new-moved.ensures in
     c.of_tables.ensures
-    ∙ book_are c.in_ok-meta.meta _ (needed_rows T c.in_ok-needs.needs.moment c.args.call.now.ask) same are
-    ∙ ap (λ m. needed_rows T m c.args.call.now.ask)
-    (c.in_ok-needs.ensures.moment ∙ c.max-moment.ensures
-    ∙ ap (max c.args.call.now.at) (c.moment.ensures.same ∙ ap (λ (m : Meta). m.counters.clock) same)))
+    ∙ book_are c.in_ok-meta.meta _ (needed_rows T c.needs_of-needs.result.moment c.call-whole.result.now.ask) same are
+    ∙ ap (λ m. needed_rows T m c.call-whole.result.now.ask)
+    (c.needs_of-needs.ensures.moment ∙ c.max-moment.ensures
+    ∙ ap (max c.call-whole.result.now.at) (c.moment.ensures.same ∙ ap (λ (m : Meta). m.counters.clock) same))
+    ∙ ap (λ (k : Call). needed_rows T (max k.at T.meta.counters.clock) k.ask) c.call-whole.ensures)
 
 pub returns-in_err-meta-clause-reads : goal.returns-in_err-meta-clause-reads
 returns-in_err-meta-clause-reads g c = reads_failing _ c.in_err-meta.ensures.reads c.from_residual.ensures.1
 
 pub returns-in_err-meta-clause-found : goal.returns-in_err-meta-clause-found
 returns-in_err-meta-clause-found g c honest T held ordered = IfOk-from_err c.from_residual.result _ c.from_residual.ensures.0
-
-pub returns-in_err-needs-clause-reads : goal.returns-in_err-needs-clause-reads
-returns-in_err-needs-clause-reads g c = reads_standing _ (lacks_by _ c.from_residual-in_err-needs.ensures.1) (stands_read c.in_ok-meta.ensures.reads)
-
-pub returns-in_err-needs-clause-found : goal.returns-in_err-needs-clause-found
-returns-in_err-needs-clause-found g c honest T held ordered = IfOk-from_err c.from_residual-in_err-needs.result _ c.from_residual-in_err-needs.ensures.0

@@ -16,7 +16,7 @@ returns g c =
     (λ T so_far asked of_orders of_authorizations. (
       so_far.0,
       put_then (λ (a : AuthorizationRow). a.number) (listed_authorizations T c.add_linked.new.table)
-          (authorizations_asked_of T (option_map (λ v. v.items) c.args.names.now) c.args.accounts.now) _ _ _ so_far.1 asked,
+          (authorizations_asked_of T (option_map (λ v. v.now) c.args.names) c.args.accounts.now) _ _ _ so_far.1 asked,
       put_then (λ (x : AccountRow). x.number) (flat_map (λ (o : OrderRow). accounts_numbered T o.account) _)
           (flat_map (λ (a : AuthorizationRow). accounts_numbered T a.account) _) _ _ _ of_orders of_authorizations,
     ))

@@ -1,15 +1,18 @@
 use Rattle.std.proofs.Common.{◌≡◌, ℕ, ap, max, refl, sym, ◌∙◌}
 use Rattle.std.proofs.lemmas.Result.{IfOk-from_err}
+use Rattle.desk_model.specs.Asked.{asked_names}
 use Rattle.desk_model.specs.Tables.{Tables}
+use Rattle.desk_model.specs.Touched.{touched}
 use Rattle.desk_model.specs.declared.call.Ask.{Ask}
 use Rattle.desk_model.specs.declared.call.Ask.TheVariants as ask
+use Rattle.desk_model.specs.declared.call.Call.{Call}
 use Rattle.desk_model.specs.declared.call.OfficeAsk.TheVariants as office
 use Rattle.desk_model.specs.declared.rows.Meta.{Meta}
 use Rattle.model_lives.proofs.Loading.{loaded_touched}
 use Rattle.model_lives.specs.Loaded.{loaded_at}
 use Rattle.store_api.proofs.Gathered.{made_of}
 use Rattle.store_api.proofs.Tabled.{book_are}
-use Rattle.store_api.proofs.Readings.{reads_and, reads_failing, lacks_by, reads_standing, reads_then, stands_here, stands_read}
+use Rattle.store_api.proofs.Readings.{reads_and, reads_failing, reads_then, stands_read}
 use Rattle.store_api.proofs.touched.touched_book.Goals as goal
 
 -- the row of the desk is loaded as it is
@@ -26,6 +29,9 @@ loaded_meta T m (ask.Office (office.RevokeAuthz n)) = refl
 loaded_meta T m (ask.Office (office.RevokeAccount n)) = refl
 loaded_meta T m (ask.Office (office.KeyOf n)) = refl
 
+pub add_rows_at-requires : goal.add_rows_at-requires
+add_rows_at-requires g c = c.names.ensures ∙ ap (λ (k : Call). asked_names k.ask) (sym c.call-whole.ensures)
+
 pub returns-clause-reads : goal.returns-clause-reads
 returns-clause-reads g c =
     reads_then _ (stands_read c.in_ok-meta.ensures.reads) (reads_and _ c.add_rows_at.result c.and.result c.and.ensures c.add_rows_at.ensures.reads)
@@ -40,20 +46,15 @@ returns-clause-touched g c = λ honest T held ordered.
     let are = put_now (λ i. (same i).policy) ordered
     (record { nonces = c.new.ensures; accounts = c.new-2.ensures; authorizations = c.new-3.ensures; orders = c.new-4.ensures }) in
     c.of_tables.ensures
-    ∙ book_are c.in_ok-meta.meta _ (loaded_at T c.max-moment.result c.args.call.now.ask)
-    (same ∙ sym (loaded_meta T c.max-moment.result c.args.call.now.ask)) are
-    ∙ ap (λ m. loaded_at T m c.args.call.now.ask)
-    (c.max-moment.ensures ∙ ap (max c.args.call.now.at) (c.moment.ensures.same ∙ ap (λ (m : Meta). m.counters.clock) same))
-    ∙ loaded_touched T c.args.call.now ordered)
+    ∙ book_are c.in_ok-meta.meta _ (loaded_at T c.max-moment.result c.call-whole.result.now.ask)
+    (same ∙ sym (loaded_meta T c.max-moment.result c.call-whole.result.now.ask)) are
+    ∙ ap (λ m. loaded_at T m c.call-whole.result.now.ask)
+    (c.max-moment.ensures ∙ ap (max c.call-whole.result.now.at) (c.moment.ensures.same ∙ ap (λ (m : Meta). m.counters.clock) same))
+    ∙ loaded_touched T c.call-whole.result.now ordered
+    ∙ ap (touched T) c.call-whole.ensures)
 
 pub returns-in_err-meta-clause-reads : goal.returns-in_err-meta-clause-reads
-returns-in_err-meta-clause-reads g c = reads_failing _ c.in_err-meta.ensures.reads c.from_residual-in_err-meta.ensures.1
+returns-in_err-meta-clause-reads g c = reads_failing _ c.in_err-meta.ensures.reads c.from_residual.ensures.1
 
 pub returns-in_err-meta-clause-touched : goal.returns-in_err-meta-clause-touched
-returns-in_err-meta-clause-touched g c honest T held ordered = IfOk-from_err c.from_residual-in_err-meta.result _ c.from_residual-in_err-meta.ensures.0
-
-pub returns-in_err-names-clause-reads : goal.returns-in_err-names-clause-reads
-returns-in_err-names-clause-reads g c = reads_standing _ (lacks_by _ c.from_residual.ensures.1) stands_here
-
-pub returns-in_err-names-clause-touched : goal.returns-in_err-names-clause-touched
-returns-in_err-names-clause-touched g c honest T held ordered = IfOk-from_err c.from_residual.result _ c.from_residual.ensures.0
+returns-in_err-meta-clause-touched g c honest T held ordered = IfOk-from_err c.from_residual.result _ c.from_residual.ensures.0

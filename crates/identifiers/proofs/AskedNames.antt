@@ -1,0 +1,41 @@
+-- The names that an order asks for, as they are looked up, are those that the rules give an authorization.
+use Rattle.std.proofs.Common.{◌≡◌, ℕ, List, [], ◌∷◌, Bool, true, false, Option, Some, None, refl}
+use Rattle.std.specs.Prelude.{if◌then◌else◌, option_and_then}
+use Rattle.desk_model.specs.Asked.{target_names}
+use Rattle.desk_model.specs.Legal.{has_length}
+use Rattle.desk_model.specs.Limits.{most_names}
+use Rattle.desk_model.specs.Payload.{new_order}
+use Rattle.desk_model.specs.Rules.{names_asked, names_of, subproblems}
+use Rattle.desk_model.specs.declared.payload.Identifier.{Identifier}
+use Rattle.desk_model.specs.declared.call.Target.{Target}
+use Rattle.desk_model.specs.declared.call.Target.TheVariants as to
+use Rattle.desk_model.specs.declared.reply.Subproblem.{Subproblem}
+use Rattle.identifiers.specs.AskedOrders.{order_by, order_if, order_names, target_order}
+use Rattle.identifiers.specs.declared.asked.AskedOrder.TheVariants as order
+
+-- of identifiers
+by_faults : (ids : List Identifier) (faults : List Subproblem) → order_names (order_by ids faults) ≡ names_of ids faults
+by_faults ids [] = refl
+by_faults ids (s ∷ ss) = refl
+
+by_length : (b : Bool) (ids : List Identifier) →
+    order_names (if b then order_by ids (subproblems ids) else order.Malformed) ≡ (if b then names_of ids (subproblems ids) else None)
+by_length true ids = by_faults ids (subproblems ids)
+by_length false ids = refl
+
+by_form : (o : Option (List Identifier)) → order_names (order_if o) ≡ option_and_then names_asked o
+by_form None = refl
+by_form (Some ids) = by_length (has_length 1 most_names ids) ids
+
+-- of a request
+pub names_of_order : (target : Target) (payload : List ℕ) → order_names (target_order target payload) ≡ target_names target payload
+names_of_order to.NewOrder payload = by_form (new_order payload)
+names_of_order to.NewAccount payload = refl
+names_of_order to.KeyChange payload = refl
+names_of_order (to.Account n) payload = refl
+names_of_order (to.Orders n) payload = refl
+names_of_order (to.Order n) payload = refl
+names_of_order (to.Finalize n) payload = refl
+names_of_order (to.Cert n) payload = refl
+names_of_order (to.Authz n) payload = refl
+names_of_order (to.Chall n) payload = refl

@@ -1,0 +1,7 @@
+use Rattle.std.proofs.Common.{ap, ◌∙◌}
+use Rattle.desk_model.specs.Asked.{asked_names}
+use Rattle.desk_model.specs.declared.call.Call.{Call}
+use Rattle.identifiers.proofs.parsed.ParsedCall.names.Goals as goal
+
+pub returns : goal.returns
+returns c = c.names.ensures ∙ ap asked_names (c.self.invariant ∙ ap (λ (k : Call). k.ask) c.self.view_is)
