@@ -3,13 +3,13 @@ use Rattle.std.specs.Prelude.{ℕ, ◌+◌, ◌≡◌, List, length, map, None, 
 use Rattle.model_laws.specs.Reused.{OfReused}
 use Rattle.desk_model.specs.Authorization.{count_challenges, is_valid, made_for}
 use Rattle.desk_model.specs.Derived.{authorization_numbered, restated_authorization}
-use Rattle.desk_model.specs.Effect.{fresh_authorization}
+use Rattle.desk_model.specs.Effect.{fresh_authorization, fresh_order}
 use Rattle.desk_model.specs.Kept.{EachOf}
 use Rattle.desk_model.specs.Lookup.{holds}
 use Rattle.desk_model.specs.Order.{listed_by, made_status}
-use Rattle.desk_model.specs.Tables.{listed_from}
 use Rattle.desk_model.specs.Terms.{Terms}
 use Rattle.desk_model.specs.declared.objects.Authorization.{Authorization}
+use Rattle.desk_model.specs.declared.objects.Order.{Order}
 use Rattle.desk_model.specs.declared.rows.AuthorizationRow.{AuthorizationRow}
 use Rattle.desk_model.specs.declared.rows.AccountRow.{AccountRow}
 use Rattle.desk_model.specs.declared.rows.Counters.{Counters}
@@ -39,17 +39,9 @@ next_rows P C account wanted = made_rows C.clock (next_authorizations P C accoun
 -- an order that is made next; the authorizations made with it are numbered from `first`
 abbrev pub made_order : Terms → Counters → ℕ → List Wanted → (first : ℕ) → OrderRow
 made_order P C account wanted first =
-    record {
-      number = C.orders + 1;
-      account = account;
-      made = C.clock;
-      expires = C.clock + P.order_life;
-      listed = listed_from 1 (listed_by wanted first);
-      finalized = None;
-      certified = None;
-      failed = None;
-      status = made_status wanted;
-    }
+    let o : Order =
+    record { number = C.orders + 1; account = account; made = C.clock; expires = C.clock + P.order_life; authorizations = listed_by wanted first } in
+    record (fresh_order o) { status = made_status wanted }
 
 abbrev pub next_order : Terms → Counters → ℕ → List Wanted → OrderRow
 next_order P C account wanted = made_order P C account wanted (C.authorizations + 1)

@@ -16,7 +16,7 @@ ghost use Rattle.core_changes.specs.Moved.{standing_rows, stated_authorization, 
 
 use crate::differing::{challenges_differ, is_gained, same_texts};
 use crate::noted::{
-    account_end_by, end_after, note_contacts, note_dates, note_key, noted_challenges,
+    account_end_by, end_after, note_contacts, note_dates, note_key, noted_challenges, order_differs,
 };
 use crate::touched::{touches_authorization, touches_order};
 use desk_book::{
@@ -487,10 +487,7 @@ impl Movable for OrderRow {
     }
 
     fn differs(&self, after: &OrderRow) -> bool {
-        is_gained(&self.finalized, &after.finalized)
-            || is_gained(&self.certified, &after.certified)
-            || is_gained(&self.failed, &after.failed)
-            || self.status != after.status
+        order_differs(self, after)
     }
 
     fn put(self) -> Change {

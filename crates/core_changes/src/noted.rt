@@ -2,11 +2,13 @@
 ghost use Rattle.std.specs.Prelude.{◌≡◌, if◌then◌else◌, None, Some, map, unwrap_or, IfOk, OnOk};
 ghost use Rattle.desk_model.specs.Entry.{entry_of};
 ghost use Rattle.desk_model.specs.History.{earlier};
+ghost use Rattle.desk_model.specs.Change.{order_differs};
 ghost use Rattle.desk_model.specs.Account.{changing, rekeying, ends as account_ends};
 ghost use Rattle.desk_model.specs.Authorization.{in_time};
 ghost use Rattle.desk_model.specs.declared.entry.Entry.TheVariants.{Reported as reported};
 ghost use Rattle.desk_model.specs.Effect.{noted_challenge, noted_order, answered_challenge, reported_challenge, row_ends};
 
+use crate::differing::is_gained;
 use desk_book::{derived_challenge, has_challenge};
 use desk_model::{
     AccountEnd, AccountRow, Answer, AuthorizationEnd, AuthorizationRow, ChallengeRow, DatedBytes,
@@ -243,4 +245,14 @@ pub(crate) fn note_dates(row: &mut OrderRow, moved: &Move, moment: u64) -> Resul
         }
         _ => Ok(()),
     }
+}
+
+/// Whether a move gave an order a date or another status.
+pub(crate) fn order_differs(before: &OrderRow, after: &OrderRow) -> bool
+    ensures { result ≡ order_differs before.now after.now }
+{
+    is_gained(&before.finalized, &after.finalized)
+        || is_gained(&before.certified, &after.certified)
+        || is_gained(&before.failed, &after.failed)
+        || before.status != after.status
 }
