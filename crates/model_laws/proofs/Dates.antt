@@ -6,19 +6,18 @@ use Rattle.desk_model.specs.Account.{account_key, accounts, opened_by, ends as a
 use Rattle.desk_model.specs.Authorization.{answer, answer_by, answering, authorizations, count_challenges, ends}
 use Rattle.desk_model.specs.Authorization.{has_challenge, in_time, is_good, made_by, made_for, reporting}
 use Rattle.desk_model.specs.Entry.{History}
-use Rattle.desk_model.specs.History.{clock, first, terms}
+use Rattle.desk_model.specs.History.{clock, terms}
 use Rattle.desk_model.specs.Kept.{EachOf}
 use Rattle.desk_model.specs.Legal.{EachFollows}
 use Rattle.desk_model.specs.Limits.{last_moment}
 use Rattle.desk_model.specs.Nonce.{is_open, issued_by, nonces}
-use Rattle.desk_model.specs.Order.{certifying, failing, finalizing, ordered_by, orders}
+use Rattle.desk_model.specs.Order.{ordered_by, orders}
 use Rattle.desk_model.specs.Tables.{account_row, authorization_row, challenge_row, order_row, tables_at}
 use Rattle.desk_model.specs.declared.entry.Dated.{Dated}
 use Rattle.desk_model.specs.declared.entry.Entry.{Entry}
 use Rattle.desk_model.specs.declared.entry.Entry.TheVariants.{Issued as issued, Opened as opened, AccountEnded as account_ended}
 use Rattle.desk_model.specs.declared.entry.Entry.TheVariants.{Ordered as ordered, Answered as answered, Reported as reported}
-use Rattle.desk_model.specs.declared.entry.Entry.TheVariants.{AuthorizationEnded as authorization_ended, Finalized as finalized}
-use Rattle.desk_model.specs.declared.entry.Entry.TheVariants.{Certified as certified, Failed as failed}
+use Rattle.desk_model.specs.declared.entry.Entry.TheVariants.{AuthorizationEnded as authorization_ended}
 use Rattle.desk_model.specs.declared.entry.Wanted.{Wanted}
 use Rattle.desk_model.specs.declared.entry.Wanted.TheVariants.{New, Reused}
 use Rattle.desk_model.specs.declared.objects.Authorization.{Authorization}
@@ -27,21 +26,8 @@ use Rattle.model_laws.specs.DateLaws.{AreDatedBy, IsChallengeDatedBy}
 use Rattle.model_laws.proofs.Basics.{each, each_all, each-append, each-map}
 use Rattle.model_laws.proofs.Keeps.{each-filter}
 use Rattle.model_laws.proofs.Numbers.{made_now, ordered_now}
-use Rattle.model_laws.proofs.StatedFacts.{earlier_holds, first_holds, stated}
-
--- ---- facts that an entry states
-
--- no entry is dated after the latest recorded moment
-entries_dated : (F : History) → EachOf (λ e. e.date ≤ clock F) F
-entries_dated [] = tt
-entries_dated (e ∷ F) = (omega arith, each _ _ F (λ d h. let le : d.date ≤ clock F = h in omega arith) (entries_dated F))
-
--- nor is a first fact that has the date of its entry
-first_dated : {X : Type 0} (date : X → ℕ) (fact : Dated → Option X) → ((e : Dated) → IfSome (fact e) (λ x. date x ≤ e.date)) → (F : History) →
-    IfSome (first fact F) (λ x. date x ≤ clock F)
-first_dated date fact states F =
-    first_holds _ fact F
-    (each _ _ F (λ e le. IfSome_then (fact e) (states e) (λ x h. let same : date x ≤ e.date = h in omega arith)) (entries_dated F))
+use Rattle.model_laws.proofs.OrderDates.{order_dated}
+use Rattle.model_laws.proofs.StatedFacts.{earlier_holds, first_dated, stated}
 
 -- ---- each fact has the date of its entry
 
@@ -80,30 +66,6 @@ report_dated n e = by e.entry
   where
     by : (entry : Entry) → IfSome (reporting n entry e.date) (λ x. x.date ≤ e.date)
     by (reported k o) = stated _ (k == n) _ (omega arith)
-    by _ = tt
-
--- the CSR of an order
-csr_dated : (n : ℕ) (e : Dated) → IfSome (finalizing n e.entry e.date) (λ x. x.date ≤ e.date)
-csr_dated n e = by e.entry
-  where
-    by : (entry : Entry) → IfSome (finalizing n entry e.date) (λ x. x.date ≤ e.date)
-    by (finalized k bytes) = stated _ (k == n) _ (omega arith)
-    by _ = tt
-
--- its certificate
-certificate_dated : (n : ℕ) (e : Dated) → IfSome (certifying n e.entry e.date) (λ x. x.date ≤ e.date)
-certificate_dated n e = by e.entry
-  where
-    by : (entry : Entry) → IfSome (certifying n entry e.date) (λ x. x.date ≤ e.date)
-    by (certified k bytes) = stated _ (k == n) _ (omega arith)
-    by _ = tt
-
--- its failure
-failure_dated : (n : ℕ) (e : Dated) → IfSome (failing n e.entry e.date) (λ x. x.date ≤ e.date)
-failure_dated n e = by e.entry
-  where
-    by : (entry : Entry) → IfSome (failing n entry e.date) (λ x. x.date ≤ e.date)
-    by (failed k problem) = stated _ (k == n) _ (omega arith)
     by _ = tt
 
 -- how an authorization ended
@@ -198,12 +160,7 @@ no_date_later F t =
                 }));
           }) (authorizations_made F));
       orders = each-map _ (order_row F t) (orders F)
-          (each _ _ (orders F) (λ o made. record {
-            made = made;
-            finalized = first_dated (λ x. x.date) _ (csr_dated o.number) F;
-            certified = first_dated (λ x. x.date) _ (certificate_dated o.number) F;
-            failed = first_dated (λ x. x.date) _ (failure_dated o.number) F;
-          }) (orders_made F));
+          (each _ _ (orders F) (order_dated F t) (orders_made F));
     }
 
 -- and that moment is not after the last of all

@@ -1,13 +1,12 @@
 -- A row that does not differ afterwards is the row itself, and one that differs is another.
-use Rattle.std.proofs.Common.{◌≡◌, ℕ, List, [], ◌∷◌, map, Option, Some, None, refl, sym, ap, ◌∙◌, true, false, Bool, cond, not}
+use Rattle.std.proofs.Common.{◌≡◌, ℕ, List, [], ◌∷◌, map, Some, refl, sym, ap, ◌∙◌, true, false, Bool, cond, not}
 use Rattle.std.specs.Prelude.{◌==◌, ◌||◌, bytes_eq}
 use Rattle.std.specs.Cmp.Lexicographic.{pointwise}
 use Rattle.std.specs.List.{list_any, zip}
 use Rattle.std.proofs.lemmas.Bool.{eqb-true, eq-eqb, or_parts}
 use Rattle.std.proofs.lemmas.Slice.Eq.{bytes_eq-Decides, slice_eq-Decides}
-use Rattle.desk_model.specs.History.{earlier}
 use Rattle.desk_model.specs.Account.{ends as account_ends}
-use Rattle.desk_model.specs.Derived.{account_code, chall_code, authz_code, order_code, restated_authorization, restated_order}
+use Rattle.desk_model.specs.Derived.{account_code, chall_code, authz_code, order_code, derived_order, restated_authorization, restated_order}
 use Rattle.desk_model.specs.Keys.{thumbprint}
 use Rattle.desk_model.specs.Effect.{key_numbered, noted_account, noted_challenge, answered_challenge, reported_challenge, noted_authorization, noted_order}
 use Rattle.desk_model.specs.Change.{is_gained, account_differs, challenge_differs, authorization_differs, order_differs}
@@ -26,7 +25,9 @@ use Rattle.desk_model.specs.declared.status.AuthzStatus.{AuthzStatus}
 use Rattle.desk_model.specs.declared.status.AuthzStatus.TheVariants as authz
 use Rattle.desk_model.specs.declared.status.OrderStatus.{OrderStatus}
 use Rattle.desk_model.specs.declared.status.OrderStatus.TheVariants as order
+use Rattle.model_laws.proofs.OrderDates.{order_dates_kept, order_status_differs}
 use Rattle.model_laws.proofs.RowFacts.{kept_challenges}
+use Rattle.model_laws.proofs.StatedFacts.{earlier_stays, none_gained}
 
 -- ---- statuses by their codes
 
@@ -98,20 +99,6 @@ same_coded code by_code coded a b h =
 -- a value's code is its own
 own_code : (n : ℕ) → not (n == n) ≡ false
 own_code n = ap not (eq-eqb n n refl)
-
--- ---- facts
-
--- where no fact is gained, the fact stays
-pub earlier_stays : {X : Type 0} (x y : Option X) → is_gained x (earlier x y) ≡ false → earlier x y ≡ x
-earlier_stays None None h = refl
-earlier_stays None (Some y) h = cc
-earlier_stays (Some x) None h = refl
-earlier_stays (Some x) (Some y) h = refl
-
--- no fact is gained where nothing changes
-none_gained : {X : Type 0} (x : Option X) → is_gained x x ≡ false
-none_gained None = refl
-none_gained (Some x) = refl
 
 -- ---- accounts
 
@@ -222,17 +209,11 @@ authorization_differs_not row = λ i. none_gained row.ended i || (own_code (auth
 pub order_unmoved : (e : Entry) (m : ℕ) (rows : List AuthorizationRow) (row : OrderRow) →
     order_differs row (restated_order m rows (noted_order e m row)) ≡ false → restated_order m rows (noted_order e m row) ≡ row
 order_unmoved e m rows row h =
-    let after : OrderRow = restated_order m rows (noted_order e m row) in
-    let p = or_parts (is_gained row.finalized after.finalized) _ h in
-    let q = or_parts (is_gained row.certified after.certified) _ p.1 in
-    let r = or_parts (is_gained row.failed after.failed) _ q.1 in
-    let finalized : after.finalized ≡ row.finalized = earlier_stays row.finalized _ p.0 in
-    let certified : after.certified ≡ row.certified = earlier_stays row.certified _ q.0 in
-    let failed : after.failed ≡ row.failed = earlier_stays row.failed _ r.0 in
-    let status : after.status ≡ row.status = same_coded order_code order_by_code order_coded row.status after.status r.1 in
-    λ i. record row { finalized = finalized i; certified = certified i; failed = failed i; status = status i }
+    let s : OrderStatus = derived_order m rows (noted_order e m row) in
+    let p = order_dates_kept e m row s h in
+    let status : s ≡ row.status = same_coded order_code order_by_code order_coded row.status s p.1 in
+    λ i. record (p.0 i) { status = status i }
 
 -- no order's row differs from itself
 pub order_differs_not : (row : OrderRow) → order_differs row row ≡ false
-order_differs_not row =
-    λ i. none_gained row.finalized i || (none_gained row.certified i || (none_gained row.failed i || own_code (order_code row.status) i))
+order_differs_not row = order_status_differs row row.status ∙ own_code (order_code row.status)

@@ -12,11 +12,11 @@ use Rattle.desk_model.specs.Account.{ends as account_ends, status_of as account_
 use Rattle.desk_model.specs.Authorization.{authorizations, has_challenge, made_for, kinds_of, challenges_from, count_challenges}
 use Rattle.desk_model.specs.Authorization.{authorization_end, ends, in_time, is_good, kind_of, answering, reporting}
 use Rattle.desk_model.specs.Authorization.{answer, answer_by, when_answered, report, challenge_status_by}
-use Rattle.desk_model.specs.Order.{orders, ordered_by, csr, certificate, failure, finalizing, certifying, failing, listed_by}
+use Rattle.desk_model.specs.Order.{orders, ordered_by, listed_by}
 use Rattle.desk_model.specs.Legal.{EachFollows}
 use Rattle.desk_model.specs.Tables.{account_row, challenge_row, authorization_row, order_row}
 use Rattle.desk_model.specs.Derived.{restated_authorization, restated_order}
-use Rattle.desk_model.specs.Effect.{fresh_account, fresh_challenge, fresh_authorization, fresh_order}
+use Rattle.desk_model.specs.Effect.{names_order, fresh_account, fresh_challenge, fresh_authorization, fresh_order}
 use Rattle.desk_model.specs.declared.objects.EndKind.TheVariants as kind
 use Rattle.desk_model.specs.declared.status.AccountStatus.TheVariants as account
 use Rattle.desk_model.specs.Kept.{EachOf}
@@ -37,7 +37,9 @@ use Rattle.desk_model.specs.declared.objects.Authorization.{Authorization}
 use Rattle.desk_model.specs.declared.objects.AuthorizationEnd.{AuthorizationEnd}
 use Rattle.desk_model.specs.declared.objects.Challenge.{Challenge}
 use Rattle.desk_model.specs.declared.objects.Order.{Order}
+use Rattle.desk_model.specs.declared.rows.AuthorizationRow.{AuthorizationRow}
 use Rattle.model_laws.proofs.Basics.{less_differs, each, each_both, map-each, IsNumbered}
+use Rattle.model_laws.proofs.OrderDates.{order_unnoted}
 use Rattle.model_laws.specs.Given.{Counts, counts, NamesGiven}
 use Rattle.model_laws.proofs.RowFacts.{authorization_stated}
 use Rattle.model_laws.proofs.Numbers.{no_first, no_latest, first_no, made_now, challenges_numbered, all_named}
@@ -45,29 +47,19 @@ use Rattle.model_laws.proofs.OrderFacts.{order_stated}
 
 -- ---- new rows
 
--- an order, an account and a nonce of a number that was not given have no facts
-new_order_csr : (c : Counts) (n : ℕ) → c.orders < n → (d : Dated) → NamesGiven c d.entry → finalizing n d.entry d.date ≡ None
-new_order_csr c n new d named = by d.entry named
-  where
-    by : (e : Entry) → NamesGiven c e → finalizing n e d.date ≡ None
-    by (finalized k bytes) h = rw (less_differs k n (omega arith)) refl
-    by _ h = refl
+-- no entry names an order of a number that was not given
+new_order_unnamed : (c : Counts) (n : ℕ) → c.orders < n → (e : Entry) → NamesGiven c e → names_order e n ≡ false
+new_order_unnamed c n new (finalized k bytes) h = less_differs k n (omega arith)
+new_order_unnamed c n new (certified k bytes) h = less_differs k n (omega arith)
+new_order_unnamed c n new (failed k f) h = less_differs k n (omega arith)
+new_order_unnamed c n new _ h = refl
 
--- no certificate
-new_order_certificate : (c : Counts) (n : ℕ) → c.orders < n → (d : Dated) → NamesGiven c d.entry → certifying n d.entry d.date ≡ None
-new_order_certificate c n new d named = by d.entry named
-  where
-    by : (e : Entry) → NamesGiven c e → certifying n e d.date ≡ None
-    by (certified k bytes) h = rw (less_differs k n (omega arith)) refl
-    by _ h = refl
-
--- no failure
-new_order_failure : (c : Counts) (n : ℕ) → c.orders < n → (d : Dated) → NamesGiven c d.entry → failing n d.entry d.date ≡ None
-new_order_failure c n new d named = by d.entry named
-  where
-    by : (e : Entry) → NamesGiven c e → failing n e d.date ≡ None
-    by (failed k f) h = rw (less_differs k n (omega arith)) refl
-    by _ h = refl
+-- an order that no entry names is as it was made
+order_unnamed : (F : History) (t m : ℕ) (rows : List AuthorizationRow) (o : Order) → EachOf (λ d. names_order d.entry o.number ≡ false) F →
+    restated_order m rows (order_row F t o) ≡ restated_order m rows (fresh_order o)
+order_unnamed [] t m rows o h = refl
+order_unnamed (e ∷ F) t m rows o h =
+    ap (restated_order m rows) (order_unnoted e.entry e.date (order_row F t o) h.0) ∙ order_unnamed F t m rows o h.1
 
 -- a challenge of a number that was not given has no answer
 new_challenge_answer : (c : Counts) (n : ℕ) → c.challenges < n → (d : Dated) → NamesGiven c d.entry → answering n d.entry d.date ≡ None
@@ -134,16 +126,8 @@ orders_fresh F (ordered k ws) m h =
       authorizations = listed_by ws (length (authorizations F) + 1);
     } in
     let new : length (orders F) < n = omega arith in
-    let named = all_named F h.1 in
-    let finalized_none : csr n F ≡ None = no_first (λ d. finalizing n d.entry d.date) F (each _ _ F (new_order_csr (counts F) n new) named) in
-    let certified_none : certificate n F ≡ None =
-    no_first (λ d. certifying n d.entry d.date) F (each _ _ F (new_order_certificate (counts F) n new) named) in
-    let failed_none : failure n F ≡ None = no_first (λ d. failing n d.entry d.date) F (each _ _ F (new_order_failure (counts F) n new) named) in (
-      order_stated G m m o
-          ∙ (λ i. restated_order m (map (authorization_row G m) (authorizations G))
-          (record (order_row G m o) { finalized = finalized_none i; certified = certified_none i; failed = failed_none i })),
-      tt,
-    )
+    let unnamed = each _ _ F (λ d. new_order_unnamed (counts F) n new d.entry) (all_named F h.1) in
+    (order_stated G m m o ∙ order_unnamed G m m (map (authorization_row G m) (authorizations G)) o (refl, unnamed), tt)
 orders_fresh F _ m h = tt
 
 -- a new account

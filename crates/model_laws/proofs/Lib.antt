@@ -21,6 +21,7 @@ pub mod NewChildren
 pub mod NewOrders
 pub mod NewsInOrder
 pub mod Numbers
+pub mod OrderDates
 pub mod OrderFacts
 pub mod Plain
 pub mod PutsDiffer

@@ -1,15 +1,14 @@
 -- A part that holds what is touched records the same changes as the whole.
 use Rattle.std.proofs.Common.{◌≡◌, ℕ, ◌+◌, List, [], ◌∷◌, ◌++◌, map, filter, Some, refl, sym, ap, ◌∙◌, true, false, Bool, cond, not}
-use Rattle.std.specs.Prelude.{nat_lt, ◌==◌, ◌&&◌, ◌||◌, is_some, find}
-use Rattle.std.specs.List.{list_any, list_all}
+use Rattle.std.specs.Prelude.{nat_lt, ◌==◌, ◌&&◌, ◌||◌, find}
 use Rattle.std.specs.Option.{option_or}
 use Rattle.std.proofs.lemmas.Bool.{eqb-true, and_parts}
 use Rattle.std.proofs.lemmas.List.Folds.{find-append}
 use Rattle.desk_model.specs.Lookup.{holds}
 use Rattle.desk_model.specs.History.{earlier}
 use Rattle.desk_model.specs.Account.{opened_by}
-use Rattle.desk_model.specs.Authorization.{in_time, is_over, is_valid}
-use Rattle.desk_model.specs.Order.{ordered_by, order_status_by}
+use Rattle.desk_model.specs.Authorization.{in_time}
+use Rattle.desk_model.specs.Order.{ordered_by}
 use Rattle.desk_model.specs.Tables.{Tables}
 use Rattle.desk_model.specs.Derived.{numbers_of, authorization_numbered, stored_statuses, and_status, restated_authorization, restated_order}
 use Rattle.desk_model.specs.Effect.{noted_account, noted_authorization, noted_order, touches_account, touches_authorization}
@@ -31,6 +30,7 @@ use Rattle.desk_model.specs.declared.rows.Change.TheVariants.{PutNonce, RemoveNo
 use Rattle.desk_model.specs.declared.rows.OrderRow.{OrderRow}
 use Rattle.model_laws.specs.Parts.{FreshKept}
 use Rattle.model_laws.proofs.Basics.{each, each_all}
+use Rattle.model_laws.proofs.OrderFacts.{restated_alike}
 use Rattle.model_laws.proofs.RowFacts.{authorization_untouched}
 
 -- ---- lists
@@ -98,14 +98,7 @@ statuses_same rows others (n ∷ ns) h = λ i. and_status (h.0 i) (statuses_same
 -- and an order gets the same status
 pub restated_same : (m : ℕ) (rows others : List AuthorizationRow) (row : OrderRow) → SameFor rows others (numbers_of row.listed) →
     restated_order m rows row ≡ restated_order m others row
-restated_same m rows others row h =
-    let same : stored_statuses rows (numbers_of row.listed) ≡ stored_statuses others (numbers_of row.listed) =
-    statuses_same rows others (numbers_of row.listed) h in
-    λ i. record row {
-      status =
-          order_status_by (is_some row.certified) (is_some row.failed || (nat_lt row.expires m || list_any is_over (same i))) (is_some row.finalized)
-          (list_all is_valid (same i));
-    }
+restated_same m rows others row h = restated_alike m rows others row (statuses_same rows others (numbers_of row.listed) h)
 
 -- the look-ups agree for kept authorizations
 kept_before : (k : Kept) (T : Tables) (ns : List ℕ) → EachOf (λ n. k.authorizations n ≡ true) ns →

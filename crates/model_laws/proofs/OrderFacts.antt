@@ -6,11 +6,11 @@ use Rattle.std.specs.Option.{option_map}
 use Rattle.std.proofs.lemmas.Bool.{or_parts, and_parts}
 use Rattle.std.proofs.lemmas.List.Folds.{list_all-map}
 use Rattle.desk_model.specs.Entry.{History}
-use Rattle.desk_model.specs.History.{clock, terms, earlier}
+use Rattle.desk_model.specs.History.{clock, terms}
 use Rattle.desk_model.specs.Lookup.{holds}
 use Rattle.desk_model.specs.Authorization.{authorizations, authorization, made_by, made_for, count_challenges, authorization_status, is_over, is_valid, is_live}
-use Rattle.desk_model.specs.Order.{orders, ordered_by, order_status, order_status_by, csr, certificate, failure, finalizing}
-use Rattle.desk_model.specs.Order.{certifying, failing, has_lost, all_valid, and_found, authorizations_at, listed_by}
+use Rattle.desk_model.specs.Order.{orders, ordered_by, order_status, order_status_by}
+use Rattle.desk_model.specs.Order.{has_lost, all_valid, and_found, authorizations_at, listed_by}
 use Rattle.desk_model.specs.Legal.{EachFollows, may_follow, may_serve, may_want}
 use Rattle.desk_model.specs.Tables.{authorization_row, order_row, listed_from}
 use Rattle.desk_model.specs.Derived.{stored_statuses, and_status, authorization_numbered, numbers_of, restated_order}
@@ -18,22 +18,20 @@ use Rattle.desk_model.specs.Effect.{noted_order, touches_authorization, names_or
 use Rattle.desk_model.specs.Effect.{is_overdue, is_live_order, falls, swept_order}
 use Rattle.desk_model.specs.declared.status.AuthzStatus.{AuthzStatus}
 use Rattle.desk_model.specs.declared.status.AuthzStatus.TheVariants as authz
-use Rattle.desk_model.specs.declared.status.OrderStatus.{OrderStatus}
 use Rattle.desk_model.specs.declared.status.OrderStatus.TheVariants as order
 use Rattle.desk_model.specs.Kept.{EachOf}
 use Rattle.desk_model.specs.declared.entry.Dated.{Dated}
 use Rattle.desk_model.specs.declared.entry.Entry.{Entry}
-use Rattle.desk_model.specs.declared.entry.Entry.TheVariants.{Ordered as ordered, Finalized as finalized, Certified as certified, Failed as failed}
+use Rattle.desk_model.specs.declared.entry.Entry.TheVariants.{Ordered as ordered}
 use Rattle.desk_model.specs.declared.entry.Wanted.{Wanted}
 use Rattle.desk_model.specs.declared.entry.Wanted.TheVariants.{New as new, Reused as reused}
 use Rattle.desk_model.specs.declared.objects.Authorization.{Authorization}
 use Rattle.desk_model.specs.declared.objects.Order.{Order}
 use Rattle.desk_model.specs.declared.rows.AuthorizationRow.{AuthorizationRow}
-use Rattle.desk_model.specs.declared.rows.DatedBytes.{DatedBytes}
-use Rattle.desk_model.specs.declared.rows.DatedProblem.{DatedProblem}
 use Rattle.desk_model.specs.declared.rows.OrderRow.{OrderRow}
 use Rattle.model_laws.proofs.Basics.{list_any-map, list_any-same, any_or, each, each-append, each_after}
 use Rattle.model_laws.proofs.Basics.{map-each, find-map, find-append, still_some, there, IsNumbered, numbered-append}
+use Rattle.model_laws.proofs.OrderDates.{order_unnoted}
 use Rattle.model_laws.proofs.NewOrders.{may_be_ordered}
 use Rattle.model_laws.proofs.RowLists.{ascends_found, numbered_ascends}
 use Rattle.model_laws.proofs.RowFacts.{authorization_kept, authorization_later, past_later}
@@ -153,29 +151,21 @@ stored F t (n ∷ ns) = (λ i. and_status (numbered_row F t n i) (stored F t ns 
     one None xs = refl
     one (Some a) xs = refl
 
--- the status of an order, by its facts and the statuses of its authorizations
-abbrev status_by : History → ℕ → Order → List AuthzStatus → OrderStatus
-status_by F t o ss =
-    order_status_by (is_some (certificate o.number F)) (is_some (failure o.number F) || (nat_lt o.expires t || list_any is_over ss))
-    (is_some (csr o.number F)) (list_all is_valid ss)
+-- also those of what an order lists
+stored_listed : (F : History) (t : ℕ) (o : Order) →
+    stored_statuses (map (authorization_row F t) (authorizations F)) (numbers_of (listed_from 1 o.authorizations))
+    ≡ statuses_of F t (authorizations_at o.authorizations F)
+stored_listed F t o = ap (stored_statuses (map (authorization_row F t) (authorizations F))) (numbers_listed 1 o.authorizations) ∙ stored F t o.authorizations
 
--- an order's status by those of its authorizations
-status_by_listed : (F : History) (t : ℕ) (o : Order) → order_status o F t ≡ status_by F t o (statuses_of F t (authorizations_at o.authorizations F))
-status_by_listed F t o =
-    λ i. order_status_by (is_some (certificate o.number F))
-    (is_some (failure o.number F) || (nat_lt o.expires t || sym (list_any-map is_over (λ a. authorization_status a F t) (authorizations_at o.authorizations F))
-    i))
-    (is_some (csr o.number F)) (sym (list_all-map is_valid (λ a. authorization_status a F t) (authorizations_at o.authorizations F)) i)
+-- equal statuses of what it lists give an order the same status
+pub restated_alike : (m : ℕ) (rows others : List AuthorizationRow) (row : OrderRow) →
+    stored_statuses rows (numbers_of row.listed) ≡ stored_statuses others (numbers_of row.listed) → restated_order m rows row ≡ restated_order m others row
+restated_alike m rows others row same = rw same
 
 -- the status that a history gives is the one that the row ought to have
 pub order_stated : (F : History) (t u : ℕ) (o : Order) →
     order_row F t o ≡ restated_order t (map (authorization_row F t) (authorizations F)) (order_row F u o)
-order_stated F t u o =
-    let rows : List AuthorizationRow = map (authorization_row F t) (authorizations F) in
-    let same : order_status o F t ≡ status_by F t o (stored_statuses rows (numbers_of (listed_from 1 o.authorizations))) =
-    status_by_listed F t o
-    ∙ ap (status_by F t o) (sym (ap (stored_statuses rows) (numbers_listed 1 o.authorizations) ∙ stored F t o.authorizations)) in
-    λ i. record (order_row F t o) { status = same i }
+order_stated F t u o = rw (stored_listed F t o, list_any-map is_over, list_all-map is_valid)
 
 -- ---- an entry
 
@@ -213,24 +203,6 @@ each_not : {X : Type 0} (p : X → Bool) (xs : List X) → list_any p xs ≡ fal
 each_not p [] h = tt
 each_not p (x ∷ xs) h = let k = or_parts (p x) _ h in (k.0, each_not p xs k.1)
 
--- the three facts of an order that the entry doesn't name
-csr_other : (F : History) (e : Entry) (m n : ℕ) → names_order e n ≡ false → earlier (csr n F) (finalizing n e m) ≡ csr n F
-csr_other F (finalized k bytes) m n h =
-    ap (λ b. earlier (csr n F) (cond {A = Option DatedBytes} b (Some (record { date = m; bytes = bytes })) None)) h
-csr_other F _ m n h = refl
-
--- no certificate of it
-certificate_other : (F : History) (e : Entry) (m n : ℕ) → names_order e n ≡ false → earlier (certificate n F) (certifying n e m) ≡ certificate n F
-certificate_other F (certified k bytes) m n h =
-    ap (λ b. earlier (certificate n F) (cond {A = Option DatedBytes} b (Some (record { date = m; bytes = bytes })) None)) h
-certificate_other F _ m n h = refl
-
--- no failure of it
-failure_other : (F : History) (e : Entry) (m n : ℕ) → names_order e n ≡ false → earlier (failure n F) (failing n e m) ≡ failure n F
-failure_other F (failed k f) m n h =
-    ap (λ b. earlier (failure n F) (cond {A = Option DatedProblem} b (Some (record { date = m; problem = f })) None)) h
-failure_other F _ m n h = refl
-
 -- an order that the entry does not touch keeps its row
 pub order_untouched : (F : History) (e : Entry) (m : ℕ) (o : Order) → EachFollows (record { date = m; entry = e } ∷ F) → clock F ≤ m → AreFound F o →
     touches_order e (map (authorization_row F m) (authorizations F)) (order_row F m o) ≡ false → order_row (record { date = m; entry = e } ∷ F) m o
@@ -241,22 +213,14 @@ order_untouched F e m o each_follows le found h =
     let listed : List Authorization = authorizations_at o.authorizations F in
     let others : EachOf (λ a. touches_authorization e (authorization_row F m a) ≡ false) listed =
     each_not _ listed (sym (none_listed F m 1 (touches_authorization e) o.authorizations) ∙ parts.1) in
-    let statuses : statuses_of G m (authorizations_at o.authorizations G) ≡ statuses_of F m listed =
+    let same : statuses_of G m (authorizations_at o.authorizations G) ≡ statuses_of F m listed =
     ap (statuses_of G m) (at_later F (record { date = m; entry = e }) o.authorizations found)
     ∙ map-each (λ a. authorization_status a G m) (λ a. authorization_status a F m) listed
     (each _ _ listed (λ a k. ap (λ (r : AuthorizationRow). r.status) (authorization_kept F e m a each_follows le k)) others) in
-    let status : order_status o G m ≡ order_status o F m =
-    status_by_listed G m o
-    ∙ (λ i. order_status_by (is_some (certificate_other F e m o.number parts.0 i))
-    (is_some (failure_other F e m o.number parts.0 i) || (nat_lt o.expires m || list_any is_over (statuses i)))
-    (is_some (csr_other F e m o.number parts.0 i)) (list_all is_valid (statuses i)))
-    ∙ sym (status_by_listed F m o) in
-    λ i. record (order_row F m o) {
-      finalized = csr_other F e m o.number parts.0 i;
-      certified = certificate_other F e m o.number parts.0 i;
-      failed = failure_other F e m o.number parts.0 i;
-      status = status i;
-    }
+    order_noted F e m m o
+    ∙ ap (restated_order m (map (authorization_row G m) (authorizations G))) (order_unnoted e m (order_row F m o) parts.0)
+    ∙ restated_alike m _ _ (order_row F m o) (stored_listed G m o ∙ same ∙ sym (stored_listed F m o))
+    ∙ sym (order_stated F m m o)
 
 -- the row of an order after an entry
 pub order_moves : (F : History) (e : Entry) (m : ℕ) (o : Order) → EachFollows (record { date = m; entry = e } ∷ F) → clock F ≤ m → AreFound F o →
@@ -337,13 +301,9 @@ order_status_later false false false false false false w false false more same =
 pub order_later : (F : History) (t m : ℕ) (o : Order) → t ≤ m →
     order_status o F m ≡ cond (falls m (map (authorization_row F t) (authorizations F)) (order_row F t o)) order.Invalid (order_status o F t)
 order_later F t m o le =
-    ap (λ b. order_status_by (is_some (certificate o.number F)) (is_some (failure o.number F) || (nat_lt o.expires m || b)) (is_some (csr o.number F))
-    (all_valid o F m)) (lost_later F t m o le)
-    ∙ order_status_later (is_some (certificate o.number F)) (is_some (failure o.number F)) (nat_lt o.expires t) (nat_lt o.expires m)
-    (is_some (csr o.number F)) (all_valid o F t) (all_valid o F m) (has_lost o F t)
-    (list_any (λ a. is_overdue m (authorization_row F t a)) (authorizations_at o.authorizations F)) (past_later o.expires t m le) (valid_later F t m o le)
-    ∙ ap (λ b. cond (is_live_order (order_status o F t) && (nat_lt o.expires m || b)) order.Invalid (order_status o F t))
-    (sym (none_listed F t 1 (is_overdue m) o.authorizations))
+    rw (lost_later F t m o le, none_listed F t 1 (is_overdue m) o.authorizations)
+    (order_status_later _ _ (nat_lt o.expires t) (nat_lt o.expires m) _ (all_valid o F t) (all_valid o F m) (has_lost o F t) _
+    (past_later o.expires t m le) (valid_later F t m o le))
 
 -- an order's row at a later moment
 pub order_swept : (F : History) (t m : ℕ) (o : Order) → t ≤ m →
