@@ -1,14 +1,14 @@
 -- An answer to a challenge changes no order, where each status is the one that its row gives: so the orders that list its authorization may lack.
-use Rattle.std.proofs.Common.{◌≡◌, ◌≤◌, ℕ, List, [], ◌∷◌, ◌++◌, map, Option, Some, None, refl, sym, ap, subst, ◌∙◌, true, false, Bool, cond, not}
+use Rattle.std.proofs.Common.{◌≡◌, ◌≤◌, ℕ, List, [], ◌∷◌, ◌++◌, map, Option, Some, None, refl, sym, ap, subst, ◌∙◌, true, false, Bool, cond}
 use Rattle.std.proofs.Common.{Result, Ok, Err}
-use Rattle.std.specs.Prelude.{◌==◌, ◌&&◌, ◌||◌, is_some, nat_lt}
-use Rattle.std.specs.List.{list_all, list_any}
-use Rattle.std.proofs.lemmas.Bool.{eq-eqb, or_left}
+use Rattle.std.specs.Prelude.{◌==◌, ◌&&◌, ◌||◌, nat_lt}
+use Rattle.std.specs.List.{list_any}
+use Rattle.std.proofs.lemmas.Bool.{or_left}
 use Rattle.desk_model.specs.Account.{is_valid as is_valid_account}
-use Rattle.desk_model.specs.Authorization.{authorization_status_by, is_good, is_over, is_valid}
-use Rattle.desk_model.specs.Change.{all_changes, changes, is_gained, order_differs, recorded_changes}
+use Rattle.desk_model.specs.Authorization.{authorization_status_by, is_good}
+use Rattle.desk_model.specs.Change.{all_changes, changes, order_differs, recorded_changes}
 use Rattle.desk_model.specs.Decide.{entries_of}
-use Rattle.desk_model.specs.Derived.{and_status, authorization_numbered, numbers_of, order_code, restated_authorization}
+use Rattle.desk_model.specs.Derived.{and_status, authorization_numbered, numbers_of, restated_authorization}
 use Rattle.desk_model.specs.Derived.{restated_order, stored_statuses}
 use Rattle.desk_model.specs.Effect.{answered_challenge, authorizations_after, effect, effects, has_row, key_numbered, moved_authorization, noted_authorization}
 use Rattle.desk_model.specs.Effect.{noted_challenge}
@@ -18,7 +18,6 @@ use Rattle.desk_model.specs.Legal.{EachFollows, is_pending_challenge}
 use Rattle.desk_model.specs.Entry.{History}
 use Rattle.desk_model.specs.History.{clock}
 use Rattle.desk_model.specs.Lookup.{holds}
-use Rattle.desk_model.specs.Order.{order_status_by}
 use Rattle.desk_model.specs.Payload.{challenge_change}
 use Rattle.desk_model.specs.Questions.{account_with_key, owner_on}
 use Rattle.desk_model.specs.Rules.{challenge_verdict, key_verdict, open_nonce, own, signed_verdict, stands_open}
@@ -46,8 +45,9 @@ use Rattle.desk_model.specs.Order.{orders}
 use Rattle.model_laws.proofs.Basics.{each, each_all, each_both, each-map}
 use Rattle.model_laws.proofs.Chain.{effect_part, recorded_local}
 use Rattle.desk_model.specs.declared.status.AuthzStatus.{AuthzStatus}
+use Rattle.model_laws.proofs.Differing.{order_differs_not}
 use Rattle.model_laws.proofs.Local.{changes_local, kept_after, moved_number, restated_same, sweep_changes_local, swept_part, touches_same}
-use Rattle.model_laws.proofs.OrderFacts.{order_stated}
+use Rattle.model_laws.proofs.OrderFacts.{order_stated, restated_alike}
 use Rattle.model_laws.proofs.Plain.{covers_issued, covers_spent, issued_closed, issued_effect, nonces_covered, spent_closed, spent_effect}
 use Rattle.model_laws.proofs.RowFacts.{authorization_stated}
 use Rattle.model_laws.proofs.Step.{sweep}
@@ -131,16 +131,7 @@ status_stands m n accounts r stated = by (touches_authorization (answered n) r)
         ∙ ap (λ (x : AuthorizationRow). x.status) stated
     by false = refl
 
-no_gain : {X : Type 0} (x : Option X) → is_gained x x ≡ false
-no_gain None = refl
-no_gain (Some x) = refl
-
--- no order differs from itself
-never_differs : (o : OrderRow) → order_differs o o ≡ false
-never_differs o =
-    λ i. no_gain o.finalized i || (no_gain o.certified i || (no_gain o.failed i || not (eq-eqb (order_code o.status) (order_code o.status) refl i)))
-
--- and no order moves
+-- so no order moves
 orders_stand : (m n : ℕ) (S : Tables) → IsStated m S → EachOf (λ o. moves_order m S (answered n) o ≡ false) S.orders
 orders_stand m n S h =
     each _ _ S.orders
@@ -149,12 +140,9 @@ orders_stand m n S h =
     same_statuses (moved_authorization (answered n) m S.accounts) S.authorizations
     (each _ _ S.authorizations (λ r s. (moved_number (answered n) m S.accounts r, status_stands m n S.accounts r s)) h.authorizations) (numbers_of o.listed) in
     let same : restated_order m (authorizations_after S (answered n) m) (noted_order (answered n) m o) ≡ o =
-    (λ i. record o {
-      status = order_status_by (is_some o.certified) (is_some o.failed || (nat_lt o.expires m || list_any is_over (statuses i))) (is_some o.finalized)
-          (list_all is_valid (statuses i));
-    }) ∙ stated in
+    restated_alike m _ _ o statuses ∙ stated in
     ap (λ x. touches_order (answered n) S.authorizations o && order_differs o x) same
-    ∙ ap (λ b. touches_order (answered n) S.authorizations o && b) (never_differs o)
+    ∙ ap (λ b. touches_order (answered n) S.authorizations o && b) (order_differs_not o)
     ∙ neither (touches_order (answered n) S.authorizations o)) h.orders
   where
     neither : (b : Bool) → (b && false) ≡ false

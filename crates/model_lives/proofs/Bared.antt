@@ -1,10 +1,8 @@
 -- Authorizations without challenges, but for those that entries touch: entries do to them, and change, what they do to those in whole.
 use Rattle.std.proofs.Common.{◌≡◌, ◌+◌, ◌<◌, ℕ, List, [], ◌∷◌, ◌++◌, length, map, filter, find, Option, Some, None, refl, sym, ap, ◌∙◌, true, false, Bool}
 use Rattle.std.proofs.Common.{arith, cond}
-use Rattle.std.specs.Prelude.{◌==◌, ◌&&◌, ◌||◌, is_some, nat_lt, option_map}
-use Rattle.std.specs.List.{list_all, list_any}
+use Rattle.std.specs.Prelude.{◌==◌, ◌&&◌, ◌||◌, nat_lt, option_map}
 use Rattle.std.proofs.lemmas.List.{map-append}
-use Rattle.desk_model.specs.Authorization.{is_over, is_valid}
 use Rattle.desk_model.specs.Change.{accounts_put, all_changes, authorization_differs, authorizations_put, changes, moved_rows, nonces_gone, nonces_put}
 use Rattle.desk_model.specs.Change.{order_differs, orders_put, recorded_changes, spent_by, sweep_changes}
 use Rattle.desk_model.specs.Derived.{and_status, authorization_numbered, numbers_of, restated_authorization, restated_order, stored_statuses}
@@ -13,7 +11,7 @@ use Rattle.desk_model.specs.Effect.{moved_authorization, moved_order, names_orde
 use Rattle.desk_model.specs.Effect.{touches_authorization, touches_order}
 use Rattle.desk_model.specs.Kept.{EachOf}
 use Rattle.desk_model.specs.Lookup.{holds}
-use Rattle.desk_model.specs.Order.{order_status_by, ordered_by}
+use Rattle.desk_model.specs.Order.{ordered_by}
 use Rattle.desk_model.specs.Tables.{Tables}
 use Rattle.desk_model.specs.declared.entry.Entry.{Entry}
 use Rattle.desk_model.specs.declared.entry.Entry.TheVariants.{AccountEnded as account_ended, Answered as answered}
@@ -29,6 +27,7 @@ use Rattle.model_laws.proofs.Basics.{each, each_all, list_any-same}
 use Rattle.model_laws.proofs.Chain.{up_kept}
 use Rattle.model_laws.proofs.Finds.{each_found}
 use Rattle.model_laws.proofs.Local.{filter_all, moved_number}
+use Rattle.model_laws.proofs.OrderFacts.{restated_alike}
 use Rattle.model_laws.proofs.Recorded.{made_up}
 use Rattle.model_lives.specs.Thinned.{all_listed, thin, with_challenges, without_challenges}
 use Rattle.model_lives.proofs.Lists.{filter_nothing}
@@ -151,12 +150,7 @@ statuses_bared w rows (n ∷ ns) =
 -- so its own
 restated_bared : (w : ℕ → Bool) (m : ℕ) (rows : List AuthorizationRow) (o : OrderRow) →
     restated_order m (map (with_challenges (those w)) rows) o ≡ restated_order m rows o
-restated_bared w m rows o =
-    λ i. record o {
-      status = order_status_by (is_some o.certified)
-          (is_some o.failed || (nat_lt o.expires m || list_any is_over (statuses_bared w rows (numbers_of o.listed) i))) (is_some o.finalized)
-          (list_all is_valid (statuses_bared w rows (numbers_of o.listed) i));
-    }
+restated_bared w m rows o = restated_alike m _ rows o (statuses_bared w rows (numbers_of o.listed))
 
 -- and whether an entry touches it
 touched_bared : (w : ℕ → Bool) (e : Entry) (rows : List AuthorizationRow) → AreWhole w (touches_authorization e) rows → (o : OrderRow) →

@@ -1,15 +1,12 @@
 -- An order that is valid or invalid keeps its row.
 use Rattle.std.proofs.Common.{◌≡◌, ℕ, List, [], ◌∷◌, Option, Some, None, refl, sym, ap, ◌∙◌, Bool, true, false, cond}
-use Rattle.std.specs.Prelude.{◌||◌, ◌==◌, is_some, nat_lt}
+use Rattle.std.specs.Prelude.{◌||◌, ◌==◌, nat_lt}
 use Rattle.std.specs.List.{list_any, list_all}
 use Rattle.std.proofs.lemmas.Bool.{and_parts}
 use Rattle.desk_model.specs.declared.entry.Entry.{Entry}
 use Rattle.desk_model.specs.declared.entry.Entry.TheVariants.{Finalized as finalized, Certified as certified, Failed as failed}
-use Rattle.desk_model.specs.History.{earlier}
 use Rattle.desk_model.specs.Authorization.{is_over, is_valid}
 use Rattle.desk_model.specs.Order.{is_ready, is_processing, order_status_by}
-use Rattle.desk_model.specs.declared.rows.DatedBytes.{DatedBytes}
-use Rattle.desk_model.specs.declared.rows.DatedProblem.{DatedProblem}
 use Rattle.desk_model.specs.Allowed.{may_on}
 use Rattle.desk_model.specs.Questions.{order_on}
 use Rattle.desk_model.specs.Tables.{Tables}
@@ -20,6 +17,7 @@ use Rattle.desk_model.specs.Effect.{moved_order, names_order, noted_order, touch
 use Rattle.desk_model.specs.Life.{is_final_order}
 use Rattle.desk_model.specs.declared.status.OrderStatus.{OrderStatus}
 use Rattle.desk_model.specs.declared.status.OrderStatus.TheVariants as order
+use Rattle.model_laws.proofs.OrderDates.{order_unnoted}
 use Rattle.model_laws.proofs.Finds.{each_found}
 use Rattle.model_lives.proofs.EndedRows.{IsStated, shut}
 
@@ -67,16 +65,6 @@ unnamed T (failed k problem) n row may found ended = by (k == row.number) refl
         ended e (and_parts _ _ may).0)
     by false e = refl
 unnamed T _ n row may found ended = refl
-
--- an order that the entry does not name keeps its facts
-order_unnoted : (e : Entry) (m : ℕ) (row : OrderRow) → names_order e row.number ≡ false → noted_order e m row ≡ row
-order_unnoted (finalized k bytes) m row h =
-    λ i. record row { finalized = earlier row.finalized (cond {A = Option DatedBytes} (h i) (Some (record { date = m; bytes = bytes })) None) }
-order_unnoted (certified k bytes) m row h =
-    λ i. record row { certified = earlier row.certified (cond {A = Option DatedBytes} (h i) (Some (record { date = m; bytes = bytes })) None) }
-order_unnoted (failed k problem) m row h =
-    λ i. record row { failed = earlier row.failed (cond {A = Option DatedProblem} (h i) (Some (record { date = m; problem = problem })) None) }
-order_unnoted _ m row h = refl
 
 -- ---- statuses
 
@@ -134,10 +122,11 @@ status_stays : (m : ℕ) (rows later : List AuthorizationRow) (row : OrderRow) �
     derived_order m later row ≡ row.status
 status_stays m rows later row stays stated ended =
     let ns : List ℕ = numbers_of row.listed in
-    final_by (is_some row.certified) (is_some row.failed) (nat_lt row.expires m) (list_any is_over (stored_statuses rows ns))
-    (list_any is_over (stored_statuses later ns)) (is_some row.finalized) (list_all is_valid (stored_statuses rows ns))
-    (list_all is_valid (stored_statuses later ns)) (lost_stays rows later stays ns) (ap is_final_order (sym stated) ∙ ended)
-    ∙ sym stated
+    let same : derived_order m later row ≡ derived_order m rows row =
+    final_by _ _ (nat_lt row.expires m) (list_any is_over (stored_statuses rows ns)) (list_any is_over (stored_statuses later ns)) _
+    (list_all is_valid (stored_statuses rows ns)) (list_all is_valid (stored_statuses later ns)) (lost_stays rows later stays ns)
+    (ap is_final_order (sym stated) ∙ ended) in
+    same ∙ sym stated
 
 -- an order that has ended keeps its row
 pub order_stays : (T : Tables) (e : Entry) (m n : ℕ) (row : OrderRow) (later : List AuthorizationRow) → IsStated m T → may_on T e ≡ true →
