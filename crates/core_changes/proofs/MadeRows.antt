@@ -1,25 +1,25 @@
 -- The rows of a new order and of its authorizations.
 use Rattle.std.proofs.Common.{◌≡◌, ◌≤◌, ◌<◌, ℕ, ◌+◌, List, [], ◌∷◌, ◌++◌, map, Option, Some, None, true, false, Bool, cond, refl, ap, ◌∙◌, arith}
-use Rattle.std.specs.Prelude.{◌==◌, ◌&&◌, ◌||◌, find, is_some, nat_lt}
+use Rattle.std.specs.Prelude.{◌==◌, ◌&&◌, ◌||◌, find, nat_lt}
 use Rattle.std.specs.List.{list_all, list_any}
 use Rattle.std.specs.Option.{option_map}
 use Rattle.std.proofs.lemmas.Bool.{and_parts, le-ltb}
 use Rattle.desk_model.specs.Allowed.{may_want_on}
 use Rattle.desk_model.specs.Questions.{order_end, serves}
-use Rattle.desk_model.specs.Tables.{Tables, listed_from}
+use Rattle.desk_model.specs.Tables.{Tables}
 use Rattle.desk_model.specs.Kept.{EachOf}
 use Rattle.desk_model.specs.Lookup.{holds}
 use Rattle.desk_model.specs.Authorization.{authorization_status_by, is_good, is_over, is_pending, is_valid, made_for}
 use Rattle.desk_model.specs.Derived.{and_status, authorization_numbered, derived_order, numbers_of, stored_statuses}
-use Rattle.desk_model.specs.Effect.{authorizations_after, fresh_challenge, moved_authorization, new_authorizations}
+use Rattle.desk_model.specs.Effect.{authorizations_after, fresh_challenge, fresh_order, moved_authorization, new_authorizations}
 use Rattle.desk_model.specs.Order.{listed_by, made_status, order_status_by}
 use Rattle.desk_model.specs.declared.entry.Entry.TheVariants.{Ordered as ordered}
 use Rattle.desk_model.specs.declared.entry.Wanted.{Wanted}
 use Rattle.desk_model.specs.declared.entry.Wanted.TheVariants.{New as new, Reused as reused}
 use Rattle.desk_model.specs.declared.objects.Authorization.{Authorization}
 use Rattle.desk_model.specs.declared.objects.Challenge.{Challenge}
+use Rattle.desk_model.specs.declared.objects.Order.{Order}
 use Rattle.desk_model.specs.declared.rows.AuthorizationRow.{AuthorizationRow}
-use Rattle.desk_model.specs.declared.rows.OrderRow.{OrderRow}
 use Rattle.desk_model.specs.declared.status.AuthzStatus.{AuthzStatus}
 use Rattle.desk_model.specs.declared.status.AuthzStatus.TheVariants as authz
 use Rattle.model_laws.specs.Ordered.{Ascends, Below}
@@ -197,24 +197,22 @@ status_made rows account date expires (reused name j ∷ ws) n c h k =
     ∙ status_made rows account date expires ws n c h k.1
 
 -- so a new order has the status that its names give
-pub status_is_made : (T : Tables) (m account : ℕ) (wanted : List Wanted) (row : OrderRow) →
+pub status_is_made : (T : Tables) (m account : ℕ) (wanted : List Wanted) (o : Order) →
     Below (λ a. a.number) (T.meta.counters.authorizations + 1) T.authorizations → AreStanding T.authorizations wanted →
-    row.listed ≡ listed_from 1 (listed_by wanted (T.meta.counters.authorizations + 1)) → row.expires ≡ m + T.meta.policy.order_life →
-    row.finalized ≡ None → row.certified ≡ None → row.failed ≡ None →
-    derived_order m (authorizations_after T (ordered account wanted) m) row ≡ made_status wanted
-status_is_made T m account wanted row below standing lists ends unfinalized uncertified unfailed =
+    o.authorizations ≡ listed_by wanted (T.meta.counters.authorizations + 1) → o.expires ≡ m + T.meta.policy.order_life →
+    derived_order m (authorizations_after T (ordered account wanted) m) (fresh_order o) ≡ made_status wanted
+status_is_made T m account wanted o below standing lists ends =
     let rows : List AuthorizationRow = authorizations_after T (ordered account wanted) m in
     let first : ℕ = T.meta.counters.authorizations + 1 in
     let ns : List ℕ = listed_by wanted first in
     let waiting = made_wait T m account wanted below in
     let again = standing_after T m account wanted wanted standing in
-    let now : nat_lt row.expires m ≡ false = le-ltb _ _ (omega (arith, ends)) in
-    let same : stored_statuses rows (numbers_of row.listed) ≡ stored_statuses rows ns = ap (stored_statuses rows) (ap numbers_of lists ∙ numbers_listed 1 ns) in
-    (λ i. order_status_by (is_some (uncertified i)) (is_some (unfailed i) || (now i || list_any is_over (same i))) (is_some (unfinalized i))
-    (list_all is_valid (same i)))
-    ∙ ap (λ b. order_status_by false b false (list_all is_valid (stored_statuses rows ns)))
+    let now : nat_lt o.expires m ≡ false = le-ltb _ _ (omega (arith, ends)) in
+    let same : stored_statuses rows (numbers_of (fresh_order o).listed) ≡ stored_statuses rows ns =
+    ap (stored_statuses rows) (numbers_listed 1 o.authorizations ∙ lists) in
+    rw (same, now) (ap (λ b. order_status_by false b false (list_all is_valid (stored_statuses rows ns)))
     (none_over rows account m (m + T.meta.policy.authz_life) wanted first (T.meta.counters.challenges + 1) waiting again)
-    ∙ status_made rows account m (m + T.meta.policy.authz_life) wanted first (T.meta.counters.challenges + 1) waiting again
+    ∙ status_made rows account m (m + T.meta.policy.authz_life) wanted first (T.meta.counters.challenges + 1) waiting again)
 
 -- what an order may want is valid
 pub wanted_standing : (T : Tables) (account : ℕ) (ws : List Wanted) → list_all (may_want_on T account) ws ≡ true → AreStanding T.authorizations ws

@@ -23,7 +23,6 @@ use Rattle.desk_model.specs.declared.objects.Order.{Order}
 use Rattle.desk_model.specs.Terms.{Terms}
 use Rattle.desk_model.specs.declared.rows.Counters.{Counters}
 use Rattle.desk_model.specs.declared.rows.AuthorizationRow.{AuthorizationRow}
-use Rattle.desk_model.specs.declared.rows.OrderRow.{OrderRow}
 use Rattle.desk_model.specs.declared.rows.Change.{Change}
 use Rattle.desk_model.specs.declared.rows.Change.TheVariants.{PutNonce, RemoveNonce, PutAccount, PutAuthorization, PutOrder}
 use Rattle.desk_model.specs.declared.entry.Wanted.{Wanted}
@@ -217,16 +216,15 @@ pub ordered_one : (m : ℕ) (T : Tables) (account : ℕ) (wanted : List Wanted) 
     (ordered_by e m T.meta.policy (T.meta.counters.authorizations + 1) (T.meta.counters.orders + 1))
     ≡ next_order T.meta.policy (record T.meta.counters { clock = m }) account wanted ∷ [])
 ordered_one m T account wanted below standing =
-    ap (λ s. record fresh { status = s } ∷ []) (status_is_made T m account wanted fresh below standing refl refl refl refl refl)
-  where
-    fresh : OrderRow
-    fresh = fresh_order (record {
+    let o : Order =
+    record {
       number = T.meta.counters.orders + 1;
       account = account;
       made = m;
       expires = m + T.meta.policy.order_life;
       authorizations = listed_by wanted (T.meta.counters.authorizations + 1);
-    })
+    } in
+    ap (λ s. record (fresh_order o) { status = s } ∷ []) (status_is_made T m account wanted o below standing refl refl)
 
 -- what is recorded of it
 ordered_changes : (m : ℕ) (T : Tables) (account : ℕ) (wanted : List Wanted) → Below (λ a. a.number) (T.meta.counters.authorizations + 1) T.authorizations →
