@@ -5,6 +5,7 @@ mod differing;
 mod making;
 mod moved;
 mod noted;
+mod orders;
 mod recording;
 mod touched;
 

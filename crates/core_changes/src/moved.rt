@@ -15,9 +15,8 @@ ghost use Rattle.core_changes.specs.Recorded.{book_moves};
 ghost use Rattle.core_changes.specs.Moved.{standing_rows, stated_authorization, stated_order, row_of, touched_one};
 
 use crate::differing::{challenges_differ, is_gained, same_texts};
-use crate::noted::{
-    account_end_by, end_after, note_contacts, note_dates, note_key, noted_challenges, order_differs,
-};
+use crate::noted::{account_end_by, end_after, note_contacts, note_key, noted_challenges};
+use crate::orders::{note_dates, order_differs};
 use crate::touched::{touches_authorization, touches_order};
 use desk_book::{
     Book, Row, Table, authorization_status, derived_account, derived_authorization, derived_order,

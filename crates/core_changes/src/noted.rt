@@ -1,18 +1,16 @@
-//! Moves, written into the dated columns of rows.
-ghost use Rattle.std.specs.Prelude.{◌≡◌, if◌then◌else◌, None, Some, map, unwrap_or, IfOk, OnOk};
+//! Moves, written into the rows of accounts, challenges and authorizations.
+ghost use Rattle.std.specs.Prelude.{◌≡◌, map, unwrap_or, IfOk, OnOk};
 ghost use Rattle.desk_model.specs.Entry.{entry_of};
 ghost use Rattle.desk_model.specs.History.{earlier};
-ghost use Rattle.desk_model.specs.Change.{order_differs};
 ghost use Rattle.desk_model.specs.Account.{changing, rekeying, ends as account_ends};
 ghost use Rattle.desk_model.specs.Authorization.{in_time};
 ghost use Rattle.desk_model.specs.declared.entry.Entry.TheVariants.{Reported as reported};
-ghost use Rattle.desk_model.specs.Effect.{noted_challenge, noted_order, answered_challenge, reported_challenge, row_ends};
+ghost use Rattle.desk_model.specs.Effect.{noted_challenge, answered_challenge, reported_challenge, row_ends};
 
-use crate::differing::is_gained;
 use desk_book::{derived_challenge, has_challenge};
 use desk_model::{
-    AccountEnd, AccountRow, Answer, AuthorizationEnd, AuthorizationRow, ChallengeRow, DatedBytes,
-    DatedProblem, EndKind, Move, OrderProblem, OrderRow, Outcome, Report, Sequence,
+    AccountEnd, AccountRow, Answer, AuthorizationEnd, AuthorizationRow, ChallengeRow, EndKind,
+    Move, Outcome, Report, Sequence,
 };
 use keys::text_thumbprint;
 use std::alloc::{AllocError, Global};
@@ -192,67 +190,4 @@ pub(crate) fn end_after(
 {
     row.ended
         .or(in_time(row.expires, end_by(moved, moment, row)))
-}
-
-// ---- orders
-
-// Notes bytes of a date, where they concern a row that has none.
-fn note_bytes(
-    noted: &mut Option<DatedBytes>,
-    concerned: bool,
-    date: u64,
-    bytes: &Sequence<u8>,
-) -> Result<(), AllocError>
-    ensures { OnOk result (noted.new ≡ earlier noted.old (if concerned then Some (record { date = date; bytes = bytes.now }) else None)) }
-{
-    if concerned && noted.is_none() {
-        let bytes = bytes.clone()?;
-        *noted = Some(DatedBytes { date, bytes });
-    }
-    Ok(())
-}
-
-// Notes a problem of a date, where it concerns a row that has none.
-fn note_problem(
-    noted: &mut Option<DatedProblem>,
-    concerned: bool,
-    date: u64,
-    problem: &OrderProblem,
-) -> Result<(), AllocError>
-    ensures { OnOk result (noted.new ≡ earlier noted.old (if concerned then Some (record { date = date; problem = problem.now }) else None)) }
-{
-    if concerned && noted.is_none() {
-        let problem = problem.clone()?;
-        *noted = Some(DatedProblem { date, problem });
-    }
-    Ok(())
-}
-
-/// Notes a move in the dated columns of an order: what came first stays.
-pub(crate) fn note_dates(row: &mut OrderRow, moved: &Move, moment: u64) -> Result<(), AllocError>
-    ensures { OnOk result (row.new ≡ noted_order (entry_of moved.now) moment row.old) }
-{
-    let number = row.number;
-    match moved {
-        Move::Finalized(order, csr) => {
-            note_bytes(&mut row.finalized, *order == number, moment, csr)
-        }
-        Move::Certified(order, certificate) => {
-            note_bytes(&mut row.certified, *order == number, moment, certificate)
-        }
-        Move::Failed(order, problem) => {
-            note_problem(&mut row.failed, *order == number, moment, problem)
-        }
-        _ => Ok(()),
-    }
-}
-
-/// Whether a move gave an order a date or another status.
-pub(crate) fn order_differs(before: &OrderRow, after: &OrderRow) -> bool
-    ensures { result ≡ order_differs before.now after.now }
-{
-    is_gained(&before.finalized, &after.finalized)
-        || is_gained(&before.certified, &after.certified)
-        || is_gained(&before.failed, &after.failed)
-        || before.status != after.status
 }

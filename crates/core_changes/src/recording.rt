@@ -5,7 +5,7 @@ ghost use Rattle.desk_model.specs.Effect.{swept};
 ghost use Rattle.desk_model.specs.Entry.{entry_of};
 ghost use Rattle.desk_model.specs.Limits.{last_moment, last_number};
 ghost use Rattle.desk_model.specs.Run.{count_new, count_tokens};
-ghost use Rattle.core_changes.specs.Made.{AreStanding, made_order, next_account, next_order, next_rows, ordered_counters};
+ghost use Rattle.core_changes.specs.Made.{AreStanding, next_account, next_order, next_rows, ordered_counters};
 ghost use Rattle.std.specs.Prelude.{◌≡◌, ◌<◌, ◌≤◌, map, ◌+◌, ◌++◌, ◌∷◌, [], None, IfOk, OnOk, ℕ, List};
 ghost use Rattle.core_changes.specs.Moved.{AreMoved};
 ghost use Rattle.core_changes.specs.Recorded.{IsRecorded, IsUntouched, book_moves};
@@ -15,8 +15,9 @@ ghost use Rattle.desk_model.specs.declared.entry.Entry.TheVariants.{Issued as is
 ghost use Rattle.desk_model.specs.declared.rows.Change.TheVariants.{PutMeta, PutNonce, RemoveNonce, PutAccount, PutAuthorization, PutOrder};
 ghost use Rattle.desk_model.specs.declared.status.AccountStatus.TheVariants as account;
 
-use crate::making::{Making, made_status, push_authorizations, push_places};
+use crate::making::{Making, push_authorizations};
 use crate::moved::{MovedRows, push_change, record_rows};
+use crate::orders::made_order;
 use desk_book::{Book, sweep_changes};
 use desk_model::{
     AccountRow, AccountStatus, AuthorizationRow, Change, Clock, Counters, Jwk, Meta, Move, Nonce,
@@ -193,7 +194,7 @@ impl Recording {
     {
         let first = self.counters.authorizations + 1;
         let rows = self.make_rows(alloc, policy, account, wanted)?;
-        let order = self.made_order(alloc, policy, account, wanted, first)?;
+        let order = made_order(alloc, policy, &self.counters, account, wanted, first)?;
         self.counters.orders += 1;
         record_made(&mut self.changes, rows, &order).and(Ok(order))
     }
@@ -232,35 +233,6 @@ impl Recording {
             date: self.counters.clock.moment(),
             expires: self.counters.clock.moment() + policy.authz_life(),
         }
-    }
-
-    // The row of the next order; the authorizations that are made with it are numbered from the first.
-    fn made_order(
-        &self,
-        alloc: Global,
-        policy: &Policy,
-        account: u64,
-        wanted: &[Wanted],
-        first: u64,
-    ) -> Result<OrderRow, AllocError>
-        requires orders { self.now.counters.orders < last_number }
-        requires numbers { first + count_new wanted.now ≤ last_number + 1 }
-        ensures { IfOk result (λ o. o ≡ made_order policy.now self.now.counters account wanted.now first) }
-    {
-        let moment = self.counters.clock.moment();
-        let mut listed = Vec::new(alloc);
-        push_places(&mut listed, wanted, 1, first)?;
-        Ok(OrderRow {
-            number: self.counters.orders + 1,
-            account,
-            made: moment,
-            expires: moment + policy.order_life(),
-            listed: Sequence::new(listed),
-            finalized: None,
-            certified: None,
-            failed: None,
-            status: made_status(wanted),
-        })
     }
 }
 
