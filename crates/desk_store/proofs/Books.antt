@@ -1,6 +1,6 @@
 -- What a desk's tables are to a file.
-use Rattle.std.proofs.Common.{◌≡◌, Result, Ok, Err, inl, inr, subst}
-use Rattle.std.specs.Prelude.{◌⊎◌, IfErr, IfOk, IsTrue, OnOk}
+use Rattle.std.proofs.Common.{◌≡◌, Result, Ok, Err, subst}
+use Rattle.std.specs.Prelude.{IfOk, IsTrue, OnOk}
 use Rattle.sqlite.specs.Effect.{Database}
 use Rattle.sqlite.specs.Held.{Held, state}
 use Rattle.sqlite.specs.State.{State}
@@ -14,12 +14,8 @@ use Rattle.sql_read.specs.Shown.{AreColumnsOf, AreShown}
 use Rattle.sql_read.proofs.Loading.{reordered}
 use Rattle.sql_read.proofs.ShownRows.{shown_before}
 use Rattle.sql_schema.specs.Names.{has_all_indexes}
-use Rattle.store_api.specs.declared.fault.StorageFault.TheVariants.{Memory}
 use Rattle.desk_store.specs.Desks.{HasDesk, IsDesk, PicturesAreDesks}
-use Rattle.desk_store.specs.Making.{IsOfStorage}
 use Rattle.desk_store.specs.Opening.{IsWhole, ShowsBook}
-use Rattle.desk_store.specs.declared.open_fault.OpenFault.{OpenFault}
-use Rattle.desk_store.specs.declared.open_fault.OpenFault.TheVariants.{NotADesk, Storage}
 use Rattle.sql_tables.specs.Holds.{Holds}
 use Rattle.model_laws.specs.Ordered.{IsOrdered}
 use Rattle.store_book.specs.IsBook.{IsBook, IsBookOfStored}
@@ -55,28 +51,18 @@ book_told s stored (Err why) is told = tt
 pub may_read : (s : State) (T : Tables) → HasDesk s T → MayRead s
 may_read s T has = record { is_open = has.is_open; unlimited = has.unlimited }
 
--- there is one, so only memory can have failed
-pub book_fails : (s : State) (stored : StoredRows) (made : Result Tables OpenFault)
-    → IfErr made (λ why. (why ≡ Storage Memory) ⊎ ((why ≡ NotADesk) × ((T : Tables) → IsBookOfStored stored T → ⊥)))
-    → ((T : Tables) → Holds s.now T → AreColumnsOf stored T) → IfErr made (λ why. (T : Tables) → HasDesk s T → IsOfStorage why)
-book_fails s stored (Ok book) fault told = tt
-book_fails s stored (Err why) (inl is) told = λ T has. (Memory, is)
-book_fails s stored (Err why) (inr none) told = λ T has. absurd (none.1 T (only_book s.now T has.desk stored (reordered stored T (told T has.desk.holds))).book)
+-- a book has the rows that were read
+pub has_book : (s : State) (T : Tables) → HasDesk s T → (stored : StoredRows) → ((T : Tables) → Holds s.now T → AreColumnsOf stored T)
+    → IsBookOfStored stored T
+has_book s T has stored told = (only_book s.now T has.desk stored (reordered stored T (told T has.desk.holds))).book
 
 -- the book that was made is that of the rows that were shown
 pub book_shown : {S E : Type 0} (g : Ghosts S) (conn : Held S) (stored : StoredRows) (made : Result Tables E) → IfOk made (λ book. IsBookOfStored stored book)
-    → AreShown g conn stored → IfOk made (ShowsBook g conn)
-book_shown g conn stored (Ok book) is shown = record { stored = stored; shown = shown; is_book = is }
+    → AreShown g conn stored → OnOk made ((book : Tables) × ShowsBook g conn book)
+book_shown g conn stored (Ok book) is shown = (book, record { stored = stored; shown = shown; is_book = is })
 book_shown g conn stored (Err why) is shown = tt
 
--- that there is a book was so before a call that changed nothing
-pub shows_still : {S E : Type 0} (g : Ghosts S) (old mid : Held S) (result : Result (Unit {0}) E) → (state g mid).now ≡ (state g old).now
-    → OnOk result ((book : Tables) × ShowsBook g mid book) → OnOk result ((book : Tables) × ShowsBook g old book)
-shows_still g old mid (Ok done) same (book, it) =
-    (book, record { stored = it.stored; shown = shown_before g old mid it.stored same it.shown; is_book = it.is_book })
-shows_still g old mid (Err why) same it = tt
-
--- and so it was before calls that changed nothing
+-- that all is whole was so before calls that changed nothing
 pub whole_still : {S : Type 0} (g : Ghosts S) (old mid : Held S) → (state g mid).now ≡ (state g old).now → IsWhole g mid → IsWhole g old
 whole_still g old mid same whole = record {
   indexes = subst (λ (db : Database). IsTrue (has_all_indexes db.schema)) same whole.indexes;

@@ -22,7 +22,6 @@ use Rattle.sql_schema.specs.Stays.{Asks}
 use Rattle.store_api.specs.Sight.{Keeps}
 use Rattle.desk_store.specs.Desks.{IsDesk, store_sight}
 use Rattle.desk_store.specs.Known.{IsKnownOf}
-use Rattle.desk_store.specs.Making.{IsOfStorage}
 use Rattle.desk_store.specs.Opening.{IsUpgraded, IsWhole, IsWholeFirst, ShowsBook, ShowsFirstBook, ShowsNoBook, ShowsNoDesk, ShowsNoFirstBook}
 use Rattle.desk_store.specs.declared.open_fault.OpenFault.{OpenFault}
 use Rattle.desk_store.specs.declared.open_fault.OpenFault.TheVariants.{NewerFormat, NotADesk}
@@ -128,13 +127,6 @@ module _ (old mid : State) (same : IsUnchanged old mid) where
     desk = λ T has. up.desk T (first_unchanged old mid T limit same has);
   }
 
--- of a desk in format 1 the store failed
-pub first_fails_later : {R : Type 0} (old mid : State) (result : Result R OpenFault) → mid.step_limit ≡ old.step_limit → IsUnchanged old mid
-    → IfErr result (λ why. (T : Tables) → HasFirst mid T → IsOfStorage why) → IfErr result (λ why. (T : Tables) → HasFirst old T → IsOfStorage why)
-first_fails_later old mid result limit same =
-    of_faults (λ why. (T : Tables) → HasFirst mid T → IsOfStorage why) (λ why. (T : Tables) → HasFirst old T → IsOfStorage why) result
-    (λ why fails T has. fails T (first_unchanged old mid T limit same has))
-
 -- it asked, and where the table of keys is there it only asked again
 pub asks_behind : (old mid new : State) → Asks old mid → (HasCleanDisk mid → IsUnchanged old mid) → new.in_transaction ≡ false
     → Survives mid new (IsUpgraded mid) → (IsTrue (uses_key_table mid.now.schema) → Asks mid new) → IsTrue (uses_key_table old.now.schema) → Asks old new
@@ -168,13 +160,6 @@ module _ {S : Type 0} (g : Ghosts S) where
     book = whole.book;
     shows = record { stored = whole.shows.stored; shown = first_before g old mid whole.shows.stored same whole.shows.shown; is_book = whole.shows.is_book };
   }
-
-  -- the book of format 1, too
-  pub first_book_still : {R E : Type 0} (old mid : Held S) (r : Result R E) → (state g mid).now ≡ (state g old).now
-      → OnOk r ((book : Tables) × ShowsFirstBook g mid book) → OnOk r ((book : Tables) × ShowsFirstBook g old book)
-  first_book_still old mid (Ok done) same (book, shows) =
-      (book, record { stored = shows.stored; shown = first_before g old mid shows.stored same shows.shown; is_book = shows.is_book })
-  first_book_still old mid (Err why) same shows = tt
 
   -- that no book has the rows was so before a call that changed nothing, too
   pub no_book_still : (old mid : Held S) → (state g mid).now ≡ (state g old).now → ShowsNoBook g mid → ShowsNoBook g old

@@ -6,6 +6,8 @@ pub mod Knowing
 pub mod KnownNonces
 pub mod NewDesks
 pub mod OpeningFaults
+pub mod Openings
+pub mod RowReadings
 pub mod SavedDesks
 pub mod Silence
 pub mod Standing

@@ -2,13 +2,10 @@
 use Rattle.std.proofs.Common.{◌≡◌, ◌≤◌, Result, Ok, Err, inl, inr, true, false, Bool, arith, refl, subst, ap, sym, ◌∙◌}
 use Rattle.std.specs.Prelude.{IfErr, IsTrue, ◌⊎◌}
 use Rattle.sqlite_disk.specs.Disk.{MoreFaults}
-use Rattle.sqlite.specs.State.{State, IsUnchanged}
+use Rattle.sqlite.specs.State.{State}
 use Rattle.sqlite.specs.Schema.{Schema}
 use Rattle.sqlite_schema.specs.Names.{same_name}
-use Rattle.desk_model.specs.Tables.{Tables}
 use Rattle.sql_schema.specs.Names.{uses_names}
-use Rattle.desk_store.specs.Desks.{HasDesk}
-use Rattle.desk_store.proofs.Standing.{desk_unchanged}
 use Rattle.sqlite.specs.declared.error.Error.{Error}
 use Rattle.sqlite.specs.declared.error.Error.TheVariants as error
 use Rattle.sqlite.specs.declared.error.ErrorCode.{ErrorCode}
@@ -40,12 +37,6 @@ failure_is_storage error why (inr (inl io)) is = (fault.Device, subst (λ e. IsO
 failure_is_storage error why (inr (inr (inl corrupt))) is = (fault.Device, subst (λ e. IsOfOpening (cause_of e) why) corrupt is)
 failure_is_storage error why (inr (inr (inr full))) is = (fault.Device, subst (λ e. IsOfOpening (cause_of e) why) full is)
 
--- so is one after a call that changed nothing
-pub fails_later : {R : Type 0} (old mid : State) (result : Result R OpenFault) → mid.step_limit ≡ old.step_limit → IsUnchanged old mid
-    → IfErr result (λ why. (T : Tables) → HasDesk mid T → IsOfStorage why) → IfErr result (λ why. (T : Tables) → HasDesk old T → IsOfStorage why)
-fails_later old mid (Ok done) limit same fault = tt
-fails_later old mid (Err why) limit same fault = λ T has. fault T (desk_unchanged old mid T limit same has)
-
 -- a reading that failed tells of no later format
 pub reading_is_known : (cause : Cause) (why : OpenFault) → IsOfOpening cause why → why ≡ NewerFormat → ⊥
 reading_is_known cause.Memory why (inl goes_on) newer = absurd (let e = sym goes_on ∙ newer in cc)
@@ -65,12 +56,12 @@ pub refused_reading : (error : Error) (Fails : Error → Type 0) → IsOutOfMemo
 refused_reading error Fails (inl memory) other = absurd (let e = sym (ap cause_of memory) ∙ other in cc)
 refused_reading error Fails (inr fails) other = record { error = error; fails = fails; other = other }
 
--- where no book was made of rows, for want of none, no book has them
-pub none_has : {R : Type 0} (Has : Tables → Type 0) (made : Result R OpenFault)
-    → IfErr made (λ why. (why ≡ Storage fault.Memory) ⊎ ((why ≡ NotADesk) × ((T : Tables) → Has T → ⊥))) → made ≡ Err NotADesk → (T : Tables) → Has T → ⊥
-none_has Has (Ok book) why none = absurd cc
-none_has Has (Err fault) (inl memory) none = absurd (let e = memory in cc)
-none_has Has (Err fault) (inr no_book) none = no_book.1
+-- where no book was made of rows, for want of none, it was for what is said of that
+pub none_has : {R : Type 0} (Other : Type 0) (made : Result R OpenFault)
+    → IfErr made (λ why. (why ≡ Storage fault.Memory) ⊎ ((why ≡ NotADesk) × Other)) → made ≡ Err NotADesk → Other
+none_has Other (Ok book) why none = absurd cc
+none_has Other (Err fault) (inl memory) none = absurd (let e = memory in cc)
+none_has Other (Err fault) (inr no_book) none = no_book.1
 
 -- neither do rows that no book has
 pub book_is_known : {R : Type 0} (Other : Type 0) (result : Result R OpenFault)
@@ -159,12 +150,6 @@ met_later old mid new f asks met is =
     let more : MoreFaults mid.faults new.faults = met is in
     let le : old.faults ≤ mid.faults = asks.survives.counts in
     omega (arith, more, le)
-
--- whatever it answers
-pub fails_met : {R : Type 0} (old mid new : State) (result : Result R OpenFault) → Asks old mid → IfErr result (IsMetFault mid new)
-    → IfErr result (IsMetFault old new)
-fails_met old mid new (Ok done) asks met = tt
-fails_met old mid new (Err f) asks met = met_later old mid new f asks met
 
 -- rows that no book has are none of it
 pub book_met : {R : Type 0} (Other : Type 0) (old new : State) (result : Result R OpenFault)

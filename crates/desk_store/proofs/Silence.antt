@@ -1,7 +1,6 @@
 -- What a connection says of a text that begins no statement.
-use Rattle.std.proofs.Common.{◌≡◌, ◌∙◌, inl, inr, ℕ, List, [], true, false, Result, Ok, Err, IfOk, IfErr, codes, refl, sym, ap}
+use Rattle.std.proofs.Common.{◌≡◌, ◌∙◌, inl, inr, [], true, false, Result, Ok, Err, IfOk, IfErr, codes, refl, sym, ap}
 use Rattle.std.specs.Prelude.{is_ok}
-use Rattle.sqlite_resolve.specs.declared.error.CompileError.{CompileError}
 use Rattle.sqlite_schema.specs.declared.schema.Schema.{Schema}
 use Rattle.sqlite_tied.specs.Compute.{everything}
 use Rattle.sqlite_trees.specs.declared.error.StoreError.{StoreError}

@@ -1,7 +1,7 @@
 -- What an opening finds, and what it leaves.
-use Rattle.std.specs.Prelude.{◌≡◌, ◌⊎◌, false, IsTrue}
+use Rattle.std.specs.Prelude.{◌≡◌, ◌≢◌, ◌⊎◌, Err, IfErr, IsTrue, OnErr, OnOk, Result, false}
 use Rattle.sqlite.specs.Held.{Held, state}
-use Rattle.sqlite.specs.State.{State, HasCleanDisk}
+use Rattle.sqlite.specs.State.{State, HasCleanDisk, IsUnchanged, Survives}
 use Rattle.sqlite.specs.Store.{Ghosts}
 use Rattle.sqlite.specs.Tree.{Trees}
 use Rattle.sqlite.specs.declared.error.Error.{Error}
@@ -12,17 +12,20 @@ use Rattle.sql_read.specs.First.{AreFirstShown}
 use Rattle.sql_read.specs.Failures.{MayRead}
 use Rattle.sql_read.specs.Format.{FailsToShowFormat, IsNewer, IsOfLaterFormat, ShowsFormats}
 use Rattle.sql_read.specs.Shown.{AreShown}
+use Rattle.sql_write.specs.Committing.{GoesBack}
 use Rattle.sql_write.specs.Numbers.{FitsUpgrade}
 use Rattle.sql_write.specs.Statements.{upgrade_statements}
 use Rattle.sql_schema.specs.Names.{has_all_indexes, uses_key_table}
 use Rattle.sql_schema.specs.Stays.{Asks}
 use Rattle.store_api.specs.declared.fault.StorageFault.{StorageFault}
-use Rattle.desk_store.specs.Causes.{FailedToRead, FailedToSave, LeavesNothing, cause_of}
-use Rattle.desk_store.specs.Desks.{AreOfDesk}
+use Rattle.store_api.specs.declared.fault.StorageFault.TheVariants.{Memory}
+use Rattle.desk_store.specs.Causes.{FailedToRead, FailedToSave, IsMetFault, LeavesNothing, cause_of}
+use Rattle.desk_store.specs.Desks.{AreOfDesk, HasDesk}
+use Rattle.desk_store.specs.Making.{IsOfStorage}
 use Rattle.desk_store.specs.declared.faults.Cause.TheVariants as cause
 use Rattle.desk_store.specs.declared.open_fault.OpenFault.{OpenFault}
 use Rattle.desk_store.specs.declared.open_fault.OpenFault.TheVariants.{NewerFormat, NotADesk, Storage}
-use Rattle.sql_upgrade.specs.FirstDesks.{HasFirst, IsAdded}
+use Rattle.sql_upgrade.specs.FirstDesks.{HasFirst, HasSecond, IsAdded}
 use Rattle.sql_upgrade.specs.declared.additions.Additions.{Additions}
 use Rattle.store_book.specs.IsBook.{IsBookOfStored}
 
@@ -93,6 +96,27 @@ module _ {S : Type 0} (g : Ghosts S) where
   abbrev pub ShowsNoLaterFormat : Held S → Type 0
   ShowsNoLaterFormat conn = ShowsKnownFormat conn ⊎ RefusesFormat conn
 
+-- what a reading of all rows says and leaves, where a desk in its format is one that a connection `Has`, and the rows that it showed are those of
+-- a book (`Shows`), or of none (`Lacks`)
+pub record ReadsRows {S R : Type 0} (g : Ghosts S) (Has : State → Tables → Type 0) (Shows Lacks : Held S → Type 0) (old new : Held S)
+    (result : Result R OpenFault) : Type 0 where
+  pub shown : HasCleanDisk (state g new) → OnOk result (Shows old)
+  pub no_newer : result ≢ Err NewerFormat
+  pub no_desk : HasCleanDisk (state g new) → result ≡ Err NotADesk → Lacks old
+  pub unchanged : HasCleanDisk (state g new) → OnOk result (IsUnchanged (state g old) (state g new))
+  pub desk : HasCleanDisk (state g new) → IfErr result (λ why. (T : Tables) → Has (state g old) T → IsOfStorage why)
+  pub met : HasCleanDisk (state g new) → IfErr result (IsMetFault (state g old) (state g new))
+  pub answering : HasCleanDisk (state g new) → result ≡ Err (Storage Memory) → IsTrue (state g new).is_open
+  pub asks : Asks (state g old) (state g new)
+
+-- of today's format
+abbrev pub ReadsDesk : {S R : Type 0} → Ghosts S → Held S → Held S → Result R OpenFault → Type 0
+ReadsDesk g old new result = ReadsRows g HasDesk (λ conn. (book : Tables) × ShowsBook g conn book) (ShowsNoBook g) old new result
+
+-- of format 1
+abbrev pub ReadsFirst : {S R : Type 0} → Ghosts S → Held S → Held S → Result R OpenFault → Type 0
+ReadsFirst g old new result = ReadsRows g HasFirst (λ conn. (book : Tables) × ShowsFirstBook g conn book) (ShowsNoFirstBook g) old new result
+
 -- an open connection without a limit on steps has the tables of a desk and one row of `meta`, of a later format
 pub record HasLaterFormat (s : State) : Type 0 where
   pub may_read : MayRead s
@@ -122,3 +146,18 @@ module _ {S : Type 0} (g : Ghosts S) where
 pub record IsUpgraded (old : State) (trees : Trees) : Type 0 where
   pub first : uses_key_table old.now.schema ≡ false
   pub desk : (T : Tables) → HasFirst old T → AreOfDesk trees T
+
+-- what an opening does and leaves, where the tables are not of a later format
+pub record OpensKnown {S R : Type 0} (g : Ghosts S) (old new : Held S) (result : Result R OpenFault) : Type 0 where
+  pub asks : IsTrue (uses_key_table (state g old).now.schema) → Asks (state g old) (state g new)
+  pub unchanged : IsTrue (uses_key_table (state g old).now.schema) → HasCleanDisk (state g new) → OnOk result (IsUnchanged (state g old) (state g new))
+  pub upgraded : HasCleanDisk (state g new) → OnOk result ((T : Tables) → HasFirst (state g old) T → HasSecond (state g new) T)
+  pub back : (state g old).now ≡ (state g old).committed → HasCleanDisk (state g new) → OnErr result (GoesBack (state g old) (state g new))
+  pub left : Survives (state g old) (state g new) (IsUpgraded (state g old))
+  pub spared : result ≡ Err (Storage Memory) → Survives (state g old) (state g new) (λ _. ⊥)
+  pub whole : HasCleanDisk (state g new) → OnOk result (IsTrue (uses_key_table (state g old).now.schema) → IsWhole g old)
+  pub whole_first : HasCleanDisk (state g new) → OnOk result (uses_key_table (state g old).now.schema ≡ false → IsWholeFirst g old)
+  pub desk : HasCleanDisk (state g new) → IfErr result (λ why. (T : Tables) → HasDesk (state g old) T → IsOfStorage why)
+  pub first : HasCleanDisk (state g new) → IfErr result (λ why. (T : Tables) → HasFirst (state g old) T → IsOfStorage why)
+  pub failed : IfErr result (FailedToOpen g old new)
+  pub answering : HasCleanDisk (state g new) → result ≡ Err (Storage Memory) → IsTrue (state g new).is_open

@@ -12,7 +12,7 @@ ghost use Rattle.desk_store.specs.Causes.{IsMetFault, IsOfOpening, IsShut, IsSil
 ghost use Rattle.desk_store.specs.Desks.{AreOfDesk, HasDesk};
 ghost use Rattle.desk_store.specs.Making.{IsOfStorage};
 ghost use Rattle.desk_store.specs.Opening.{FailedToOpen, FailedToWiden, HasLaterFormat, IsUpgraded, IsWhole, IsWholeFirst, ShowsBook, ShowsFirstBook};
-ghost use Rattle.desk_store.specs.Opening.{RefusesFormat, ShowsKnownFormat, ShowsNewerFormat};
+ghost use Rattle.desk_store.specs.Opening.{OpensKnown, ReadsDesk, ReadsFirst, RefusesFormat, ShowsKnownFormat, ShowsNewerFormat};
 ghost use Rattle.desk_store.specs.Opening.{ShowsNoBook, ShowsNoDesk, ShowsNoFirstBook, ShowsNoLaterFormat};
 ghost use Rattle.desk_store.specs.declared.open_fault.OpenFault.TheVariants.{NewerFormat as newer_format, NotADesk as not_a_desk, Storage as of_storage};
 ghost use Rattle.sql_upgrade.specs.FirstDesks.{BringsDesk, HasFirst, HasSecond, IsAdded, IsOfBook, UpgradesDesk};
@@ -89,15 +89,8 @@ pub(crate) fn read_book<S: Alter>(
     conn: &mut Connection<S>,
 ) -> Result<Book, OpenFault>
     ensures book { HasCleanDisk (state S.Store conn.new) → IfOk result (λ book. (T : Tables) → HasDesk (state S.Store conn.old) T → book ≡ T) }
-    ensures shown { HasCleanDisk (state S.Store conn.new) → IfOk result (ShowsBook S.Store conn.old) }
-    ensures no_newer { result ≢ Err newer_format }
-    ensures no_desk { HasCleanDisk (state S.Store conn.new) → result ≡ Err not_a_desk → ShowsNoBook S.Store conn.old }
-    ensures unchanged { HasCleanDisk (state S.Store conn.new) → OnOk result (IsUnchanged (state S.Store conn.old) (state S.Store conn.new)) }
-    ensures desk { HasCleanDisk (state S.Store conn.new) → IfErr result (λ why. (T : Tables) → HasDesk (state S.Store conn.old) T → IsOfStorage why) }
-    ensures met { HasCleanDisk (state S.Store conn.new) → IfErr result (IsMetFault (state S.Store conn.old) (state S.Store conn.new)) }
-    ensures answering { HasCleanDisk (state S.Store conn.new) → result ≡ Err (of_storage memory) → IsTrue (state S.Store conn.new).is_open }
+    ensures reads { ReadsDesk S.Store conn.old conn.new result }
     ensures shut { HasCleanDisk (state S.Store conn.new) → result ≡ Err (of_storage reopen) → IsShut S.Store conn.old conn.new }
-    ensures asks { Asks (state S.Store conn.old) (state S.Store conn.new) }
 {
     match load_stored(alloc, conn) {
         Ok(stored) => book_of(alloc, stored),
@@ -108,14 +101,7 @@ pub(crate) fn read_book<S: Alter>(
 // The book of the tables of format 1, with zeros in the place of the keys of answers. It fails as `read_book` does.
 fn read_first<S: Alter>(alloc: Global, conn: &mut Connection<S>) -> Result<Book, OpenFault>
     ensures book { HasCleanDisk (state S.Store conn.new) → IfOk result (λ book. (T : Tables) → HasFirst (state S.Store conn.old) T → book ≡ blank T) }
-    ensures shown { HasCleanDisk (state S.Store conn.new) → IfOk result (ShowsFirstBook S.Store conn.old) }
-    ensures no_newer { result ≢ Err newer_format }
-    ensures no_desk { HasCleanDisk (state S.Store conn.new) → result ≡ Err not_a_desk → ShowsNoFirstBook S.Store conn.old }
-    ensures unchanged { HasCleanDisk (state S.Store conn.new) → OnOk result (IsUnchanged (state S.Store conn.old) (state S.Store conn.new)) }
-    ensures desk { HasCleanDisk (state S.Store conn.new) → IfErr result (λ why. (T : Tables) → HasFirst (state S.Store conn.old) T → IsOfStorage why) }
-    ensures met { HasCleanDisk (state S.Store conn.new) → IfErr result (IsMetFault (state S.Store conn.old) (state S.Store conn.new)) }
-    ensures answering { HasCleanDisk (state S.Store conn.new) → result ≡ Err (of_storage memory) → IsTrue (state S.Store conn.new).is_open }
-    ensures asks { Asks (state S.Store conn.old) (state S.Store conn.new) }
+    ensures reads { ReadsFirst S.Store conn.old conn.new result }
 {
     match load_first(alloc, conn) {
         Ok(stored) => book_of(alloc, stored),
@@ -143,14 +129,7 @@ fn additions_by_book<S: Alter>(
 ) -> Result<Additions, OpenFault>
     ensures added { HasCleanDisk (state S.Store conn.new)
         → IfOk result (λ additions. (T : Tables) → HasFirst (state S.Store conn.old) T → IsAdded additions T) }
-    ensures shown { HasCleanDisk (state S.Store conn.new) → OnOk result ((book : Tables) × ShowsFirstBook S.Store conn.old book) }
-    ensures no_newer { result ≢ Err newer_format }
-    ensures no_desk { HasCleanDisk (state S.Store conn.new) → result ≡ Err not_a_desk → ShowsNoFirstBook S.Store conn.old }
-    ensures unchanged { HasCleanDisk (state S.Store conn.new) → OnOk result (IsUnchanged (state S.Store conn.old) (state S.Store conn.new)) }
-    ensures desk { HasCleanDisk (state S.Store conn.new) → IfErr result (λ why. (T : Tables) → HasFirst (state S.Store conn.old) T → IsOfStorage why) }
-    ensures met { HasCleanDisk (state S.Store conn.new) → IfErr result (IsMetFault (state S.Store conn.old) (state S.Store conn.new)) }
-    ensures answering { HasCleanDisk (state S.Store conn.new) → result ≡ Err (of_storage memory) → IsTrue (state S.Store conn.new).is_open }
-    ensures asks { Asks (state S.Store conn.old) (state S.Store conn.new) }
+    ensures reads { ReadsFirst S.Store conn.old conn.new result }
 {
     match read_first(alloc, conn) {
         Ok(book) => additions_of(alloc, book),
@@ -163,14 +142,7 @@ fn additions_by_book<S: Alter>(
 fn find_additions<S: Alter>(alloc: Global, conn: &mut Connection<S>) -> Result<Additions, OpenFault>
     ensures added { HasCleanDisk (state S.Store conn.new)
         → IfOk result (λ additions. (T : Tables) → HasFirst (state S.Store conn.old) T → IsAdded additions T) }
-    ensures shown { HasCleanDisk (state S.Store conn.new) → OnOk result ((book : Tables) × ShowsFirstBook S.Store conn.old book) }
-    ensures no_newer { result ≢ Err newer_format }
-    ensures no_desk { HasCleanDisk (state S.Store conn.new) → result ≡ Err not_a_desk → ShowsNoFirstBook S.Store conn.old }
-    ensures unchanged { HasCleanDisk (state S.Store conn.new) → OnOk result (IsUnchanged (state S.Store conn.old) (state S.Store conn.new)) }
-    ensures desk { HasCleanDisk (state S.Store conn.new) → IfErr result (λ why. (T : Tables) → HasFirst (state S.Store conn.old) T → IsOfStorage why) }
-    ensures met { HasCleanDisk (state S.Store conn.new) → IfErr result (IsMetFault (state S.Store conn.old) (state S.Store conn.new)) }
-    ensures answering { HasCleanDisk (state S.Store conn.new) → result ≡ Err (of_storage memory) → IsTrue (state S.Store conn.new).is_open }
-    ensures asks { Asks (state S.Store conn.old) (state S.Store conn.new) }
+    ensures reads { ReadsFirst S.Store conn.old conn.new result }
 {
     match read_additions(alloc, conn) {
         Ok(Some(additions)) => Ok(additions),
@@ -233,14 +205,7 @@ fn upgrade_desk<S: Alter>(alloc: Global, conn: &mut Connection<S>) -> Result<(),
 
 // That the rows are a book's: the book is made of them all.
 fn check_book<S: Alter>(alloc: Global, conn: &mut Connection<S>) -> Result<(), OpenFault>
-    ensures shown { HasCleanDisk (state S.Store conn.new) → OnOk result ((book : Tables) × ShowsBook S.Store conn.old book) }
-    ensures no_newer { result ≢ Err newer_format }
-    ensures no_desk { HasCleanDisk (state S.Store conn.new) → result ≡ Err not_a_desk → ShowsNoBook S.Store conn.old }
-    ensures unchanged { HasCleanDisk (state S.Store conn.new) → OnOk result (IsUnchanged (state S.Store conn.old) (state S.Store conn.new)) }
-    ensures desk { HasCleanDisk (state S.Store conn.new) → IfErr result (λ why. (T : Tables) → HasDesk (state S.Store conn.old) T → IsOfStorage why) }
-    ensures met { HasCleanDisk (state S.Store conn.new) → IfErr result (IsMetFault (state S.Store conn.old) (state S.Store conn.new)) }
-    ensures answering { HasCleanDisk (state S.Store conn.new) → result ≡ Err (of_storage memory) → IsTrue (state S.Store conn.new).is_open }
-    ensures asks { Asks (state S.Store conn.old) (state S.Store conn.new) }
+    ensures { ReadsDesk S.Store conn.old conn.new result }
 {
     match read_book(alloc, conn) {
         Ok(book) => {
@@ -254,14 +219,7 @@ fn check_book<S: Alter>(alloc: Global, conn: &mut Connection<S>) -> Result<(), O
 // That the rows are a book's. They are read one after the other, so that no more than their numbers are held; where one does not
 // pass so, the book of them all tells.
 fn check_rows<S: Alter>(alloc: Global, conn: &mut Connection<S>) -> Result<(), OpenFault>
-    ensures shown { HasCleanDisk (state S.Store conn.new) → OnOk result ((book : Tables) × ShowsBook S.Store conn.old book) }
-    ensures no_newer { result ≢ Err newer_format }
-    ensures no_desk { HasCleanDisk (state S.Store conn.new) → result ≡ Err not_a_desk → ShowsNoBook S.Store conn.old }
-    ensures unchanged { HasCleanDisk (state S.Store conn.new) → OnOk result (IsUnchanged (state S.Store conn.old) (state S.Store conn.new)) }
-    ensures desk { HasCleanDisk (state S.Store conn.new) → IfErr result (λ why. (T : Tables) → HasDesk (state S.Store conn.old) T → IsOfStorage why) }
-    ensures met { HasCleanDisk (state S.Store conn.new) → IfErr result (IsMetFault (state S.Store conn.old) (state S.Store conn.new)) }
-    ensures answering { HasCleanDisk (state S.Store conn.new) → result ≡ Err (of_storage memory) → IsTrue (state S.Store conn.new).is_open }
-    ensures asks { Asks (state S.Store conn.old) (state S.Store conn.new) }
+    ensures { ReadsDesk S.Store conn.old conn.new result }
 {
     match has_book_rows(alloc, conn) {
         Ok(true) => Ok(()),
@@ -274,26 +232,10 @@ fn check_rows<S: Alter>(alloc: Global, conn: &mut Connection<S>) -> Result<(), O
 fn open_known<S: Alter>(alloc: Global, conn: &mut Connection<S>) -> Result<(), OpenFault>
     requires idle { conn.old.in_transaction ≡ false }
     ensures idle { conn.new.in_transaction ≡ false }
-    ensures asks { IsTrue (uses_key_table (state S.Store conn.old).now.schema) → Asks (state S.Store conn.old) (state S.Store conn.new) }
-    ensures unchanged { IsTrue (uses_key_table (state S.Store conn.old).now.schema) → HasCleanDisk (state S.Store conn.new)
-        → OnOk result (IsUnchanged (state S.Store conn.old) (state S.Store conn.new)) }
+    ensures opens { OpensKnown S.Store conn.old conn.new result }
     ensures refused { result ≡ Err not_a_desk → Asks (state S.Store conn.old) (state S.Store conn.new) }
     ensures no_newer { result ≢ Err newer_format }
     ensures no_desk { HasCleanDisk (state S.Store conn.new) → result ≡ Err not_a_desk → ShowsNoDesk S.Store conn.old }
-    ensures upgraded { HasCleanDisk (state S.Store conn.new)
-        → OnOk result ((T : Tables) → HasFirst (state S.Store conn.old) T → HasSecond (state S.Store conn.new) T) }
-    ensures back { (state S.Store conn.old).now ≡ (state S.Store conn.old).committed → HasCleanDisk (state S.Store conn.new)
-        → OnErr result (GoesBack (state S.Store conn.old) (state S.Store conn.new)) }
-    ensures left { Survives (state S.Store conn.old) (state S.Store conn.new) (IsUpgraded (state S.Store conn.old)) }
-    ensures spared { result ≡ Err (of_storage memory) → Survives (state S.Store conn.old) (state S.Store conn.new) (λ _. ⊥) }
-    ensures whole { HasCleanDisk (state S.Store conn.new)
-        → OnOk result (IsTrue (uses_key_table (state S.Store conn.old).now.schema) → IsWhole S.Store conn.old) }
-    ensures whole_first { HasCleanDisk (state S.Store conn.new)
-        → OnOk result (uses_key_table (state S.Store conn.old).now.schema ≡ false → IsWholeFirst S.Store conn.old) }
-    ensures desk { HasCleanDisk (state S.Store conn.new) → IfErr result (λ why. (T : Tables) → HasDesk (state S.Store conn.old) T → IsOfStorage why) }
-    ensures first { HasCleanDisk (state S.Store conn.new) → IfErr result (λ why. (T : Tables) → HasFirst (state S.Store conn.old) T → IsOfStorage why) }
-    ensures failed { IfErr result (FailedToOpen S.Store conn.old conn.new) }
-    ensures answering { HasCleanDisk (state S.Store conn.new) → result ≡ Err (of_storage memory) → IsTrue (state S.Store conn.new).is_open }
 {
     if !has_indexes(conn.schema()) {
         return Err(OpenFault::NotADesk);
@@ -315,31 +257,15 @@ fn open_known<S: Alter>(alloc: Global, conn: &mut Connection<S>) -> Result<(), O
 pub(crate) fn open_desk<S: Alter>(alloc: Global, conn: &mut Connection<S>) -> Result<(), OpenFault>
     requires idle { conn.old.in_transaction ≡ false }
     ensures idle { conn.new.in_transaction ≡ false }
-    ensures asks { IsTrue (uses_key_table (state S.Store conn.old).now.schema) → Asks (state S.Store conn.old) (state S.Store conn.new) }
-    ensures unchanged { IsTrue (uses_key_table (state S.Store conn.old).now.schema) → HasCleanDisk (state S.Store conn.new)
-        → OnOk result (IsUnchanged (state S.Store conn.old) (state S.Store conn.new)) }
+    ensures opens { OpensKnown S.Store conn.old conn.new result }
     ensures refused { IfErr result (λ why. (why ≡ not_a_desk) ⊎ (why ≡ newer_format) → Asks (state S.Store conn.old) (state S.Store conn.new)) }
     ensures newer { HasCleanDisk (state S.Store conn.new) → result ≡ Err newer_format → ShowsNewerFormat S.Store conn.old }
     ensures known { HasCleanDisk (state S.Store conn.new) → OnOk result (ShowsKnownFormat S.Store conn.old) }
     ensures no_later { HasCleanDisk (state S.Store conn.new) → result ≡ Err not_a_desk → ShowsNoLaterFormat S.Store conn.old }
     ensures no_desk { HasCleanDisk (state S.Store conn.new) → result ≡ Err not_a_desk
         → RefusesFormat S.Store conn.old ⊎ ShowsNoDesk S.Store conn.old }
-    ensures upgraded { HasCleanDisk (state S.Store conn.new)
-        → OnOk result ((T : Tables) → HasFirst (state S.Store conn.old) T → HasSecond (state S.Store conn.new) T) }
-    ensures back { (state S.Store conn.old).now ≡ (state S.Store conn.old).committed → HasCleanDisk (state S.Store conn.new)
-        → OnErr result (GoesBack (state S.Store conn.old) (state S.Store conn.new)) }
-    ensures left { Survives (state S.Store conn.old) (state S.Store conn.new) (IsUpgraded (state S.Store conn.old)) }
-    ensures spared { result ≡ Err (of_storage memory) → Survives (state S.Store conn.old) (state S.Store conn.new) (λ _. ⊥) }
-    ensures whole { HasCleanDisk (state S.Store conn.new)
-        → OnOk result (IsTrue (uses_key_table (state S.Store conn.old).now.schema) → IsWhole S.Store conn.old) }
-    ensures whole_first { HasCleanDisk (state S.Store conn.new)
-        → OnOk result (uses_key_table (state S.Store conn.old).now.schema ≡ false → IsWholeFirst S.Store conn.old) }
-    ensures desk { HasCleanDisk (state S.Store conn.new) → IfErr result (λ why. (T : Tables) → HasDesk (state S.Store conn.old) T → IsOfStorage why) }
-    ensures first { HasCleanDisk (state S.Store conn.new) → IfErr result (λ why. (T : Tables) → HasFirst (state S.Store conn.old) T → IsOfStorage why) }
     ensures later { HasCleanDisk (state S.Store conn.new) → HasLaterFormat (state S.Store conn.old)
         → MatchResult result (λ _. ⊥) (λ why. (why ≡ newer_format) ⊎ IsOfStorage why) }
-    ensures failed { IfErr result (FailedToOpen S.Store conn.old conn.new) }
-    ensures answering { HasCleanDisk (state S.Store conn.new) → result ≡ Err (of_storage memory) → IsTrue (state S.Store conn.new).is_open }
 {
     match check_format(conn) {
         Ok(()) => open_known(alloc, conn),
