@@ -18,3 +18,4 @@ pub mod KnownRows
 pub mod Told
 pub mod Written
 mod Upgraded
+pub mod RowWrites
