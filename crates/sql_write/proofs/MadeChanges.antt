@@ -1,9 +1,11 @@
 -- What each change makes of a desk's database.
 use Rattle.std.specs.Prelude.{IfSome, find, option_map, ◌==◌}
 use Rattle.std.specs.List.Sorted.{IsPermutation}
-use Rattle.std.proofs.Common.{◌≡◌, inl, ℕ, ℤ, List, [], ◌∷◌, map, Option, Some, None, refl, sym, ap, subst, ◌∙◌, arith}
+use Rattle.std.proofs.Common.{◌≡◌, inl, ℕ, ℤ, List, [], ◌∷◌, map, Option, Some, None, Result, refl, sym, ap, subst, ◌∙◌, arith}
 use Rattle.std.proofs.lemmas.List.Sorted.{IsPermutation-append_left, IsPermutation-trans}
 use Rattle.sqlite.specs.Effect.{Database}
+use Rattle.sqlite.specs.Held.{Held, state}
+use Rattle.sqlite.specs.Store.{Ghosts}
 use Rattle.sqlite_rules.specs.Lists.{Has}
 use Rattle.store_columns.specs.Columns.{known_format, order_columns}
 use Rattle.store_columns.specs.Flat.{challenge_rows, key_rows, listed_rows, owned_by}
@@ -17,9 +19,14 @@ use Rattle.desk_model.specs.declared.rows.AccountRow.{AccountRow}
 use Rattle.desk_model.specs.declared.rows.AuthorizationRow.{AuthorizationRow}
 use Rattle.desk_model.specs.declared.rows.Meta.{Meta}
 use Rattle.desk_model.specs.declared.rows.OrderRow.{OrderRow}
+use Rattle.desk_model.specs.declared.rows.Change.{Change}
+use Rattle.desk_model.specs.declared.rows.Counters.{Counters}
 use Rattle.desk_model.specs.declared.rows.Change.TheVariants.{PutMeta, PutNonce, RemoveNonce, PutAccount, PutAuthorization, PutOrder}
 use Rattle.sql_write.specs.Makes.{AppendsAll, Makes, PlacesAll, PutsOver, SetsAuthorization, SetsMeta, SetsOrder, WritesOrder, appended}
+use Rattle.sql_write.specs.Refusals.{HasWritten}
 use Rattle.sql_write.specs.Standing.{HasSome, IsPartIn, IsWithout, known_account, known_authorization, known_meta, known_order}
+use Rattle.sql_write.specs.Statements.{statements_of}
+use Rattle.sql_write.specs.declared.fault.SaveFault.{SaveFault}
 use Rattle.sql_write.specs.declared.write.Write.{Write}
 use Rattle.sql_write.specs.declared.write.Write.TheVariants.{Upsert, Insert, Update}
 use Rattle.sql_write.proofs.ChallengeNumbers.{keys_owned}
@@ -30,10 +37,11 @@ use Rattle.sql_write.proofs.ListedAfter.{added as added_listed, found_in, listed
 use Rattle.sql_write.proofs.NestedRows.{children_put, own_apart}
 use Rattle.sql_write.proofs.Numbered.{AreWithin, within_same}
 use Rattle.sql_write.proofs.PlacedRows.{appended_rows}
+use Rattle.sql_write.proofs.Written.{written_as}
 use Rattle.sql_write.proofs.KnownRows.{account_stands, authorization_stands, found_has, order_stands}
-use Rattle.sql_tables.specs.Effects.{Adds, Puts, Removes, Renews}
+use Rattle.sql_tables.specs.Effects.{Adds, BecomesRows, Puts, Removes, Renews}
 use Rattle.sql_tables.specs.Hidden.{row_of}
-use Rattle.sql_tables.specs.Holds.{HoldsListed}
+use Rattle.sql_tables.specs.Holds.{AreRising, Holds, HoldsListed}
 use Rattle.sql_tables.specs.Images.{challenge_image, key_image, order_kept}
 use Rattle.sql_tables.specs.Layouts.{HasRows, account_layout, authorization_layout, challenge_layout, formatted_layout}
 use Rattle.sql_tables.specs.Layouts.{key_layout, listed_layout, nonce_layout, order_layout}
@@ -80,41 +88,30 @@ makes_meta known x old new sets T has stands fits =
     there None h = tt
     there (Some part) h = (inl (ap (λ m. (known_format, m)) h.meta), refl)
 
+-- nonces that are put or removed
+nonces_become : (old new : Database) (T : Tables) (nonces : List Nonce) → Holds old T → BecomesRows nonce_layout nonces old new
+    → AreRising (record T { nonces = nonces }) → Holds new (record T { nonces = nonces })
+nonces_become old new T nonces has p rising = record {
+  sound = p.sound;
+  schema = p.has.schema;
+  meta = p.others 0 (λ e. cc) no_index_meta ∙ has.meta;
+  nonces = p.has.rows_are;
+  accounts = p.others 2 (λ e. cc) no_index_account ∙ has.accounts;
+  orders = p.others 4 (λ e. cc) no_index_order ∙ has.orders;
+  authorizations = p.others 5 (λ e. cc) no_index_authorization ∙ has.authorizations;
+  listed = listed_as old new T (p.others 6 (λ e. cc) no_index_listed) has.listed;
+  challenges = p.others 8 (λ e. cc) no_index_challenge ∙ has.challenges;
+  keys = p.others 17 (λ e. cc) no_index_key ∙ has.keys;
+  rising = rising;
+}
+
 -- a nonce
 pub makes_nonce : (known : Option Tables) (x : Nonce) (old new : Database) → Puts nonce_layout x old new → Makes known (PutNonce x) old new
-makes_nonce known x old new puts T has stands fits =
-    let p = puts T.nonces (nonces_held old T has) in
-    record {
-      sound = p.sound;
-      schema = p.has.schema;
-      meta = p.others 0 (λ e. cc) no_index_meta ∙ has.meta;
-      nonces = p.has.rows_are;
-      accounts = p.others 2 (λ e. cc) no_index_account ∙ has.accounts;
-      orders = p.others 4 (λ e. cc) no_index_order ∙ has.orders;
-      authorizations = p.others 5 (λ e. cc) no_index_authorization ∙ has.authorizations;
-      listed = listed_as old new T (p.others 6 (λ e. cc) no_index_listed) has.listed;
-      challenges = p.others 8 (λ e. cc) no_index_challenge ∙ has.challenges;
-      keys = p.others 17 (λ e. cc) no_index_key ∙ has.keys;
-      rising = fits.rising;
-    }
+makes_nonce known x old new puts T has stands fits = nonces_become old new T _ has (puts T.nonces (nonces_held old T has)) fits.rising
 
 -- the removal of a nonce
 pub makes_removal : (known : Option Tables) (n : ℕ) (old new : Database) → Removes nonce_layout n old new → Makes known (RemoveNonce n) old new
-makes_removal known n old new removes T has stands fits =
-    let p = removes T.nonces (nonces_held old T has) in
-    record {
-      sound = p.sound;
-      schema = p.has.schema;
-      meta = p.others 0 (λ e. cc) no_index_meta ∙ has.meta;
-      nonces = p.has.rows_are;
-      accounts = p.others 2 (λ e. cc) no_index_account ∙ has.accounts;
-      orders = p.others 4 (λ e. cc) no_index_order ∙ has.orders;
-      authorizations = p.others 5 (λ e. cc) no_index_authorization ∙ has.authorizations;
-      listed = listed_as old new T (p.others 6 (λ e. cc) no_index_listed) has.listed;
-      challenges = p.others 8 (λ e. cc) no_index_challenge ∙ has.challenges;
-      keys = p.others 17 (λ e. cc) no_index_key ∙ has.keys;
-      rising = fits.rising;
-    }
+makes_removal known n old new removes T has stands fits = nonces_become old new T _ has (removes T.nonces (nonces_held old T has)) fits.rising
 
 -- an account
 pub makes_account : (known : Option Tables) (x : AccountRow) (old new : Database) → PutsOver account_layout (known_account known x.number) x old new
@@ -347,3 +344,13 @@ makes_set_order known x old new (write, writes, keeps) = go write writes keeps
     go Update w keeps =
         let it = keeps refl in
         subst (λ db. Makes known (PutOrder x) old db) (sym w.2) (makes_renewed_order known x it.0 it.1 it.2 old w.0 w.1)
+
+-- ---- what a call wrote of a change
+
+-- what it wrote of the change that this is
+pub writes_change : {S R : Type 0} (g : Ghosts S) (known : Option Tables) (last : Counters) (change put : Change) → change ≡ put
+    → (A : Database → Database → Type 0) (a b : Held S) (r : Result R SaveFault)
+    → (A (state g a).now (state g b).now → Makes known put (state g a).now (state g b).now) → HasWritten g (statements_of known last put) A a b r
+    → HasWritten g (statements_of known last change) (Makes known change) a b r
+writes_change g known last change put is A a b r makes it =
+    subst (λ change. HasWritten g (statements_of known last change) (Makes known change) a b r) (sym is) (written_as g _ A _ a b r makes it)

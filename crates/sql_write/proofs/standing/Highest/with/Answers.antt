@@ -1,4 +1,4 @@
-use Rattle.std.proofs.Common.{◌≡◌, ◌++◌, ◌∷◌, [], arith, refl, rules, subst, sym}
+use Rattle.std.proofs.Common.{◌++◌, ◌∷◌, [], arith, refl, rules, subst, sym}
 use Rattle.desk_model.specs.declared.rows.AccountRow.{AccountRow}
 use Rattle.desk_model.specs.declared.rows.AuthorizationRow.{AuthorizationRow}
 use Rattle.desk_model.specs.declared.rows.OrderRow.{OrderRow}
