@@ -44,12 +44,12 @@ use Rattle.sql_schema.specs.declared.authorizations.TheConstants as authz
 use Rattle.sql_schema.specs.declared.challenges.TheConstants as chall
 use Rattle.sql_schema.specs.declared.orders.TheConstants as ord
 use Rattle.sql_read.proofs.Answered.{IsReadingUpTo, by, first_row}
-use Rattle.sql_read.proofs.ColumnNames.{account_names, authorization_names, challenge_names, order_names}
+use Rattle.sql_read.proofs.TableColumns.{account_names, authorization_names, challenge_names, order_names, account_project, account_spelled}
+use Rattle.sql_read.proofs.TableColumns.{authorization_project, authorization_spelled, challenge_project, challenge_spelled, order_project}
+use Rattle.sql_read.proofs.TableColumns.{order_spelled}
 use Rattle.sql_read.proofs.FoundRows.{found_first}
 use Rattle.sql_read.proofs.Lists.{each_map_sorted, filter-map, first-map}
 use Rattle.sql_read.proofs.Tests.{above_bounded, above_test}
-use Rattle.sql_read.proofs.Told.{account_project, account_spelled, authorization_project, authorization_spelled}
-use Rattle.sql_read.proofs.Told.{challenge_project, challenge_spelled, order_project, order_spelled}
 
 -- ---- texts
 

@@ -1,5 +1,5 @@
 -- Tables that are checked one after the other.
-use Rattle.std.proofs.Common.{◌≡◌, inl, inr, ℕ, List, map, Bool, true, false, Result, Ok, Err, IfErr, IfOk, IsErrAnd, OnOk, refl, sym, ap, subst, ◌∙◌, arith}
+use Rattle.std.proofs.Common.{◌≡◌, inl, inr, ℕ, List, Bool, true, false, Result, Ok, Err, IfOk, IsErrAnd, OnOk, sym, subst, ◌∙◌, arith}
 use Rattle.std.proofs.lemmas.Result.{IfOk-from_err}
 use Rattle.std.specs.Prelude.{◌⊎◌, IsErr, IsTrue}
 use Rattle.sqlite.specs.Effect.{Database}

@@ -46,6 +46,7 @@ use Rattle.sql_read.proofs.Lists.{filter-all}
 use Rattle.sql_read.proofs.LookUpReadings.{is_equal}
 use Rattle.sql_read.proofs.StatusTests.{authorization_status_test, order_status_test}
 use Rattle.sql_read.proofs.Tests.{eq_as, lt_as, text_test}
+use Rattle.sql_read.proofs.TableColumns.{order_status_at, authorization_status_at}
 
 -- ---- texts
 
@@ -55,12 +56,12 @@ unfolding everything
 issue_reading = record { names = codes "issued" ∷ []; means = refl; selecting = refl }
 
 -- of orders
-pub order_end_reading : IsReadingUpTo first_row ord.SELECT_EARLIEST.now 4 (is_equal 11) (col 1 4 ∷ []) (by 4 ∷ [])
+pub order_end_reading : IsReadingUpTo first_row ord.SELECT_EARLIEST.now 4 (is_equal order_status_at) (col 1 4 ∷ []) (by 4 ∷ [])
 unfolding everything
 order_end_reading = record { names = codes "expires" ∷ []; means = refl; selecting = refl }
 
 -- of authorizations
-pub authorization_end_reading : IsReadingUpTo first_row authz.SELECT_EARLIEST.now 5 (is_equal 9) (col 1 6 ∷ []) (by 6 ∷ [])
+pub authorization_end_reading : IsReadingUpTo first_row authz.SELECT_EARLIEST.now 5 (is_equal authorization_status_at) (col 1 6 ∷ []) (by 6 ∷ [])
 unfolding everything
 authorization_end_reading = record { names = codes "expires" ∷ []; means = refl; selecting = refl }
 
@@ -204,7 +205,7 @@ module _ (old new : State) (T : Tables) (rows : List Row) (values : Row) (found 
   pub order_end_found : (status : OrderStatus) → values ≡ Text (order_status_text status) ∷ [] → Shown ord.SELECT_EARLIEST.now values old new rows
       → IsEarliest (order_ends T status) found
   order_end_found status given h =
-      earliest_found order_layout (λ o. o.expires) ord.SELECT_EARLIEST.now (is_equal 11) 4 (Text (order_status_text status) ∷ [])
+      earliest_found order_layout (λ o. o.expires) ord.SELECT_EARLIEST.now (is_equal order_status_at) 4 (Text (order_status_text status) ∷ [])
       (λ o. order_code o.status == order_code status) order_end_reading (λ _. refl)
       (λ o. text_test (order_status_text o.status) (order_status_text status) ∙ order_status_test o.status status) (λ _. refl)
       old new values T.orders rows found (orders_held old.now T has) given h first
@@ -213,7 +214,7 @@ module _ (old new : State) (T : Tables) (rows : List Row) (values : Row) (found 
   pub authorization_end_found : (status : AuthzStatus) → values ≡ Text (authorization_status_text status) ∷ []
       → Shown authz.SELECT_EARLIEST.now values old new rows → IsEarliest (authorization_ends T status) found
   authorization_end_found status given h =
-      earliest_found authorization_layout (λ r. r.expires) authz.SELECT_EARLIEST.now (is_equal 9) 6 (Text (authorization_status_text status) ∷ [])
+      earliest_found authorization_layout (λ r. r.expires) authz.SELECT_EARLIEST.now (is_equal authorization_status_at) 6 (Text (authorization_status_text status) ∷ [])
       (λ r. authz_code r.status == authz_code status) authorization_end_reading (λ _. refl)
       (λ r. text_test (authorization_status_text r.status) (authorization_status_text status) ∙ authorization_status_test r.status status) (λ _. refl)
       old new values T.authorizations rows found (authorizations_held old.now T has) given h first

@@ -18,7 +18,7 @@ use Rattle.sql_read.specs.BookShown.{Checks, ShowsNonces}
 use Rattle.sql_read.specs.Failures.{FailsHere, IsOutOfMemory, IsReadable}
 use Rattle.sql_read.specs.First.{AreFirstShown, ShowsFirstMeta, raised_meta}
 use Rattle.sql_read.specs.FirstRows.{IsFirstMeta, IsFirstReadable, IsWithRows}
-use Rattle.sql_read.specs.Fitting.{FitsMeta}
+use Rattle.sql_read.specs.Spelled.{FitsMeta}
 use Rattle.sql_read.specs.Reads.{Reads}
 use Rattle.sql_read.specs.declared.formats.Format.TheVariants.{First}
 use Rattle.sql_read.proofs.BookChecks.{first_still}

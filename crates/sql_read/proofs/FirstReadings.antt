@@ -12,9 +12,10 @@ use Rattle.sql_schema.specs.declared.nonces.TheConstants as nonce
 use Rattle.sql_schema.specs.declared.orders.TheConstants as ord
 use Rattle.sql_schema.specs.declared.listed.TheConstants as ord_authz
 use Rattle.sql_read.proofs.Answered.{IsFirstReading, by}
-use Rattle.sql_read.proofs.ColumnNames.{account_names, authorization_names, challenge_names, listed_names, meta_names, nonce_names, order_names}
+use Rattle.sql_read.proofs.TableColumns.{account_names, authorization_names, challenge_names, listed_names, meta_names, nonce_names, order_names}
+use Rattle.sql_read.proofs.TableColumns.{account_project, authorization_project, challenge_project, listed_project, meta_project, nonce_project}
+use Rattle.sql_read.proofs.TableColumns.{order_project}
 use Rattle.sql_read.proofs.Failing.{IsFirstSure}
-use Rattle.sql_read.proofs.Told.{account_project, authorization_project, challenge_project, listed_project, meta_project, nonce_project, order_project}
 
 -- `meta`
 pub meta_reading : IsFirstReading meta.SELECT.now 0 [] meta_project (by 0 ∷ [])

@@ -23,8 +23,8 @@ use Rattle.sql_tables.specs.Layouts.{IsRising, Layout, account_layout, authoriza
 use Rattle.sql_tables.specs.Sorted.{sorted_by}
 use Rattle.sql_tables.proofs.Sorting.{sorted_rises}
 use Rattle.sql_read.specs.Failures.{FailsToRead, HasTexts, IsReadable, MayRead}
-use Rattle.sql_read.specs.Fitting.{FitsAccount, FitsAuthorization, FitsChallenge, FitsListed, FitsMeta, FitsNonce, FitsOrder}
-use Rattle.sql_read.specs.Spelled.{account_in, authorization_in, challenge_in, meta_in, nonce_in, order_in}
+use Rattle.sql_read.specs.Spelled.{FitsAccount, FitsAuthorization, FitsChallenge, FitsListed, FitsMeta, FitsNonce, FitsOrder, account_in}
+use Rattle.sql_read.specs.Spelled.{authorization_in, challenge_in, meta_in, nonce_in, order_in}
 use Rattle.sql_schema.specs.declared.accounts.TheConstants as account
 use Rattle.sql_schema.specs.declared.authorizations.TheConstants as authz
 use Rattle.sql_schema.specs.declared.challenges.TheConstants as chall
@@ -35,12 +35,12 @@ use Rattle.sql_schema.specs.declared.listed.TheConstants as ord_authz
 use Rattle.sql_read.proofs.Answered.{IsReadingIn, all_rows, by}
 use Rattle.sql_read.proofs.Failing.{IsSureIn, query_fails, reading_fails}
 use Rattle.sql_read.proofs.FirstReadings as first
-use Rattle.sql_read.proofs.Fits.{account_fits, all_fit, authorization_fits, challenge_fits, listed_fits, meta_fits, nonce_fits, order_fits}
+use Rattle.sql_read.proofs.TableColumns.{account_fits, all_fit, authorization_fits, challenge_fits, listed_fits, meta_fits, nonce_fits, order_fits}
+use Rattle.sql_read.proofs.TableColumns.{IsSpelled, account_project, account_spelled, authorization_project, authorization_spelled, challenge_project}
+use Rattle.sql_read.proofs.TableColumns.{challenge_spelled, formatted_spelled, listed_project, meta_project, nonce_project, nonce_spelled}
+use Rattle.sql_read.proofs.TableColumns.{order_project, order_spelled}
 use Rattle.sql_read.proofs.KeyedReadings.{shown_whole, whole_in}
 use Rattle.sql_read.proofs.Lists.{each_map_sorted}
-use Rattle.sql_read.proofs.Told.{IsSpelled, account_project, account_spelled, authorization_project, authorization_spelled}
-use Rattle.sql_read.proofs.Told.{challenge_project, challenge_spelled, formatted_spelled, listed_project, meta_project}
-use Rattle.sql_read.proofs.Told.{nonce_project, nonce_spelled, order_project, order_spelled}
 use Rattle.sql_read.proofs.WholeTables.{listed_cells_in}
 
 -- ---- what is read

@@ -4,7 +4,7 @@ use Rattle.sqlite.specs.Store.{Ghosts}
 use Rattle.desk_model.specs.Tables.{Tables}
 use Rattle.sql_read.specs.BookShown.{HoldsIn}
 use Rattle.sql_read.specs.Failures.{HasTexts, IsReadable}
-use Rattle.sql_read.specs.Fitting.{FitsAccount, FitsAuthorization, FitsChallenge, FitsListed, FitsNonce, FitsOrder}
+use Rattle.sql_read.specs.Spelled.{FitsAccount, FitsAuthorization, FitsChallenge, FitsListed, FitsNonce, FitsOrder}
 use Rattle.sql_read.specs.declared.formats.Format.{Format}
 use Rattle.sql_read.specs.declared.formats.Format.TheVariants.{First, Second}
 use Rattle.sql_read.proofs.FirstTables as first

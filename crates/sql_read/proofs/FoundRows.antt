@@ -14,7 +14,7 @@ use Rattle.model_lives.specs.Above.{first_of}
 use Rattle.sql_read.proofs.Answered.{IsReading, IsReadingUpTo, by, first_row, passes}
 use Rattle.sql_read.proofs.KeyedReadings.{reads_first, reads_keyed}
 use Rattle.sql_read.proofs.Lists.{each-first}
-use Rattle.sql_read.proofs.Told.{IsSpelled}
+use Rattle.sql_read.proofs.TableColumns.{IsSpelled}
 
 -- ---- rows and their columns
 

@@ -13,7 +13,7 @@ use Rattle.sql_tables.specs.Layouts.{HasRows, IsRising, Layout}
 use Rattle.sql_read.proofs.Answered.{IsReading, IsReadingIn, IsReadingUpTo, all_rows, answers_up_to, beside}
 use Rattle.sql_read.proofs.Answered.{by, first_row, passes, picked, shown_in_order, strictly}
 use Rattle.sql_read.proofs.Lists.{as_it_is, filter-all, first-map, map-same}
-use Rattle.sql_read.proofs.Told.{IsSpelled}
+use Rattle.sql_read.proofs.TableColumns.{IsSpelled}
 
 -- what is read of rows is what they spell
 pub columns_of : {Y C : Type 0} (spelled : Row → C) (row : C → Row) (columns : Y → C) → ((c : C) → spelled (row c) ≡ c) → (ys : List Y) (rows : List Row)

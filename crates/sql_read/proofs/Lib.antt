@@ -3,14 +3,12 @@ pub mod Answered
 pub mod Asking
 pub mod BookChecks
 pub mod BookOfShown
-pub mod ColumnNames
 pub mod EarliestRows
 pub mod Failing
 pub mod FirstChecked
 pub mod FirstLoading
 pub mod FirstReadings
 pub mod FirstTables
-pub mod Fits
 pub mod FormatLemmas
 pub mod FormatTables
 pub mod FoundRows
@@ -18,8 +16,8 @@ pub mod KeyRows
 pub mod KeyedReadings
 pub mod ListedOrder
 pub mod Lists
-pub mod LookUpFaults
 pub mod Loading
+pub mod LookUpFaults
 pub mod LookUpReadings
 pub mod LookUpRows
 pub mod MetFaults
@@ -36,9 +34,9 @@ pub mod Streaming
 pub mod SureQueries
 pub mod SureTables
 pub mod SureTexts
+pub mod TableColumns
 pub mod TableFailures
 pub mod Tests
-pub mod Told
 pub mod UnderLemmas
 pub mod WaitingChallenges
 pub mod WholeTables

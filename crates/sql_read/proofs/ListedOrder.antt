@@ -36,7 +36,7 @@ use Rattle.sql_read.proofs.FoundRows.{filter-each}
 use Rattle.sql_read.proofs.KeyedReadings.{columns_of}
 use Rattle.sql_read.proofs.LookUpReadings.{is_equal, listed_by_reading, listing_reading}
 use Rattle.sql_read.proofs.Tests.{number_test, same_bounded}
-use Rattle.sql_read.proofs.Told.{listed_back, listed_project}
+use Rattle.sql_read.proofs.TableColumns.{listed_back, listed_project}
 
 -- ---- by order, then by place
 

@@ -26,10 +26,11 @@ use Rattle.sql_read.specs.Queries.{account_text, authorization_text, nonce_text,
 use Rattle.sql_read.specs.Selecting.{IsQuery}
 use Rattle.sql_read.proofs.AboveRows.{is_higher}
 use Rattle.sql_read.proofs.Answered.{IsReading, all_rows, by, first_row}
-use Rattle.sql_read.proofs.ColumnNames.{account_names, authorization_names, challenge_names, key_names, listed_names, nonce_names, order_names}
+use Rattle.sql_read.proofs.TableColumns.{account_names, authorization_names, challenge_names, key_names, listed_names, nonce_names, order_names}
+use Rattle.sql_read.proofs.TableColumns.{account_project, authorization_project, challenge_project, key_project, listed_project, nonce_project}
+use Rattle.sql_read.proofs.TableColumns.{order_project, order_status_at, authorization_status_at, challenge_status_at}
 use Rattle.sql_read.proofs.Readings.{accounts_reading, authorizations_reading, nonces_reading, orders_reading}
 use Rattle.sql_read.proofs.SureQueries.{IsSureUpTo}
-use Rattle.sql_read.proofs.Told.{account_project, authorization_project, challenge_project, key_project, listed_project, nonce_project, order_project}
 
 -- ---- tests
 
@@ -106,7 +107,7 @@ orders_of_reading = record {
 }
 
 -- orders of a status that expire before a moment
-pub orders_past_reading : IsReading ord.SELECT_PAST.now 4 (past 11 4) order_project (by 0 ∷ [])
+pub orders_past_reading : IsReading ord.SELECT_PAST.now 4 (past order_status_at 4) order_project (by 0 ∷ [])
 unfolding everything
 orders_past_reading = record {
   names = order_names;
@@ -115,7 +116,7 @@ orders_past_reading = record {
 }
 
 -- orders of a status
-pub orders_processing_reading : IsReading ord.SELECT_WITH_STATUS.now 4 (is_equal 11) order_project (by 0 ∷ [])
+pub orders_processing_reading : IsReading ord.SELECT_WITH_STATUS.now 4 (is_equal order_status_at) order_project (by 0 ∷ [])
 unfolding everything
 orders_processing_reading = record {
   names = order_names;
@@ -151,7 +152,7 @@ authorizations_named_reading = record {
 }
 
 -- authorizations of a status that expire before a moment
-pub authorizations_past_reading : IsReading authz.SELECT_PAST.now 5 (past 9 6) authorization_project (by 0 ∷ [])
+pub authorizations_past_reading : IsReading authz.SELECT_PAST.now 5 (past authorization_status_at 6) authorization_project (by 0 ∷ [])
 unfolding everything
 authorizations_past_reading = record {
   names = authorization_names;
@@ -187,7 +188,7 @@ challenges_numbered_reading = record {
 }
 
 -- challenges of a status
-pub challenges_processing_reading : IsReading chall.SELECT_WITH_STATUS.now 8 (is_equal 8) challenge_project (by 0 ∷ [])
+pub challenges_processing_reading : IsReading chall.SELECT_WITH_STATUS.now 8 (is_equal challenge_status_at) challenge_project (by 0 ∷ [])
 unfolding everything
 challenges_processing_reading = record {
   names = challenge_names;
@@ -272,12 +273,12 @@ unfolding understood everything
 orders_of_sure n = record { sizes = refl; typed = refl }
 
 -- orders of a status that expire before a moment
-pub orders_past_sure : (t : List ℕ) (n : ℤ) → IsSureUpTo all_rows ord.SELECT_PAST.now 4 (past 11 4) order_project (by 0 ∷ []) (Text t ∷ Int n ∷ [])
+pub orders_past_sure : (t : List ℕ) (n : ℤ) → IsSureUpTo all_rows ord.SELECT_PAST.now 4 (past order_status_at 4) order_project (by 0 ∷ []) (Text t ∷ Int n ∷ [])
 unfolding understood everything
 orders_past_sure t n = record { sizes = refl; typed = refl }
 
 -- orders of a status
-pub orders_processing_sure : (t : List ℕ) → IsSureUpTo all_rows ord.SELECT_WITH_STATUS.now 4 (is_equal 11) order_project (by 0 ∷ []) (Text t ∷ [])
+pub orders_processing_sure : (t : List ℕ) → IsSureUpTo all_rows ord.SELECT_WITH_STATUS.now 4 (is_equal order_status_at) order_project (by 0 ∷ []) (Text t ∷ [])
 unfolding understood everything
 orders_processing_sure t = record { sizes = refl; typed = refl }
 
@@ -299,7 +300,7 @@ authorizations_named_sure n t = record { sizes = refl; typed = refl }
 
 -- authorizations of a status that expire before a moment
 pub authorizations_past_sure : (t : List ℕ) (n : ℤ)
-    → IsSureUpTo all_rows authz.SELECT_PAST.now 5 (past 9 6) authorization_project (by 0 ∷ []) (Text t ∷ Int n ∷ [])
+    → IsSureUpTo all_rows authz.SELECT_PAST.now 5 (past authorization_status_at 6) authorization_project (by 0 ∷ []) (Text t ∷ Int n ∷ [])
 unfolding understood everything
 authorizations_past_sure t n = record { sizes = refl; typed = refl }
 
@@ -319,7 +320,7 @@ unfolding understood everything
 challenges_numbered_sure n = record { sizes = refl; typed = refl }
 
 -- challenges of a status
-pub challenges_processing_sure : (t : List ℕ) → IsSureUpTo all_rows chall.SELECT_WITH_STATUS.now 8 (is_equal 8) challenge_project (by 0 ∷ []) (Text t ∷ [])
+pub challenges_processing_sure : (t : List ℕ) → IsSureUpTo all_rows chall.SELECT_WITH_STATUS.now 8 (is_equal challenge_status_at) challenge_project (by 0 ∷ []) (Text t ∷ [])
 unfolding understood everything
 challenges_processing_sure t = record { sizes = refl; typed = refl }
 
@@ -363,11 +364,11 @@ unfolding understood everything
 issue_sure = record { sizes = refl; typed = refl }
 
 -- of orders
-pub order_end_sure : (t : List ℕ) → IsSureUpTo first_row ord.SELECT_EARLIEST.now 4 (is_equal 11) (col 1 4 ∷ []) (by 4 ∷ []) (Text t ∷ [])
+pub order_end_sure : (t : List ℕ) → IsSureUpTo first_row ord.SELECT_EARLIEST.now 4 (is_equal order_status_at) (col 1 4 ∷ []) (by 4 ∷ []) (Text t ∷ [])
 unfolding understood everything
 order_end_sure t = record { sizes = refl; typed = refl }
 
 -- of authorizations
-pub authorization_end_sure : (t : List ℕ) → IsSureUpTo first_row authz.SELECT_EARLIEST.now 5 (is_equal 9) (col 1 6 ∷ []) (by 6 ∷ []) (Text t ∷ [])
+pub authorization_end_sure : (t : List ℕ) → IsSureUpTo first_row authz.SELECT_EARLIEST.now 5 (is_equal authorization_status_at) (col 1 6 ∷ []) (by 6 ∷ []) (Text t ∷ [])
 unfolding understood everything
 authorization_end_sure t = record { sizes = refl; typed = refl }

@@ -66,9 +66,9 @@ use Rattle.sql_read.proofs.UnderLemmas.{own_ascend}
 use Rattle.sql_read.proofs.StatusTests.{authorization_status_test, challenge_waits, order_status_test, order_waits}
 use Rattle.sql_read.proofs.Readings.{accounts_reading, authorizations_reading, nonces_reading, orders_reading}
 use Rattle.sql_read.proofs.Tests.{below_bounded, below_test, number_test, number_text_test, same_bounded, text_below_test, text_test}
-use Rattle.sql_read.proofs.Told.{account_project, account_spelled, authorization_project, authorization_spelled}
-use Rattle.sql_read.proofs.Told.{challenge_project, challenge_spelled, key_project, key_spelled, nonce_project}
-use Rattle.sql_read.proofs.Told.{nonce_spelled, order_project, order_spelled}
+use Rattle.sql_read.proofs.TableColumns.{account_project, account_spelled, authorization_project, authorization_spelled, challenge_project}
+use Rattle.sql_read.proofs.TableColumns.{challenge_spelled, key_project, key_spelled, nonce_project, nonce_spelled, order_project, order_spelled}
+use Rattle.sql_read.proofs.TableColumns.{order_status_at, authorization_status_at, challenge_status_at}
 
 module _ (old new : State) (T : Tables) (rows : List Row) (values : Row) (has : Holds old.now T) (book : IsStoredBook T) where
   -- ---- nonces
@@ -146,13 +146,13 @@ module _ (old new : State) (T : Tables) (rows : List Row) (values : Row) (has : 
         orders ord.SELECT_OF.now (is_equal 2) (Int (pos (bounded n)) ∷ []) (λ x. x.account == bounded n) (λ x. x.account == n) orders_of_reading
         (λ x. number_test x.account (bounded n)) (λ x k. same_bounded x.account n k.account.1) given h
     orders_found (orders_by.Past status m) given h =
-        orders ord.SELECT_PAST.now (past 11 4) (Text (order_status_text status) ∷ Int (pos (bounded m)) ∷ [])
+        orders ord.SELECT_PAST.now (past order_status_at 4) (Text (order_status_text status) ∷ Int (pos (bounded m)) ∷ [])
         (λ x. bytes_eq (order_status_text x.status) (order_status_text status) && nat_lt x.expires (bounded m))
         (λ x. (order_code x.status == order_code status) && nat_lt x.expires m) orders_past_reading
         (λ x. text_below_test (order_status_text x.status) (order_status_text status) x.expires (bounded m))
         (λ x k i. order_status_test x.status status i && below_bounded x.expires m (let e = k.expires in omega (arith, e)) i) given h
     orders_found orders_by.Processing given h =
-        orders ord.SELECT_WITH_STATUS.now (is_equal 11) (Text (order_status_text order.Processing) ∷ [])
+        orders ord.SELECT_WITH_STATUS.now (is_equal order_status_at) (Text (order_status_text order.Processing) ∷ [])
         (λ x. bytes_eq (order_status_text x.status) (order_status_text order.Processing)) (λ x. is_processing x.status) orders_processing_reading
         (λ x. text_test (order_status_text x.status) (order_status_text order.Processing)) (λ x k. order_waits x.status) given h
 
@@ -189,7 +189,7 @@ module _ (old new : State) (T : Tables) (rows : List Row) (values : Row) (has : 
         (λ x. number_text_test x.account (bounded n) x.name.base base.now)
         (λ x k i. same_bounded x.account n k.account.1 i && bytes_eq x.name.base base.now) given h
     authorizations_found (authorizations_by.Past status m) given h =
-        authorizations authz.SELECT_PAST.now (past 9 6) (Text (authorization_status_text status) ∷ Int (pos (bounded m)) ∷ [])
+        authorizations authz.SELECT_PAST.now (past authorization_status_at 6) (Text (authorization_status_text status) ∷ Int (pos (bounded m)) ∷ [])
         (λ x. bytes_eq (authorization_status_text x.status) (authorization_status_text status) && nat_lt x.expires (bounded m))
         (λ x. (authz_code x.status == authz_code status) && nat_lt x.expires m) authorizations_past_reading
         (λ x. text_below_test (authorization_status_text x.status) (authorization_status_text status) x.expires (bounded m))
@@ -223,7 +223,7 @@ module _ (old new : State) (T : Tables) (rows : List Row) (values : Row) (has : 
     pub challenges_processing_found : values ≡ Text (challenge_status_text challenge.Processing) ∷ [] → Shown chall.SELECT_WITH_STATUS.now values old new rows
         → found ≡ map bare_row (filter (λ c. is_processing_challenge c.row.status) (sorted_by challenge_layout.key (challenge_rows T.authorizations)))
     challenges_processing_found given h =
-        challenges chall.SELECT_WITH_STATUS.now (is_equal 8) (Text (challenge_status_text challenge.Processing) ∷ [])
+        challenges chall.SELECT_WITH_STATUS.now (is_equal challenge_status_at) (Text (challenge_status_text challenge.Processing) ∷ [])
         (λ c. bytes_eq (challenge_status_text c.row.status) (challenge_status_text challenge.Processing)) (λ c. is_processing_challenge c.row.status)
         challenges_processing_reading
         (λ c. text_test (challenge_status_text c.row.status) (challenge_status_text challenge.Processing)) (λ c k. challenge_waits c.row.status) given h

@@ -9,7 +9,7 @@ use Rattle.sqlite.specs.declared.error.Error.{Error}
 use Rattle.sqlite.specs.declared.error.Error.TheVariants.{SqliteFailure}
 use Rattle.sqlite.specs.declared.error.ErrorCode.TheVariants.{OutOfMemory}
 use Rattle.sql_read.specs.Failures.{IsOutOfMemory}
-use Rattle.sql_read.specs.Fitting.{HoldsBlob, HoldsBlobOrNull, HoldsInt, HoldsIntOrNull, HoldsText, HoldsTextOrNull}
+use Rattle.sql_read.specs.Spelled.{HoldsBlob, HoldsBlobOrNull, HoldsInt, HoldsIntOrNull, HoldsText, HoldsTextOrNull}
 
 -- a value that can be read is refused for memory alone
 pub only_memory : {X : Type 0} (at : ℕ) (row : Row) (r : Result X Error) (Readable : Value → Type 0)

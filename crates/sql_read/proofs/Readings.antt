@@ -11,10 +11,9 @@ use Rattle.sql_schema.specs.declared.nonces.TheConstants as nonce
 use Rattle.sql_schema.specs.declared.orders.TheConstants as ord
 use Rattle.sql_schema.specs.declared.listed.TheConstants as ord_authz
 use Rattle.sql_read.proofs.Answered.{IsReading, by}
-use Rattle.sql_read.proofs.ColumnNames.{account_names, authorization_names, challenge_names, key_names}
-use Rattle.sql_read.proofs.ColumnNames.{listed_names, meta_names, nonce_names, order_names}
-use Rattle.sql_read.proofs.Told.{account_project, authorization_project, challenge_project, key_project}
-use Rattle.sql_read.proofs.Told.{listed_project, meta_project, nonce_project, order_project}
+use Rattle.sql_read.proofs.TableColumns.{account_names, authorization_names, challenge_names, key_names, listed_names, meta_names, nonce_names}
+use Rattle.sql_read.proofs.TableColumns.{order_names, account_project, authorization_project, challenge_project, key_project, listed_project}
+use Rattle.sql_read.proofs.TableColumns.{meta_project, nonce_project, order_project}
 
 -- `meta`, by its key
 pub meta_reading : IsReading meta.SELECT.now 0 [] meta_project (by 0 ∷ [])

@@ -32,9 +32,8 @@ use Rattle.sql_read.specs.Failures.{MayRead}
 use Rattle.sql_read.specs.LookUpFaults.{AreTableRows, IsSureQuery}
 use Rattle.sql_read.proofs.Answered.{IsCommand, IsReadingUpTo, by, compiled_alone, passes, picked_up_to}
 use Rattle.sql_read.proofs.Failing.{failed, names_of, tail_of}
-use Rattle.sql_read.proofs.Fits.{all_fit}
+use Rattle.sql_read.proofs.TableColumns.{all_fit, IsSpelled}
 use Rattle.sql_read.proofs.KeyedReadings.{columns_of, shown_up_to}
-use Rattle.sql_read.proofs.Told.{IsSpelled}
 
 -- ---- the engine
 

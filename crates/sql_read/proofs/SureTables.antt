@@ -48,11 +48,11 @@ use Rattle.sql_tables.proofs.Sorting.{each_sorted}
 use Rattle.store_book.specs.IsBook.{IsStoredBook}
 use Rattle.sql_read.specs.Bounded.{bounded}
 use Rattle.sql_read.specs.Failures.{MayRead}
-use Rattle.sql_read.specs.Fitting.{FitsAccount, FitsAuthorization, FitsChallenge, FitsKey, FitsListed, FitsMeta, FitsNonce, FitsOrder}
+use Rattle.sql_read.specs.Spelled.{FitsAccount, FitsAuthorization, FitsChallenge, FitsKey, FitsListed, FitsMeta, FitsNonce, FitsOrder, account_in}
+use Rattle.sql_read.specs.Spelled.{authorization_in, challenge_in, key_in, listed_in, meta_in, nonce_in, order_in}
 use Rattle.sql_read.specs.LookUpFaults.{AreTableRows, BeginWithMoment, IsSureQuery}
 use Rattle.sql_read.specs.Queries.{account_params, account_text, authorization_params, authorization_text}
 use Rattle.sql_read.specs.Queries.{nonce_params, nonce_text, order_params, order_text}
-use Rattle.sql_read.specs.Spelled.{account_in, authorization_in, challenge_in, key_in, listed_in, meta_in, nonce_in, order_in}
 use Rattle.sql_schema.specs.declared.accounts.TheConstants as account
 use Rattle.sql_schema.specs.declared.authorizations.TheConstants as authz
 use Rattle.sql_schema.specs.declared.challenges.TheConstants as chall
@@ -65,7 +65,11 @@ use Rattle.sql_read.proofs.AboveRows.{account_above_reading, authorization_above
 use Rattle.sql_read.proofs.Answered.{IsReading, IsReadingUpTo, all_rows, by, first_row, passes}
 use Rattle.sql_read.proofs.EarliestRows.{authorization_end_reading, issue_reading, order_end_reading, shows_moment}
 use Rattle.sql_read.proofs.Failing.{IsSure}
-use Rattle.sql_read.proofs.Fits.{account_fits, authorization_fits, challenge_fits, key_fits, listed_fits, meta_fits, nonce_fits, order_fits}
+use Rattle.sql_read.proofs.TableColumns.{account_fits, authorization_fits, challenge_fits, key_fits, listed_fits, meta_fits, nonce_fits, order_fits}
+use Rattle.sql_read.proofs.TableColumns.{account_project, account_spelled, authorization_project, authorization_spelled, challenge_project}
+use Rattle.sql_read.proofs.TableColumns.{challenge_spelled, key_project, key_spelled, listed_back, listed_project, meta_project, meta_spelled}
+use Rattle.sql_read.proofs.TableColumns.{nonce_project, nonce_spelled, order_project, order_spelled, order_status_at, authorization_status_at}
+use Rattle.sql_read.proofs.TableColumns.{challenge_status_at}
 use Rattle.sql_read.proofs.ListedOrder.{listed_shown}
 use Rattle.sql_read.proofs.Lists.{each_map_sorted}
 use Rattle.sql_read.proofs.LookUpReadings.{accounts_numbered_reading, accounts_with_key_reading, are_equal, authorizations_named_reading}
@@ -84,9 +88,6 @@ use Rattle.sql_read.proofs.LookUpReadings.{orders_numbered_sure, orders_of_sure,
 use Rattle.sql_read.proofs.SureQueries.{IsSureUpTo, query_fails, sure_keyed, table_rows}
 use Rattle.sql_read.proofs.SureTexts.{accounts_sure, authorizations_sure, meta_sure, nonces_sure, orders_sure}
 use Rattle.sql_read.proofs.Tests.{number_test}
-use Rattle.sql_read.proofs.Told.{account_project, account_spelled, authorization_project, authorization_spelled, challenge_project, challenge_spelled}
-use Rattle.sql_read.proofs.Told.{key_project, key_spelled, listed_back, listed_project, meta_project, meta_spelled, nonce_project, nonce_spelled}
-use Rattle.sql_read.proofs.Told.{order_project, order_spelled}
 
 -- a text that reads a whole table is sure without parameters
 sure_whole : (text : List ℕ) (tree : ℕ) (project : List Term) (order : List (Term × Key)) → IsSure text tree project order
@@ -206,9 +207,9 @@ module _ {S : Type 0} (g : Ghosts S) (old : Held S) (T : Tables) (has : Holds (s
   orders_query (orders_by.Number n) = orders all_rows ord.SELECT_NUMBERED.now (is_equal 0) _ orders_numbered_reading (orders_numbered_sure (pos (bounded n)))
   orders_query (orders_by.Account n) = orders all_rows ord.SELECT_OF.now (is_equal 2) _ orders_of_reading (orders_of_sure (pos (bounded n)))
   orders_query (orders_by.Past status m) =
-      orders all_rows ord.SELECT_PAST.now (past 11 4) _ orders_past_reading (orders_past_sure (order_status_text status) (pos (bounded m)))
+      orders all_rows ord.SELECT_PAST.now (past order_status_at 4) _ orders_past_reading (orders_past_sure (order_status_text status) (pos (bounded m)))
   orders_query orders_by.Processing =
-      orders all_rows ord.SELECT_WITH_STATUS.now (is_equal 11) _ orders_processing_reading (orders_processing_sure (order_status_text order.Processing))
+      orders all_rows ord.SELECT_WITH_STATUS.now (is_equal order_status_at) _ orders_processing_reading (orders_processing_sure (order_status_text order.Processing))
 
   -- of authorizations
   pub authorizations_query : (which : AuthorizationsWhere) → IsSureQuery g (authorization_text which) (authorization_params which) old
@@ -223,7 +224,7 @@ module _ {S : Type 0} (g : Ghosts S) (old : Held S) (T : Tables) (has : Holds (s
   authorizations_query (authorizations_by.Named n base) =
       authorizations all_rows authz.SELECT_NAMED.now (are_equal 2 3) _ authorizations_named_reading (authorizations_named_sure (pos (bounded n)) base.now)
   authorizations_query (authorizations_by.Past status m) =
-      authorizations all_rows authz.SELECT_PAST.now (past 9 6) _ authorizations_past_reading
+      authorizations all_rows authz.SELECT_PAST.now (past authorization_status_at 6) _ authorizations_past_reading
       (authorizations_past_sure (authorization_status_text status) (pos (bounded m)))
 
   -- of challenges
@@ -235,7 +236,7 @@ module _ {S : Type 0} (g : Ghosts S) (old : Held S) (T : Tables) (has : Holds (s
   pub challenges_processing_query : IsSureQuery g chall.SELECT_WITH_STATUS.now (Text (challenge_status_text challenge.Processing) ∷ []) old
       (AreTableRows challenge_in FitsChallenge challenge_columns IsStoredChallenge)
   challenges_processing_query =
-      challenges all_rows chall.SELECT_WITH_STATUS.now (is_equal 8) _ challenges_processing_reading
+      challenges all_rows chall.SELECT_WITH_STATUS.now (is_equal challenge_status_at) _ challenges_processing_reading
       (challenges_processing_sure (challenge_status_text challenge.Processing))
 
   pub challenges_of_query : (n : ℕ) → IsSureQuery g chall.SELECT_OF.now (Int (pos (bounded n)) ∷ []) old
@@ -295,10 +296,10 @@ module _ {S : Type 0} (g : Ghosts S) (old : Held S) (T : Tables) (has : Holds (s
       → IsSureQuery g ord.SELECT_EARLIEST.now (Text (order_status_text status) ∷ []) old BeginWithMoment
   order_end_query status = record {
     fails = λ new e.
-        query_fails first_row ord.SELECT_EARLIEST.now 4 (is_equal 11) (col 1 4 ∷ []) (by 4 ∷ []) (Text (order_status_text status) ∷ []) order_end_reading
+        query_fails first_row ord.SELECT_EARLIEST.now 4 (is_equal order_status_at) (col 1 4 ∷ []) (by 4 ∷ []) (Text (order_status_text status) ∷ []) order_end_reading
         (order_end_sure (order_status_text status)) (state g old) (state g new) has.schema e may;
     shows = λ new rows h.
-        shows_moment order_layout (λ o. o.expires) ord.SELECT_EARLIEST.now (is_equal 11) 4 (Text (order_status_text status) ∷ []) order_end_reading (λ _. refl)
+        shows_moment order_layout (λ o. o.expires) ord.SELECT_EARLIEST.now (is_equal order_status_at) 4 (Text (order_status_text status) ∷ []) order_end_reading (λ _. refl)
         (λ _. refl) (state g old) (state g new) T.orders rows (orders_held (state g old).now T has) h;
   }
 
@@ -306,9 +307,9 @@ module _ {S : Type 0} (g : Ghosts S) (old : Held S) (T : Tables) (has : Holds (s
       → IsSureQuery g authz.SELECT_EARLIEST.now (Text (authorization_status_text status) ∷ []) old BeginWithMoment
   authorization_end_query status = record {
     fails = λ new e.
-        query_fails first_row authz.SELECT_EARLIEST.now 5 (is_equal 9) (col 1 6 ∷ []) (by 6 ∷ []) (Text (authorization_status_text status) ∷ [])
+        query_fails first_row authz.SELECT_EARLIEST.now 5 (is_equal authorization_status_at) (col 1 6 ∷ []) (by 6 ∷ []) (Text (authorization_status_text status) ∷ [])
         authorization_end_reading (authorization_end_sure (authorization_status_text status)) (state g old) (state g new) has.schema e may;
     shows = λ new rows h.
-        shows_moment authorization_layout (λ r. r.expires) authz.SELECT_EARLIEST.now (is_equal 9) 6 (Text (authorization_status_text status) ∷ [])
+        shows_moment authorization_layout (λ r. r.expires) authz.SELECT_EARLIEST.now (is_equal authorization_status_at) 6 (Text (authorization_status_text status) ∷ [])
         authorization_end_reading (λ _. refl) (λ _. refl) (state g old) (state g new) T.authorizations rows (authorizations_held (state g old).now T has) h;
   }

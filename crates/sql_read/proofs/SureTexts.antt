@@ -13,8 +13,8 @@ use Rattle.sql_schema.specs.declared.orders.TheConstants as ord
 use Rattle.sql_schema.specs.declared.listed.TheConstants as ord_authz
 use Rattle.sql_read.proofs.Answered.{by}
 use Rattle.sql_read.proofs.Failing.{IsSure}
-use Rattle.sql_read.proofs.Told.{account_project, authorization_project, challenge_project, key_project}
-use Rattle.sql_read.proofs.Told.{listed_project, meta_project, nonce_project, order_project}
+use Rattle.sql_read.proofs.TableColumns.{account_project, authorization_project, challenge_project, key_project, listed_project, meta_project}
+use Rattle.sql_read.proofs.TableColumns.{nonce_project, order_project}
 
 -- `meta`
 pub meta_sure : IsSure meta.SELECT.now 0 meta_project (by 0 ∷ [])

@@ -23,8 +23,8 @@ use Rattle.sql_tables.specs.Layouts.{key_layout, meta_layout, nonce_layout, orde
 use Rattle.sql_tables.specs.Sorted.{sorted_by}
 use Rattle.sql_tables.proofs.Holding.{accounts_held, authorizations_held, challenges_held, keys_held, meta_held, nonces_held, orders_held}
 use Rattle.sql_read.specs.Failures.{FailsToRead, HasTexts, IsReadable, MayRead}
-use Rattle.sql_read.specs.Fitting.{FitsAccount, FitsAuthorization, FitsChallenge, FitsKey, FitsListed, FitsMeta, FitsNonce, FitsOrder}
-use Rattle.sql_read.specs.Spelled.{account_in, authorization_in, challenge_in, key_in, meta_in, nonce_in, order_in}
+use Rattle.sql_read.specs.Spelled.{FitsAccount, FitsAuthorization, FitsChallenge, FitsKey, FitsListed, FitsMeta, FitsNonce, FitsOrder, account_in}
+use Rattle.sql_read.specs.Spelled.{authorization_in, challenge_in, key_in, meta_in, nonce_in, order_in}
 use Rattle.sql_schema.specs.declared.accounts.TheConstants as account
 use Rattle.sql_schema.specs.declared.authorizations.TheConstants as authz
 use Rattle.sql_schema.specs.declared.challenges.TheConstants as chall
@@ -35,16 +35,16 @@ use Rattle.sql_schema.specs.declared.orders.TheConstants as ord
 use Rattle.sql_schema.specs.declared.listed.TheConstants as ord_authz
 use Rattle.sql_read.proofs.Answered.{IsReading, by}
 use Rattle.sql_read.proofs.Failing.{IsSure, query_fails, reading_fails}
-use Rattle.sql_read.proofs.Fits.{account_fits, all_fit, authorization_fits, challenge_fits, key_fits, listed_fits, meta_fits, nonce_fits, order_fits}
+use Rattle.sql_read.proofs.TableColumns.{account_fits, all_fit, authorization_fits, challenge_fits, key_fits, listed_fits, meta_fits, nonce_fits}
+use Rattle.sql_read.proofs.TableColumns.{order_fits, IsSpelled, account_project, account_spelled, authorization_project, authorization_spelled}
+use Rattle.sql_read.proofs.TableColumns.{challenge_project, challenge_spelled, key_project, key_spelled, listed_project, meta_project, meta_spelled}
+use Rattle.sql_read.proofs.TableColumns.{nonce_project, nonce_spelled, order_project, order_spelled}
 use Rattle.sql_read.proofs.KeyedReadings.{shown_keyed}
 use Rattle.sql_read.proofs.Lists.{each_map_sorted, filter-all}
 use Rattle.sql_read.proofs.Readings.{accounts_reading, authorizations_reading, challenges_reading, format_reading, keys_reading}
 use Rattle.sql_read.proofs.Readings.{listed_reading, meta_reading, nonces_reading, orders_reading}
 use Rattle.sql_read.proofs.SureTexts.{accounts_sure, authorizations_sure, challenges_sure, format_sure, keys_sure}
 use Rattle.sql_read.proofs.SureTexts.{listed_sure, meta_sure, nonces_sure, orders_sure}
-use Rattle.sql_read.proofs.Told.{IsSpelled, account_project, account_spelled, authorization_project, authorization_spelled}
-use Rattle.sql_read.proofs.Told.{challenge_project, challenge_spelled, key_project, key_spelled, listed_project, meta_project, meta_spelled}
-use Rattle.sql_read.proofs.Told.{nonce_project, nonce_spelled, order_project, order_spelled}
 use Rattle.sql_read.proofs.WholeTables.{listed_cells_shown}
 
 -- the reading of a table by number

@@ -46,9 +46,9 @@ use Rattle.sql_read.proofs.KeyedReadings.{columns_of, reads_keyed}
 use Rattle.sql_read.proofs.Lists.{filter-all, map_moved}
 use Rattle.sql_read.proofs.Readings.{accounts_reading, authorizations_reading, challenges_reading, keys_reading, listed_reading}
 use Rattle.sql_read.proofs.Readings.{meta_reading, nonces_reading, orders_reading}
-use Rattle.sql_read.proofs.Told.{IsSpelled, account_project, account_spelled, authorization_project, authorization_spelled}
-use Rattle.sql_read.proofs.Told.{challenge_project, challenge_spelled, key_project, key_spelled, listed_back, listed_project, meta_project}
-use Rattle.sql_read.proofs.Told.{meta_spelled, nonce_project, nonce_spelled, order_project, order_spelled}
+use Rattle.sql_read.proofs.TableColumns.{IsSpelled, account_project, account_spelled, authorization_project, authorization_spelled, challenge_project}
+use Rattle.sql_read.proofs.TableColumns.{challenge_spelled, key_project, key_spelled, listed_back, listed_project, meta_project, meta_spelled}
+use Rattle.sql_read.proofs.TableColumns.{nonce_project, nonce_spelled, order_project, order_spelled}
 
 -- all rows of a table, in the order of their keys
 whole : {X C : Type 0} (L : Layout X) (columns : X → C) (spelled : Row → C) (project : List Term) → IsSpelled L columns spelled project

@@ -12,9 +12,9 @@ use Rattle.store_columns.specs.declared.columns.NonceColumns.{NonceColumns}
 use Rattle.store_columns.specs.declared.columns.OrderAuthzColumns.{OrderAuthzColumns}
 use Rattle.store_columns.specs.declared.columns.OrderColumns.{OrderColumns}
 use Rattle.sql_read.specs.Failures.{FailsHere, IsReadable}
-use Rattle.sql_read.specs.Fitting.{FitsAccount, FitsAuthorization, FitsChallenge, FitsKey, FitsListed, FitsMeta, FitsNonce, FitsOrder}
+use Rattle.sql_read.specs.Spelled.{FitsAccount, FitsAuthorization, FitsChallenge, FitsKey, FitsListed, FitsMeta, FitsNonce, FitsOrder, account_in}
+use Rattle.sql_read.specs.Spelled.{authorization_in, challenge_in, key_in, listed_in, meta_in, nonce_in, order_in}
 use Rattle.sql_read.specs.Shown.{IsShown}
-use Rattle.sql_read.specs.Spelled.{account_in, authorization_in, challenge_in, key_in, listed_in, meta_in, nonce_in, order_in}
 use Rattle.sql_schema.specs.declared.accounts.TheConstants as account
 use Rattle.sql_schema.specs.declared.authorizations.TheConstants as authz
 use Rattle.sql_schema.specs.declared.challenges.TheConstants as chall

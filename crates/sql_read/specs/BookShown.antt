@@ -1,5 +1,5 @@
 -- What readings of all tables, row by row, tell of the database.
-use Rattle.std.specs.Prelude.{◌≡◌, ◌⊎◌, ℕ, Bool, List, Result, IfErr, IfOk, IsTrue, OnOk, map}
+use Rattle.std.specs.Prelude.{◌⊎◌, ℕ, Bool, List, Result, IfErr, IfOk, IsTrue, OnOk, map}
 use Rattle.sqlite.specs.Effect.{Database}
 use Rattle.sqlite.specs.Held.{Held, state}
 use Rattle.sqlite.specs.State.{HasCleanDisk, IsUnchanged}

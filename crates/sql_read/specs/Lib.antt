@@ -6,7 +6,6 @@ pub mod Checking
 pub mod Failures
 pub mod First
 pub mod FirstRows
-pub mod Fitting
 pub mod Format
 pub mod Heads
 pub mod Held

@@ -9,11 +9,10 @@ ghost use Rattle.desk_model.specs.Kept.{EachOf};
 ghost use Rattle.desk_model.specs.declared.rows.ChallengeRow.{ChallengeRow as Challenge};
 ghost use Rattle.sql_schema.specs.Stays.{Asks};
 ghost use Rattle.sql_read.specs.Failures.{MayRead};
-ghost use Rattle.sql_read.specs.Fitting.{FitsKey};
+ghost use Rattle.sql_read.specs.Spelled.{FitsKey, key_in};
 ghost use Rattle.sql_read.specs.Held.{ForHeld};
 ghost use Rattle.sql_read.specs.Keys.{HasItsKey, answered_as, keys_of};
 ghost use Rattle.sql_read.specs.LookUpFaults.{IsOfMemoryOrDisk};
-ghost use Rattle.sql_read.specs.Spelled.{key_in};
 ghost use Rattle.store_book.specs.IsBook.{IsStoredBook};
 
 use crate::columns::Selected;

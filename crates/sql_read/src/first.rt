@@ -14,7 +14,7 @@ ghost use Rattle.sql_read.specs.AllTables.{FailsAtFirst};
 ghost use Rattle.sql_read.specs.Failures.{FailsHere, HasTexts, IsMet, IsOutOfMemory, IsReadable, MayRead};
 ghost use Rattle.sql_read.specs.First.{AreFirstShown, ForFirst, ShowsFirstMeta, blank_key, raised, raised_meta};
 ghost use Rattle.sql_read.specs.FirstRows.{IsFirstMeta, IsFirstReadable, IsWithRows};
-ghost use Rattle.sql_read.specs.Fitting.{FitsMeta};
+ghost use Rattle.sql_read.specs.Spelled.{FitsMeta};
 ghost use Rattle.sql_read.specs.Reads.{Reads};
 ghost use Rattle.sql_read.specs.Shown.{AreColumnsOf};
 ghost use Rattle.store_laws.specs.Blank.{blank, zeros};

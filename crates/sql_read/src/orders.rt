@@ -8,11 +8,10 @@ ghost use Rattle.model_lives.specs.LookUps.{bare_orders_of, orders_listing, orde
 ghost use Rattle.sql_schema.specs.Stays.{Asks};
 ghost use Rattle.sql_read.specs.Earliest.{IsEarliest, order_ends};
 ghost use Rattle.sql_read.specs.Failures.{MayRead};
-ghost use Rattle.sql_read.specs.Fitting.{FitsListed, FitsOrder};
+ghost use Rattle.sql_read.specs.Spelled.{FitsListed, FitsOrder, listed_in, order_in};
 ghost use Rattle.sql_read.specs.Held.{ForHeld};
 ghost use Rattle.sql_read.specs.LookUpFaults.{IsOfMemoryOrDisk};
 ghost use Rattle.sql_read.specs.Queries.{bound_by, order_params, order_text};
-ghost use Rattle.sql_read.specs.Spelled.{listed_in, order_in};
 ghost use Rattle.store_book.specs.IsBook.{IsStoredBook};
 ghost use Rattle.sql_read.specs.Under.{HasItsListed};
 

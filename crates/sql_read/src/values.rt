@@ -3,8 +3,8 @@ ghost use Rattle.std.specs.Prelude.{◌≡◌, IfErr, IfOk, Ok, map, option_map,
 ghost use Rattle.sqlite.specs.Order.{column};
 ghost use Rattle.desk_model.specs.Kept.{EachOf};
 ghost use Rattle.sql_read.specs.Failures.{IsOfNoDevice, IsOutOfMemory};
-ghost use Rattle.sql_read.specs.Fitting.{HasAt, HoldsBlob, HoldsBlobOrNull, HoldsInt, HoldsIntOrNull, HoldsText, HoldsTextOrNull};
-ghost use Rattle.sql_read.specs.Spelled.{bytes_in, bytes_or_none, number_in, number_or_none};
+ghost use Rattle.sql_read.specs.Spelled.{HasAt, HoldsBlob, HoldsBlobOrNull, HoldsInt, HoldsIntOrNull, HoldsText, HoldsTextOrNull, bytes_in};
+ghost use Rattle.sql_read.specs.Spelled.{bytes_or_none, number_in, number_or_none};
 
 use desk_model::{Sequence, Text};
 use sqlite::{Error, Row};

@@ -1,4 +1,4 @@
-use Rattle.std.proofs.Common.{◌≡◌, ap, inr, subst}
+use Rattle.std.proofs.Common.{inr, subst}
 use Rattle.store_book.specs.BookRows.{AreKeys}
 use Rattle.sql_read.specs.BookShown.{ShowsKeys}
 use Rattle.sql_read.specs.declared.formats.Format.TheVariants.{Second}

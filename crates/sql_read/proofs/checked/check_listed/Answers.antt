@@ -1,4 +1,4 @@
-use Rattle.std.proofs.Common.{◌≡◌, ap, inl, inr, subst}
+use Rattle.std.proofs.Common.{inl, inr, subst}
 use Rattle.store_book.specs.BookRows.{AreListed}
 use Rattle.sql_read.specs.BookShown.{ShowsChallenges, ShowsListed}
 use Rattle.sql_read.proofs.BookChecks.{at_table, checks_failed, checks_stopped, checks_then, in_format, table_as}

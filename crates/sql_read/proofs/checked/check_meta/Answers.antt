@@ -1,6 +1,6 @@
-use Rattle.std.proofs.Common.{◌≡◌, ap, inl, subst}
+use Rattle.std.proofs.Common.{inl}
 use Rattle.sql_read.specs.BookShown.{ShowsBookRows, ShowsNonces}
-use Rattle.sql_read.proofs.BookChecks.{at_table, checks_failed, checks_stopped, checks_then, table_as}
+use Rattle.sql_read.proofs.BookChecks.{at_table, checks_failed, checks_stopped, checks_then}
 use Rattle.sql_read.specs.declared.formats.Format.TheVariants.{Second}
 use Rattle.sql_read.proofs.Readings.{meta_reading}
 use Rattle.sql_read.proofs.TableFailures.{meta_readable}

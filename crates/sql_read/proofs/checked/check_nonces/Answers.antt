@@ -1,4 +1,4 @@
-use Rattle.std.proofs.Common.{◌≡◌, ap, inl, inr, subst}
+use Rattle.std.proofs.Common.{inl, inr, subst}
 use Rattle.model_laws.specs.Ordered.{IsTable}
 use Rattle.sql_read.specs.BookShown.{ShowsAccounts, ShowsNonces}
 use Rattle.sql_read.proofs.BookChecks.{at_table, checks_failed, checks_stopped, checks_then, in_format, table_as}

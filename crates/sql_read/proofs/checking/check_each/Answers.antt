@@ -1,4 +1,4 @@
-use Rattle.std.proofs.Common.{◌≡◌, [], IfErr, inl, inr, refl, sym, ◌∙◌, rules, arith}
+use Rattle.std.proofs.Common.{[], IfErr, inl, inr, refl, ◌∙◌, rules, arith}
 use Rattle.std.specs.Prelude.{◌⊎◌}
 use Rattle.sqlite.specs.Held.{state}
 use Rattle.sqlite.specs.State.{HasCleanDisk}

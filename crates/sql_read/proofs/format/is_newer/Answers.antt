@@ -1,4 +1,4 @@
-use Rattle.std.proofs.Common.{[], IsTrue, sym, ◌∙◌}
+use Rattle.std.proofs.Common.{IsTrue, sym, ◌∙◌}
 use Rattle.sqlite.specs.Held.{state}
 use Rattle.sql_read.proofs.FormatLemmas.{first_never_newer, later_fails, later_is_newer, never_newer}
 use Rattle.sql_read.proofs.Readings.{format_reading}

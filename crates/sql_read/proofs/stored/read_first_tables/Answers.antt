@@ -1,5 +1,5 @@
-use Rattle.sql_read.specs.Fitting.{FitsAccount, FitsAuthorization, FitsChallenge, FitsListed, FitsMeta, FitsNonce, FitsOrder}
-use Rattle.sql_read.specs.Spelled.{account_in, authorization_in, challenge_in, listed_in, meta_in, nonce_in, order_in}
+use Rattle.sql_read.specs.Spelled.{FitsAccount, FitsAuthorization, FitsChallenge, FitsListed, FitsMeta, FitsNonce, FitsOrder, account_in}
+use Rattle.sql_read.specs.Spelled.{authorization_in, challenge_in, listed_in, meta_in, nonce_in, order_in}
 use Rattle.sql_schema.specs.declared.accounts.TheConstants as account
 use Rattle.sql_schema.specs.declared.authorizations.TheConstants as authz
 use Rattle.sql_schema.specs.declared.challenges.TheConstants as chall

@@ -1,5 +1,4 @@
-use Rattle.sql_read.specs.Fitting.{FitsKey}
-use Rattle.sql_read.specs.Spelled.{key_in}
+use Rattle.sql_read.specs.Spelled.{FitsKey, key_in}
 use Rattle.sql_schema.specs.declared.keys.TheConstants as chall_key
 use Rattle.sql_read.proofs.ReadsChain.{reads_more}
 use Rattle.sql_read.proofs.Readings.{keys_reading}
