@@ -60,38 +60,22 @@ is_higher = op2 (Compare Gt Binary) (col 1 0) (col 0 0) ∷ []
 -- an account
 pub account_above_reading : IsReadingUpTo first_row account.SELECT_ABOVE.now 2 is_higher account_project (by 0 ∷ [])
 unfolding everything
-account_above_reading = record {
-  names = account_names;
-  means = refl;
-  selecting = refl;
-}
+account_above_reading = record { names = account_names; means = refl; selecting = refl }
 
 -- an order
 pub order_above_reading : IsReadingUpTo first_row ord.SELECT_ABOVE.now 4 is_higher order_project (by 0 ∷ [])
 unfolding everything
-order_above_reading = record {
-  names = order_names;
-  means = refl;
-  selecting = refl;
-}
+order_above_reading = record { names = order_names; means = refl; selecting = refl }
 
 -- an authorization
 pub authorization_above_reading : IsReadingUpTo first_row authz.SELECT_ABOVE.now 5 is_higher authorization_project (by 0 ∷ [])
 unfolding everything
-authorization_above_reading = record {
-  names = authorization_names;
-  means = refl;
-  selecting = refl;
-}
+authorization_above_reading = record { names = authorization_names; means = refl; selecting = refl }
 
 -- a challenge
 pub challenge_above_reading : IsReadingUpTo first_row chall.SELECT_ABOVE.now 8 is_higher challenge_project (by 0 ∷ [])
 unfolding everything
-challenge_above_reading = record {
-  names = challenge_names;
-  means = refl;
-  selecting = refl;
-}
+challenge_above_reading = record { names = challenge_names; means = refl; selecting = refl }
 
 -- ---- challenges without their owners
 

@@ -1,5 +1,5 @@
 -- Tables that are checked one after the other.
-use Rattle.std.proofs.Common.{◌≡◌, inl, inr, ℕ, List, Bool, true, false, Result, Ok, Err, IfOk, IsErrAnd, OnOk, sym, subst, ◌∙◌, arith}
+use Rattle.std.proofs.Common.{◌≡◌, inl, inr, ℕ, List, Bool, true, false, Result, Ok, Err, IfOk, IsErrAnd, sym, subst, ◌∙◌, arith}
 use Rattle.std.proofs.lemmas.Result.{IfOk-from_err}
 use Rattle.std.specs.Prelude.{◌⊎◌, IsErr, IsTrue}
 use Rattle.sqlite.specs.Effect.{Database}
@@ -8,7 +8,6 @@ use Rattle.sqlite.specs.Order.{Row}
 use Rattle.sqlite.specs.State.{HasCleanDisk, IsUnchanged}
 use Rattle.sqlite.specs.Store.{Ghosts}
 use Rattle.sqlite.specs.declared.error.Error.{Error}
-use Rattle.sqlite.proofs.Callers.{unchanged_then}
 use Rattle.desk_model.specs.Tables.{Tables}
 use Rattle.sql_read.specs.AllTables.{FailsAtFirst, FailsAtTable}
 use Rattle.sql_read.specs.BookShown.{Checks, FailsIn, HoldsIn}
@@ -18,7 +17,7 @@ use Rattle.sql_read.specs.declared.formats.Format.{Format}
 use Rattle.sql_read.specs.declared.formats.Format.TheVariants.{First, Second}
 use Rattle.sql_read.proofs.Failing.{may_read_still}
 use Rattle.sql_read.proofs.MetFaults.{met_behind}
-use Rattle.sql_read.proofs.Results.{failed_as, fails_then}
+use Rattle.sql_read.proofs.Results.{failed_as, fails_then, unchanged_after}
 use Rattle.sql_schema.specs.Failing.{IsFailure}
 use Rattle.sql_schema.specs.Stays.{Asks}
 use Rattle.sql_schema.proofs.StaysLemmas.{asks_then}
@@ -117,7 +116,7 @@ module _ {S : Type 0} (g : Ghosts S) where
       | inr at ↦ inr (format_still format old mid e (same (honest clean)).0.now_is at)
     ]);
     met = λ clean. fails_then r (rest.met clean) (λ e is. met_behind (state g old) (state g mid) (state g new) e asks is);
-    unchanged = λ clean. unchanged r (honest clean) (rest.unchanged clean);
+    unchanged = λ clean. unchanged_after r (state g old) (state g mid) (state g new) (same (honest clean)) (λ _. rest.unchanged clean);
     asks = asks_then (state g old) (state g mid) (state g new) asks rest.asks;
   }
     where
@@ -128,11 +127,6 @@ module _ {S : Type 0} (g : Ghosts S) where
           → IfOk r (λ known. IsTrue known → P (state g old).now)
       told (Ok known) clean q = λ is. so clean (subst Q (same clean).0.now_is (q is))
       told (Err e) clean q = tt
-
-      unchanged : (r : Result Bool Error) → HasCleanDisk (state g mid) → OnOk r (IsUnchanged (state g mid) (state g new))
-          → OnOk r (IsUnchanged (state g old) (state g new))
-      unchanged (Ok known) clean is = unchanged_then (state g old) (state g mid) (state g new) (same clean) is
-      unchanged (Err e) clean is = tt
 
 -- a table of which more is known
 pub table_as : {S C R : Type 0} {g : Ghosts S} {text : List ℕ} {spelled : Row → C} {write : R → C} {IsStored : R → Type 0} {db : Database}

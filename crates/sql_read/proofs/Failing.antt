@@ -1,6 +1,6 @@
 -- A query of a desk's tables fails for memory or the disk alone.
 use Rattle.std.proofs.Common.{◌≡◌, inl, inr, ℕ, true, List, [], ◌∷◌, length, IsTrue, IsSome, None, Option, Ok, Err, Result, All}
-use Rattle.std.proofs.Common.{refl, sym, ap, subst, ◌∙◌, arith}
+use Rattle.std.proofs.Common.{refl, sym, ap, subst, ◌∙◌, arith, append-nil}
 use Rattle.sqlite_value.specs.Order.{Row}
 use Rattle.sqlite_trees.specs.declared.error.StoreError.{StoreError}
 use Rattle.sqlite_trees.specs.declared.error.StoreError.TheVariants as store
@@ -25,7 +25,7 @@ use Rattle.sql_schema.specs.Schema.{desk_schema, first_schema}
 use Rattle.sqlite.specs.Schema.{Schema}
 use Rattle.sql_schema.specs.Stays.{Asks}
 use Rattle.sql_read.specs.Failures.{FailsToRead, MayRead}
-use Rattle.sql_read.proofs.Answered.{IsCommand, IsReadingIn, all_rows, compiled_alone, picked}
+use Rattle.sql_read.proofs.Answered.{IsCommand, IsReadingIn, all_rows, compiled_alone, picked_up_to}
 
 -- ---- the engine
 
@@ -39,18 +39,26 @@ abbrev pub names_of : Result Compiled CompileError → List (List ℕ)
 names_of (Ok c) = c.names
 names_of (Err e) = []
 
--- the text is one statement without parameters, and compares no values of other kinds
-pub record IsSureIn (schema : Schema) (text : List ℕ) (tree : ℕ) (project : List Term) (order : List (Term × Key)) : Type 0 where
-  pub long : tail_of (understood schema text) ≡ length text
-  pub nameless : names_of (understood schema text) ≡ []
-  pub typed : accepts_program schema [] (picked tree [] project order) [] ≡ true
+-- how long the statement is that was understood, and how many parameters it has
+abbrev pub sizes_of : Result Compiled CompileError → ℕ × ℕ
+sizes_of r = (tail_of r, length (names_of r))
 
--- over the schema of a desk, and over that of format 1
+-- the text is one statement with as many parameters as are given, and compares no values of other kinds
+pub record IsSureIn (schema : Schema) (limit : Term) (text : List ℕ) (tree : ℕ) (tests project : List Term) (order : List (Term × Key)) (params : Row)
+    : Type 0 where
+  pub sizes : sizes_of (understood schema text) ≡ (length text, length params)
+  pub typed : accepts_program schema [] (picked_up_to limit tree tests project order) params ≡ true
+
+-- over the schema of a desk
+abbrev pub IsSureUpTo : Term → List ℕ → ℕ → List Term → List Term → List (Term × Key) → Row → Type 0
+IsSureUpTo = IsSureIn desk_schema
+
+-- of a whole table, over that schema and over that of format 1
 abbrev pub IsSure : List ℕ → ℕ → List Term → List (Term × Key) → Type 0
-IsSure = IsSureIn desk_schema
+IsSure text tree project order = IsSureUpTo all_rows text tree [] project order []
 
 abbrev pub IsFirstSure : List ℕ → ℕ → List Term → List (Term × Key) → Type 0
-IsFirstSure = IsSureIn first_schema
+IsFirstSure text tree project order = IsSureIn first_schema all_rows text tree [] project order []
 
 -- a failure of an open store
 pub failed : (old new : State) (e : Error) (cause : StoreError) → IsTrue old.is_open → e ≡ store_error cause → HasCause old new ⊥ cause → IsFailure e
@@ -61,14 +69,14 @@ failed old new e store.Full is_open is why = inr (inr (inr is))
 failed old new e store.Broken is_open is why = absurd (let x = sym is_open ∙ why in cc)
 failed old new e store.Unstorable is_open is why = absurd why
 
-module _ {schema : Schema} (text : List ℕ) (tree : ℕ) (project : List Term) (order : List (Term × Key))
-    (is : IsReadingIn schema all_rows text tree [] project order)
-    (sure : IsSureIn schema text tree project order) (old new : State) (has : old.now.schema ≡ schema) (e : Error) where
+module _ {schema : Schema} (limit : Term) (text : List ℕ) (tree : ℕ) (tests project : List Term) (order : List (Term × Key)) (params : Row)
+    (is : IsReadingIn schema limit text tree tests project order)
+    (sure : IsSureIn schema limit text tree tests project order params) (old new : State) (has : old.now.schema ≡ schema) (e : Error) where
   -- what the text means
-  meant : IsCommand schema text (Select (record { lets = []; body = picked tree [] project order }) is.names)
+  meant : IsCommand schema text (Select (record { lets = []; body = picked_up_to limit tree tests project order }) is.names)
   meant = compiled_alone text _ is.means
 
-  -- what is understood over the schema
+  -- what is understood is understood over the schema
   known : (c : Compiled) → understood old.now.schema text ≡ Ok c → understood schema text ≡ Ok c
   known c h = ap (λ s. understood s text) (sym has) ∙ h
 
@@ -79,53 +87,58 @@ module _ {schema : Schema} (text : List ℕ) (tree : ℕ) (project : List Term) 
       let nothing = sym meant.is ∙ ap command_of there in
       absurd (cc)
 
-  -- and is one statement
-  never_none : IsNoStatement old text [] e → ⊥
+  -- and is one statement with these parameters
+  never_none : IsNoStatement old text params e → ⊥
   never_none (inl (fault, h, why)) = no_error fault h
   never_none (inr (c, h, inl cut)) =
-      let tail : c.tail ≡ length text = sym (ap tail_of (known c h)) ∙ sure.long in
+      let tail : c.tail ≡ length text = sym (ap tail_of (known c h)) ∙ ap (λ (s : ℕ × ℕ). s.0) sure.sizes in
       cut.0 (omega (arith, tail))
   never_none (inr (c, h, inr (inl given))) =
-      let names : c.names ≡ [] = sym (ap names_of (known c h)) ∙ sure.nameless in
-      given.0 (ap length (sym names))
+      let counted : length c.names ≡ length params =
+      sym (ap (λ r. length (names_of r)) (known c h)) ∙ ap (λ (s : ℕ × ℕ). s.1) sure.sizes in
+      given.0 (sym counted)
   never_none (inr (c, h, inr (inr clock))) = clock.0 (subst IsPlain (known c h) meant.plain).1
 
   -- the query is not refused
-  refused : (limit : Option ℕ) → limit ≡ None → (command : Command) (params : Row) (db : Database)
-      → command ≡ Select (record { lets = []; body = picked tree [] project order }) is.names → params ≡ [] → db ≡ old.now
-      → RefusesToRead limit command db params e → ⊥
-  refused limit unlimited command params db same bare source h =
-      let query = Select (record { lets = []; body = picked tree [] project order }) is.names in
-      let h2 : RefusesToRead limit query old.now [] e =
-      subst (λ d. RefusesToRead limit query d [] e) source (subst (λ p. RefusesToRead limit query db p e) bare
-      (subst (λ k. RefusesToRead limit k db params e) same h)) in
-      go h2
+  refused : (steps : Option ℕ) → steps ≡ None → (command : Command) (values : Row) (db : Database)
+      → command ≡ Select (record { lets = []; body = picked_up_to limit tree tests project order }) is.names → values ≡ params → db ≡ old.now
+      → RefusesToRead steps command db values e → ⊥
+  refused steps unlimited command values db same given source h =
+      let query = Select (record { lets = []; body = picked_up_to limit tree tests project order }) is.names in
+      let asked : RefusesToRead steps query old.now params e =
+      subst (λ d. RefusesToRead steps query d params e) source (subst (λ p. RefusesToRead steps query db p e) given
+      (subst (λ k. RefusesToRead steps k db values e) same h)) in
+      go asked
     where
-      go : RefusesToRead limit (Select (record { lets = []; body = picked tree [] project order }) is.names) old.now [] e → ⊥
+      go : RefusesToRead steps (Select (record { lets = []; body = picked_up_to limit tree tests project order }) is.names) old.now params e → ⊥
       go (inl mismatch) =
-          absurd (let x = sym (ap (λ s. accepts_program s [] (picked tree [] project order) []) has ∙ sure.typed) ∙ mismatch.1 in cc)
+          absurd (let x = sym (ap (λ s. accepts_program s [] (picked_up_to limit tree tests project order) params) has ∙ sure.typed) ∙ mismatch.1 in cc)
       go (inr (inl (why, inl none))) = none
-      go (inr (inl (why, inr folds))) = no_fold_overflows (overlay old.now.trees []) (inner tree end) ([] ∷ []) refl folds
+      go (inr (inl (why, inr folds))) = no_fold_overflows (overlay old.now.trees []) (inner tree end) (params ∷ []) refl folds
       go (inr (inr stopped)) = absurd (let x = subst (λ (l : Option ℕ). IsSome l) unlimited stopped.1 in cc)
 
   -- so it fails for memory or the disk alone
-  pub query_fails : MayRead old → FailsToQuery text [] old new e → IsFailure e
+  pub query_fails : MayRead old → FailsToQuery text params old new e → IsFailure e
   unfolding FailsToQuery IsNotRun
   query_fails may (inl (inl none)) = absurd (never_none none.0)
   query_fails may (inl (inr fails)) = failed old new e fails.0 may.is_open fails.1 fails.2
   query_fails may (inr (c, it, h)) =
       let k = known c it.is in
       let plain = subst IsPlain k meant.plain in
-      let shown : FailsToShow old new text c (timed [] c.formats it.now) e None = subst (FailsToShow old new text c (timed [] c.formats it.now) e) plain.0 h in
+      let values = timed params c.formats it.now in
+      let shown : FailsToShow old new text c values e None = subst (FailsToShow old new text c values e) plain.0 h in
       let db : shown.0 ≡ old.now = subst (λ b. IsSourceOf b old.now shown.0) (ap (λ s. reads_listing s text) has ∙ meant.unlisted) shown.1 in
-      let bare : timed [] c.formats it.now ≡ [] = ap (λ f. timed [] f it.now) plain.1 in
-      absurd (refused old.step_limit may.unlimited c.command (timed [] c.formats it.now) shown.0 (sym (ap command_of k) ∙ meant.is) bare db shown.2)
+      let bare : values ≡ params = ap (λ f. timed params f it.now) plain.1 ∙ append-nil params in
+      absurd (refused old.step_limit may.unlimited c.command values shown.0 (sym (ap command_of k) ∙ meant.is) bare db shown.2)
 
-  -- and so does a reading, where the rows that it shows fit
-  pub reading_fails : (Fits : Row → Type 0) → MayRead old → ((rows : List Row) → Shown text [] old new rows → All Fits rows)
-      → FailsToRead text [] old new Fits e → IsFailure e
-  reading_fails Fits may fit (inl query) = query_fails may query
-  reading_fails Fits may fit (inr (rows, shown, memory)) = inl (memory (fit rows shown))
+-- and so does a reading of a whole table, where the rows that it shows fit
+pub reading_fails : {schema : Schema} (text : List ℕ) (tree : ℕ) (project : List Term) (order : List (Term × Key))
+    → IsReadingIn schema all_rows text tree [] project order → IsSureIn schema all_rows text tree [] project order [] → (old new : State)
+    → old.now.schema ≡ schema → (e : Error) (Fits : Row → Type 0) → MayRead old → ((rows : List Row) → Shown text [] old new rows → All Fits rows)
+    → FailsToRead text [] old new Fits e → IsFailure e
+reading_fails text tree project order is sure old new has e Fits may fit (inl query) =
+    query_fails all_rows text tree [] project order [] is sure old new has e may query
+reading_fails text tree project order is sure old new has e Fits may fit (inr (rows, shown, memory)) = inl (memory (fit rows shown))
 
 -- ---- one reading after another
 

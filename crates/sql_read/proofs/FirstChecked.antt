@@ -1,12 +1,11 @@
 -- The row of the desk in format 1, read before the rows that it counts are checked.
 use Rattle.std.proofs.Common.{◌≡◌, ◌⊎◌, inl, inr, ◌∷◌, [], map, Option, Some, None, true}
-use Rattle.std.proofs.Common.{false, Result, Ok, Err, IfSome, OnOk, refl, sym, ap, subst, ◌∙◌, arith}
+use Rattle.std.proofs.Common.{false, Result, Ok, Err, IfSome, refl, sym, ap, subst, ◌∙◌, arith}
 use Rattle.std.specs.Prelude.{IsSome}
 use Rattle.sqlite.specs.Held.{Held, state}
 use Rattle.sqlite.specs.State.{HasCleanDisk, IsUnchanged}
 use Rattle.sqlite.specs.Store.{Ghosts}
 use Rattle.sqlite.specs.declared.error.Error.{Error}
-use Rattle.sqlite.proofs.Callers.{unchanged_then}
 use Rattle.store_book.specs.IsBook.{IsBookOfStored, IsStoredBook}
 use Rattle.store_columns.specs.Columns.{meta_columns}
 use Rattle.store_columns.specs.declared.columns.StoredRows.{StoredRows}
@@ -26,7 +25,7 @@ use Rattle.sql_read.proofs.BookOfShown.{first_book_shown}
 use Rattle.sql_read.proofs.Failing.{may_read_still}
 use Rattle.sql_read.proofs.FirstTables.{meta_read, meta_readable}
 use Rattle.sql_read.proofs.MetFaults.{met_behind}
-use Rattle.sql_read.proofs.Results.{fails_then, read_then}
+use Rattle.sql_read.proofs.Results.{fails_then, read_then, unchanged_after}
 use Rattle.sql_schema.specs.declared.meta.TheConstants as meta
 use Rattle.sql_schema.proofs.StaysLemmas.{asks_then}
 use Rattle.sql_tables.specs.Holds.{HoldsFirst}
@@ -101,7 +100,7 @@ module _ {S : Type 0} (g : Ghosts S) where
       | inr at ↦ inr (first_still g old mid e (first.unchanged (honest clean)).0.now_is at)
     ]);
     met = λ clean. fails_then r (rest.met clean) (λ e is. met_behind (state g old) (state g mid) (state g new) e first.asks is);
-    unchanged = λ clean. unchanged r (honest clean) (rest.unchanged clean);
+    unchanged = λ clean. unchanged_after r (state g old) (state g mid) (state g new) (first.unchanged (honest clean)) (λ _. rest.unchanged clean);
     asks = asks_then (state g old) (state g mid) (state g new) first.asks rest.asks;
   }
     where
@@ -114,11 +113,6 @@ module _ {S : Type 0} (g : Ghosts S) where
         shown = subst (ShowsFirstMeta g old) (sym is.same) (first.shown (honest clean));
         shows = subst (λ db. ShowsNonces g db First it.counters) (first.unchanged (honest clean)).0.now_is is.shows;
       }
-
-      unchanged : (r : Result (Option Meta) Error) → HasCleanDisk (state g mid) → OnOk r (IsUnchanged (state g mid) (state g new))
-          → OnOk r (IsUnchanged (state g old) (state g new))
-      unchanged (Ok found) clean is = unchanged_then (state g old) (state g mid) (state g new) (first.unchanged clean) is
-      unchanged (Err e) clean is = tt
 
   -- there was none
   pub no_meta : (old new : Held S) → Reads g old new (λ found. IfSome found (ShowsFirstMeta g old)) (MetaReadable old) (FailsAtMeta old) (Ok None)

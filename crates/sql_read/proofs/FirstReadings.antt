@@ -20,103 +20,71 @@ use Rattle.sql_read.proofs.Failing.{IsFirstSure}
 -- `meta`
 pub meta_reading : IsFirstReading meta.SELECT.now 0 [] meta_project (by 0 ∷ [])
 unfolding everything
-meta_reading = record {
-  names = meta_names;
-  means = refl;
-  selecting = refl;
-}
+meta_reading = record { names = meta_names; means = refl; selecting = refl }
 
 pub meta_sure : IsFirstSure meta.SELECT.now 0 meta_project (by 0 ∷ [])
 unfolding understood everything
-meta_sure = record { long = refl; nameless = refl; typed = refl }
+meta_sure = record { sizes = refl; typed = refl }
 
 -- `nonce`
 pub nonces_reading : IsFirstReading nonce.SELECT.now 1 [] nonce_project (by 0 ∷ [])
 unfolding everything
-nonces_reading = record {
-  names = nonce_names;
-  means = refl;
-  selecting = refl;
-}
+nonces_reading = record { names = nonce_names; means = refl; selecting = refl }
 
 pub nonces_sure : IsFirstSure nonce.SELECT.now 1 nonce_project (by 0 ∷ [])
 unfolding understood everything
-nonces_sure = record { long = refl; nameless = refl; typed = refl }
+nonces_sure = record { sizes = refl; typed = refl }
 
 -- `account`
 pub accounts_reading : IsFirstReading account.SELECT.now 2 [] account_project (by 0 ∷ [])
 unfolding everything
-accounts_reading = record {
-  names = account_names;
-  means = refl;
-  selecting = refl;
-}
+accounts_reading = record { names = account_names; means = refl; selecting = refl }
 
 pub accounts_sure : IsFirstSure account.SELECT.now 2 account_project (by 0 ∷ [])
 unfolding understood everything
-accounts_sure = record { long = refl; nameless = refl; typed = refl }
+accounts_sure = record { sizes = refl; typed = refl }
 
 -- `ord`
 pub orders_reading : IsFirstReading ord.SELECT.now 4 [] order_project (by 0 ∷ [])
 unfolding everything
-orders_reading = record {
-  names = order_names;
-  means = refl;
-  selecting = refl;
-}
+orders_reading = record { names = order_names; means = refl; selecting = refl }
 
 pub orders_sure : IsFirstSure ord.SELECT.now 4 order_project (by 0 ∷ [])
 unfolding understood everything
-orders_sure = record { long = refl; nameless = refl; typed = refl }
+orders_sure = record { sizes = refl; typed = refl }
 
 -- `authz`
 pub authorizations_reading : IsFirstReading authz.SELECT.now 5 [] authorization_project (by 0 ∷ [])
 unfolding everything
-authorizations_reading = record {
-  names = authorization_names;
-  means = refl;
-  selecting = refl;
-}
+authorizations_reading = record { names = authorization_names; means = refl; selecting = refl }
 
 pub authorizations_sure : IsFirstSure authz.SELECT.now 5 authorization_project (by 0 ∷ [])
 unfolding understood everything
-authorizations_sure = record { long = refl; nameless = refl; typed = refl }
+authorizations_sure = record { sizes = refl; typed = refl }
 
 -- `chall`
 pub challenges_reading : IsFirstReading chall.SELECT.now 8 [] challenge_project (by 0 ∷ [])
 unfolding everything
-challenges_reading = record {
-  names = challenge_names;
-  means = refl;
-  selecting = refl;
-}
+challenges_reading = record { names = challenge_names; means = refl; selecting = refl }
 
 pub challenges_sure : IsFirstSure chall.SELECT.now 8 challenge_project (by 0 ∷ [])
 unfolding understood everything
-challenges_sure = record { long = refl; nameless = refl; typed = refl }
+challenges_sure = record { sizes = refl; typed = refl }
 
 -- `ord_authz`
 pub listed_reading : IsFirstReading ord_authz.SELECT.now 6 [] listed_project (by 1 ∷ by 2 ∷ [])
 unfolding everything
-listed_reading = record {
-  names = listed_names;
-  means = refl;
-  selecting = refl;
-}
+listed_reading = record { names = listed_names; means = refl; selecting = refl }
 
 pub listed_sure : IsFirstSure ord_authz.SELECT.now 6 listed_project (by 1 ∷ by 2 ∷ [])
 unfolding understood everything
-listed_sure = record { long = refl; nameless = refl; typed = refl }
+listed_sure = record { sizes = refl; typed = refl }
 
 -- the format alone
 pub format_reading : IsFirstReading meta.SELECT_FORMAT.now 0 [] (col 1 2 ∷ []) []
 unfolding everything
-format_reading = record {
-  names = codes "format" ∷ [];
-  means = refl;
-  selecting = refl;
-}
+format_reading = record { names = codes "format" ∷ []; means = refl; selecting = refl }
 
 pub format_sure : IsFirstSure meta.SELECT_FORMAT.now 0 (col 1 2 ∷ []) []
 unfolding understood everything
-format_sure = record { long = refl; nameless = refl; typed = refl }
+format_sure = record { sizes = refl; typed = refl }

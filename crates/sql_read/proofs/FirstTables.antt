@@ -93,7 +93,8 @@ module _ (old new : State) (T : Tables) (rows : List Row) (has : HoldsFirst old.
 -- the reading of a table by number
 fails_in : {X C : Type 0} {schema : Schema} (L : Layout X) (columns : X → C) (spelled : Row → C) (project : List Term)
     → (is : IsSpelled L columns spelled project)
-    → (text : List ℕ) → IsReadingIn schema all_rows text L.table.tree [] project (by 0 ∷ []) → IsSureIn schema text L.table.tree project (by 0 ∷ [])
+    → (text : List ℕ) → IsReadingIn schema all_rows text L.table.tree [] project (by 0 ∷ [])
+    → IsSureIn schema all_rows text L.table.tree [] project (by 0 ∷ []) []
     → (HasText : C → Type 0) (Fits : Row → Type 0) → ((c : C) → HasText c → Fits (is.row c))
     → (old new : State) (xs : List X) (e : Error) → old.now.schema ≡ schema → old.now.trees L.table.tree ≡ map L.image xs → IsRising L.key xs
     → MayRead old → EachOf HasText (map columns xs)
@@ -106,7 +107,8 @@ fails_in L columns spelled project is text reading sure HasText Fits fits old ne
 -- the format
 pub format_fails : (old new : State) (T : Tables) (e : Error) → HoldsFirst old.now T → MayRead old → FailsToQuery meta.SELECT_FORMAT.now [] old new e
     → IsFailure e
-format_fails old new T e has may = query_fails meta.SELECT_FORMAT.now 0 (col 1 2 ∷ []) [] first.format_reading first.format_sure old new has.schema e may
+format_fails old new T e has may =
+    query_fails all_rows meta.SELECT_FORMAT.now 0 [] (col 1 2 ∷ []) [] [] first.format_reading first.format_sure old new has.schema e may
 
 -- wherever tables are held
 module _ {S : Type 0} (g : Ghosts S) (here : Held S) (T : Tables) (has : HoldsFirst (state g here).now T) (texts : HasTexts T) where

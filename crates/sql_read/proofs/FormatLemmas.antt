@@ -16,7 +16,7 @@ use Rattle.sql_tables.specs.Images.{formatted_image, meta_image}
 use Rattle.sql_read.specs.Failures.{MayRead}
 use Rattle.sql_read.specs.Format.{IsNewer, IsOfLaterFormat}
 use Rattle.sql_schema.specs.declared.meta.TheConstants as meta
-use Rattle.sql_read.proofs.Answered.{IsOrderedAs, answers, picked, shown_somehow}
+use Rattle.sql_read.proofs.Answered.{IsOrderedAs, all_rows, answers, picked, shown_somehow}
 use Rattle.sql_read.proofs.Failing.{query_fails}
 use Rattle.sql_read.proofs.FirstReadings as first
 use Rattle.sql_read.proofs.Readings.{format_reading}
@@ -87,6 +87,6 @@ later_is_newer old new rows later h = elim later.schema [
 -- and a reading of it fails for memory or the disk alone
 pub later_fails : (old new : State) (e : Error) → IsOfLaterFormat old.now → MayRead old → FailsToQuery meta.SELECT_FORMAT.now [] old new e → IsFailure e
 later_fails old new e later may = elim later.schema [
-  | inl todays ↦ query_fails meta.SELECT_FORMAT.now 0 (col 1 2 ∷ []) [] format_reading format_sure old new todays e may
-  | inr ones ↦ query_fails meta.SELECT_FORMAT.now 0 (col 1 2 ∷ []) [] first.format_reading first.format_sure old new ones e may
+  | inl todays ↦ query_fails all_rows meta.SELECT_FORMAT.now 0 [] (col 1 2 ∷ []) [] [] format_reading format_sure old new todays e may
+  | inr ones ↦ query_fails all_rows meta.SELECT_FORMAT.now 0 [] (col 1 2 ∷ []) [] [] first.format_reading first.format_sure old new ones e may
 ]

@@ -30,7 +30,7 @@ use Rattle.sql_read.proofs.TableColumns.{account_names, authorization_names, cha
 use Rattle.sql_read.proofs.TableColumns.{account_project, authorization_project, challenge_project, key_project, listed_project, nonce_project}
 use Rattle.sql_read.proofs.TableColumns.{order_project, order_status_at, authorization_status_at, challenge_status_at}
 use Rattle.sql_read.proofs.Readings.{accounts_reading, authorizations_reading, nonces_reading, orders_reading}
-use Rattle.sql_read.proofs.SureQueries.{IsSureUpTo}
+use Rattle.sql_read.proofs.Failing.{IsSureUpTo}
 
 -- ---- tests
 
@@ -55,155 +55,87 @@ are_equal one other = op2 (Compare Eq Binary) (col 1 one) (col 0 0) ∷ op2 (Com
 -- nonces of a serial
 pub nonces_numbered_reading : IsReading nonce.SELECT_NUMBERED.now 1 (is_equal 0) nonce_project (by 0 ∷ [])
 unfolding everything
-nonces_numbered_reading = record {
-  names = nonce_names;
-  means = refl;
-  selecting = refl;
-}
+nonces_numbered_reading = record { names = nonce_names; means = refl; selecting = refl }
 
 -- nonces issued before a moment
 pub nonces_before_reading : IsReading nonce.SELECT_BEFORE.now 1 (is_lower 3) nonce_project (by 0 ∷ [])
 unfolding everything
-nonces_before_reading = record {
-  names = nonce_names;
-  means = refl;
-  selecting = refl;
-}
+nonces_before_reading = record { names = nonce_names; means = refl; selecting = refl }
 
 -- accounts of a number
 pub accounts_numbered_reading : IsReading account.SELECT_NUMBERED.now 2 (is_equal 0) account_project (by 0 ∷ [])
 unfolding everything
-accounts_numbered_reading = record {
-  names = account_names;
-  means = refl;
-  selecting = refl;
-}
+accounts_numbered_reading = record { names = account_names; means = refl; selecting = refl }
 
 -- accounts of a key text
 pub accounts_with_key_reading : IsReading account.SELECT_WITH_KEY.now 2 (is_equal 2) account_project (by 0 ∷ [])
 unfolding everything
-accounts_with_key_reading = record {
-  names = account_names;
-  means = refl;
-  selecting = refl;
-}
+accounts_with_key_reading = record { names = account_names; means = refl; selecting = refl }
 
 -- orders of a number
 pub orders_numbered_reading : IsReading ord.SELECT_NUMBERED.now 4 (is_equal 0) order_project (by 0 ∷ [])
 unfolding everything
-orders_numbered_reading = record {
-  names = order_names;
-  means = refl;
-  selecting = refl;
-}
+orders_numbered_reading = record { names = order_names; means = refl; selecting = refl }
 
 -- orders of an account
 pub orders_of_reading : IsReading ord.SELECT_OF.now 4 (is_equal 2) order_project (by 0 ∷ [])
 unfolding everything
-orders_of_reading = record {
-  names = order_names;
-  means = refl;
-  selecting = refl;
-}
+orders_of_reading = record { names = order_names; means = refl; selecting = refl }
 
 -- orders of a status that expire before a moment
 pub orders_past_reading : IsReading ord.SELECT_PAST.now 4 (past order_status_at 4) order_project (by 0 ∷ [])
 unfolding everything
-orders_past_reading = record {
-  names = order_names;
-  means = refl;
-  selecting = refl;
-}
+orders_past_reading = record { names = order_names; means = refl; selecting = refl }
 
 -- orders of a status
 pub orders_processing_reading : IsReading ord.SELECT_WITH_STATUS.now 4 (is_equal order_status_at) order_project (by 0 ∷ [])
 unfolding everything
-orders_processing_reading = record {
-  names = order_names;
-  means = refl;
-  selecting = refl;
-}
+orders_processing_reading = record { names = order_names; means = refl; selecting = refl }
 
 -- authorizations of a number
 pub authorizations_numbered_reading : IsReading authz.SELECT_NUMBERED.now 5 (is_equal 0) authorization_project (by 0 ∷ [])
 unfolding everything
-authorizations_numbered_reading = record {
-  names = authorization_names;
-  means = refl;
-  selecting = refl;
-}
+authorizations_numbered_reading = record { names = authorization_names; means = refl; selecting = refl }
 
 -- authorizations of an account
 pub authorizations_of_reading : IsReading authz.SELECT_OF.now 5 (is_equal 2) authorization_project (by 0 ∷ [])
 unfolding everything
-authorizations_of_reading = record {
-  names = authorization_names;
-  means = refl;
-  selecting = refl;
-}
+authorizations_of_reading = record { names = authorization_names; means = refl; selecting = refl }
 
 -- authorizations of an account for a base name
 pub authorizations_named_reading : IsReading authz.SELECT_NAMED.now 5 (are_equal 2 3) authorization_project (by 0 ∷ [])
 unfolding everything
-authorizations_named_reading = record {
-  names = authorization_names;
-  means = refl;
-  selecting = refl;
-}
+authorizations_named_reading = record { names = authorization_names; means = refl; selecting = refl }
 
 -- authorizations of a status that expire before a moment
 pub authorizations_past_reading : IsReading authz.SELECT_PAST.now 5 (past authorization_status_at 6) authorization_project (by 0 ∷ [])
 unfolding everything
-authorizations_past_reading = record {
-  names = authorization_names;
-  means = refl;
-  selecting = refl;
-}
+authorizations_past_reading = record { names = authorization_names; means = refl; selecting = refl }
 
 -- what an order lists
 pub listed_by_reading : IsReading ord_authz.SELECT_OF.now 6 (is_equal 1) listed_project (by 1 ∷ by 2 ∷ [])
 unfolding everything
-listed_by_reading = record {
-  names = listed_names;
-  means = refl;
-  selecting = refl;
-}
+listed_by_reading = record { names = listed_names; means = refl; selecting = refl }
 
 -- what lists an authorization
 pub listing_reading : IsReading ord_authz.SELECT_LISTING.now 6 (is_equal 3) listed_project (by 1 ∷ by 2 ∷ [])
 unfolding everything
-listing_reading = record {
-  names = listed_names;
-  means = refl;
-  selecting = refl;
-}
+listing_reading = record { names = listed_names; means = refl; selecting = refl }
 
 -- challenges of a number
 pub challenges_numbered_reading : IsReading chall.SELECT_NUMBERED.now 8 (is_equal 0) challenge_project (by 0 ∷ [])
 unfolding everything
-challenges_numbered_reading = record {
-  names = challenge_names;
-  means = refl;
-  selecting = refl;
-}
+challenges_numbered_reading = record { names = challenge_names; means = refl; selecting = refl }
 
 -- challenges of a status
 pub challenges_processing_reading : IsReading chall.SELECT_WITH_STATUS.now 8 (is_equal challenge_status_at) challenge_project (by 0 ∷ [])
 unfolding everything
-challenges_processing_reading = record {
-  names = challenge_names;
-  means = refl;
-  selecting = refl;
-}
+challenges_processing_reading = record { names = challenge_names; means = refl; selecting = refl }
 
 -- challenges of an authorization
 pub challenges_of_reading : IsReading chall.SELECT_OF.now 8 (is_equal 2) challenge_project (by 0 ∷ [])
 unfolding everything
-challenges_of_reading = record {
-  names = challenge_names;
-  means = refl;
-  selecting = refl;
-}
+challenges_of_reading = record { names = challenge_names; means = refl; selecting = refl }
 
 -- the key of an answer
 pub keys_of_reading : IsReading chall_key.SELECT_OF.now 17 (is_equal 0) key_project (by 0 ∷ [])

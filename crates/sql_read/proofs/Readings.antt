@@ -18,65 +18,37 @@ use Rattle.sql_read.proofs.TableColumns.{meta_project, nonce_project, order_proj
 -- `meta`, by its key
 pub meta_reading : IsReading meta.SELECT.now 0 [] meta_project (by 0 ∷ [])
 unfolding everything
-meta_reading = record {
-  names = meta_names;
-  means = refl;
-  selecting = refl;
-}
+meta_reading = record { names = meta_names; means = refl; selecting = refl }
 
 -- `nonce`
 pub nonces_reading : IsReading nonce.SELECT.now 1 [] nonce_project (by 0 ∷ [])
 unfolding everything
-nonces_reading = record {
-  names = nonce_names;
-  means = refl;
-  selecting = refl;
-}
+nonces_reading = record { names = nonce_names; means = refl; selecting = refl }
 
 -- `account`
 pub accounts_reading : IsReading account.SELECT.now 2 [] account_project (by 0 ∷ [])
 unfolding everything
-accounts_reading = record {
-  names = account_names;
-  means = refl;
-  selecting = refl;
-}
+accounts_reading = record { names = account_names; means = refl; selecting = refl }
 
 -- `ord`
 pub orders_reading : IsReading ord.SELECT.now 4 [] order_project (by 0 ∷ [])
 unfolding everything
-orders_reading = record {
-  names = order_names;
-  means = refl;
-  selecting = refl;
-}
+orders_reading = record { names = order_names; means = refl; selecting = refl }
 
 -- `authz`
 pub authorizations_reading : IsReading authz.SELECT.now 5 [] authorization_project (by 0 ∷ [])
 unfolding everything
-authorizations_reading = record {
-  names = authorization_names;
-  means = refl;
-  selecting = refl;
-}
+authorizations_reading = record { names = authorization_names; means = refl; selecting = refl }
 
 -- `ord_authz`, by order and place
 pub listed_reading : IsReading ord_authz.SELECT.now 6 [] listed_project (by 1 ∷ by 2 ∷ [])
 unfolding everything
-listed_reading = record {
-  names = listed_names;
-  means = refl;
-  selecting = refl;
-}
+listed_reading = record { names = listed_names; means = refl; selecting = refl }
 
 -- `chall`
 pub challenges_reading : IsReading chall.SELECT.now 8 [] challenge_project (by 0 ∷ [])
 unfolding everything
-challenges_reading = record {
-  names = challenge_names;
-  means = refl;
-  selecting = refl;
-}
+challenges_reading = record { names = challenge_names; means = refl; selecting = refl }
 
 -- `chall_key`
 pub keys_reading : IsReading chall_key.SELECT.now 17 [] key_project (by 0 ∷ [])

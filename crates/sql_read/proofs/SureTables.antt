@@ -1,11 +1,10 @@
 -- Each look-up of a desk's tables fails for memory or the disk alone, and shows rows of its table.
-use Rattle.std.proofs.Common.{◌≡◌, ℕ, pos, Bool, List, [], ◌∷◌, map, length, filter, refl, sym, subst}
+use Rattle.std.proofs.Common.{◌≡◌, ℕ, pos, Bool, List, [], ◌∷◌, map, filter, refl, sym, subst}
 use Rattle.std.specs.Prelude.{◌==◌}
 use Rattle.std.proofs.lemmas.List.{map-id}
 use Rattle.std.proofs.lemmas.Simd.{map-map}
 use Rattle.sqlite.specs.declared.types.Value.TheVariants.{Int, Text}
 use Rattle.sqlite_value.specs.Order.{Row}
-use Rattle.sqlite_value.specs.declared.keys.Key.{Key}
 use Rattle.sqlite_sql.specs.Term.{Term, col}
 use Rattle.sqlite.specs.Held.{Held, state}
 use Rattle.sqlite.specs.Store.{Ghosts}
@@ -64,7 +63,7 @@ use Rattle.sql_schema.specs.declared.listed.TheConstants as ord_authz
 use Rattle.sql_read.proofs.AboveRows.{account_above_reading, authorization_above_reading, challenge_above_reading, is_higher, order_above_reading}
 use Rattle.sql_read.proofs.Answered.{IsReading, IsReadingUpTo, all_rows, by, first_row, passes}
 use Rattle.sql_read.proofs.EarliestRows.{authorization_end_reading, issue_reading, order_end_reading, shows_moment}
-use Rattle.sql_read.proofs.Failing.{IsSure}
+use Rattle.sql_read.proofs.Failing.{IsSureUpTo, query_fails}
 use Rattle.sql_read.proofs.TableColumns.{account_fits, authorization_fits, challenge_fits, key_fits, listed_fits, meta_fits, nonce_fits, order_fits}
 use Rattle.sql_read.proofs.TableColumns.{account_project, account_spelled, authorization_project, authorization_spelled, challenge_project}
 use Rattle.sql_read.proofs.TableColumns.{challenge_spelled, key_project, key_spelled, listed_back, listed_project, meta_project, meta_spelled}
@@ -85,14 +84,9 @@ use Rattle.sql_read.proofs.LookUpReadings.{authorizations_past_sure, challenge_a
 use Rattle.sql_read.proofs.LookUpReadings.{challenges_processing_sure, issue_sure, keys_of_sure, listed_by_sure, listing_sure}
 use Rattle.sql_read.proofs.LookUpReadings.{nonces_before_sure, nonces_numbered_sure, order_above_sure, order_end_sure}
 use Rattle.sql_read.proofs.LookUpReadings.{orders_numbered_sure, orders_of_sure, orders_past_sure, orders_processing_sure}
-use Rattle.sql_read.proofs.SureQueries.{IsSureUpTo, query_fails, sure_keyed, table_rows}
+use Rattle.sql_read.proofs.SureQueries.{sure_keyed, table_rows}
 use Rattle.sql_read.proofs.SureTexts.{accounts_sure, authorizations_sure, meta_sure, nonces_sure, orders_sure}
 use Rattle.sql_read.proofs.Tests.{number_test}
-
--- a text that reads a whole table is sure without parameters
-sure_whole : (text : List ℕ) (tree : ℕ) (project : List Term) (order : List (Term × Key)) → IsSure text tree project order
-    → IsSureUpTo all_rows text tree [] project order []
-sure_whole text tree project order sure = record { sizes = λ i. (sure.long i, length (sure.nameless i)); typed = sure.typed }
 
 module _ {S : Type 0} (g : Ghosts S) (old : Held S) (T : Tables) (has : Holds (state g old).now T) (book : IsStoredBook T) (may : MayRead (state g old)) where
   -- ---- the tables
@@ -101,7 +95,7 @@ module _ {S : Type 0} (g : Ghosts S) (old : Held S) (T : Tables) (has : Holds (s
   pub meta_query : IsSureQuery g meta.SELECT.now [] old (AreTableRows meta_in FitsMeta meta_columns IsStoredMeta)
   meta_query =
       sure_keyed g meta_layout (λ (x : Meta). x) meta_columns IsStoredMeta meta_in meta_project meta_spelled HasTextMeta FitsMeta meta_fits
-      all_rows meta.SELECT.now [] [] meta_reading (sure_whole meta.SELECT.now 0 meta_project (by 0 ∷ []) meta_sure) old (T.meta ∷ []) may
+      all_rows meta.SELECT.now [] [] meta_reading meta_sure old (T.meta ∷ []) may
       (meta_held (state g old).now T has) book.stored.metas book.texts.metas
 
   -- nonces
@@ -187,7 +181,7 @@ module _ {S : Type 0} (g : Ghosts S) (old : Held S) (T : Tables) (has : Holds (s
   pub nonces_query : (which : NoncesWhere)
       → IsSureQuery g (nonce_text which) (nonce_params which) old (AreTableRows nonce_in FitsNonce nonce_columns IsStoredNonce)
   nonces_query nonces_by.Any =
-      nonces all_rows nonce.SELECT.now [] [] nonces_reading (sure_whole nonce.SELECT.now 1 nonce_project (by 0 ∷ []) nonces_sure)
+      nonces all_rows nonce.SELECT.now [] [] nonces_reading nonces_sure
   nonces_query (nonces_by.Serial n) = nonces all_rows nonce.SELECT_NUMBERED.now (is_equal 0) _ nonces_numbered_reading (nonces_numbered_sure (pos (bounded n)))
   nonces_query (nonces_by.IssuedBefore t) = nonces all_rows nonce.SELECT_BEFORE.now (is_lower 3) _ nonces_before_reading (nonces_before_sure (pos (bounded t)))
 
@@ -195,7 +189,7 @@ module _ {S : Type 0} (g : Ghosts S) (old : Held S) (T : Tables) (has : Holds (s
   pub accounts_query : (which : AccountsWhere)
       → IsSureQuery g (account_text which) (account_params which) old (AreTableRows account_in FitsAccount account_columns IsStoredAccount)
   accounts_query accounts_by.Any =
-      accounts all_rows account.SELECT.now [] [] accounts_reading (sure_whole account.SELECT.now 2 account_project (by 0 ∷ []) accounts_sure)
+      accounts all_rows account.SELECT.now [] [] accounts_reading accounts_sure
   accounts_query (accounts_by.Number n) =
       accounts all_rows account.SELECT_NUMBERED.now (is_equal 0) _ accounts_numbered_reading (accounts_numbered_sure (pos (bounded n)))
   accounts_query (accounts_by.Key key) = accounts all_rows account.SELECT_WITH_KEY.now (is_equal 2) _ accounts_with_key_reading (accounts_with_key_sure key.now)
@@ -203,7 +197,7 @@ module _ {S : Type 0} (g : Ghosts S) (old : Held S) (T : Tables) (has : Holds (s
   -- of orders
   pub orders_query : (which : OrdersWhere)
       → IsSureQuery g (order_text which) (order_params which) old (AreTableRows order_in FitsOrder order_columns IsStoredOrder)
-  orders_query orders_by.Any = orders all_rows ord.SELECT.now [] [] orders_reading (sure_whole ord.SELECT.now 4 order_project (by 0 ∷ []) orders_sure)
+  orders_query orders_by.Any = orders all_rows ord.SELECT.now [] [] orders_reading orders_sure
   orders_query (orders_by.Number n) = orders all_rows ord.SELECT_NUMBERED.now (is_equal 0) _ orders_numbered_reading (orders_numbered_sure (pos (bounded n)))
   orders_query (orders_by.Account n) = orders all_rows ord.SELECT_OF.now (is_equal 2) _ orders_of_reading (orders_of_sure (pos (bounded n)))
   orders_query (orders_by.Past status m) =
@@ -216,7 +210,7 @@ module _ {S : Type 0} (g : Ghosts S) (old : Held S) (T : Tables) (has : Holds (s
       (AreTableRows authorization_in FitsAuthorization authorization_columns IsStoredAuthorization)
   authorizations_query authorizations_by.Any =
       authorizations all_rows authz.SELECT.now [] [] authorizations_reading
-      (sure_whole authz.SELECT.now 5 authorization_project (by 0 ∷ []) authorizations_sure)
+      authorizations_sure
   authorizations_query (authorizations_by.Number n) =
       authorizations all_rows authz.SELECT_NUMBERED.now (is_equal 0) _ authorizations_numbered_reading (authorizations_numbered_sure (pos (bounded n)))
   authorizations_query (authorizations_by.Account n) =

@@ -19,44 +19,44 @@ use Rattle.sql_read.proofs.TableColumns.{nonce_project, order_project}
 -- `meta`
 pub meta_sure : IsSure meta.SELECT.now 0 meta_project (by 0 ∷ [])
 unfolding understood everything
-meta_sure = record { long = refl; nameless = refl; typed = refl }
+meta_sure = record { sizes = refl; typed = refl }
 
 -- `nonce`
 pub nonces_sure : IsSure nonce.SELECT.now 1 nonce_project (by 0 ∷ [])
 unfolding understood everything
-nonces_sure = record { long = refl; nameless = refl; typed = refl }
+nonces_sure = record { sizes = refl; typed = refl }
 
 -- `account`
 pub accounts_sure : IsSure account.SELECT.now 2 account_project (by 0 ∷ [])
 unfolding understood everything
-accounts_sure = record { long = refl; nameless = refl; typed = refl }
+accounts_sure = record { sizes = refl; typed = refl }
 
 -- `ord`
 pub orders_sure : IsSure ord.SELECT.now 4 order_project (by 0 ∷ [])
 unfolding understood everything
-orders_sure = record { long = refl; nameless = refl; typed = refl }
+orders_sure = record { sizes = refl; typed = refl }
 
 -- `authz`
 pub authorizations_sure : IsSure authz.SELECT.now 5 authorization_project (by 0 ∷ [])
 unfolding understood everything
-authorizations_sure = record { long = refl; nameless = refl; typed = refl }
+authorizations_sure = record { sizes = refl; typed = refl }
 
 -- `ord_authz`
 pub listed_sure : IsSure ord_authz.SELECT.now 6 listed_project (by 1 ∷ by 2 ∷ [])
 unfolding understood everything
-listed_sure = record { long = refl; nameless = refl; typed = refl }
+listed_sure = record { sizes = refl; typed = refl }
 
 -- `chall`
 pub challenges_sure : IsSure chall.SELECT.now 8 challenge_project (by 0 ∷ [])
 unfolding understood everything
-challenges_sure = record { long = refl; nameless = refl; typed = refl }
+challenges_sure = record { sizes = refl; typed = refl }
 
 -- `chall_key`
 pub keys_sure : IsSure chall_key.SELECT.now 17 key_project (by 0 ∷ [])
 unfolding understood everything
-keys_sure = record { long = refl; nameless = refl; typed = refl }
+keys_sure = record { sizes = refl; typed = refl }
 
 -- the format alone
 pub format_sure : IsSure meta.SELECT_FORMAT.now 0 (col 1 2 ∷ []) []
 unfolding understood everything
-format_sure = record { long = refl; nameless = refl; typed = refl }
+format_sure = record { sizes = refl; typed = refl }

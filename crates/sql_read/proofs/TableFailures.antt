@@ -33,7 +33,7 @@ use Rattle.sql_schema.specs.declared.meta.TheConstants as meta
 use Rattle.sql_schema.specs.declared.nonces.TheConstants as nonce
 use Rattle.sql_schema.specs.declared.orders.TheConstants as ord
 use Rattle.sql_schema.specs.declared.listed.TheConstants as ord_authz
-use Rattle.sql_read.proofs.Answered.{IsReading, by}
+use Rattle.sql_read.proofs.Answered.{IsReading, all_rows, by}
 use Rattle.sql_read.proofs.Failing.{IsSure, query_fails, reading_fails}
 use Rattle.sql_read.proofs.TableColumns.{account_fits, all_fit, authorization_fits, challenge_fits, key_fits, listed_fits, meta_fits, nonce_fits}
 use Rattle.sql_read.proofs.TableColumns.{order_fits, IsSpelled, account_project, account_spelled, authorization_project, authorization_spelled}
@@ -120,7 +120,7 @@ module _ (old new : State) (T : Tables) (e : Error) (has : Holds old.now T) (may
 
 -- the format
 pub format_fails : (old new : State) (T : Tables) (e : Error) → Holds old.now T → MayRead old → FailsToQuery meta.SELECT_FORMAT.now [] old new e → IsFailure e
-format_fails old new T e has may = query_fails meta.SELECT_FORMAT.now 0 (col 1 2 ∷ []) [] format_reading format_sure old new has.schema e may
+format_fails old new T e has may = query_fails all_rows meta.SELECT_FORMAT.now 0 [] (col 1 2 ∷ []) [] [] format_reading format_sure old new has.schema e may
 
 -- ---- wherever tables are held
 
