@@ -94,14 +94,3 @@ module _ {X : Type 0} (Keeps : X → Type 0) where
         → Prints Keeps line was is rows count
     lists_all was is rows left count so_far none =
         subst (λ l. Prints Keeps line was is l count) (sym (so_far.all ∙ ap (λ l. so_far.seen ++ l) none ∙ append-nil (so_far.seen))) so_far.prints
-
--- and how many they are
-pub lists_whole : {X : Type 0} (r : Roster X) (was mid is : Option (List ℕ)) (T : Tables) (count : ℕ)
-    → Prints (r.Keeps T) r.line was mid (r.rows T) count → Appends mid is (r.last count) → PrintsAll r was is T
-lists_whole r was mid is T count prints line =
-    record {
-      listed = prints.listed;
-      kept = prints.kept;
-      written = Appends-trans was mid is (flat_map r.line prints.listed) (r.last (min (length prints.listed) (2 ^ 64 - 1))) prints.written
-          (subst (λ n. Appends mid is (r.last n)) prints.counted line);
-    }

@@ -13,10 +13,6 @@ use Rattle.app_reports.specs.declared.form.Form.TheVariants as form
 abbrev pub Writes : Form → (was is : Option (List ℕ)) → (all left : List StatusFault) → Type 0
 Writes f was is all left = (done : List StatusFault) × (all ≡ done ++ left) × Appends was is (lines_of f done)
 
--- none was yet
-pub writes_none : (f : Form) (was : Option (List ℕ)) (all left : List StatusFault) → left ≡ all → Writes f was was all left
-writes_none f was all left same = ([], sym same, Appends-nil was)
-
 -- and the next ones
 pub writes_part : (f : Form) (was mid is : Option (List ℕ)) (all left part rest : List StatusFault) → Writes f was mid all left
     → left ≡ part ++ rest → Appends mid is (lines_of f part) → Writes f was is all rest

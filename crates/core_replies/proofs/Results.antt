@@ -12,11 +12,6 @@ pub on_ok : {X E : Type 0} {P Q : Type 0} (r : Result X E) → (P → Q) → OnO
 on_ok (Ok x) f h = f h
 on_ok (Err e) f h = tt
 
--- two steps, where both went well
-pub and_on : {T U E : Type 0} {P Q R : Type 0} (a : Result T E) (b r : Result U E) → r ≡ result_and a b → (P → Q → R) → OnOk a P → OnOk b Q → OnOk r R
-and_on {R = R} (Ok t) b r is f p q = subst (λ s. OnOk s R) (sym is) (on_ok b (f p) q)
-and_on {R = R} (Err e) b r is f p q = subst (λ s. OnOk s R) (sym is) tt
-
 -- a step, and then a value
 pub and_so : {T U E : Type 0} {P : Type 0} (F : U → Type 0) (r : Result T E) (x : U) (s : Result U E) → s ≡ result_and r (Ok x)
     → (P → F x) → OnOk r P → IfOk s F

@@ -117,13 +117,6 @@ put_ends {X} key code end ends x xs h =
 
 -- ---- after a change
 
--- the desk's own row
-pub meta_followed : (old new : Known) (x : Meta) → IfSome new.meta (λ meta. meta ≡ x) → new ≡ record old { meta = new.meta } → (T : Tables)
-    → IsKnownOf old T → IsKnownOf new (applied_one (PutMeta x) T)
-meta_followed old new x noted rest T known =
-    subst (λ k. IsKnownOf k (applied_one (PutMeta x) T)) (sym rest)
-    (record { meta = noted; nonces = known.nonces; issues = known.issues; orders = known.orders; authorizations = known.authorizations })
-
 -- a nonce
 pub nonce_followed : (old new : Known) (x : Nonce)
     → new ≡ record old { first_issue = earlier old.first_issue x.issued; nonces = slice_set old.nonces (nonce_place x.serial) (Some x) } → (T : Tables)
@@ -151,16 +144,6 @@ removal_followed old new n is T known =
       orders = known.orders;
       authorizations = known.authorizations;
     })
-
--- an account
-pub account_followed : (known : Known) (x : _) (T : Tables) → IsKnownOf known T → IsKnownOf known (applied_one (PutAccount x) T)
-account_followed known x T is = record {
-  meta = is.meta;
-  nonces = is.nonces;
-  issues = is.issues;
-  orders = is.orders;
-  authorizations = is.authorizations;
-}
 
 -- an authorization
 pub authorization_followed : (old : Known) (ends : List ℕ) (place : ℕ) (x : AuthorizationRow) → place ≡ authz_code x.status

@@ -21,15 +21,6 @@ use Rattle.sql_upgrade.specs.FirstKeys.{first_keys, key_under, keys_now}
 
 -- ---- the loop
 
--- the keys of one more authorization
-pub keys_step : (accounts : List AccountRow) (a : AuthorizationRow) (rest : List AuthorizationRow) (before more now whole : List AnswerKey)
-    → now ≡ before ++ more → more ≡ keys_now accounts a → before ++ flat_map (keys_now accounts) (a ∷ rest) ≡ whole
-    → now ++ flat_map (keys_now accounts) rest ≡ whole
-keys_step accounts a rest before more now whole pushed are h =
-    ap (λ l. l ++ flat_map (keys_now accounts) rest) (pushed ∙ ap (λ l. before ++ l) are)
-    ∙ append_assoc before (keys_now accounts a) (flat_map (keys_now accounts) rest)
-    ∙ h
-
 -- ---- the keys that answers have
 
 -- an answer under a key has its thumbprint
