@@ -215,7 +215,8 @@ def functions_of(path, text):
             owner = (f"{head[1]} for " if head[1] else "") + re.sub(r"<.*>$", "", head[2] or head[3]) if head else ""
         head = FUNCTION.match(line)
         if head:
-            ends = (at for at in range(first, len(lines)) if lines[at] == head[1] + "}" or lines[at].endswith("{}") or lines[at].endswith(";") and at == first)
+            closed = (head[1] + "}", head[1] + "{}")
+            ends = (at for at in range(first, len(lines)) if lines[at] in closed or lines[at].endswith(("{}", ";")) and at == first)
             found.append(Function(path, head, owner if head[1] else "", first, next(ends, len(lines) - 1)))
     names = [it.name for it in found]
     for it in found:
