@@ -3,3 +3,4 @@ mod Bases
 mod Entries
 mod Commands
 mod Small
+mod Replied

@@ -1,5 +1,5 @@
 -- What the operator asks of a desk that is served, and how that ends.
-use Rattle.std.specs.Prelude.{◌≡◌, ◌⊎◌, ℕ, List, ◌++◌, Option, Result, Ok, Err, codes, decimal}
+use Rattle.std.specs.Prelude.{◌≡◌, ◌⊎◌, ℕ, List, ◌++◌, Option, None, Some, Result, Ok, Err, codes, decimal}
 use Rattle.std.specs.Io.KnownBytes.{Appends}
 use Rattle.app_words.specs.declared.command.Target.{Target}
 use Rattle.app_words.specs.declared.command.Target.TheVariants as target
@@ -23,6 +23,13 @@ revoked_line (target.Account number) = codes "account " ++ (decimal number ++ co
 -- the line is written, or standard output failed
 abbrev pub IsSaid : Target → Option (List ℕ) → Option (List ℕ) → Result ℕ Fault → Type 0
 IsSaid what was is how = ((how ≡ Ok 0) × Appends was is (revoked_line what)) ⊎ (how ≡ Err fault.Output)
+
+-- what is told of a reply: where the desk has done it, that it is revoked; else nothing is written, and the end is the desk's refusal, or why there
+-- is no reply
+abbrev pub TellsReply : Target → Result (Option Refusal) Fault → Option (List ℕ) → Option (List ℕ) → Result ℕ Fault → Type 0
+TellsReply what (Ok None) was is how = IsSaid what was is how
+TellsReply what (Ok (Some refusal)) was is how = (how ≡ Err (fault.Refused refusal)) × (is ≡ was)
+TellsReply what (Err why) was is how = (how ≡ Err why) × (is ≡ was)
 
 -- how a revocation ends that a desk which is served was asked for: no reply came, and nothing was written; or the desk refused, and nothing
 -- was written; or it says that it is done

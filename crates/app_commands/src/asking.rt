@@ -1,6 +1,6 @@
 //! What the operator asks of a desk that is served.
 ghost use Rattle.std.specs.Prelude.{◌≡◌, IfErr, IfOk, string_bytes};
-ghost use Rattle.app_commands.specs.Asked.{RevokesServed, request_of};
+ghost use Rattle.app_commands.specs.Asked.{RevokesServed, TellsReply, request_of};
 ghost use Rattle.app_commands.specs.declared.fault.Fault.TheVariants as fault;
 
 use crate::fault::Fault;
@@ -29,7 +29,19 @@ pub(crate) fn revoke_served<W: Write>(
     let Ok(request) = request_of(rt.alloc(), target) else {
         return Err(Fault::Desk(DeskFault::Memory));
     };
-    match ask(rt, port, request.as_bytes()) {
+    let reply = ask(rt, port, request.as_bytes());
+    tell_reply(reply, target, out)
+}
+
+// Says what the desk replied: that it is done, or why it is not; gives the exit status.
+fn tell_reply<W: Write>(
+    reply: Result<Option<Refusal>, Fault>,
+    target: Target,
+    out: &mut W,
+) -> Result<u8, Fault>
+    ensures { TellsReply target reply (W.contents out.old) (W.contents out.new) result }
+{
+    match reply {
         Ok(None) => tell_revoked(target, out),
         Ok(Some(refusal)) => Err(Fault::Refused(refusal)),
         Err(fault) => Err(fault),
