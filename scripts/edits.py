@@ -190,8 +190,16 @@ class Function:
         return path == self.path and self.first <= line <= self.last
 
     def is_proved_in(self, folder, name):
-        """Whether the proof files of this name in a folder of proofs/ are this function's, and no other's."""
+        """Whether the proof files of this name in a folder of proofs/ are this function's, and no other's. Those of a method stand in the folder of its
+        type and trait, wherever the impl does."""
+        if self.owner and folder.rpartition("/")[2] == self.folder():
+            return self.name == name
         return self.is_only and self.name == name and f"{folder}/".startswith(self.path[len("src/") : -len(".rt")] + "/")
+
+    def folder(self):
+        """What the folder of its type's proofs is called: the type, and behind it the trait, both without what stands in <>."""
+        trait, _, of = self.owner.rpartition(" for ")
+        return re.sub(r"<.*|\W", "", of) + re.sub(r"<.*|\W", "", trait)
 
     def item(self):
         """How an edit names it: by its type, and by its trait, too, where the type has others of this name."""
