@@ -2,7 +2,7 @@
 use Rattle.std.proofs.Common.{◌≡◌, ◌≢◌, ℕ, List, [], ◌∷◌, ◌++◌, Option, None, Some, Result, Ok, Err, ◌∙◌, ap, refl, sym, subst}
 use Rattle.std.proofs.KnownBytes.{Appends-nil, Appends-trans}
 use Rattle.std.specs.Prelude.{◌==◌, if◌then◌else◌, IfErr, IfOk, IfSome, IsErr, MatchResult, OnOk, unwrap_or}
-use Rattle.std.specs.Io.BufRead.{DropsThrough, drop_through, first_piece, take_through}
+use Rattle.std.specs.Io.BufRead.{DropsThrough, drop_through, first_piece}
 use Rattle.std.specs.Io.Buffered.{reader_buffer, reader_capacity, reader_inner, reader_remaining}
 use Rattle.std.specs.Io.KnownBytes.{Appends, IsAtEnd, prepend_known}
 use Rattle.std.specs.declared.io.buffered.BufReader.{BufReader}

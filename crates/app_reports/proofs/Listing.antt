@@ -5,9 +5,8 @@ use Rattle.std.proofs.Common.{◌≡◌, ◌∙◌, ◌++◌, ◌+◌, ◌-◌, 
 use Rattle.std.specs.Io.KnownBytes.{Appends}
 use Rattle.std.specs.List.{flat_map}
 use Rattle.std.specs.Prelude.{Option}
-use Rattle.desk_model.specs.Tables.{Tables}
 use Rattle.app_reports.specs.Filter.{AreKept}
-use Rattle.app_reports.specs.Listed.{Prints, PrintsAll, Roster, Turns}
+use Rattle.app_reports.specs.Listed.{Prints, Turns}
 
 -- the count, with one more
 counted_more : {X : Type 0} (count next : ℕ) (listed : List X) (row : X) → count ≡ min (length listed) (2 ^ 64 - 1)

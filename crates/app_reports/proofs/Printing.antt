@@ -1,5 +1,5 @@
 -- Lines that were written so far.
-use Rattle.std.proofs.KnownBytes.{Appends-nil, Appends-trans}
+use Rattle.std.proofs.KnownBytes.{Appends-trans}
 use Rattle.std.proofs.lemmas.List.Concat.{flat_map-append}
 use Rattle.std.proofs.Common.{◌≡◌, ◌≢◌, ◌↔◌, ◌∙◌, ◌++◌, Bool, true, false, IsTrue, List, [], ◌∷◌, ℕ, ap, append_assoc, append-nil, refl, subst, sym}
 use Rattle.std.specs.Io.KnownBytes.{Appends}

@@ -16,7 +16,7 @@ use Rattle.store_api.specs.Sight.{Sight, Keeps}
 use Rattle.store_api.specs.Storing.{Causes}
 use Rattle.desk.specs.Answers.{Answers, ExitsBy}
 use Rattle.desk.specs.Causes.{IsCaused}
-use Rattle.desk.specs.Runs.{AnswersAll, EndsBy, EndsCaused, IsLate, RunsAs, ExitsRun, IsOfModel, IsRun, Runs, TellsLate}
+use Rattle.desk.specs.Runs.{AnswersAll, EndsBy, EndsCaused, RunsAs, ExitsRun, IsOfModel, IsRun, Runs, TellsLate}
 use Rattle.desk.specs.declared.fault.DeskFault.{DeskFault}
 use Rattle.desk.specs.declared.fault.DeskFault.TheVariants as deskfault
 

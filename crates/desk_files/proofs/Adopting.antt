@@ -1,5 +1,5 @@
 -- What is so of a desk whose store was made or opened, and then adopted.
-use Rattle.std.proofs.Common.{◌≡◌, ◌⊎◌, ℕ, None, Ok, inl, inr, arith}
+use Rattle.std.proofs.Common.{◌≡◌, ◌⊎◌, ℕ, Ok, inl, inr, arith}
 use Rattle.std.specs.Prelude.{IsTrue}
 use Rattle.desk_model.specs.History.{first_history}
 use Rattle.desk_model.specs.Tables.{Tables, picture}

@@ -2,7 +2,6 @@
 use Rattle.std.specs.Prelude.{IfSome, filter_map, option_map}
 use Rattle.std.specs.List.{cons_option, flat_map}
 use Rattle.std.proofs.Common.{◌≡◌, ℕ, ◌++◌, List, [], ◌∷◌, map, Option, Some, None, refl, sym, ap, ◌∙◌}
-use Rattle.std.proofs.lemmas.List.{append_assoc}
 use Rattle.std.proofs.lemmas.List.Elements.{filter_map-append}
 use Rattle.store_columns.specs.Flat.{answer_key, challenge_rows, key_rows, owned_by}
 use Rattle.store_columns.specs.declared.flat_rows.AnswerKey.{AnswerKey}

@@ -1,6 +1,6 @@
 -- The tables of a history are a book.
-use Rattle.std.proofs.Common.{◌≤◌, ◌<◌, ℕ, ◌+◌, List, [], ◌∷◌, ◌++◌, length, map, Some, refl, ap, true, false, Bool, cond, arith}
-use Rattle.std.specs.Prelude.{◌==◌, IsSome, find, is_some}
+use Rattle.std.proofs.Common.{◌≤◌, ◌<◌, ℕ, ◌+◌, List, [], ◌∷◌, ◌++◌, length, map, Some, refl, true, false, Bool, cond, arith}
+use Rattle.std.specs.Prelude.{◌==◌, IsSome, find}
 use Rattle.std.specs.List.{flat_map}
 use Rattle.model_laws.proofs.Basics.{each, each-map, each_all}
 use Rattle.model_laws.proofs.Keeps.{row_keys_differ}

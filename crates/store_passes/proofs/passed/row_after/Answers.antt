@@ -1,4 +1,3 @@
-use Rattle.std.proofs.Common.{IfOk}
 use Rattle.store_api.proofs.Readings.{reads_of_tables}
 use Rattle.model_lives.specs.Above.{above, first_of}
 use Rattle.store_passes.specs.Left.{IsRowAfter}
