@@ -12,10 +12,6 @@ mod tests;
 #[cfg(test)]
 mod thousand_orders;
 #[cfg(test)]
-mod worked_key_changes;
-#[cfg(test)]
 mod worked_replies;
-#[cfg(test)]
-mod worked_reports;
 #[cfg(test)]
 mod worked_run;

@@ -1,7 +1,5 @@
 use crate::failing_streams::{FailingReader, FailingWriter};
-use crate::worked_key_changes::KEY_CHANGES;
 use crate::worked_replies::{ASKS_NONCE, FIRST_NONCE, WORKED, new_desk, serve};
-use crate::worked_reports::REPORTS;
 use desk::{Desk, DeskFault, Memory};
 use desk_http::{IoFault, Served, ask};
 use std::alloc::Global;
@@ -103,18 +101,6 @@ fn gives_worked_after_failures(alloc: Global, desk: &mut Desk<Memory>) -> bool {
     fails_to_read_all(alloc, desk) && gives_all(alloc, desk, &WORKED)
 }
 
-// Whether a new desk gives these worked replies, one after the other.
-fn new_desk_gives_all(
-    rt: &impl Abort,
-    alloc: Global,
-    worked: &[(&[u8], &[u8])],
-) -> Result<bool, Fail> {
-    let mut desk = new_desk(rt, alloc)?;
-    let gives = gives_all(alloc, &mut desk, worked);
-    drop(desk);
-    Ok(gives)
-}
-
 // Whether a writer that fails behind so many bytes is told, and a new desk gives the nonce all the same.
 fn new_desk_fails_to_write(rt: &impl Abort, alloc: Global, room: usize) -> Result<bool, Fail> {
     let mut desk = new_desk(rt, alloc)?;
@@ -140,13 +126,6 @@ fn has_text(alloc: Global, fault: DeskFault, wanted: &str) -> Result<bool, Fail>
 #[test]
 fn worked_replies_are_given_after_readers_that_fail(rt: HostRuntime) -> Result<(), Fail> {
     assert!(rt; new_desk_gives_worked(&rt, rt.alloc())?);
-    Ok(())
-}
-
-#[test]
-fn key_changes_are_answered(rt: HostRuntime) -> Result<(), Fail> {
-    assert!(rt; new_desk_gives_all(&rt, rt.alloc(), &KEY_CHANGES)?);
-    assert!(rt; new_desk_gives_all(&rt, rt.alloc(), &REPORTS)?);
     Ok(())
 }
 
