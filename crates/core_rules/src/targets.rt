@@ -33,15 +33,8 @@ use std::alloc::Global;
 fn own_order<'a>(at: &'a At, sender: u64, number: u64) -> Option<(&'a OrderRow, OrderStatus)>
     ensures { option_map (λ p. record p.0.now { status = p.1 }) result ≡ own (λ o. o.account) sender (order_on at.now number) }
 {
-    match at.order(number) {
-        Some((row, status)) => {
-            if row.account == sender {
-                return Some((row, status));
-            }
-            None
-        }
-        None => None,
-    }
+    let (row, status) = at.order(number)?;
+    (row.account == sender).then_some((row, status))
 }
 
 // The authorization of a number with its status at a moment, where it is the sender's own.
@@ -52,15 +45,8 @@ fn own_authorization<'a>(
 ) -> Option<(&'a AuthorizationRow, AuthzStatus)>
     ensures { option_map (λ p. record p.0.now { status = p.1 }) result ≡ own (λ a. a.account) sender (authorization_on at.now number) }
 {
-    match at.authorization(number) {
-        Some((row, status)) => {
-            if row.account == sender {
-                return Some((row, status));
-            }
-            None
-        }
-        None => None,
-    }
+    let (row, status) = at.authorization(number)?;
+    (row.account == sender).then_some((row, status))
 }
 
 /// A newAccount request of an account that is there: of its payload only the form is looked at (RFC 8555, 7.3.1).
