@@ -37,9 +37,3 @@ module _ {S C : Type 0} (v : Sight S C) (causes : Causes S) where
   machine_fails e old new (inl is) same = rw is same
   machine_fails e old new (inr (inl is)) same = rw is same
   machine_fails e old new (inr (inr is)) same = rw is same
-
--- and a desk that was open still is
-pub machine_ends : {S : Type 0} (e : ServeFault) (desk : DeskState S) → IsOfMachine e → desk.is_closed ≡ false → Ends (Err e) desk
-machine_ends e desk (inl is) opened = rw is opened
-machine_ends e desk (inr (inl is)) opened = rw is opened
-machine_ends e desk (inr (inr is)) opened = rw is opened

@@ -1,5 +1,5 @@
 -- The router of the desk finds each of its paths.
-use Rattle.std.proofs.Common.{◌≡◌, ℕ, suc, ◌<◌, ◌≤◌, List, [], ◌∷◌, ◌++◌, length, Some, refl, codes, decimal, arith, ap, append-nil}
+use Rattle.std.proofs.Common.{◌≡◌, ℕ, suc, ◌<◌, ◌≤◌, List, [], ◌∷◌, ◌++◌, length, Some, refl, cond, codes, decimal, arith, ap, append-nil}
 use Rattle.std.specs.Prelude.{option_map}
 use Rattle.std.specs.Str.Parse.{AllDigits}
 use Rattle.std.proofs.lemmas.Fmt.{decimal_is_IsNumeral}
@@ -24,7 +24,7 @@ kept r =
       value = r;
     }
 
--- the rows behind the beginning of a path: one route, or two of which one goes on behind the number
+-- the rows behind the beginning of a path: this route alone
 abbrev Alone : Route → Type 0
 Alone r = steps (prefix r) desk_routes ≡ (256 ∷ [], kept r) ∷ []
 
@@ -32,99 +32,36 @@ Alone r = steps (prefix r) desk_routes ≡ (256 ∷ [], kept r) ∷ []
 abbrev Both : Route → Route → Type 0
 Both long short = steps (prefix short) desk_routes ≡ (256 ∷ suffix long, kept long) ∷ (256 ∷ [], kept short) ∷ []
 
--- what stands behind `/account/`
-accounts : Both route.Orders route.Account
-unfolding add_route scan
-accounts = refl
+-- what the router has for the paths of a route: the route itself, where they have no number
+abbrev Behind : Route → Type 0
+Behind route.Account = Both route.Orders route.Account
+Behind route.Orders = Both route.Orders route.Account
+Behind route.Order = Both route.Finalize route.Order
+Behind route.Finalize = Both route.Finalize route.Order
+Behind r = cond (is_numbered r) (Alone r) (option_map value_of (first desk_routes (prefix r)) ≡ Some r)
 
--- behind `/order/`
-orders : Both route.Finalize route.Order
-unfolding add_route scan
-orders = refl
-
--- behind `/cert/`
-certificates : Alone route.Cert
-unfolding add_route scan
-certificates = refl
-
--- behind `/authz/`
-authorizations : Alone route.Authz
-unfolding add_route scan
-authorizations = refl
-
--- behind `/chall/`
-challenges : Alone route.Chall
-unfolding add_route scan
-challenges = refl
-
--- behind `/office/key/`
-keys_of : Alone route.Key
-unfolding add_route scan
-keys_of = refl
-
--- behind `/office/report/`
-reports : Alone route.Report
-unfolding add_route scan
-reports = refl
-
--- behind `/office/certify/`
-certified : Alone route.Certify
-unfolding add_route scan
-certified = refl
-
--- behind `/office/fail/`
-failed_orders : Alone route.FailOrder
-unfolding add_route scan
-failed_orders = refl
-
--- behind `/office/revoke-authz/`
-ended_authorizations : Alone route.RevokeAuthz
-unfolding add_route scan
-ended_authorizations = refl
-
--- behind `/office/revoke-account/`
-ended_accounts : Alone route.RevokeAccount
-unfolding add_route scan
-ended_accounts = refl
-
--- the paths without a number
-abbrev IsPlain : Route → Type 0
-IsPlain r = option_map value_of (first desk_routes (prefix r)) ≡ Some r
-
--- `/directory` is found
-directory : IsPlain route.Directory
+behind : (r : Route) → Behind r
 unfolding add_route scan seek param_step
-directory = refl
-
--- `/new-nonce` is
-new_nonce : IsPlain route.NewNonce
-unfolding add_route scan seek param_step
-new_nonce = refl
-
--- `/new-account` is
-new_account : IsPlain route.NewAccount
-unfolding add_route scan seek param_step
-new_account = refl
-
--- `/key-change` is
-key_change : IsPlain route.KeyChange
-unfolding add_route scan seek param_step
-key_change = refl
-
--- `/new-order` is
-new_order : IsPlain route.NewOrder
-unfolding add_route scan seek param_step
-new_order = refl
-
--- `/office/challenges` is
-challenge_work : IsPlain route.ChallengeWork
-unfolding add_route scan seek param_step
-challenge_work = refl
-
--- `/office/orders` is
-order_work : IsPlain route.OrderWork
-unfolding add_route scan seek param_step
-order_work = refl
+behind route.Directory = refl
+behind route.NewNonce = refl
+behind route.NewAccount = refl
+behind route.KeyChange = refl
+behind route.NewOrder = refl
+behind route.Account = refl
+behind route.Orders = refl
+behind route.Order = refl
+behind route.Finalize = refl
+behind route.Cert = refl
+behind route.Authz = refl
+behind route.Chall = refl
+behind route.Key = refl
+behind route.ChallengeWork = refl
+behind route.OrderWork = refl
+behind route.Report = refl
+behind route.Certify = refl
+behind route.FailOrder = refl
+behind route.RevokeAuthz = refl
+behind route.RevokeAccount = refl
 
 -- ---- the number of a path
 
@@ -159,34 +96,40 @@ module _ {K : Type 0} (rows : RowsOf K) (before : List ℕ) where
 
 -- ---- the routes of the desk
 
+-- a path is found whose route stands alone
+found_alone : (r : Route) → Alone r → (path : List ℕ) (n : ℕ) → HasNumber path (prefix r) n [] → option_map value_of (first desk_routes path) ≡ Some r
+found_alone r is path n h = ap (option_map value_of) (alone desk_routes (prefix r) (kept r) is path n h)
+
+-- or is the shorter of two
+found_shorter : (long short : Route) (w : List ℕ) → steps (prefix short) desk_routes ≡ (256 ∷ 47 ∷ w, kept long) ∷ (256 ∷ [], kept short) ∷ []
+    → (path : List ℕ) (n : ℕ) → HasNumber path (prefix short) n [] → option_map value_of (first desk_routes path) ≡ Some short
+found_shorter long short w is path n h = ap (option_map value_of) (shorter desk_routes (prefix short) (kept long) (kept short) w is path n h)
+
 -- each path of a route is found to be of it
 pub desk_routes_are_found : (path : List ℕ) (r : Route) (n : ℕ) → IsPathText (is_numbered r) path r n
     → option_map value_of (first desk_routes path) ≡ Some r
 unfolding seek param_step
-desk_routes_are_found path route.Directory n h = rw (h.0) directory
-desk_routes_are_found path route.NewNonce n h = rw (h.0) new_nonce
-desk_routes_are_found path route.NewAccount n h = rw (h.0) new_account
-desk_routes_are_found path route.KeyChange n h = rw (h.0) key_change
-desk_routes_are_found path route.NewOrder n h = rw (h.0) new_order
-desk_routes_are_found path route.Account n h =
-    ap (option_map value_of) (shorter desk_routes (codes "/account/") (kept route.Orders) (kept route.Account) (codes "orders") accounts path n h)
+desk_routes_are_found path route.Directory n h = rw (h.0) (behind route.Directory)
+desk_routes_are_found path route.NewNonce n h = rw (h.0) (behind route.NewNonce)
+desk_routes_are_found path route.NewAccount n h = rw (h.0) (behind route.NewAccount)
+desk_routes_are_found path route.KeyChange n h = rw (h.0) (behind route.KeyChange)
+desk_routes_are_found path route.NewOrder n h = rw (h.0) (behind route.NewOrder)
+desk_routes_are_found path route.Account n h = found_shorter route.Orders route.Account (codes "orders") (behind route.Account) path n h
 desk_routes_are_found path route.Orders n h =
-    ap (option_map value_of) (longer desk_routes (codes "/account/") (kept route.Orders) (kept route.Account) (codes "orders") accounts refl path n h)
-desk_routes_are_found path route.Order n h =
-    ap (option_map value_of) (shorter desk_routes (codes "/order/") (kept route.Finalize) (kept route.Order) (codes "finalize") orders path n h)
+    ap (option_map value_of)
+    (longer desk_routes (codes "/account/") (kept route.Orders) (kept route.Account) (codes "orders") (behind route.Orders) refl path n h)
+desk_routes_are_found path route.Order n h = found_shorter route.Finalize route.Order (codes "finalize") (behind route.Order) path n h
 desk_routes_are_found path route.Finalize n h =
-    ap (option_map value_of) (longer desk_routes (codes "/order/") (kept route.Finalize) (kept route.Order) (codes "finalize") orders refl path n h)
-desk_routes_are_found path route.Cert n h = ap (option_map value_of) (alone desk_routes (codes "/cert/") (kept route.Cert) certificates path n h)
-desk_routes_are_found path route.Authz n h = ap (option_map value_of) (alone desk_routes (codes "/authz/") (kept route.Authz) authorizations path n h)
-desk_routes_are_found path route.Chall n h = ap (option_map value_of) (alone desk_routes (codes "/chall/") (kept route.Chall) challenges path n h)
-desk_routes_are_found path route.Key n h = ap (option_map value_of) (alone desk_routes (codes "/office/key/") (kept route.Key) keys_of path n h)
-desk_routes_are_found path route.ChallengeWork n h = rw (h.0) challenge_work
-desk_routes_are_found path route.OrderWork n h = rw (h.0) order_work
-desk_routes_are_found path route.Report n h = ap (option_map value_of) (alone desk_routes (codes "/office/report/") (kept route.Report) reports path n h)
-desk_routes_are_found path route.Certify n h = ap (option_map value_of) (alone desk_routes (codes "/office/certify/") (kept route.Certify) certified path n h)
-desk_routes_are_found path route.FailOrder n h =
-    ap (option_map value_of) (alone desk_routes (codes "/office/fail/") (kept route.FailOrder) failed_orders path n h)
-desk_routes_are_found path route.RevokeAuthz n h =
-    ap (option_map value_of) (alone desk_routes (codes "/office/revoke-authz/") (kept route.RevokeAuthz) ended_authorizations path n h)
-desk_routes_are_found path route.RevokeAccount n h =
-    ap (option_map value_of) (alone desk_routes (codes "/office/revoke-account/") (kept route.RevokeAccount) ended_accounts path n h)
+    ap (option_map value_of)
+    (longer desk_routes (codes "/order/") (kept route.Finalize) (kept route.Order) (codes "finalize") (behind route.Finalize) refl path n h)
+desk_routes_are_found path route.Cert n h = found_alone route.Cert (behind route.Cert) path n h
+desk_routes_are_found path route.Authz n h = found_alone route.Authz (behind route.Authz) path n h
+desk_routes_are_found path route.Chall n h = found_alone route.Chall (behind route.Chall) path n h
+desk_routes_are_found path route.Key n h = found_alone route.Key (behind route.Key) path n h
+desk_routes_are_found path route.ChallengeWork n h = rw (h.0) (behind route.ChallengeWork)
+desk_routes_are_found path route.OrderWork n h = rw (h.0) (behind route.OrderWork)
+desk_routes_are_found path route.Report n h = found_alone route.Report (behind route.Report) path n h
+desk_routes_are_found path route.Certify n h = found_alone route.Certify (behind route.Certify) path n h
+desk_routes_are_found path route.FailOrder n h = found_alone route.FailOrder (behind route.FailOrder) path n h
+desk_routes_are_found path route.RevokeAuthz n h = found_alone route.RevokeAuthz (behind route.RevokeAuthz) path n h
+desk_routes_are_found path route.RevokeAccount n h = found_alone route.RevokeAccount (behind route.RevokeAccount) path n h

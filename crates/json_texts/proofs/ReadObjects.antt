@@ -10,7 +10,7 @@ use Rattle.json.specs.Lex.{tokens}
 use Rattle.json.specs.Value.{members_view, value_view}
 use Rattle.json.specs.declared.value.Value.{Value as TextValue, Object, the_lemmas}
 use Rattle.serde_json.specs.Data.{Data, object, Members, no_members, put}
-use Rattle.serde_json.specs.Find.{as_str, get, get_member}
+use Rattle.serde_json.specs.Find.{get, get_member}
 use Rattle.serde_json.specs.Read.{max_depth, of_json, of_members, read}
 use Rattle.serde_json.proofs.Views.{get_member-put, get_member-put_other}
 use Rattle.json_texts.specs.Objects.{are_shallow, are_texts, is_shallow, is_text, is_text_or_texts, plain_members, plain_value}
@@ -107,15 +107,6 @@ member_found {X} f found name j is = by found ∙ ap (option_map plain_value) is
     by : (o : Option X) → option_map (λ x. plain_value (f x)) o ≡ option_map plain_value (option_map f o)
     by None = refl
     by (Some x) = refl
-
--- and its text
-pub plain_text : (j : json.Json) → as_str (plain_value j) ≡ json_find.as_str j
-plain_text json.null = refl
-plain_text (json.boolean b) = refl
-plain_text (json.number s) = refl
-plain_text (json.string s) = refl
-plain_text (json.array js) = refl
-plain_text (json.object ms) = refl
 
 -- ---- what the code looks at
 
