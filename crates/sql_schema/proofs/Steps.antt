@@ -1,5 +1,5 @@
 -- Each statement in its turn.
-use Rattle.std.proofs.Common.{◌<◌, ◌+◌, inl, inr, ℕ, zero, suc, [], Ok, arith}
+use Rattle.std.proofs.Common.{◌<◌, ◌+◌, ℕ, [], Ok}
 use Rattle.sqlite.specs.Effect.{Database}
 use Rattle.sqlite.specs.State.{State, Survives}
 use Rattle.sql_schema.specs.Advances.{Advances, Performs}
@@ -8,32 +8,8 @@ use Rattle.sql_schema.specs.declared.keys.TheConstants as chall_key
 use Rattle.sql_schema.specs.Definitions.{definition_at}
 use Rattle.sql_schema.specs.Schema.{schema_at}
 use Rattle.sql_schema.proofs.AdvanceLemmas.{advances_then, performs_advances}
-use Rattle.sql_schema.proofs.Making.{Makes, MovesOn, makes, widens}
-use Rattle.sql_schema.proofs.Meanings.{create_meta_makes, create_nonce_makes, create_account_makes, create_ord_makes}
-use Rattle.sql_schema.proofs.Meanings.{create_authz_makes, create_ord_authz_makes, create_chall_makes, create_nonce_issued_makes}
-use Rattle.sql_schema.proofs.Meanings.{create_ord_account_makes, create_ord_status_expires_makes}
-use Rattle.sql_schema.proofs.Meanings.{create_authz_account_name_makes, create_authz_status_expires_makes}
-use Rattle.sql_schema.proofs.Meanings.{create_ord_authz_authz_makes, create_chall_authz_makes, create_chall_status_makes, create_chall_key_makes}
-
--- what the statement at each place makes
-each_makes : (step : ℕ) → step < 16 → Makes (schema_at step) (schema_at (step + 1)) (definition_at step)
-each_makes zero low = inl create_meta_makes
-each_makes (suc zero) low = inl create_nonce_makes
-each_makes (suc (suc zero)) low = inl create_account_makes
-each_makes (suc (suc (suc zero))) low = inl create_ord_makes
-each_makes (suc (suc (suc (suc zero)))) low = inl create_authz_makes
-each_makes (suc (suc (suc (suc (suc zero))))) low = inl create_ord_authz_makes
-each_makes (suc (suc (suc (suc (suc (suc zero)))))) low = inl create_chall_makes
-each_makes (suc (suc (suc (suc (suc (suc (suc zero))))))) low = inr create_nonce_issued_makes
-each_makes (suc (suc (suc (suc (suc (suc (suc (suc zero)))))))) low = inr create_ord_account_makes
-each_makes (suc (suc (suc (suc (suc (suc (suc (suc (suc zero))))))))) low = inr create_ord_status_expires_makes
-each_makes (suc (suc (suc (suc (suc (suc (suc (suc (suc (suc zero)))))))))) low = inr create_authz_account_name_makes
-each_makes (suc (suc (suc (suc (suc (suc (suc (suc (suc (suc (suc zero))))))))))) low = inr create_authz_status_expires_makes
-each_makes (suc (suc (suc (suc (suc (suc (suc (suc (suc (suc (suc (suc zero)))))))))))) low = inr create_ord_authz_authz_makes
-each_makes (suc (suc (suc (suc (suc (suc (suc (suc (suc (suc (suc (suc (suc zero))))))))))))) low = inr create_chall_authz_makes
-each_makes (suc (suc (suc (suc (suc (suc (suc (suc (suc (suc (suc (suc (suc (suc zero)))))))))))))) low = inr create_chall_status_makes
-each_makes (suc (suc (suc (suc (suc (suc (suc (suc (suc (suc (suc (suc (suc (suc (suc zero))))))))))))))) low = inl create_chall_key_makes
-each_makes (suc (suc (suc (suc (suc (suc (suc (suc (suc (suc (suc (suc (suc (suc (suc (suc n)))))))))))))))) low = absurd (omega arith)
+use Rattle.sql_schema.proofs.Making.{MovesOn, makes, widens}
+use Rattle.sql_schema.proofs.Meanings.{create_chall_key_makes, each_makes}
 
 -- one more definition, where there was nothing before the first
 defines_next : (step : ℕ) (first old new : Database) → Defines step first old → MovesOn (schema_at step) (schema_at (step + 1)) old new
