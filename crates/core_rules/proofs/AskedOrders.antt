@@ -1,17 +1,12 @@
 -- The verdict on an order as it was read is that of the rules on its payload.
 use Rattle.std.proofs.Common.{◌≡◌, ℕ, List, [], ◌∷◌, Bool, true, false, Option, Some, None, ap, refl, sym, ◌∙◌}
 use Rattle.std.specs.Prelude.{if◌then◌else◌}
-use Rattle.desk_model.specs.Legal.{has_length}
-use Rattle.desk_model.specs.Limits.{most_names}
-use Rattle.desk_model.specs.Payload.{new_order}
+use Rattle.desk_model.specs.{Legal.has_length, Limits.most_names, Payload.new_order, Tables.Tables}
 use Rattle.desk_model.specs.Rules.{new_order_verdict, order_of, subproblems, target_verdict}
-use Rattle.desk_model.specs.Tables.{Tables}
 use Rattle.desk_model.specs.Verdict.{check, given}
-use Rattle.desk_model.specs.declared.call.Target.{Target}
+use Rattle.desk_model.specs.declared.{call.Target.Target, payload.Identifier.Identifier, reply.Subproblem.Subproblem}
 use Rattle.desk_model.specs.declared.call.Target.TheVariants as to
-use Rattle.desk_model.specs.declared.payload.Identifier.{Identifier}
 use Rattle.desk_model.specs.declared.refusal.Refusal.TheVariants as refusal
-use Rattle.desk_model.specs.declared.reply.Subproblem.{Subproblem}
 use Rattle.core_rules.specs.OrderVerdicts.{order_verdict}
 use Rattle.identifiers.specs.AskedOrders.{order_by, order_if, target_order}
 use Rattle.identifiers.specs.declared.asked.AskedOrder.{AskedOrder}

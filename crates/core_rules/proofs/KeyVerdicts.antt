@@ -1,21 +1,13 @@
 -- Verdicts on signed requests, by the account of the request's key.
 use Rattle.std.proofs.Common.{◌≡◌, ℕ, List, [], true, false, Option, Some, Result, Ok, MatchResult, sym, ap, subst, ◌∙◌}
-use Rattle.desk_model.specs.Payload.{new_account}
-use Rattle.desk_model.specs.Questions.{account_with_key}
+use Rattle.desk_model.specs.{Payload.new_account, Questions.account_with_key, Tables.Tables, Account.is_valid}
 use Rattle.desk_model.specs.Rules.{holder_verdict, key_verdict, open_account, signed_verdict, target_verdict, unknown_key_verdict}
-use Rattle.desk_model.specs.Tables.{Tables}
-use Rattle.desk_model.specs.Account.{is_valid}
 use Rattle.desk_model.specs.Verdict.{check, given}
-use Rattle.desk_model.specs.declared.call.Signed.{Signed}
-use Rattle.desk_model.specs.declared.call.Target.{Target}
+use Rattle.desk_model.specs.declared.{call.Signed.Signed, call.Target.Target, payload.NewAccount.NewAccount, refusal.Refusal.Refusal}
+use Rattle.desk_model.specs.declared.{rows.AccountRow.AccountRow, rows.Counters.Counters, verdict.Verdict.Verdict}
+use Rattle.desk_model.specs.declared.{verdict.Verdict.TheVariants.Refused as refused}
 use Rattle.desk_model.specs.declared.call.Target.TheVariants as to
-use Rattle.desk_model.specs.declared.payload.NewAccount.{NewAccount}
-use Rattle.desk_model.specs.declared.refusal.Refusal.{Refusal}
 use Rattle.desk_model.specs.declared.refusal.Refusal.TheVariants as refusal
-use Rattle.desk_model.specs.declared.rows.AccountRow.{AccountRow}
-use Rattle.desk_model.specs.declared.rows.Counters.{Counters}
-use Rattle.desk_model.specs.declared.verdict.Verdict.{Verdict}
-use Rattle.desk_model.specs.declared.verdict.Verdict.TheVariants.{Refused as refused}
 use Rattle.core_rules.specs.Needs.{NumbersLeft, BytesLeft, IsNeedFault}
 use Rattle.core_rules.specs.declared.fault.CoreFault.{CoreFault}
 

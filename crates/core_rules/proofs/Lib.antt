@@ -1,5 +1,4 @@
 pub mod AskedOrders
-pub mod ContactTests
 pub mod KeyVerdicts
 pub mod Looking
 pub mod NamesWanted

@@ -1,9 +1,7 @@
 -- Rows that are looked up by number among some of the rows.
 use Rattle.std.proofs.Common.{◌≡◌, ℕ, ◌+◌, ◌≤◌, ◌<◌, Bool, true, false, cond, List, [], ◌∷◌, filter, Option, Some, None, refl, sym, ap, ◌∙◌, arith}
-use Rattle.std.specs.Prelude.{◌==◌, nat_lt, find}
+use Rattle.std.specs.Prelude.{◌==◌, find}
 use Rattle.std.proofs.lemmas.Bool.{eqb-true}
-use Rattle.std.proofs.lemmas.Bool.Decides.{nat_tests}
-use Rattle.desk_model.specs.Change.{put}
 use Rattle.model_laws.specs.Ordered.{Ascends}
 use Rattle.model_laws.proofs.Basics.{more_differs}
 use Rattle.core_rules.specs.Lists.{only}
@@ -34,36 +32,3 @@ find-only {X} number p n k (x ∷ xs) h = by (number x == k) (p x) refl refl (fi
     by true false e q ih = none_later number p (number x + 1) k xs h.1 (here e) ∙ sym (ap (λ d. cond d (Some x) None) q)
     by false true e q ih = ap (λ d. cond d (Some x) (find (λ y. number y == k) (filter p xs))) e ∙ ih
     by false false e q ih = ih
-
-same_number : (a b k : ℕ) → (a == b) ≡ true → (b == k) ≡ (a == k)
-same_number a b k e = ap (λ n. n == k) (sym (eqb-true a b e))
-
--- a row that was put is found by its number, and the others as before
-pub find-put : {X : Type 0} (number : X → ℕ) (k : ℕ) (x : X) (rows : List X) →
-    find (λ y. number y == k) (put number x rows) ≡ cond (number x == k) (Some x) (find (λ y. number y == k) rows)
-find-put number k x [] = refl
-find-put {X} number k x (y ∷ ys) = by (number x == number y) refl (nat_lt (number x) (number y)) (number x == k) refl (find-put number k x ys)
-  where
-    swapped : (b : Bool) → (number x == number y) ≡ false → (number x == k) ≡ b → (o : Option X) →
-        cond (number y == k) (Some y) (cond b (Some x) o) ≡ cond b (Some x) (cond (number y == k) (Some y) o)
-    swapped true apart e o = ap (λ c. cond c (Some y) (Some x)) other
-      where
-        other : (number y == k) ≡ false
-        other = ap (λ n. number y == n) (sym (eqb-true (number x) k e)) ∙ flipped
-          where
-            flipped : (number y == number x) ≡ false
-            flipped = grind (arith, nat_tests)
-    swapped false apart e o = refl
-
-    by : (b : Bool) → (number x == number y) ≡ b → (c d : Bool) → (number x == k) ≡ d →
-        find (λ y. number y == k) (put number x ys) ≡ cond (number x == k) (Some x) (find (λ y. number y == k) ys) →
-        find (λ z. number z == k) (cond b (x ∷ ys) (cond c (x ∷ y ∷ ys) (y ∷ put number x ys)))
-        ≡ cond d (Some x) (cond (number y == k) (Some y) (find (λ z. number z == k) ys))
-    by true e c true f ih = ap (λ t. cond t (Some x) (find (λ z. number z == k) ys)) f
-    by true e c false f ih =
-        ap (λ t. cond t (Some x) (find (λ z. number z == k) ys)) f
-        ∙ sym (ap (λ t. cond t (Some y) (find (λ z. number z == k) ys)) (same_number (number x) (number y) k e ∙ f))
-    by false e true d f ih = ap (λ t. cond t (Some x) (cond (number y == k) (Some y) (find (λ z. number z == k) ys))) f
-    by false e false d f ih =
-        ap (λ o. cond (number y == k) (Some y) o) (ih ∙ ap (λ t. cond t (Some x) (find (λ z. number z == k) ys)) f)
-        ∙ swapped d e f (find (λ z. number z == k) ys)

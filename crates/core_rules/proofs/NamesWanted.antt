@@ -1,21 +1,15 @@
 -- How many authorizations and tokens a new order asks for.
-use Rattle.std.proofs.Common.{◌≡◌, ℕ, zero, suc, ◌+◌, ◌*◌, ◌<◌, ◌≤◌, List, [], ◌∷◌, ◌++◌, length}
-use Rattle.std.proofs.Common.{take, drop, get_or, Bool, true, false, cond, Option, Some, None, refl, arith}
-use Rattle.std.proofs.Common.{sym, ap, subst, ◌∙◌, append_assoc, length-drop}
-use Rattle.std.specs.Prelude.{sum_by}
-use Rattle.std.specs.Option.{option_map}
+use Rattle.std.proofs.Common.{◌≡◌, ℕ, zero, suc, ◌+◌, ◌*◌, ◌<◌, ◌≤◌, List, [], ◌∷◌, ◌++◌, length, take, drop, get_or, Bool, true, false, cond, Option, Some}
+use Rattle.std.proofs.Common.{None, refl, arith, sym, ap, subst, ◌∙◌, append_assoc, length-drop}
+use Rattle.std.specs.{Prelude.sum_by, Option.option_map}
 use Rattle.std.proofs.lemmas.List.{at_drop_more, drop-drop}
 use Rattle.std.proofs.lemmas.List.Sums.{sum_by-cons}
-use Rattle.desk_model.specs.Authorization.{kinds_of}
+use Rattle.desk_model.specs.{Authorization.kinds_of, Name.Name, Questions.serving_on, Tables.Tables}
 use Rattle.desk_model.specs.declared.objects.Kind.TheVariants.{Http01 as http_01, Dns01 as dns_01}
-use Rattle.desk_model.specs.Name.{Name}
-use Rattle.desk_model.specs.declared.entry.Wanted.{Wanted}
+use Rattle.desk_model.specs.declared.{entry.Wanted.Wanted, rows.AuthorizationRow.AuthorizationRow}
 use Rattle.desk_model.specs.declared.entry.Wanted.TheVariants.{New as new, Reused as reused}
-use Rattle.desk_model.specs.Questions.{serving_on}
 use Rattle.desk_model.specs.Rules.{left_by, pieces, wanted, wanted_by}
 use Rattle.desk_model.specs.Run.{count_new, count_tokens}
-use Rattle.desk_model.specs.Tables.{Tables}
-use Rattle.desk_model.specs.declared.rows.AuthorizationRow.{AuthorizationRow}
 use Rattle.core_rules.specs.Making.{drawn_by, drawn_for, made_by, made_for}
 use Rattle.model_laws.proofs.Drawn.{length-pieces}
 
@@ -60,11 +54,6 @@ count-next w ns i n more is =
 pub count-fits : (w : Name → ℕ) (ns : List Name) (i : ℕ) (n : Name) (count : ℕ) → ((n : Name) → w n ≤ 2) → i < length ns → n ≡ get_or ns i n →
     count + sum_by w (drop i ns) ≡ sum_by w ns → count + w n ≤ 2 * length ns
 count-fits w ns i n count small more is counted = omega (arith, count-next w ns i n more is, count-le w ns small, counted)
-
--- one more name is counted
-pub counted-next : (w : Name → ℕ) (ns : List Name) (i : ℕ) (n : Name) (count : ℕ) → i < length ns → n ≡ get_or ns i n →
-    count + sum_by w (drop i ns) ≡ sum_by w ns → count + w n + sum_by w (drop (i + 1) ns) ≡ sum_by w ns
-counted-next w ns i n count more is counted = omega (arith, count-next w ns i n more is, counted)
 
 -- a token for each challenge that is made
 pub count_tokens-wanted : (T : Tables) (account : ℕ) (ns : List Name) (random : List ℕ) →
@@ -117,17 +106,6 @@ wanted-new T account n left ns random next none =
     ap (λ l. wanted T account l random) next
     ∙ ap (λ o. wanted_by o n random ∷ wanted T account ns (left_by o n random)) (unserved (serving_on T account n) none)
 
--- and where one does
-wanted-reused : (T : Tables) (account k : ℕ) (n : Name) (left ns : List Name) (random : List ℕ) → left ≡ n ∷ ns →
-    Some k ≡ option_map (λ r. r.number) (serving_on T account n) →
-    wanted T account left random ≡ reused n k ∷ wanted T account ns random
-wanted-reused T account k n left ns random next served = ap (λ l. wanted T account l random) next ∙ by (serving_on T account n) served
-  where
-    by : (o : Option AuthorizationRow) → Some k ≡ option_map (λ r. r.number) o →
-        wanted_by o n random ∷ wanted T account ns (left_by o n random) ≡ reused n k ∷ wanted T account ns random
-    by None e = cc
-    by (Some row) e = let same : k ≡ row.number = cc in ap (λ j. reused n j ∷ wanted T account ns random) (sym same)
-
 -- there are bytes for the tokens of the next name
 pub next-tokens : (T : Tables) (account : ℕ) (n : Name) (left ns : List Name) (random : List ℕ) (count : ℕ) → left ≡ n ∷ ns →
     None ≡ option_map (λ r. r.number) (serving_on T account n) → count ≡ length (kinds_of n)
@@ -167,20 +145,3 @@ wanted-next T account n left ns random rest count tokens before after whole next
     ∙ ap (λ r. before ++ new n (pieces (length (kinds_of n)) random) ∷ wanted T account ns r) (cut ∙ ap (λ k. drop (16 * k) random) counted)
     ∙ sym (ap (λ l. before ++ l) (wanted-new T account n left ns random next none))
     ∙ known
-
--- the next name with the authorization that serves
-pub reused-next : (T : Tables) (account k : ℕ) (n : Name) (left ns : List Name) (random : List ℕ) (before after whole : List Wanted) →
-    left ≡ n ∷ ns → Some k ≡ option_map (λ r. r.number) (serving_on T account n) → after ≡ before ++ reused n k ∷ [] →
-    before ++ wanted T account left random ≡ whole → after ++ wanted T account ns random ≡ whole
-reused-next T account k n left ns random before after whole next served pushed known =
-    ap (λ l. l ++ wanted T account ns random) pushed
-    ∙ append_assoc before (reused n k ∷ []) (wanted T account ns random)
-    ∙ sym (ap (λ l. before ++ l) (wanted-reused T account k n left ns random next served))
-    ∙ known
-
--- the bytes are enough for the others
-pub reused-enough : (T : Tables) (account k : ℕ) (n : Name) (left ns : List Name) (random : List ℕ) → left ≡ n ∷ ns →
-    Some k ≡ option_map (λ r. r.number) (serving_on T account n) → 16 * count_tokens (wanted T account left random) ≤ length random →
-    16 * count_tokens (wanted T account ns random) ≤ length random
-reused-enough T account k n left ns random next served enough =
-    subst (λ l. 16 * count_tokens l ≤ length random) (wanted-reused T account k n left ns random next served) enough

@@ -1,15 +1,9 @@
 -- What a new order needs, by its names.
 use Rattle.std.proofs.Common.{◌≡◌, ℕ, ◌+◌, ◌*◌, ◌<◌, ◌≤◌, List, length, drop, sym, ap, subst, ◌∙◌, arith, length-drop}
 use Rattle.std.specs.Prelude.{◌⊎◌, sum_by}
-use Rattle.desk_model.specs.Limits.{last_number}
-use Rattle.desk_model.specs.Name.{Name}
-use Rattle.desk_model.specs.Rules.{wanted}
+use Rattle.desk_model.specs.{Limits.last_number, Name.Name, Rules.wanted, Tables.Tables}
 use Rattle.desk_model.specs.Run.{count_new, count_tokens}
-use Rattle.desk_model.specs.Tables.{Tables}
-use Rattle.desk_model.specs.declared.verdict.Verdict.TheVariants.{Orders as orders}
-use Rattle.desk_model.specs.declared.verdict.Verdict.{Verdict}
-use Rattle.desk_model.specs.declared.rows.Counters.{Counters}
-use Rattle.desk_model.specs.declared.entry.Wanted.{Wanted}
+use Rattle.desk_model.specs.declared.{verdict.Verdict.TheVariants.Orders as orders, verdict.Verdict.Verdict, rows.Counters.Counters, entry.Wanted.Wanted}
 use Rattle.core_rules.specs.Needs.{NumbersLeft, BytesLeft, IsNeedFault}
 use Rattle.core_rules.specs.declared.fault.CoreFault.{CoreFault}
 use Rattle.core_rules.specs.declared.fault.CoreFault.TheVariants as fault

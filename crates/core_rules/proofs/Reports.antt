@@ -1,15 +1,10 @@
 -- What the validator found, by its challenge.
 use Rattle.std.proofs.Common.{◌≡◌, ℕ, List, Some, sym, ap, ◌∙◌}
-use Rattle.desk_model.specs.Document.{expected}
+use Rattle.desk_model.specs.{Document.expected, Tables.Tables, Verdict.given}
 use Rattle.desk_model.specs.Questions.{challenge_of, owner_on}
 use Rattle.desk_model.specs.Rules.{finding_verdict, outcome_of, outcome_verdict, report_verdict}
-use Rattle.desk_model.specs.Tables.{Tables}
-use Rattle.desk_model.specs.Verdict.{given}
-use Rattle.desk_model.specs.declared.call.Finding.{Finding}
-use Rattle.desk_model.specs.declared.entry.Outcome.{Outcome}
+use Rattle.desk_model.specs.declared.{call.Finding.Finding, entry.Outcome.Outcome, rows.AuthorizationRow.AuthorizationRow, rows.ChallengeRow.ChallengeRow}
 use Rattle.desk_model.specs.declared.refusal.Refusal.TheVariants as refusal
-use Rattle.desk_model.specs.declared.rows.AuthorizationRow.{AuthorizationRow}
-use Rattle.desk_model.specs.declared.rows.ChallengeRow.{ChallengeRow}
 
 -- a report on a challenge that is there, which shows an outcome
 pub report-by : (T : Tables) (n : ℕ) (finding : Finding) (a : AuthorizationRow) (c : ChallengeRow) (text : List ℕ) (o : Outcome) →

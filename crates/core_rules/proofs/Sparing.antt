@@ -1,25 +1,16 @@
 -- Verdicts that need no numbers and no random bytes.
 use Rattle.std.proofs.Common.{◌≡◌, ℕ, List, Bool, true, false, Option, Some, None, Result, Ok, Err, MatchResult, drop, sym, ap, subst, ◌∙◌}
-use Rattle.desk_model.specs.declared.refusal.Refusal.{Refusal}
-use Rattle.desk_model.specs.Questions.{account_with_key}
-use Rattle.desk_model.specs.Rules.{key_change_verdict, rekey_verdict}
-use Rattle.desk_model.specs.Rules.{account_verdict, authorization_verdict, certificate_verdict, challenge_verdict, finalize_verdict, target_verdict}
-use Rattle.desk_model.specs.Tables.{Tables}
-use Rattle.desk_model.specs.declared.rows.AuthorizationRow.{AuthorizationRow}
-use Rattle.desk_model.specs.declared.rows.OrderRow.{OrderRow}
+use Rattle.desk_model.specs.declared.{refusal.Refusal.Refusal, rows.AuthorizationRow.AuthorizationRow, rows.OrderRow.OrderRow, call.Target.Target}
+use Rattle.desk_model.specs.declared.{payload.AccountChange.AccountChange, payload.AuthorizationChange.AuthorizationChange, payload.KeyChange.KeyChange}
+use Rattle.desk_model.specs.declared.{rows.AccountRow.AccountRow, payload.ChallengeChange.ChallengeChange, rows.Counters.Counters, verdict.Verdict.Verdict}
+use Rattle.desk_model.specs.{Questions.account_with_key, Tables.Tables}
+use Rattle.desk_model.specs.Rules.{key_change_verdict, rekey_verdict, account_verdict, authorization_verdict, certificate_verdict, challenge_verdict}
+use Rattle.desk_model.specs.Rules.{finalize_verdict, target_verdict}
 use Rattle.desk_model.specs.Verdict.{check, given, unless_fault, choose}
-use Rattle.desk_model.specs.declared.call.Target.{Target}
 use Rattle.desk_model.specs.declared.call.Target.TheVariants as to
-use Rattle.desk_model.specs.declared.payload.AccountChange.{AccountChange}
 use Rattle.desk_model.specs.declared.payload.AccountChange.TheVariants as account
-use Rattle.desk_model.specs.declared.payload.AuthorizationChange.{AuthorizationChange}
 use Rattle.desk_model.specs.declared.payload.AuthorizationChange.TheVariants as authz
-use Rattle.desk_model.specs.declared.payload.KeyChange.{KeyChange}
-use Rattle.desk_model.specs.declared.rows.AccountRow.{AccountRow}
-use Rattle.desk_model.specs.declared.payload.ChallengeChange.{ChallengeChange}
 use Rattle.desk_model.specs.declared.payload.ChallengeChange.TheVariants as chall
-use Rattle.desk_model.specs.declared.rows.Counters.{Counters}
-use Rattle.desk_model.specs.declared.verdict.Verdict.{Verdict}
 use Rattle.core_rules.specs.Needs.{NumbersLeft, BytesLeft, IsNeedFault}
 use Rattle.core_rules.specs.declared.fault.CoreFault.{CoreFault}
 use Rattle.core_rules.specs.declared.fault.CoreFault.TheVariants as fault
@@ -78,44 +69,36 @@ key_change-spares T n c = check-spares _ _ _ (given-spares _ _ _ (λ key. rekey-
 
 -- ---- by target, for account n
 
-pub key_change_target-spares : (T : Tables) (r : List ℕ) (n : ℕ) (p : List ℕ) → Spares (target_verdict T r n p to.KeyChange)
-key_change_target-spares T r n p = given-spares _ _ _ (key_change-spares T n)
+-- a target that makes no order
+abbrev pub IsSparing : Target → Type 0
+IsSparing to.NewOrder = ⊥
+IsSparing _ = Unit {0}
 
-pub new_account_target-spares : (T : Tables) (r : List ℕ) (n : ℕ) (p : List ℕ) → Spares (target_verdict T r n p to.NewAccount)
-new_account_target-spares T r n p = given-spares _ _ _ (λ asked C random. (tt, tt))
-
-pub account_target-spares : (T : Tables) (r : List ℕ) (n : ℕ) (p : List ℕ) (k : ℕ) → Spares (target_verdict T r n p (to.Account k))
-account_target-spares T r n p k = check-spares _ _ _ (given-spares _ _ _ (account-spares n))
-
-pub orders_target-spares : (T : Tables) (r : List ℕ) (n : ℕ) (p : List ℕ) (k : ℕ) → Spares (target_verdict T r n p (to.Orders k))
-orders_target-spares T r n p k = check-spares _ _ _ (check-spares _ _ _ (λ C random. (tt, tt)))
-
-pub order_target-spares : (T : Tables) (r : List ℕ) (n : ℕ) (p : List ℕ) (k : ℕ) → Spares (target_verdict T r n p (to.Order k))
-order_target-spares T r n p k = given-spares _ _ _ (λ o. check-spares _ _ _ (λ C random. (tt, tt)))
-
-pub finalize_target-spares : (T : Tables) (r : List ℕ) (n : ℕ) (p : List ℕ) (k : ℕ) → Spares (target_verdict T r n p (to.Finalize k))
-finalize_target-spares T r n p k = given-spares _ _ _ (λ o. given-spares _ _ _ (finalize-spares k o))
-
-pub certificate_target-spares : (T : Tables) (r : List ℕ) (n : ℕ) (p : List ℕ) (k : ℕ) → Spares (target_verdict T r n p (to.Cert k))
-certificate_target-spares T r n p k = given-spares _ _ _ (λ o. check-spares _ _ _ (certificate-spares k o))
-
-pub authorization_target-spares : (T : Tables) (r : List ℕ) (n : ℕ) (p : List ℕ) (k : ℕ) → Spares (target_verdict T r n p (to.Authz k))
-authorization_target-spares T r n p k = given-spares _ _ _ (λ a. given-spares _ _ _ (authorization-spares k a))
-
-pub challenge_target-spares : (T : Tables) (r : List ℕ) (n : ℕ) (p : List ℕ) (k : ℕ) → Spares (target_verdict T r n p (to.Chall k))
-challenge_target-spares T r n p k = given-spares _ _ _ (λ a. given-spares _ _ _ (challenge-spares k a))
+-- its verdict needs none of them
+pub target-spares : (T : Tables) (r : List ℕ) (n : ℕ) (p : List ℕ) (t : Target) → IsSparing t → Spares (target_verdict T r n p t)
+target-spares T r n p to.NewOrder is = absurd is
+target-spares T r n p to.KeyChange is = given-spares _ _ _ (key_change-spares T n)
+target-spares T r n p to.NewAccount is = given-spares _ _ _ (λ asked C random. (tt, tt))
+target-spares T r n p (to.Account k) is = check-spares _ _ _ (given-spares _ _ _ (account-spares n))
+target-spares T r n p (to.Orders k) is = check-spares _ _ _ (check-spares _ _ _ (λ C random. (tt, tt)))
+target-spares T r n p (to.Order k) is = given-spares _ _ _ (λ o. check-spares _ _ _ (λ C random. (tt, tt)))
+target-spares T r n p (to.Finalize k) is = given-spares _ _ _ (λ o. given-spares _ _ _ (finalize-spares k o))
+target-spares T r n p (to.Cert k) is = given-spares _ _ _ (λ o. check-spares _ _ _ (certificate-spares k o))
+target-spares T r n p (to.Authz k) is = given-spares _ _ _ (λ a. given-spares _ _ _ (authorization-spares k a))
+target-spares T r n p (to.Chall k) is = given-spares _ _ _ (λ a. given-spares _ _ _ (challenge-spares k a))
 
 -- the verdict of a target that is one of these
-pub target-spared : (C : Counters) (T : Tables) (random : List ℕ) (n : ℕ) (p : List ℕ) (target reading : Target) (v : Verdict) →
-    target ≡ reading → v ≡ target_verdict T (drop 16 random) n p reading → Spares (target_verdict T (drop 16 random) n p reading) →
-    (v ≡ target_verdict T (drop 16 random) n p target) × NumbersLeft C v × BytesLeft random v
-target-spared C T random n p target reading v is e h =
-    let left = subst Spares (sym e) h C random in
+pub target-spared : (T : Tables) (random : List ℕ) (n : ℕ) (p : List ℕ) (target reading : Target) → IsSparing reading →
+    (v : Verdict) → target ≡ reading → v ≡ target_verdict T (drop 16 random) n p reading →
+    (v ≡ target_verdict T (drop 16 random) n p target) × NumbersLeft T.meta.counters v × BytesLeft random v
+target-spared T random n p target reading spares v is e =
+    let left = subst Spares (sym e) (target-spares T (drop 16 random) n p reading spares) T.meta.counters random in
     (e ∙ ap (target_verdict T (drop 16 random) n p) (sym is), left.0, left.1)
 
 -- and its judgement, where memory alone may lack
-pub target-made : (C : Counters) (T : Tables) (random : List ℕ) (n : ℕ) (p : List ℕ) (target reading : Target) (r : Result Verdict CoreFault) →
-    target ≡ reading → MatchResult r (λ v. v ≡ target_verdict T (drop 16 random) n p reading) (λ e. e ≡ fault.Memory)
-    → Spares (target_verdict T (drop 16 random) n p reading) → IsJudged C random r (target_verdict T (drop 16 random) n p target)
-target-made C T random n p target reading (Ok v) is e h = target-spared C T random n p target reading v is e h
-target-made C T random n p target reading (Err f) is e h = subst (IsNeedFault C random (target_verdict T (drop 16 random) n p target)) (sym e) tt
+pub target-made : (T : Tables) (random : List ℕ) (n : ℕ) (p : List ℕ) (target reading : Target) → IsSparing reading →
+    (r : Result Verdict CoreFault) → target ≡ reading → MatchResult r (λ v. v ≡ target_verdict T (drop 16 random) n p reading) (λ e. e ≡ fault.Memory) →
+    IsJudged T.meta.counters random r (target_verdict T (drop 16 random) n p target)
+target-made T random n p target reading spares (Ok v) is e = target-spared T random n p target reading spares v is e
+target-made T random n p target reading spares (Err f) is e =
+    subst (IsNeedFault T.meta.counters random (target_verdict T (drop 16 random) n p target)) (sym e) tt

@@ -1,6 +1,5 @@
 use Rattle.std.proofs.Common.{◌≡◌, ◌≤◌, ◌*◌, ◌++◌, length}
-use Rattle.desk_model.specs.Rules.{wanted}
-use Rattle.desk_model.specs.Run.{count_tokens}
+use Rattle.desk_model.specs.{Rules.wanted, Run.count_tokens}
 use Rattle.core_rules.proofs.new_orders.wanted.Given as goal
 
 abbrev pub invariant-loop-name : goal.invariant-loop-name
