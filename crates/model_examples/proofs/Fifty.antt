@@ -3,7 +3,7 @@ use Rattle.std.specs.Prelude.{refl}
 use Rattle.model_examples.proofs.FiftyNames.{all_fifty, no_subproblems, names_taken, fifty_steps}
 use Rattle.model_examples.proofs.Computing.{computing}
 use Rattle.model_examples.specs.Fifty.{FiftyIdentifiers, FiftyNames, FiftyFaultless, FiftyTaken, FiftyKept, FiftyWanted}
-use Rattle.model_examples.specs.Fifty.{FiftyOrdered, FiftyPieces, FiftyFollow, names}
+use Rattle.model_examples.specs.Fifty.{FiftyOrdered, names}
 
 -- the payload says fifty identifiers
 pub fifty_identifiers : FiftyIdentifiers
@@ -35,13 +35,3 @@ fifty_wanted T = refl
 -- so the order is recorded, whatever else the desk holds
 pub fifty_ordered : FiftyOrdered
 fifty_ordered = fifty_steps fifty_identifiers fifty_faultless fifty_taken fifty_kept fifty_wanted
-
--- which takes 1600 random bytes, beside the 16 of the nonce
-pub fifty_pieces : FiftyPieces
-unfolding computing
-fifty_pieces = refl
-
--- and may follow
-pub fifty_follow : FiftyFollow
-unfolding computing
-fifty_follow = refl

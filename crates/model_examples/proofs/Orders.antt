@@ -18,7 +18,7 @@ use Rattle.model_examples.specs.Computed.{computed}
 use Rattle.model_examples.specs.Entries.{History}
 use Rattle.model_examples.specs.Fifty.{identifier}
 use Rattle.model_examples.specs.Orders.{ordering, example_org, any_example_org, FirstOrder, EnoughRandom, ShortRandomKeepsNonce}
-use Rattle.model_examples.specs.Orders.{ShortRandomRecordsNothing, FirstAuthorization, WildcardAuthorization, WildcardChallenge}
+use Rattle.model_examples.specs.Orders.{ShortRandomRecordsNothing}
 use Rattle.model_examples.specs.Orders.{FirstCalls}
 
 -- each spelling is read
@@ -80,21 +80,6 @@ short_random_keeps_nonce = ap (fault_by 63) (taken (before 63) (zeros 47))
 pub short_random_records_nothing : ShortRandomRecordsNothing
 unfolding computing
 short_random_records_nothing = ap (run_by 63) short_random_keeps_nonce
-
--- the authorization of the name, with a challenge of each type
-pub first_authorization : FirstAuthorization
-unfolding computing
-first_authorization = refl
-
--- that of the wildcard, with the base name and the type that proves a whole zone
-pub wildcard_authorization : WildcardAuthorization
-unfolding computing
-wildcard_authorization = refl
-
--- its challenge, with a link to it
-pub wildcard_challenge : WildcardChallenge
-unfolding computing
-wildcard_challenge = refl
 
 -- the desk gets there by the calls that were shown, in their order
 pub first_calls : FirstCalls
