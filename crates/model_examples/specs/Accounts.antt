@@ -5,9 +5,10 @@ use Rattle.desk_model.specs.Keys.{ec, canonical_text}
 use Rattle.desk_model.specs.declared.call.Call.{Call}
 use Rattle.desk_model.specs.declared.call.Ask.TheVariants as ask
 use Rattle.desk_model.specs.declared.call.Target.TheVariants as to
-use Rattle.model_examples.specs.Computed.{Gives, plain, located, renewed, refuses, Nothing, Json}
+use Rattle.model_examples.specs.Computed.{Gives, plain, located, renewed, refuses, Nothing, Json, Answers}
 use Rattle.model_examples.specs.Calls.{on, zeros, new_desk, first_key, second_key, asked, signed, nonce_one, nonce_two}
 use Rattle.model_examples.specs.Calls.{nonce_three, nonce_four, nonce_five, nonce_six}
+use Rattle.model_examples.specs.Texts.{bad_nonce, no_account}
 
 -- a nonce by GET
 abbrev pub FirstNonce : Type 0
@@ -34,9 +35,8 @@ account_text = codes "{\"contact\":[\"mailto:a@b.example\"],\"orders\":\"https:/
 -- the first account
 abbrev pub FirstAccount : Type 0
 FirstAccount =
-    Gives with_nonce opening
-    (located (codes "https://ca.example/account/1") (renewed nonce_two (plain 201 (Json account_text))))
-    (spent 1 ∷ issued (zeros 16) ∷ opened first_key (codes "mailto:a@b.example" ∷ []) ∷ [])
+    Answers with_nonce opening (located (codes "https://ca.example/account/1") (plain 201 (Json account_text)))
+    (opened first_key (codes "mailto:a@b.example" ∷ []) ∷ [])
 
 -- the desk after it
 abbrev pub with_account : History
@@ -44,10 +44,7 @@ with_account = on 0 (opened first_key (codes "mailto:a@b.example" ∷ [])) ∷ o
 
 -- the same request again: its nonce is spent, and it gets a fresh one
 abbrev pub NonceTwice : Type 0
-NonceTwice =
-    Gives with_account opening
-    (refuses 400 (codes "{\"detail\":\"the nonce is not open\",\"status\":400,\"type\":\"urn:ietf:params:acme:error:badNonce\"}") nonce_three)
-    (issued (zeros 16) ∷ [])
+NonceTwice = Gives with_account opening (refuses 400 bad_nonce nonce_three) (issued (zeros 16) ∷ [])
 
 -- ---- the account of a key
 
@@ -66,8 +63,7 @@ knowing = asked 0 16 (signed first_key nonce_two to.NewAccount (codes "{}"))
 -- newAccount by a key that has an account answers that account (7.3.1)
 abbrev pub KnownKey : Type 0
 KnownKey =
-    Gives with_third_nonce knowing
-    (located (codes "https://ca.example/account/1") (renewed nonce_four (plain 200 (Json account_text))))
+    Gives with_third_nonce knowing (located (codes "https://ca.example/account/1") (renewed nonce_four (plain 200 (Json account_text))))
     (spent 2 ∷ issued (zeros 16) ∷ [])
 
 -- the desk after it
@@ -80,10 +76,7 @@ asking_existing = asked 0 16 (signed second_key nonce_three to.NewAccount (codes
 
 -- only an existing account is asked for, and the key has none
 abbrev pub OnlyExisting : Type 0
-OnlyExisting =
-    Gives with_fourth_nonce asking_existing
-    (refuses 400 (codes "{\"detail\":\"no account has this key\",\"status\":400,\"type\":\"urn:ietf:params:acme:error:accountDoesNotExist\"}") nonce_five)
-    (spent 3 ∷ issued (zeros 16) ∷ [])
+OnlyExisting = Gives with_fourth_nonce asking_existing (refuses 400 no_account nonce_five) (spent 3 ∷ issued (zeros 16) ∷ [])
 
 -- the desk after it
 abbrev pub with_fifth_nonce : History
@@ -91,7 +84,4 @@ with_fifth_nonce = on 0 (issued (zeros 16)) ∷ on 0 (spent 3) ∷ with_fourth_n
 
 -- that request again: the refusal has spent its nonce
 abbrev pub OnlyExistingTwice : Type 0
-OnlyExistingTwice =
-    Gives with_fifth_nonce asking_existing
-    (refuses 400 (codes "{\"detail\":\"the nonce is not open\",\"status\":400,\"type\":\"urn:ietf:params:acme:error:badNonce\"}") nonce_six)
-    (issued (zeros 16) ∷ [])
+OnlyExistingTwice = Gives with_fifth_nonce asking_existing (refuses 400 bad_nonce nonce_six) (issued (zeros 16) ∷ [])

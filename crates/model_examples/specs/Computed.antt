@@ -1,13 +1,14 @@
 -- What a decision says, as the bytes that a client gets, and what it records.
-use Rattle.std.specs.Prelude.{◌≡◌, ℕ, List, Bool, true, Option, Some, None}
+use Rattle.std.specs.Prelude.{◌≡◌, ℕ, List, [], ◌∷◌, Bool, true, Option, Some, None}
 use Rattle.serde_json.specs.Written.{compact_text}
-use Rattle.model_examples.specs.Entries.{Entry, History}
+use Rattle.model_examples.specs.Entries.{Entry, History, issued, spent}
 use Rattle.desk_model.specs.Refusals.{problem_document}
 use Rattle.desk_model.specs.Decide.{Decision, decide}
 use Rattle.desk_model.specs.declared.call.Call.{Call}
 use Rattle.desk_model.specs.declared.reply.Reply.{Reply}
 use Rattle.desk_model.specs.declared.reply.Body.{Body}
 use Rattle.desk_model.specs.declared.reply.Body.TheVariants as body
+use Rattle.model_examples.specs.Calls.{nonce_two, zeros}
 
 -- the body of a reply, by its bytes; of a problem also whether the link to the directory stands
 pub data Content : Type 0 where
@@ -73,3 +74,17 @@ shows text = plain 200 (Json text)
 -- a refusal of a signed request, with this fresh nonce
 abbrev pub refuses : ℕ → List ℕ → List ℕ → Answer
 refuses status text nonce = renewed nonce (plain status (Problem true text))
+
+-- ---- requests with the first nonce, which is spent, and a fresh one issued
+
+-- such a request is answered so, and these entries follow
+abbrev pub Answers : History → Call → Answer → List Entry → Type 0
+Answers F call answer entries = Gives F call (renewed nonce_two answer) (spent 1 ∷ issued (zeros 16) ∷ entries)
+
+-- it is answered with this document, and nothing follows
+abbrev pub Reads : History → Call → List ℕ → Type 0
+Reads F call text = Answers F call (shows text) []
+
+-- it is refused with this document
+abbrev pub Refuses : History → Call → ℕ → List ℕ → Type 0
+Refuses F call status text = Answers F call (plain status (Problem true text)) []

@@ -3,10 +3,10 @@ use Rattle.std.specs.Prelude.{◌≡◌, [], ◌∷◌, ◌++◌, codes, replica
 use Rattle.desk_model.specs.Contact.{contact_fault, contacts_fault}
 use Rattle.desk_model.specs.declared.call.Target.TheVariants as to
 use Rattle.desk_model.specs.declared.refusal.Refusal.TheVariants as refusal
-use Rattle.model_examples.specs.Computed.{Gives, refuses, plain, renewed, Json, located}
-use Rattle.model_examples.specs.Entries.{issued, spent, contacts_changed, History, opened}
-use Rattle.model_examples.specs.Calls.{on, zeros, new_desk, account_desk, request, nonce_two, first_key}
-use Rattle.model_examples.specs.Texts.{unsupported_contact, invalid_contact, no_account}
+use Rattle.model_examples.specs.Computed.{plain, Json, located, Answers, Reads, Refuses, shows}
+use Rattle.model_examples.specs.Entries.{issued, contacts_changed, History, opened}
+use Rattle.model_examples.specs.Calls.{on, zeros, new_desk, account_desk, request, first_key}
+use Rattle.model_examples.specs.Texts.{unsupported_contact, invalid_contact, no_account, plain_account}
 
 -- nothing stands behind the scheme
 abbrev pub EmptyAddress : Type 0
@@ -58,44 +58,33 @@ nonce_desk = on 0 (issued (zeros 16)) ∷ new_desk
 
 -- an account with a telephone number is not opened
 abbrev pub TelephoneRefused : Type 0
-TelephoneRefused =
-    Gives nonce_desk (request to.NewAccount (codes "{\"contact\":[\"tel:+1\"]}")) (refuses 400 unsupported_contact nonce_two) (spent 1 ∷ issued (zeros 16) ∷ [])
+TelephoneRefused = Refuses nonce_desk (request to.NewAccount (codes "{\"contact\":[\"tel:+1\"]}")) 400 unsupported_contact
 
 -- nor one with an address that says nothing
 abbrev pub EmptyAddressRefused : Type 0
-EmptyAddressRefused =
-    Gives nonce_desk (request to.NewAccount (codes "{\"contact\":[\"mailto:\"]}")) (refuses 400 invalid_contact nonce_two) (spent 1 ∷ issued (zeros 16) ∷ [])
+EmptyAddressRefused = Refuses nonce_desk (request to.NewAccount (codes "{\"contact\":[\"mailto:\"]}")) 400 invalid_contact
 
 -- other contacts take the place of the old ones, as they are written
 abbrev pub ContactsReplaced : Type 0
 ContactsReplaced =
-    Gives account_desk (request (to.Account 1) (codes "{\"contact\":[\"MAILTO:a@b\"],\"status\":\"valid\"}"))
-    (renewed nonce_two (plain 200 (Json (codes "{\"contact\":[\"MAILTO:a@b\"],\"orders\":\"https://ca.example/account/1/orders\",\"status\":\"valid\"}"))))
-    (spent 1 ∷ issued (zeros 16) ∷ contacts_changed 1 (codes "MAILTO:a@b" ∷ []) ∷ [])
+    Answers account_desk (request (to.Account 1) (codes "{\"contact\":[\"MAILTO:a@b\"],\"status\":\"valid\"}"))
+    (shows (codes "{\"contact\":[\"MAILTO:a@b\"],\"orders\":\"https://ca.example/account/1/orders\",\"status\":\"valid\"}"))
+    (contacts_changed 1 (codes "MAILTO:a@b" ∷ []) ∷ [])
 
 -- and pass the same test
 abbrev pub ContactsNotReplaced : Type 0
-ContactsNotReplaced =
-    Gives account_desk (request (to.Account 1) (codes "{\"contact\":[\"tel:+1\"]}")) (refuses 400 unsupported_contact nonce_two)
-    (spent 1 ∷ issued (zeros 16) ∷ [])
+ContactsNotReplaced = Refuses account_desk (request (to.Account 1) (codes "{\"contact\":[\"tel:+1\"]}")) 400 unsupported_contact
 
 -- without contacts nothing is changed
 abbrev pub ContactsLeft : Type 0
-ContactsLeft =
-    Gives account_desk (request (to.Account 1) (codes "{\"status\":\"revoked\"}"))
-    (renewed nonce_two (plain 200 (Json (codes "{\"contact\":[],\"orders\":\"https://ca.example/account/1/orders\",\"status\":\"valid\"}"))))
-    (spent 1 ∷ issued (zeros 16) ∷ [])
+ContactsLeft = Reads account_desk (request (to.Account 1) (codes "{\"status\":\"revoked\"}")) plain_account
 
 -- where only an existing account is asked for, contacts are not looked at
 abbrev pub ExistingBeforeContacts : Type 0
-ExistingBeforeContacts =
-    Gives nonce_desk (request to.NewAccount (codes "{\"contact\":[\"abc\"],\"onlyReturnExisting\":true}"))
-    (refuses 400 no_account nonce_two) (spent 1 ∷ issued (zeros 16) ∷ [])
+ExistingBeforeContacts = Refuses nonce_desk (request to.NewAccount (codes "{\"contact\":[\"abc\"],\"onlyReturnExisting\":true}")) 400 no_account
 
 -- any account may be asked for expressly
 abbrev pub NotOnlyExisting : Type 0
 NotOnlyExisting =
-    Gives nonce_desk (request to.NewAccount (codes "{\"onlyReturnExisting\":false}"))
-    (located (codes "https://ca.example/account/1")
-    (renewed nonce_two (plain 201 (Json (codes "{\"contact\":[],\"orders\":\"https://ca.example/account/1/orders\",\"status\":\"valid\"}")))))
-    (spent 1 ∷ issued (zeros 16) ∷ opened first_key [] ∷ [])
+    Answers nonce_desk (request to.NewAccount (codes "{\"onlyReturnExisting\":false}"))
+    (located (codes "https://ca.example/account/1") (plain 201 (Json plain_account))) (opened first_key [] ∷ [])

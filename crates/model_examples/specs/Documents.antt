@@ -7,9 +7,9 @@ use Rattle.serde_json.specs.Written.{compact_text}
 use Rattle.desk_model.specs.Keys.{Key, ec, rsa, okp, canonical_text, number_member, IsKeyOf}
 use Rattle.desk_model.specs.Document.{key_document}
 use Rattle.desk_model.specs.declared.call.Target.TheVariants as to
-use Rattle.model_examples.specs.Computed.{Gives, plain, renewed, Json}
-use Rattle.model_examples.specs.Entries.{issued, spent, opened, answered, reported, incorrect_response}
-use Rattle.model_examples.specs.Calls.{on, zeros, new_desk, order_desk, default_terms, first_key, request, nonce_two}
+use Rattle.model_examples.specs.Computed.{Reads}
+use Rattle.model_examples.specs.Entries.{issued, opened, answered, reported, incorrect_response}
+use Rattle.model_examples.specs.Calls.{on, zeros, new_desk, order_desk, default_terms, first_key, request}
 
 -- ---- keys
 
@@ -76,19 +76,12 @@ EdwardsDocument = IsOwnDocument (okp (codes "AQ"))
 -- contacts stand as they were given, in their order, with what JSON escapes escaped
 abbrev pub TwoContacts : Type 0
 TwoContacts =
-    Gives (on 0 (opened first_key ((codes "mailto:b@b") ∷ (codes "mailto:" ++ 34 ∷ codes "a" ++ 34 ∷ codes "@b") ∷ [])) ∷ on 0 (issued (zeros 16)) ∷ new_desk)
+    Reads (on 0 (opened first_key ((codes "mailto:b@b") ∷ (codes "mailto:" ++ 34 ∷ codes "a" ++ 34 ∷ codes "@b") ∷ [])) ∷ on 0 (issued (zeros 16)) ∷ new_desk)
     (request (to.Account 1) [])
-    (renewed nonce_two
-    (plain 200
-    (Json (codes "{\"contact\":[\"mailto:b@b\",\"mailto:\\\"a\\\"@b\"],\"orders\":\"https://ca.example/account/1/orders\",\"status\":\"valid\"}"))))
-    (spent 1 ∷ issued (zeros 16) ∷ [])
+    (codes "{\"contact\":[\"mailto:b@b\",\"mailto:\\\"a\\\"@b\"],\"orders\":\"https://ca.example/account/1/orders\",\"status\":\"valid\"}")
 
 -- an authorization that failed shows the challenge that was reported
 abbrev pub InvalidAuthorization : Type 0
 InvalidAuthorization =
-    Gives (on 0 (reported 2 incorrect_response) ∷ on 0 (answered 2) ∷ on 0 (answered 1) ∷ order_desk default_terms) (request (to.Authz 1) [])
-    (renewed nonce_two
-    (plain 200
-    (Json (codes
-    "{\"challenges\":[{\"error\":{\"detail\":\"the response did not match\",\"status\":403,\"type\":\"urn:ietf:params:acme:error:incorrectResponse\"},\"status\":\"invalid\",\"token\":\"AAAAAAAAAAAAAAAAAAAAAA\",\"type\":\"dns-01\",\"url\":\"https://ca.example/chall/2\"}],\"expires\":\"1970-01-31T00:00:00Z\",\"identifier\":{\"type\":\"dns\",\"value\":\"a.example\"},\"status\":\"invalid\"}"))))
-    (spent 1 ∷ issued (zeros 16) ∷ [])
+    Reads (on 0 (reported 2 incorrect_response) ∷ on 0 (answered 2) ∷ on 0 (answered 1) ∷ order_desk default_terms) (request (to.Authz 1) [])
+    (codes "{\"challenges\":[{\"error\":{\"detail\":\"the response did not match\",\"status\":403,\"type\":\"urn:ietf:params:acme:error:incorrectResponse\"},\"status\":\"invalid\",\"token\":\"AAAAAAAAAAAAAAAAAAAAAA\",\"type\":\"dns-01\",\"url\":\"https://ca.example/chall/2\"}],\"expires\":\"1970-01-31T00:00:00Z\",\"identifier\":{\"type\":\"dns\",\"value\":\"a.example\"},\"status\":\"invalid\"}")

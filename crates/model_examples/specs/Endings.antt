@@ -8,11 +8,11 @@ use Rattle.desk_model.specs.declared.status.AuthzStatus.TheVariants as authz
 use Rattle.desk_model.specs.declared.call.Ask.TheVariants as ask
 use Rattle.desk_model.specs.declared.call.OfficeAsk.TheVariants as office
 use Rattle.desk_model.specs.declared.call.Target.TheVariants as to
-use Rattle.model_examples.specs.Computed.{Gives, refuses, plain, renewed, shows, Json, Problem}
-use Rattle.model_examples.specs.Entries.{Entry, issued, spent, account_ended, ordered, answered, reported, good}
+use Rattle.model_examples.specs.Computed.{Gives, plain, shows, Problem, Answers, Reads, Refuses}
+use Rattle.model_examples.specs.Entries.{Entry, account_ended, ordered, answered, reported, good}
 use Rattle.model_examples.specs.Entries.{incorrect_response, authorization_ended, finalized, certified, deactivated, revoked}
 use Rattle.model_examples.specs.Entries.{History}
-use Rattle.model_examples.specs.Calls.{on, zeros, account_desk, asked, request, nonce_two, wants}
+use Rattle.model_examples.specs.Calls.{on, account_desk, asked, request, wants}
 use Rattle.model_examples.specs.Texts.{unauthorized, unfit_report, nothing_here}
 
 -- an order of this name
@@ -47,19 +47,14 @@ AuthorizationsBefore = authorization_statuses busy_desk ≡ authz.Pending ∷ au
 -- the orders of an account, by number, without those that are invalid (7.1.2.1)
 abbrev pub OrdersListed : Type 0
 OrdersListed =
-    Gives busy_desk (request (to.Orders 1) [])
-    (renewed nonce_two
-    (plain 200
-    (Json (codes
-    "{\"orders\":[\"https://ca.example/order/1\",\"https://ca.example/order/2\",\"https://ca.example/order/4\",\"https://ca.example/order/5\"]}"))))
-    (spent 1 ∷ issued (zeros 16) ∷ [])
+    Reads busy_desk (request (to.Orders 1) [])
+    (codes "{\"orders\":[\"https://ca.example/order/1\",\"https://ca.example/order/2\",\"https://ca.example/order/4\",\"https://ca.example/order/5\"]}")
 
 -- the account is deactivated by its client
 abbrev pub AccountDeactivated : Type 0
 AccountDeactivated =
-    Gives busy_desk (request (to.Account 1) (codes "{\"contact\":1,\"status\":\"deactivated\"}"))
-    (renewed nonce_two (plain 200 (Json (codes "{\"contact\":[],\"orders\":\"https://ca.example/account/1/orders\",\"status\":\"deactivated\"}"))))
-    (spent 1 ∷ issued (zeros 16) ∷ account_ended 1 deactivated ∷ [])
+    Answers busy_desk (request (to.Account 1) (codes "{\"contact\":1,\"status\":\"deactivated\"}"))
+    (shows (codes "{\"contact\":[],\"orders\":\"https://ca.example/account/1/orders\",\"status\":\"deactivated\"}")) (account_ended 1 deactivated ∷ [])
 
 -- the desk after it
 abbrev pub deactivated_desk : History
@@ -76,20 +71,21 @@ AuthorizationsAfter = authorization_statuses deactivated_desk ≡ authz.Deactiva
 
 -- its next request is refused
 abbrev pub NextRequest : Type 0
-NextRequest = Gives deactivated_desk (request (to.Order 5) []) (refuses 401 unauthorized nonce_two) (spent 1 ∷ issued (zeros 16) ∷ [])
+NextRequest = Refuses deactivated_desk (request (to.Order 5) []) 401 unauthorized
 
 -- newAccount too
 abbrev pub NextNewAccount : Type 0
-NextNewAccount = Gives deactivated_desk (request to.NewAccount (codes "{}")) (refuses 401 unauthorized nonce_two) (spent 1 ∷ issued (zeros 16) ∷ [])
+NextNewAccount = Refuses deactivated_desk (request to.NewAccount (codes "{}")) 401 unauthorized
 
 -- ---- the operator
 
+-- the document of the account, revoked
+abbrev pub revoked_account : List ℕ
+revoked_account = codes "{\"contact\":[],\"orders\":\"https://ca.example/account/1/orders\",\"status\":\"revoked\"}"
+
 -- the operator revokes an account
 abbrev pub AccountRevoked : Type 0
-AccountRevoked =
-    Gives busy_desk (asked 0 0 (ask.Office (office.RevokeAccount 1)))
-    (shows (codes "{\"contact\":[],\"orders\":\"https://ca.example/account/1/orders\",\"status\":\"revoked\"}"))
-    (account_ended 1 revoked ∷ [])
+AccountRevoked = Gives busy_desk (asked 0 0 (ask.Office (office.RevokeAccount 1))) (shows revoked_account) (account_ended 1 revoked ∷ [])
 
 -- the desk after it
 abbrev pub revoked_desk : History
@@ -101,10 +97,7 @@ AuthorizationsOfRevoked = authorization_statuses revoked_desk ≡ authz.Revoked 
 
 -- again: nothing changes
 abbrev pub AccountRevokedAgain : Type 0
-AccountRevokedAgain =
-    Gives revoked_desk (asked 0 0 (ask.Office (office.RevokeAccount 1)))
-    (shows (codes "{\"contact\":[],\"orders\":\"https://ca.example/account/1/orders\",\"status\":\"revoked\"}"))
-    []
+AccountRevokedAgain = Gives revoked_desk (asked 0 0 (ask.Office (office.RevokeAccount 1))) (shows revoked_account) []
 
 -- an account that its client ended is not revoked
 abbrev pub DeactivatedIsNotRevoked : Type 0
@@ -114,21 +107,19 @@ DeactivatedIsNotRevoked = Gives deactivated_desk (asked 0 0 (ask.Office (office.
 abbrev pub UnknownAccountRevoked : Type 0
 UnknownAccountRevoked = Gives busy_desk (asked 0 0 (ask.Office (office.RevokeAccount 2))) (plain 404 (Problem false nothing_here)) []
 
+-- the authorization of b.example, revoked
+abbrev pub revoked_authorization : List ℕ
+revoked_authorization =
+    codes "{\"challenges\":[{\"status\":\"valid\",\"token\":\"AAAAAAAAAAAAAAAAAAAAAA\",\"type\":\"http-01\",\"url\":\"https://ca.example/chall/3\",\"validated\":\"1970-01-01T00:00:00Z\"}],\"expires\":\"1970-01-31T00:00:00Z\",\"identifier\":{\"type\":\"dns\",\"value\":\"b.example\"},\"status\":\"revoked\"}"
+
 -- the operator revokes an authorization
 abbrev pub AuthorizationRevoked : Type 0
-AuthorizationRevoked =
-    Gives busy_desk (asked 0 0 (ask.Office (office.RevokeAuthz 2)))
-    (shows (codes
-    "{\"challenges\":[{\"status\":\"valid\",\"token\":\"AAAAAAAAAAAAAAAAAAAAAA\",\"type\":\"http-01\",\"url\":\"https://ca.example/chall/3\",\"validated\":\"1970-01-01T00:00:00Z\"}],\"expires\":\"1970-01-31T00:00:00Z\",\"identifier\":{\"type\":\"dns\",\"value\":\"b.example\"},\"status\":\"revoked\"}"))
-    (authorization_ended 2 revoked ∷ [])
+AuthorizationRevoked = Gives busy_desk (asked 0 0 (ask.Office (office.RevokeAuthz 2))) (shows revoked_authorization) (authorization_ended 2 revoked ∷ [])
 
 -- again: nothing changes
 abbrev pub AuthorizationRevokedAgain : Type 0
 AuthorizationRevokedAgain =
-    Gives (on 0 (authorization_ended 2 revoked) ∷ busy_desk) (asked 0 0 (ask.Office (office.RevokeAuthz 2)))
-    (shows (codes
-    "{\"challenges\":[{\"status\":\"valid\",\"token\":\"AAAAAAAAAAAAAAAAAAAAAA\",\"type\":\"http-01\",\"url\":\"https://ca.example/chall/3\",\"validated\":\"1970-01-01T00:00:00Z\"}],\"expires\":\"1970-01-31T00:00:00Z\",\"identifier\":{\"type\":\"dns\",\"value\":\"b.example\"},\"status\":\"revoked\"}"))
-    []
+    Gives (on 0 (authorization_ended 2 revoked) ∷ busy_desk) (asked 0 0 (ask.Office (office.RevokeAuthz 2))) (shows revoked_authorization) []
 
 -- one that ended otherwise is not revoked
 abbrev pub InvalidIsNotRevoked : Type 0

@@ -4,13 +4,13 @@ use Rattle.desk_model.specs.Tables.{picture}
 use Rattle.desk_model.specs.declared.call.Target.TheVariants as to
 use Rattle.desk_model.specs.declared.call.OfficeAsk.TheVariants as office
 use Rattle.desk_model.specs.declared.call.Finding.TheVariants as found
-use Rattle.model_examples.specs.Computed.{Answer, Gives, plain, located, renewed, refuses, shows, Json, Problem}
-use Rattle.model_examples.specs.Entries.{Entry, issued, spent, opened, key_changed, account_ended, deactivated, answered, reported, good, History}
+use Rattle.model_examples.specs.Computed.{Answer, Gives, plain, located, shows, Json, Problem, Answers, Refuses}
+use Rattle.model_examples.specs.Entries.{Entry, opened, key_changed, account_ended, deactivated, answered, reported, good, History}
 use Rattle.model_examples.specs.Entries.{incorrect_response}
-use Rattle.model_examples.specs.Calls.{on, zeros, account_desk, first_key, second_key, request, nonce_two}
+use Rattle.model_examples.specs.Calls.{on, account_desk, first_key, second_key, request}
 use Rattle.model_examples.specs.Following.{May, MayNot}
-use Rattle.model_examples.specs.Offices.{waiting_desk, http_desk, handed, report, Repeats}
-use Rattle.model_examples.specs.Texts.{malformed, bad_public_key, key_in_use, no_account, unauthorized}
+use Rattle.model_examples.specs.Offices.{waiting_desk, http_desk, handed, report, Repeats, http_work, proved_challenge, unmatched_challenge}
+use Rattle.model_examples.specs.Texts.{malformed, bad_public_key, key_in_use, no_account, unauthorized, plain_account}
 
 -- the canonical text of a third key
 abbrev pub third_key : List ℕ
@@ -80,19 +80,15 @@ first_url = codes "https://ca.example/account/1"
 
 -- a request of the first account is answered so, and these entries follow those of its nonce
 abbrev pub Rekeys : List ℕ → Answer → List Entry → Type 0
-Rekeys payload answer entries = Gives two_accounts (request to.KeyChange payload) (renewed nonce_two answer) (spent 1 ∷ issued (zeros 16) ∷ entries)
+Rekeys payload answer entries = Answers two_accounts (request to.KeyChange payload) answer entries
 
 -- the account gets the key
 abbrev pub KeyIsChanged : Type 0
-KeyIsChanged =
-    Rekeys (rekey first_url third_key first_key)
-    (plain 200 (Json (codes "{\"contact\":[],\"orders\":\"https://ca.example/account/1/orders\",\"status\":\"valid\"}")))
-    (key_changed 1 third_key ∷ [])
+KeyIsChanged = Rekeys (rekey first_url third_key first_key) (plain 200 (Json plain_account)) (key_changed 1 third_key ∷ [])
 
 -- another account has the key: its URL is said
 abbrev pub KeyOfAnother : Type 0
-KeyOfAnother =
-    Rekeys (rekey first_url second_key first_key) (located (codes "https://ca.example/account/2") (plain 409 (Problem true key_in_use))) []
+KeyOfAnother = Rekeys (rekey first_url second_key first_key) (located (codes "https://ca.example/account/2") (plain 409 (Problem true key_in_use))) []
 
 -- the account has the key already
 abbrev pub KeyOfItsOwn : Type 0
@@ -120,18 +116,15 @@ NewKeyNoObject = Rekeys (rekey first_url (codes "1") first_key) (plain 400 (Prob
 
 -- no old key
 abbrev pub WithoutOldKey : Type 0
-WithoutOldKey =
-    Rekeys (codes "{\"account\":\"https://ca.example/account/1\",\"newKey\":{}}") (plain 400 (Problem true malformed)) []
+WithoutOldKey = Rekeys (codes "{\"account\":\"https://ca.example/account/1\",\"newKey\":{}}") (plain 400 (Problem true malformed)) []
 
 -- an account that ended is given no key
 abbrev pub EndedKeepsKey : Type 0
-EndedKeepsKey =
-    Gives (on 0 (account_ended 1 deactivated) ∷ two_accounts) (request to.KeyChange (rekey first_url third_key first_key))
-    (refuses 401 unauthorized nonce_two) (spent 1 ∷ issued (zeros 16) ∷ [])
+EndedKeepsKey = Refuses (on 0 (account_ended 1 deactivated) ∷ two_accounts) (request to.KeyChange (rekey first_url third_key first_key)) 401 unauthorized
 
 -- a request by a key that the account gave up
 abbrev pub GivenUpKey : Type 0
-GivenUpKey = Gives rekeyed_desk (request to.NewOrder (codes "{}")) (refuses 400 no_account nonce_two) (spent 1 ∷ issued (zeros 16) ∷ [])
+GivenUpKey = Refuses rekeyed_desk (request to.NewOrder (codes "{}")) 400 no_account
 
 -- ---- challenges that were answered before
 
@@ -141,40 +134,32 @@ later_key = on 0 (key_changed 1 second_key) ∷ http_desk
 
 -- the key of the answer is asked for
 abbrev pub WorkByOldKey : Type 0
-WorkByOldKey =
-    Repeats later_key office.ChallengeWork
-    (codes "{\"challenges\":[{\"challenge\":1,\"expected\":\"AAAAAAAAAAAAAAAAAAAAAA.NzbLsXh8uDCcd-6MNwXF4W_7noWXFZAfHkxZsRGC9Xs\",\"name\":\"example.org\",\"token\":\"AAAAAAAAAAAAAAAAAAAAAA\",\"type\":\"http-01\"}]}")
+WorkByOldKey = Repeats later_key office.ChallengeWork http_work
+
+-- the key authorization of a token of zero bytes under the key of RFC 7638, 3.1
+abbrev pub key_authorization : List ℕ
+key_authorization = codes "AAAAAAAAAAAAAAAAAAAAAA.NzbLsXh8uDCcd-6MNwXF4W_7noWXFZAfHkxZsRGC9Xs"
 
 -- and a report is matched with it
 abbrev pub ReportByOldKey : Type 0
-ReportByOldKey =
-    Gives later_key (handed (report (found.Body (codes "AAAAAAAAAAAAAAAAAAAAAA.NzbLsXh8uDCcd-6MNwXF4W_7noWXFZAfHkxZsRGC9Xs"))))
-    (shows (codes
-    "{\"status\":\"valid\",\"token\":\"AAAAAAAAAAAAAAAAAAAAAA\",\"type\":\"http-01\",\"url\":\"https://ca.example/chall/1\",\"validated\":\"1970-01-01T00:00:00Z\"}"))
-    (reported 1 good ∷ [])
+ReportByOldKey = Gives later_key (handed (report (found.Body key_authorization))) (shows proved_challenge) (reported 1 good ∷ [])
+
+-- that under the second key
+abbrev pub second_authorization : List ℕ
+second_authorization = codes "AAAAAAAAAAAAAAAAAAAAAA.pF1dcf6lIm6B95gxRV0_u2O1e7FkRx6C8-vJxcZYuDw"
 
 -- not with the key of now
 abbrev pub ReportByNewKey : Type 0
-ReportByNewKey =
-    Gives later_key (handed (report (found.Body (codes "AAAAAAAAAAAAAAAAAAAAAA.pF1dcf6lIm6B95gxRV0_u2O1e7FkRx6C8-vJxcZYuDw"))))
-    (shows (codes
-    "{\"error\":{\"detail\":\"the response did not match\",\"status\":403,\"type\":\"urn:ietf:params:acme:error:incorrectResponse\"},\"status\":\"invalid\",\"token\":\"AAAAAAAAAAAAAAAAAAAAAA\",\"type\":\"http-01\",\"url\":\"https://ca.example/chall/1\"}"))
-    (reported 1 incorrect_response ∷ [])
+ReportByNewKey = Gives later_key (handed (report (found.Body second_authorization))) (shows unmatched_challenge) (reported 1 incorrect_response ∷ [])
 
 -- answered after the change, it is matched with the new key
 abbrev pub AnsweredThenMatched : Type 0
 AnsweredThenMatched =
-    Gives (on 0 (answered 1) ∷ on 0 (key_changed 1 second_key) ∷ waiting_desk)
-    (handed (report (found.Body (codes "AAAAAAAAAAAAAAAAAAAAAA.pF1dcf6lIm6B95gxRV0_u2O1e7FkRx6C8-vJxcZYuDw"))))
-    (shows (codes
-    "{\"status\":\"valid\",\"token\":\"AAAAAAAAAAAAAAAAAAAAAA\",\"type\":\"http-01\",\"url\":\"https://ca.example/chall/1\",\"validated\":\"1970-01-01T00:00:00Z\"}"))
+    Gives (on 0 (answered 1) ∷ on 0 (key_changed 1 second_key) ∷ waiting_desk) (handed (report (found.Body second_authorization))) (shows proved_challenge)
     (reported 1 good ∷ [])
 
 -- and not with the old one
 abbrev pub AnsweredByNewKey : Type 0
 AnsweredByNewKey =
-    Gives (on 0 (answered 1) ∷ on 0 (key_changed 1 second_key) ∷ waiting_desk)
-    (handed (report (found.Body (codes "AAAAAAAAAAAAAAAAAAAAAA.NzbLsXh8uDCcd-6MNwXF4W_7noWXFZAfHkxZsRGC9Xs"))))
-    (shows (codes
-    "{\"error\":{\"detail\":\"the response did not match\",\"status\":403,\"type\":\"urn:ietf:params:acme:error:incorrectResponse\"},\"status\":\"invalid\",\"token\":\"AAAAAAAAAAAAAAAAAAAAAA\",\"type\":\"http-01\",\"url\":\"https://ca.example/chall/1\"}"))
+    Gives (on 0 (answered 1) ∷ on 0 (key_changed 1 second_key) ∷ waiting_desk) (handed (report (found.Body key_authorization))) (shows unmatched_challenge)
     (reported 1 incorrect_response ∷ [])

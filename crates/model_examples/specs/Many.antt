@@ -1,10 +1,9 @@
 -- How many identifiers an order may have, and how some are refused (RFC 8555, 6.7.1, 7.4).
-use Rattle.std.specs.Prelude.{ℕ, [], ◌∷◌, map, codes}
+use Rattle.std.specs.Prelude.{ℕ, map, codes}
 use Rattle.desk_model.specs.declared.call.Call.{Call}
 use Rattle.desk_model.specs.declared.call.Target.TheVariants as to
-use Rattle.model_examples.specs.Computed.{Gives, refuses}
-use Rattle.model_examples.specs.Entries.{issued, spent}
-use Rattle.model_examples.specs.Calls.{zeros, account_desk, nonce_two, request}
+use Rattle.model_examples.specs.Computed.{Refuses}
+use Rattle.model_examples.specs.Calls.{account_desk, request}
 use Rattle.model_examples.specs.Fifty.{names, order_text}
 use Rattle.model_examples.specs.Texts.{malformed}
 
@@ -14,32 +13,25 @@ ordering count = request to.NewOrder (order_text (names count))
 
 -- one name more is malformed
 abbrev pub FiftyOneNames : Type 0
-FiftyOneNames = Gives account_desk (ordering 51) (refuses 400 malformed nonce_two) (spent 1 ∷ issued (zeros 16) ∷ [])
+FiftyOneNames = Refuses account_desk (ordering 51) 400 malformed
 
 -- identifiers are counted as they come: fifty-one of one name are too many
 abbrev pub OneNameTooOften : Type 0
-OneNameTooOften =
-    Gives account_desk (request to.NewOrder (order_text (map (λ name. codes "a.example") (names 51)))) (refuses 400 malformed nonce_two)
-    (spent 1 ∷ issued (zeros 16) ∷ [])
+OneNameTooOften = Refuses account_desk (request to.NewOrder (order_text (map (λ name. codes "a.example") (names 51)))) 400 malformed
 
 -- ---- identifiers that are refused
 
 -- the first identifier that is refused gives the refusal, and each is listed
 abbrev pub TwoFaultyIdentifiers : Type 0
 TwoFaultyIdentifiers =
-    Gives account_desk
-    (request to.NewOrder
-    (codes "{\"identifiers\":[{\"type\":\"ip\",\"value\":\"a.example\"},{\"type\":\"dns\",\"value\":\"a..b\"},{\"type\":\"dns\",\"value\":\"c.example\"}]}"))
-    (refuses 400
+    Refuses account_desk
+    (request to.NewOrder (codes
+    "{\"identifiers\":[{\"type\":\"ip\",\"value\":\"a.example\"},{\"type\":\"dns\",\"value\":\"a..b\"},{\"type\":\"dns\",\"value\":\"c.example\"}]}"))
+    400
     (codes "{\"detail\":\"the identifier type is not supported\",\"status\":400,\"subproblems\":[{\"detail\":\"the identifier type is not supported\",\"identifier\":{\"type\":\"ip\",\"value\":\"a.example\"},\"type\":\"urn:ietf:params:acme:error:unsupportedIdentifier\"},{\"detail\":\"the name is not accepted\",\"identifier\":{\"type\":\"dns\",\"value\":\"a..b\"},\"type\":\"urn:ietf:params:acme:error:rejectedIdentifier\"}],\"type\":\"urn:ietf:params:acme:error:unsupportedIdentifier\"}")
-    nonce_two)
-    (spent 1 ∷ issued (zeros 16) ∷ [])
 
 -- a name that is none
 abbrev pub FaultyName : Type 0
 FaultyName =
-    Gives account_desk (request to.NewOrder (codes "{\"identifiers\":[{\"type\":\"dns\",\"value\":\"c.example\"},{\"type\":\"dns\",\"value\":\"*\"}]}"))
-    (refuses 400
+    Refuses account_desk (request to.NewOrder (codes "{\"identifiers\":[{\"type\":\"dns\",\"value\":\"c.example\"},{\"type\":\"dns\",\"value\":\"*\"}]}")) 400
     (codes "{\"detail\":\"the name is not accepted\",\"status\":400,\"subproblems\":[{\"detail\":\"the name is not accepted\",\"identifier\":{\"type\":\"dns\",\"value\":\"*\"},\"type\":\"urn:ietf:params:acme:error:rejectedIdentifier\"}],\"type\":\"urn:ietf:params:acme:error:rejectedIdentifier\"}")
-    nonce_two)
-    (spent 1 ∷ issued (zeros 16) ∷ [])

@@ -7,10 +7,10 @@ use Rattle.desk_model.specs.declared.call.Call.{Call}
 use Rattle.desk_model.specs.declared.call.Ask.TheVariants as ask
 use Rattle.desk_model.specs.declared.call.OfficeAsk.TheVariants as office
 use Rattle.desk_model.specs.declared.call.Target.TheVariants as to
-use Rattle.model_examples.specs.Computed.{Gives, refuses, plain, renewed, Json, located}
-use Rattle.model_examples.specs.Entries.{issued, spent, History}
+use Rattle.model_examples.specs.Computed.{Gives, refuses, located, Answers, shows}
+use Rattle.model_examples.specs.Entries.{issued, History}
 use Rattle.model_examples.specs.Calls.{on, zeros, new_desk, account_desk, first_key, asked, signed, nonce_one, nonce_two, nonce_three}
-use Rattle.model_examples.specs.Texts.{bad_nonce}
+use Rattle.model_examples.specs.Texts.{bad_nonce, plain_account}
 
 -- the account is asked for at a moment, with a nonce of moment 0
 abbrev pub known_at : ℕ → Call
@@ -18,11 +18,7 @@ known_at at = asked at 16 (signed first_key nonce_one to.NewAccount (codes "{}")
 
 -- a nonce serves to the end of its life
 abbrev pub NonceToTheEndOfItsLife : Type 0
-NonceToTheEndOfItsLife =
-    Gives account_desk (known_at 3600)
-    (located (codes "https://ca.example/account/1")
-    (renewed nonce_two (plain 200 (Json (codes "{\"contact\":[],\"orders\":\"https://ca.example/account/1/orders\",\"status\":\"valid\"}")))))
-    (spent 1 ∷ issued (zeros 16) ∷ [])
+NonceToTheEndOfItsLife = Answers account_desk (known_at 3600) (located (codes "https://ca.example/account/1") (shows plain_account)) []
 
 -- and no later
 abbrev pub NoncePastItsLife : Type 0
@@ -42,8 +38,7 @@ LaterMoment = after desk_at_ninety (asked 91 16 (ask.NewNonce false)) ≡ on 91 
 
 -- so the end of a life is not undone: what is past it at the clock stays so
 abbrev pub PastAtTheClock : Type 0
-PastAtTheClock =
-    Gives (on 3601 (issued (zeros 16)) ∷ account_desk) (known_at 0) (refuses 400 bad_nonce nonce_three) (issued (zeros 16) ∷ [])
+PastAtTheClock = Gives (on 3601 (issued (zeros 16)) ∷ account_desk) (known_at 0) (refuses 400 bad_nonce nonce_three) (issued (zeros 16) ∷ [])
 
 -- the last moment
 abbrev pub LastMoment : Type 0

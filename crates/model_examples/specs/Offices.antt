@@ -40,11 +40,14 @@ Repeats F what text = Gives F (handed what) (shows text) []
 abbrev pub NoChallengeWork : Type 0
 NoChallengeWork = Repeats waiting_desk office.ChallengeWork (codes "{\"challenges\":[]}")
 
+-- the work on the http-01 challenge: the key authorization is expected
+abbrev pub http_work : List ℕ
+http_work =
+    codes "{\"challenges\":[{\"challenge\":1,\"expected\":\"AAAAAAAAAAAAAAAAAAAAAA.NzbLsXh8uDCcd-6MNwXF4W_7noWXFZAfHkxZsRGC9Xs\",\"name\":\"example.org\",\"token\":\"AAAAAAAAAAAAAAAAAAAAAA\",\"type\":\"http-01\"}]}"
+
 -- an http-01 challenge wants the key authorization
 abbrev pub HttpWork : Type 0
-HttpWork =
-    Repeats http_desk office.ChallengeWork
-    (codes "{\"challenges\":[{\"challenge\":1,\"expected\":\"AAAAAAAAAAAAAAAAAAAAAA.NzbLsXh8uDCcd-6MNwXF4W_7noWXFZAfHkxZsRGC9Xs\",\"name\":\"example.org\",\"token\":\"AAAAAAAAAAAAAAAAAAAAAA\",\"type\":\"http-01\"}]}")
+HttpWork = Repeats http_desk office.ChallengeWork http_work
 
 -- a dns-01 challenge wants its digest
 abbrev pub BothWork : Type 0
@@ -62,21 +65,25 @@ NoExpiredWork = Gives http_desk (asked 2592001 0 (ask.Office office.ChallengeWor
 abbrev pub report : Finding → OfficeAsk
 report finding = office.Report 1 finding
 
+-- the challenge whose response was another
+abbrev pub unmatched_challenge : List ℕ
+unmatched_challenge =
+    codes "{\"error\":{\"detail\":\"the response did not match\",\"status\":403,\"type\":\"urn:ietf:params:acme:error:incorrectResponse\"},\"status\":\"invalid\",\"token\":\"AAAAAAAAAAAAAAAAAAAAAA\",\"type\":\"http-01\",\"url\":\"https://ca.example/chall/1\"}"
+
 -- another body than the one expected
 abbrev pub WrongBody : Type 0
-WrongBody =
-    Gives http_desk (handed (report (found.Body [])))
-    (shows (codes
-    "{\"error\":{\"detail\":\"the response did not match\",\"status\":403,\"type\":\"urn:ietf:params:acme:error:incorrectResponse\"},\"status\":\"invalid\",\"token\":\"AAAAAAAAAAAAAAAAAAAAAA\",\"type\":\"http-01\",\"url\":\"https://ca.example/chall/1\"}"))
-    (reported 1 incorrect_response ∷ [])
+WrongBody = Gives http_desk (handed (report (found.Body []))) (shows unmatched_challenge) (reported 1 incorrect_response ∷ [])
+
+-- the challenge that was proved at 0
+abbrev pub proved_challenge : List ℕ
+proved_challenge =
+    codes "{\"status\":\"valid\",\"token\":\"AAAAAAAAAAAAAAAAAAAAAA\",\"type\":\"http-01\",\"url\":\"https://ca.example/chall/1\",\"validated\":\"1970-01-01T00:00:00Z\"}"
 
 -- the right one, with a line end
 abbrev pub RightBody : Type 0
 RightBody =
     Gives http_desk (handed (report (found.Body (codes "AAAAAAAAAAAAAAAAAAAAAA.NzbLsXh8uDCcd-6MNwXF4W_7noWXFZAfHkxZsRGC9Xs" ++ 10 ∷ []))))
-    (shows (codes
-    "{\"status\":\"valid\",\"token\":\"AAAAAAAAAAAAAAAAAAAAAA\",\"type\":\"http-01\",\"url\":\"https://ca.example/chall/1\",\"validated\":\"1970-01-01T00:00:00Z\"}"))
-    (reported 1 good ∷ [])
+    (shows proved_challenge) (reported 1 good ∷ [])
 
 -- the right record among others
 abbrev pub RightRecord : Type 0
@@ -86,21 +93,23 @@ RightRecord =
     "{\"status\":\"valid\",\"token\":\"AAAAAAAAAAAAAAAAAAAAAA\",\"type\":\"dns-01\",\"url\":\"https://ca.example/chall/2\",\"validated\":\"1970-01-01T00:00:00Z\"}"))
     (reported 2 good ∷ [])
 
+-- the challenge to which there was no connection
+abbrev pub unconnected_challenge : List ℕ
+unconnected_challenge =
+    codes "{\"error\":{\"detail\":\"the validator could not connect\",\"status\":400,\"type\":\"urn:ietf:params:acme:error:connection\"},\"status\":\"invalid\",\"token\":\"AAAAAAAAAAAAAAAAAAAAAA\",\"type\":\"http-01\",\"url\":\"https://ca.example/chall/1\"}"
+
 -- no connection
 abbrev pub NoConnection : Type 0
-NoConnection =
-    Gives http_desk (handed (report (found.Error fetch.Connection)))
-    (shows (codes
-    "{\"error\":{\"detail\":\"the validator could not connect\",\"status\":400,\"type\":\"urn:ietf:params:acme:error:connection\"},\"status\":\"invalid\",\"token\":\"AAAAAAAAAAAAAAAAAAAAAA\",\"type\":\"http-01\",\"url\":\"https://ca.example/chall/1\"}"))
-    (reported 1 connection ∷ [])
+NoConnection = Gives http_desk (handed (report (found.Error fetch.Connection))) (shows unconnected_challenge) (reported 1 connection ∷ [])
+
+-- the challenge for which no records were found
+abbrev pub unfound_challenge : List ℕ
+unfound_challenge =
+    codes "{\"error\":{\"detail\":\"the validator found no records\",\"status\":400,\"type\":\"urn:ietf:params:acme:error:dns\"},\"status\":\"invalid\",\"token\":\"AAAAAAAAAAAAAAAAAAAAAA\",\"type\":\"http-01\",\"url\":\"https://ca.example/chall/1\"}"
 
 -- no records
 abbrev pub NoRecordsFound : Type 0
-NoRecordsFound =
-    Gives http_desk (handed (report (found.Error fetch.Dns)))
-    (shows (codes
-    "{\"error\":{\"detail\":\"the validator found no records\",\"status\":400,\"type\":\"urn:ietf:params:acme:error:dns\"},\"status\":\"invalid\",\"token\":\"AAAAAAAAAAAAAAAAAAAAAA\",\"type\":\"http-01\",\"url\":\"https://ca.example/chall/1\"}"))
-    (reported 1 dns ∷ [])
+NoRecordsFound = Gives http_desk (handed (report (found.Error fetch.Dns))) (shows unfound_challenge) (reported 1 dns ∷ [])
 
 -- the challenge failed
 abbrev pub reported_desk : History
@@ -108,9 +117,7 @@ reported_desk = on 0 (reported 1 incorrect_response) ∷ http_desk
 
 -- another wrong body is the same outcome: nothing is recorded
 abbrev pub WrongBodyAgain : Type 0
-WrongBodyAgain =
-    Repeats reported_desk (report (found.Body (codes "x")))
-    (codes "{\"error\":{\"detail\":\"the response did not match\",\"status\":403,\"type\":\"urn:ietf:params:acme:error:incorrectResponse\"},\"status\":\"invalid\",\"token\":\"AAAAAAAAAAAAAAAAAAAAAA\",\"type\":\"http-01\",\"url\":\"https://ca.example/chall/1\"}")
+WrongBodyAgain = Repeats reported_desk (report (found.Body (codes "x"))) unmatched_challenge
 
 -- another outcome contradicts it
 abbrev pub OtherOutcome : Type 0
@@ -252,15 +259,11 @@ Directory =
 
 -- the same failure of the connection again
 abbrev pub ConnectionAgain : Type 0
-ConnectionAgain =
-    Repeats (on 0 (reported 1 connection) ∷ http_desk) (report (found.Error fetch.Connection))
-    (codes "{\"error\":{\"detail\":\"the validator could not connect\",\"status\":400,\"type\":\"urn:ietf:params:acme:error:connection\"},\"status\":\"invalid\",\"token\":\"AAAAAAAAAAAAAAAAAAAAAA\",\"type\":\"http-01\",\"url\":\"https://ca.example/chall/1\"}")
+ConnectionAgain = Repeats (on 0 (reported 1 connection) ∷ http_desk) (report (found.Error fetch.Connection)) unconnected_challenge
 
 -- the same failure of the look-up again
 abbrev pub DnsAgain : Type 0
-DnsAgain =
-    Repeats (on 0 (reported 1 dns) ∷ http_desk) (report (found.Error fetch.Dns))
-    (codes "{\"error\":{\"detail\":\"the validator found no records\",\"status\":400,\"type\":\"urn:ietf:params:acme:error:dns\"},\"status\":\"invalid\",\"token\":\"AAAAAAAAAAAAAAAAAAAAAA\",\"type\":\"http-01\",\"url\":\"https://ca.example/chall/1\"}")
+DnsAgain = Repeats (on 0 (reported 1 dns) ∷ http_desk) (report (found.Error fetch.Dns)) unfound_challenge
 
 -- the other failure contradicts it
 abbrev pub DnsAfterConnection : Type 0

@@ -2,20 +2,18 @@
 use Rattle.std.specs.Prelude.{ℕ, List, [], ◌∷◌, codes}
 use Rattle.desk_model.specs.declared.call.Target.{Target}
 use Rattle.desk_model.specs.declared.call.Target.TheVariants as to
-use Rattle.model_examples.specs.Computed.{Gives, refuses}
-use Rattle.model_examples.specs.Entries.{issued, spent}
-use Rattle.model_examples.specs.Calls.{on, zeros, new_desk, order_desk, default_terms, request, nonce_two}
+use Rattle.model_examples.specs.Computed.{Refuses}
+use Rattle.model_examples.specs.Entries.{issued}
+use Rattle.model_examples.specs.Calls.{on, zeros, new_desk, order_desk, default_terms, request}
 use Rattle.model_examples.specs.Texts.{malformed}
 
 -- a request to the desk of one order is malformed
 abbrev pub IsMalformed : Target → List ℕ → Type 0
-IsMalformed target payload =
-    Gives (order_desk default_terms) (request target payload) (refuses 400 malformed nonce_two) (spent 1 ∷ issued (zeros 16) ∷ [])
+IsMalformed target payload = Refuses (order_desk default_terms) (request target payload) 400 malformed
 
 -- newAccount by a key without an account is malformed
 abbrev pub IsMalformedAccount : List ℕ → Type 0
-IsMalformedAccount payload =
-    Gives (on 0 (issued (zeros 16)) ∷ new_desk) (request to.NewAccount payload) (refuses 400 malformed nonce_two) (spent 1 ∷ issued (zeros 16) ∷ [])
+IsMalformedAccount payload = Refuses (on 0 (issued (zeros 16)) ∷ new_desk) (request to.NewAccount payload) 400 malformed
 
 -- newAccount wants an object
 abbrev pub AccountOfList : Type 0

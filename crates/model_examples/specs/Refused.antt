@@ -1,17 +1,13 @@
 -- Refusals of signed requests: which test answers, and that the nonce is spent (RFC 8555, 6.2, 6.5, 6.7).
 use Rattle.std.specs.Prelude.{ℕ, List, [], ◌∷◌, Option, Some, None, Ok, Err, codes}
-use Rattle.model_examples.specs.Entries.{issued, spent, opened, account_ended, revoked, History}
+use Rattle.model_examples.specs.Entries.{issued, opened, account_ended, revoked, History}
 use Rattle.desk_model.specs.declared.call.Call.{Call}
 use Rattle.desk_model.specs.declared.call.Ask.TheVariants as ask
 use Rattle.desk_model.specs.declared.call.Target.{Target}
 use Rattle.desk_model.specs.declared.call.Target.TheVariants as to
-use Rattle.model_examples.specs.Computed.{Gives, refuses, plain, renewed, Json}
+use Rattle.model_examples.specs.Computed.{Gives, refuses, Reads, Refuses}
 use Rattle.model_examples.specs.Calls.{on, zeros, account_desk, order_desk, default_terms, first_key, second_key, asked, signed, request, nonce_one, nonce_two}
 use Rattle.model_examples.specs.Texts.{malformed, nothing_here, bad_nonce, bad_public_key, no_account, unauthorized, order_not_ready}
-
--- the call is refused with this document, its nonce is spent and a fresh one issued
-abbrev pub Refuses : History → Call → ℕ → List ℕ → Type 0
-Refuses F call status text = Gives F call (refuses status text nonce_two) (spent 1 ∷ issued (zeros 16) ∷ [])
 
 -- ---- the order of the tests
 
@@ -29,8 +25,7 @@ UnknownNonce = Gives account_desk (with_nonce (Some nonce_two)) (refuses 400 bad
 
 -- a nonce with the serial of an open one and other random bytes
 abbrev pub GuessedNonce : Type 0
-GuessedNonce =
-    Gives account_desk (with_nonce (Some (codes "AAAAAAAAAAEAAAAAAAAAAAAAAAAAAAAB"))) (refuses 400 bad_nonce nonce_two) (issued (zeros 16) ∷ [])
+GuessedNonce = Gives account_desk (with_nonce (Some (codes "AAAAAAAAAAEAAAAAAAAAAAAAAAAAAAAB"))) (refuses 400 bad_nonce nonce_two) (issued (zeros 16) ∷ [])
 
 -- a text that spells no nonce
 abbrev pub NoNonceText : Type 0
@@ -40,14 +35,12 @@ NoNonceText = Gives account_desk (with_nonce (Some (codes "AAAA"))) (refuses 400
 abbrev pub BadKey : Type 0
 BadKey =
     Refuses account_desk
-    (asked 0 16 (ask.Signed (record { target = to.NewAccount; key = Err (record {}); nonce = Some nonce_one; payload = codes "no object" })))
-    400 bad_public_key
+    (asked 0 16 (ask.Signed (record { target = to.NewAccount; key = Err (record {}); nonce = Some nonce_one; payload = codes "no object" }))) 400 bad_public_key
 
 -- a bad key without an open nonce is refused for its nonce
 abbrev pub BadKeyWithoutNonce : Type 0
 BadKeyWithoutNonce =
-    Gives account_desk
-    (asked 0 16 (ask.Signed (record { target = to.NewAccount; key = Err (record {}); nonce = None; payload = [] })))
+    Gives account_desk (asked 0 16 (ask.Signed (record { target = to.NewAccount; key = Err (record {}); nonce = None; payload = [] })))
     (refuses 400 bad_nonce nonce_two) (issued (zeros 16) ∷ [])
 
 -- the key has no account: tested before the payload
@@ -130,5 +123,4 @@ NoCertificate = Refuses (order_desk default_terms) (request (to.Cert 1) []) 404 
 
 -- an account lists its own orders alone
 abbrev pub OwnOrders : Type 0
-OwnOrders =
-    Gives two_accounts (by_second (to.Orders 2) []) (renewed nonce_two (plain 200 (Json (codes "{\"orders\":[]}")))) (spent 1 ∷ issued (zeros 16) ∷ [])
+OwnOrders = Reads two_accounts (by_second (to.Orders 2) []) (codes "{\"orders\":[]}")

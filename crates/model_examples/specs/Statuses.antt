@@ -8,7 +8,7 @@ use Rattle.desk_model.specs.declared.call.Finding.TheVariants as found
 use Rattle.desk_model.specs.declared.call.FetchError.TheVariants as fetch
 use Rattle.desk_model.specs.declared.call.Target.{Target}
 use Rattle.desk_model.specs.declared.call.Target.TheVariants as to
-use Rattle.model_examples.specs.Computed.{Gives, refuses, plain, renewed, shows, located, below, Json, Problem, Certificate}
+use Rattle.model_examples.specs.Computed.{Gives, plain, renewed, shows, located, below, Json, Problem, Certificate, Answers, Reads, Refuses}
 use Rattle.model_examples.specs.Entries.{issued, spent, ordered, answered, reported, good, authorization_ended, finalized, certified, deactivated, History}
 use Rattle.model_examples.specs.Calls.{on, zeros, order_desk, account_desk, terms_of, default_terms, first_key, asked, signed}
 use Rattle.model_examples.specs.Calls.{request, nonce_one, nonce_two, wants}
@@ -30,25 +30,21 @@ matching at = asked at 0 (ask.Office (office.Report 1 (found.Body authorization_
 abbrev pub reading : ℕ → Target → Call
 reading at target = asked at 16 (signed first_key nonce_one target [])
 
--- a signed request is answered with this document and records nothing more
-abbrev pub Reads : History → Call → List ℕ → Type 0
-Reads F call text = Gives F call (renewed nonce_two (plain 200 (Json text))) (spent 1 ∷ issued (zeros 16) ∷ [])
-
 -- a report, or what the signing office hands in, does not fit, and nothing is recorded
 abbrev pub Unfit : History → Call → Type 0
 Unfit F call = Gives F call (plain 409 (Problem false unfit_report)) []
 
 -- ---- a challenge is answered and reported
 
+-- the challenge that was answered
+abbrev pub processing_challenge : List ℕ
+processing_challenge = codes "{\"status\":\"processing\",\"token\":\"AAAAAAAAAAAAAAAAAAAAAA\",\"type\":\"http-01\",\"url\":\"https://ca.example/chall/1\"}"
+
 -- the client says that a challenge can be validated (7.5.1)
 abbrev pub ChallengeAnswered : Type 0
 ChallengeAnswered =
-    Gives (order_desk short_terms) (asked 10 16 (signed first_key nonce_one (to.Chall 1) (codes "{}")))
-    (below (codes "https://ca.example/authz/1")
-    (renewed nonce_two
-    (plain 200
-    (Json (codes "{\"status\":\"processing\",\"token\":\"AAAAAAAAAAAAAAAAAAAAAA\",\"type\":\"http-01\",\"url\":\"https://ca.example/chall/1\"}")))))
-    (spent 1 ∷ issued (zeros 16) ∷ answered 1 ∷ [])
+    Answers (order_desk short_terms) (asked 10 16 (signed first_key nonce_one (to.Chall 1) (codes "{}")))
+    (below (codes "https://ca.example/authz/1") (shows processing_challenge)) (answered 1 ∷ [])
 
 -- the first challenge was answered at 10
 abbrev pub answered_desk : History
@@ -57,20 +53,17 @@ answered_desk = on 10 (answered 1) ∷ order_desk short_terms
 -- answering again changes nothing
 abbrev pub AnswersAgain : Type 0
 AnswersAgain =
-    Gives answered_desk (asked 11 16 (signed first_key nonce_one (to.Chall 1) (codes "{}")))
-    (below (codes "https://ca.example/authz/1")
-    (renewed nonce_two
-    (plain 200
-    (Json (codes "{\"status\":\"processing\",\"token\":\"AAAAAAAAAAAAAAAAAAAAAA\",\"type\":\"http-01\",\"url\":\"https://ca.example/chall/1\"}")))))
-    (spent 1 ∷ issued (zeros 16) ∷ [])
+    Answers answered_desk (asked 11 16 (signed first_key nonce_one (to.Chall 1) (codes "{}")))
+    (below (codes "https://ca.example/authz/1") (shows processing_challenge)) []
+
+-- the challenge that was proved at 100
+abbrev pub valid_challenge : List ℕ
+valid_challenge =
+    codes "{\"status\":\"valid\",\"token\":\"AAAAAAAAAAAAAAAAAAAAAA\",\"type\":\"http-01\",\"url\":\"https://ca.example/chall/1\",\"validated\":\"1970-01-01T00:01:40Z\"}"
 
 -- a matching report in the authorization's last second
 abbrev pub ReportInTime : Type 0
-ReportInTime =
-    Gives answered_desk (matching 100)
-    (shows (codes
-    "{\"status\":\"valid\",\"token\":\"AAAAAAAAAAAAAAAAAAAAAA\",\"type\":\"http-01\",\"url\":\"https://ca.example/chall/1\",\"validated\":\"1970-01-01T00:01:40Z\"}"))
-    (reported 1 good ∷ [])
+ReportInTime = Gives answered_desk (matching 100) (shows valid_challenge) (reported 1 good ∷ [])
 
 -- and proved at 100
 abbrev pub ready_desk : History
@@ -98,11 +91,14 @@ ExpiredOrder =
     Reads answered_desk (reading 101 (to.Order 1))
     (codes "{\"authorizations\":[\"https://ca.example/authz/1\"],\"expires\":\"1970-01-01T00:01:40Z\",\"finalize\":\"https://ca.example/order/1/finalize\",\"identifiers\":[{\"type\":\"dns\",\"value\":\"a.example\"}],\"status\":\"invalid\"}")
 
+-- the authorization with that challenge, past its moment
+abbrev pub expired_authorization : List ℕ
+expired_authorization =
+    codes "{\"challenges\":[{\"status\":\"processing\",\"token\":\"AAAAAAAAAAAAAAAAAAAAAA\",\"type\":\"http-01\",\"url\":\"https://ca.example/chall/1\"},{\"status\":\"pending\",\"token\":\"AAAAAAAAAAAAAAAAAAAAAA\",\"type\":\"dns-01\",\"url\":\"https://ca.example/chall/2\"}],\"expires\":\"1970-01-01T00:01:40Z\",\"identifier\":{\"type\":\"dns\",\"value\":\"a.example\"},\"status\":\"expired\"}"
+
 -- its authorization expired
 abbrev pub ExpiredAuthorization : Type 0
-ExpiredAuthorization =
-    Reads answered_desk (reading 101 (to.Authz 1))
-    (codes "{\"challenges\":[{\"status\":\"processing\",\"token\":\"AAAAAAAAAAAAAAAAAAAAAA\",\"type\":\"http-01\",\"url\":\"https://ca.example/chall/1\"},{\"status\":\"pending\",\"token\":\"AAAAAAAAAAAAAAAAAAAAAA\",\"type\":\"dns-01\",\"url\":\"https://ca.example/chall/2\"}],\"expires\":\"1970-01-01T00:01:40Z\",\"identifier\":{\"type\":\"dns\",\"value\":\"a.example\"},\"status\":\"expired\"}")
+ExpiredAuthorization = Reads answered_desk (reading 101 (to.Authz 1)) expired_authorization
 
 -- a valid authorization expires too
 abbrev pub ValidExpires : Type 0
@@ -113,32 +109,20 @@ ValidExpires =
 -- an answer that comes too late is not recorded
 abbrev pub AnswerTooLate : Type 0
 AnswerTooLate =
-    Gives (order_desk short_terms) (asked 101 16 (signed first_key nonce_one (to.Chall 1) (codes "{}")))
-    (below (codes "https://ca.example/authz/1")
-    (renewed nonce_two
-    (plain 200
-    (Json (codes "{\"status\":\"pending\",\"token\":\"AAAAAAAAAAAAAAAAAAAAAA\",\"type\":\"http-01\",\"url\":\"https://ca.example/chall/1\"}")))))
-    (spent 1 ∷ issued (zeros 16) ∷ [])
+    Answers (order_desk short_terms) (asked 101 16 (signed first_key nonce_one (to.Chall 1) (codes "{}")))
+    (below (codes "https://ca.example/authz/1") (shows (codes
+    "{\"status\":\"pending\",\"token\":\"AAAAAAAAAAAAAAAAAAAAAA\",\"type\":\"http-01\",\"url\":\"https://ca.example/chall/1\"}")))
+    []
 
 -- an end that comes past the authorization's moment does not show: it has expired
 abbrev pub LateEnd : Type 0
-LateEnd =
-    Gives answered_desk (asked 101 16 (signed first_key nonce_one (to.Authz 1) (codes "{\"status\":\"deactivated\"}")))
-    (renewed nonce_two
-    (plain 200
-    (Json (codes
-    "{\"challenges\":[{\"status\":\"processing\",\"token\":\"AAAAAAAAAAAAAAAAAAAAAA\",\"type\":\"http-01\",\"url\":\"https://ca.example/chall/1\"},{\"status\":\"pending\",\"token\":\"AAAAAAAAAAAAAAAAAAAAAA\",\"type\":\"dns-01\",\"url\":\"https://ca.example/chall/2\"}],\"expires\":\"1970-01-01T00:01:40Z\",\"identifier\":{\"type\":\"dns\",\"value\":\"a.example\"},\"status\":\"expired\"}"))))
-    (spent 1 ∷ issued (zeros 16) ∷ [])
+LateEnd = Reads answered_desk (asked 101 16 (signed first_key nonce_one (to.Authz 1) (codes "{\"status\":\"deactivated\"}"))) expired_authorization
 
 -- ---- the same report again, and others
 
 -- a matching report again records nothing
 abbrev pub ReportAgain : Type 0
-ReportAgain =
-    Gives ready_desk (matching 100)
-    (shows (codes
-    "{\"status\":\"valid\",\"token\":\"AAAAAAAAAAAAAAAAAAAAAA\",\"type\":\"http-01\",\"url\":\"https://ca.example/chall/1\",\"validated\":\"1970-01-01T00:01:40Z\"}"))
-    []
+ReportAgain = Gives ready_desk (matching 100) (shows valid_challenge) []
 
 -- another finding contradicts it
 abbrev pub ReportContradicts : Type 0
@@ -156,21 +140,20 @@ processing_desk = on 0 (finalized 1 (1 ∷ 2 ∷ 3 ∷ [])) ∷ on 0 (reported 1
 
 -- there is no certificate while the order is processing
 abbrev pub NoCertificateYet : Type 0
-NoCertificateYet = Gives processing_desk (reading 0 (to.Cert 1)) (refuses 404 nothing_here nonce_two) (spent 1 ∷ issued (zeros 16) ∷ [])
+NoCertificateYet = Refuses processing_desk (reading 0 (to.Cert 1)) 404 nothing_here
 
 -- the client deactivates the authorization
 abbrev pub deactivating : Call
 deactivating = request (to.Authz 1) (codes "{\"status\":\"deactivated\"}")
 
+-- the authorization that was valid, and is deactivated
+abbrev pub deactivated_authorization : List ℕ
+deactivated_authorization =
+    codes "{\"challenges\":[{\"status\":\"valid\",\"token\":\"AAAAAAAAAAAAAAAAAAAAAA\",\"type\":\"http-01\",\"url\":\"https://ca.example/chall/1\",\"validated\":\"1970-01-01T00:00:00Z\"}],\"expires\":\"1970-01-31T00:00:00Z\",\"identifier\":{\"type\":\"dns\",\"value\":\"a.example\"},\"status\":\"deactivated\"}"
+
 -- a valid authorization is deactivated by its client (7.5.2)
 abbrev pub Deactivates : Type 0
-Deactivates =
-    Gives processing_desk deactivating
-    (renewed nonce_two
-    (plain 200
-    (Json (codes
-    "{\"challenges\":[{\"status\":\"valid\",\"token\":\"AAAAAAAAAAAAAAAAAAAAAA\",\"type\":\"http-01\",\"url\":\"https://ca.example/chall/1\",\"validated\":\"1970-01-01T00:00:00Z\"}],\"expires\":\"1970-01-31T00:00:00Z\",\"identifier\":{\"type\":\"dns\",\"value\":\"a.example\"},\"status\":\"deactivated\"}"))))
-    (spent 1 ∷ issued (zeros 16) ∷ authorization_ended 1 deactivated ∷ [])
+Deactivates = Answers processing_desk deactivating (shows deactivated_authorization) (authorization_ended 1 deactivated ∷ [])
 
 -- the desk after it
 abbrev pub fallen_desk : History
@@ -178,9 +161,7 @@ fallen_desk = on 0 (authorization_ended 1 deactivated) ∷ processing_desk
 
 -- again: nothing changes
 abbrev pub DeactivatesAgain : Type 0
-DeactivatesAgain =
-    Reads fallen_desk deactivating
-    (codes "{\"challenges\":[{\"status\":\"valid\",\"token\":\"AAAAAAAAAAAAAAAAAAAAAA\",\"type\":\"http-01\",\"url\":\"https://ca.example/chall/1\",\"validated\":\"1970-01-01T00:00:00Z\"}],\"expires\":\"1970-01-31T00:00:00Z\",\"identifier\":{\"type\":\"dns\",\"value\":\"a.example\"},\"status\":\"deactivated\"}")
+DeactivatesAgain = Reads fallen_desk deactivating deactivated_authorization
 
 -- the order that was processing is invalid
 abbrev pub ProcessingFalls : Type 0
@@ -215,7 +196,7 @@ ValidNeverExpires =
 
 -- and its certificate is given as it was handed in (7.4.2)
 abbrev pub CertificateGiven : Type 0
-CertificateGiven = Gives valid_desk (reading 0 (to.Cert 1)) (renewed nonce_two (plain 200 (Certificate (codes "chain")))) (spent 1 ∷ issued (zeros 16) ∷ [])
+CertificateGiven = Answers valid_desk (reading 0 (to.Cert 1)) (plain 200 (Certificate (codes "chain"))) []
 
 -- ---- an order of two names
 
@@ -239,7 +220,7 @@ finalizing payload = request (to.Finalize 1) payload
 
 -- and is not finalized (7.4)
 abbrev pub PendingIsNotFinalized : Type 0
-PendingIsNotFinalized = Gives half_desk (finalizing (codes "{\"csr\":\"AQID\"}")) (refuses 403 order_not_ready nonce_two) (spent 1 ∷ issued (zeros 16) ∷ [])
+PendingIsNotFinalized = Refuses half_desk (finalizing (codes "{\"csr\":\"AQID\"}")) 403 order_not_ready
 
 -- both: it is ready
 abbrev pub BothOfTwo : Type 0
@@ -249,19 +230,19 @@ BothOfTwo =
 
 -- a CSR of no bytes
 abbrev pub EmptyCsr : Type 0
-EmptyCsr = Gives whole_desk (finalizing (codes "{\"csr\":\"\"}")) (refuses 400 bad_csr nonce_two) (spent 1 ∷ issued (zeros 16) ∷ [])
+EmptyCsr = Refuses whole_desk (finalizing (codes "{\"csr\":\"\"}")) 400 bad_csr
 
 -- a text that is no base64url
 abbrev pub NoCsr : Type 0
-NoCsr = Gives whole_desk (finalizing (codes "{\"csr\":\"AQID=\"}")) (refuses 400 bad_csr nonce_two) (spent 1 ∷ issued (zeros 16) ∷ [])
+NoCsr = Refuses whole_desk (finalizing (codes "{\"csr\":\"AQID=\"}")) 400 bad_csr
 
 -- a CSR of three bytes: the order is processing
 abbrev pub Finalizes : Type 0
 Finalizes =
-    Gives whole_desk (finalizing (codes "{\"csr\":\"AQID\"}"))
-    (located (codes "https://ca.example/order/1") (renewed nonce_two (plain 200 (Json (codes
-    "{\"authorizations\":[\"https://ca.example/authz/1\",\"https://ca.example/authz/2\"],\"expires\":\"1970-01-08T00:00:00Z\",\"finalize\":\"https://ca.example/order/1/finalize\",\"identifiers\":[{\"type\":\"dns\",\"value\":\"a.example\"},{\"type\":\"dns\",\"value\":\"b.example\"}],\"status\":\"processing\"}")))))
-    (spent 1 ∷ issued (zeros 16) ∷ finalized 1 (1 ∷ 2 ∷ 3 ∷ []) ∷ [])
+    Answers whole_desk (finalizing (codes "{\"csr\":\"AQID\"}"))
+    (located (codes "https://ca.example/order/1") (shows (codes
+    "{\"authorizations\":[\"https://ca.example/authz/1\",\"https://ca.example/authz/2\"],\"expires\":\"1970-01-08T00:00:00Z\",\"finalize\":\"https://ca.example/order/1/finalize\",\"identifiers\":[{\"type\":\"dns\",\"value\":\"a.example\"},{\"type\":\"dns\",\"value\":\"b.example\"}],\"status\":\"processing\"}")))
+    (finalized 1 (1 ∷ 2 ∷ 3 ∷ []) ∷ [])
 
 -- the desk after it
 abbrev pub finalized_desk : History
@@ -269,7 +250,7 @@ finalized_desk = on 0 (finalized 1 (1 ∷ 2 ∷ 3 ∷ [])) ∷ whole_desk
 
 -- again: it is not ready any more
 abbrev pub FinalizesOnce : Type 0
-FinalizesOnce = Gives finalized_desk (finalizing (codes "{\"csr\":\"AQID\"}")) (refuses 403 order_not_ready nonce_two) (spent 1 ∷ issued (zeros 16) ∷ [])
+FinalizesOnce = Refuses finalized_desk (finalizing (codes "{\"csr\":\"AQID\"}")) 403 order_not_ready
 
 -- the signing office sees its CSR and its names
 abbrev pub OrderWork : Type 0
@@ -281,19 +262,15 @@ OrderWork = Gives finalized_desk (asked 0 0 (ask.Office office.OrderWork))
 -- a challenge beside the one that proved the authorization is not answered any more
 abbrev pub OtherChallengeAnswered : Type 0
 OtherChallengeAnswered =
-    Gives ready_desk (asked 100 16 (signed first_key nonce_one (to.Chall 2) (codes "{}")))
-    (below (codes "https://ca.example/authz/1")
-    (renewed nonce_two
-    (plain 200
-    (Json (codes "{\"status\":\"pending\",\"token\":\"AAAAAAAAAAAAAAAAAAAAAA\",\"type\":\"dns-01\",\"url\":\"https://ca.example/chall/2\"}")))))
-    (spent 1 ∷ issued (zeros 16) ∷ [])
+    Answers ready_desk (asked 100 16 (signed first_key nonce_one (to.Chall 2) (codes "{}")))
+    (below (codes "https://ca.example/authz/1") (shows (codes
+    "{\"status\":\"pending\",\"token\":\"AAAAAAAAAAAAAAAAAAAAAA\",\"type\":\"dns-01\",\"url\":\"https://ca.example/chall/2\"}")))
+    []
 
 -- a pending authorization is deactivated in its last second
 abbrev pub DeactivatesPending : Type 0
 DeactivatesPending =
-    Gives (order_desk short_terms) (asked 100 16 (signed first_key nonce_one (to.Authz 1) (codes "{\"status\":\"deactivated\"}")))
-    (renewed nonce_two
-    (plain 200
-    (Json (codes
-    "{\"challenges\":[{\"status\":\"pending\",\"token\":\"AAAAAAAAAAAAAAAAAAAAAA\",\"type\":\"http-01\",\"url\":\"https://ca.example/chall/1\"},{\"status\":\"pending\",\"token\":\"AAAAAAAAAAAAAAAAAAAAAA\",\"type\":\"dns-01\",\"url\":\"https://ca.example/chall/2\"}],\"expires\":\"1970-01-01T00:01:40Z\",\"identifier\":{\"type\":\"dns\",\"value\":\"a.example\"},\"status\":\"deactivated\"}"))))
-    (spent 1 ∷ issued (zeros 16) ∷ authorization_ended 1 deactivated ∷ [])
+    Answers (order_desk short_terms) (asked 100 16 (signed first_key nonce_one (to.Authz 1) (codes "{\"status\":\"deactivated\"}")))
+    (shows (codes
+    "{\"challenges\":[{\"status\":\"pending\",\"token\":\"AAAAAAAAAAAAAAAAAAAAAA\",\"type\":\"http-01\",\"url\":\"https://ca.example/chall/1\"},{\"status\":\"pending\",\"token\":\"AAAAAAAAAAAAAAAAAAAAAA\",\"type\":\"dns-01\",\"url\":\"https://ca.example/chall/2\"}],\"expires\":\"1970-01-01T00:01:40Z\",\"identifier\":{\"type\":\"dns\",\"value\":\"a.example\"},\"status\":\"deactivated\"}"))
+    (authorization_ended 1 deactivated ∷ [])

@@ -52,3 +52,7 @@ could_not_act = codes "{\"detail\":\"the desk could not act\",\"status\":500,\"t
 
 abbrev pub too_large : List ℕ
 too_large = codes "{\"detail\":\"the request is too large\",\"status\":413,\"type\":\"urn:ietf:params:acme:error:malformed\"}"
+
+-- the document of the first account, without contacts
+abbrev pub plain_account : List ℕ
+plain_account = codes "{\"contact\":[],\"orders\":\"https://ca.example/account/1/orders\",\"status\":\"valid\"}"

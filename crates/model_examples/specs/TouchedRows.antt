@@ -46,14 +46,7 @@ no_rows = record { nonces = []; accounts = []; authorizations = []; challenges =
 
 -- the first order with the two names that it is for, its account and the request's nonce
 abbrev pub first_order_rows : Numbers
-first_order_rows =
-    record {
-      nonces = 1 ∷ [];
-      accounts = 1 ∷ [];
-      authorizations = 1 ∷ 2 ∷ [];
-      challenges = 1 ∷ 2 ∷ 3 ∷ 4 ∷ [];
-      orders = 1 ∷ [];
-    }
+first_order_rows = record { nonces = 1 ∷ []; accounts = 1 ∷ []; authorizations = 1 ∷ 2 ∷ []; challenges = 1 ∷ 2 ∷ 3 ∷ 4 ∷ []; orders = 1 ∷ [] }
 
 -- orders 1, 3 and 4 of the first account, the first of two names, and order 2 of another; two open nonces
 abbrev pub two_clients : History
@@ -281,13 +274,7 @@ shared_rows = record client_rows { orders = map shared client_rows.orders }
 abbrev pub SharedReport : Type 0
 SharedReport =
     Touches shared_rows (report_on 3)
-    (record {
-      nonces = [];
-      accounts = 1 ∷ 2 ∷ [];
-      authorizations = 1 ∷ 2 ∷ 3 ∷ [];
-      challenges = 1 ∷ 2 ∷ 3 ∷ 4 ∷ 5 ∷ 6 ∷ [];
-      orders = 1 ∷ 2 ∷ [];
-    })
+    (record { nonces = []; accounts = 1 ∷ 2 ∷ []; authorizations = 1 ∷ 2 ∷ 3 ∷ []; challenges = 1 ∷ 2 ∷ 3 ∷ 4 ∷ 5 ∷ 6 ∷ []; orders = 1 ∷ 2 ∷ [] })
 
 -- an order takes what it lists, and not the orders that list that; its account counts beside theirs
 abbrev pub SharedOrder : Type 0
@@ -299,13 +286,7 @@ SharedOrder =
 abbrev pub SharedAccount : Type 0
 SharedAccount =
     Touches shared_rows (asked 0 16 (signed second_key nonce_one (to.Account 2) []))
-    (record {
-      nonces = 1 ∷ [];
-      accounts = 1 ∷ 2 ∷ [];
-      authorizations = 2 ∷ 3 ∷ 4 ∷ [];
-      challenges = 3 ∷ 4 ∷ 5 ∷ 6 ∷ 7 ∷ 8 ∷ [];
-      orders = 2 ∷ 3 ∷ [];
-    })
+    (record { nonces = 1 ∷ []; accounts = 1 ∷ 2 ∷ []; authorizations = 2 ∷ 3 ∷ 4 ∷ []; challenges = 3 ∷ 4 ∷ 5 ∷ 6 ∷ 7 ∷ 8 ∷ []; orders = 2 ∷ 3 ∷ [] })
 
 -- an account with authorizations and without orders: its list of orders touches none of them
 abbrev pub NoOrders : Type 0
@@ -330,13 +311,7 @@ nonce_at moment = asked moment 16 (ask.NewNonce false)
 -- the three orders that fall at 604801, what they list and their account, and the nonces past their life
 abbrev pub fallen_rows : Numbers
 fallen_rows =
-    record {
-      nonces = 2 ∷ 3 ∷ [];
-      accounts = 1 ∷ [];
-      authorizations = 1 ∷ 2 ∷ 4 ∷ [];
-      challenges = 1 ∷ 2 ∷ 3 ∷ 4 ∷ 7 ∷ 8 ∷ [];
-      orders = 1 ∷ 2 ∷ 4 ∷ [];
-    }
+    record { nonces = 2 ∷ 3 ∷ []; accounts = 1 ∷ []; authorizations = 1 ∷ 2 ∷ 4 ∷ []; challenges = 1 ∷ 2 ∷ 3 ∷ 4 ∷ 7 ∷ 8 ∷ []; orders = 1 ∷ 2 ∷ 4 ∷ [] }
 
 -- beside these the last nonce, and the order of the other account
 abbrev pub more_rows : Numbers
