@@ -12,22 +12,21 @@ use Rattle.sqlite_schema.specs.declared.command.Upsert.{Upsert}
 use Rattle.sqlite_schema.specs.declared.command.Conflict.TheVariants.{Abort}
 use Rattle.sqlite_schema.specs.declared.command.Source.TheVariants.{Values}
 use Rattle.sqlite_rules.specs.declared.error.Rowids.TheVariants.{Given}
-use Rattle.sqlite_rules.specs.Edit.{edit_of, taken_by, with_rowid, next_rowid, id_in, Applies, IsNoIndex}
+use Rattle.sqlite_rules.specs.Edit.{with_rowid, next_rowid, id_in, IsNoIndex}
 use Rattle.sqlite_rules.specs.Keys.{AreConflicts, conflicts}
 use Rattle.sqlite_rules.specs.Cast.{cast_row}
 use Rattle.sqlite_rules.specs.Calls.{ids_of}
 use Rattle.sqlite_rules.specs.Lists.{Has}
-use Rattle.sqlite.specs.Rows.{Task, Written, Clears, Meets, Updates, Upserts, TriesEach, InsertsOr, stamped, count_of, nothing, rowids_for, shown}
+use Rattle.sqlite.specs.Rows.{Task, Written, Clears, Meets, Updates, Upserts, InsertsOr, stamped, rowids_for, shown}
 use Rattle.sqlite.specs.Effect.{value_rows}
-use Rattle.sqlite.proofs.Callers.{one_step}
 use Rattle.desk_model.specs.Change.{put}
 use Rattle.sql_tables.specs.Hidden.{hidden, next, number, IsPlaced}
 use Rattle.sql_tables.specs.Layouts.{IsRising}
 use Rattle.sql_tables.proofs.Keyed.{one_with, with_key, three}
 use Rattle.sql_tables.proofs.Found.{by_key, answered}
-use Rattle.sql_tables.proofs.Inserts.{NoWorks}
-use Rattle.sql_tables.proofs.Upsert.{inserted, edited_as, row_behind, uncounts, tried}
-use Rattle.sql_schema.proofs.Making.{same_value, went}
+use Rattle.sql_tables.proofs.Inserts.{NoWorks, edits}
+use Rattle.sql_tables.proofs.Upsert.{cleared, inserted, edited_as, one_tried, row_behind}
+use Rattle.sql_schema.proofs.Making.{went}
 use Rattle.std.proofs.lemmas.Bool.{false_from_ne_true}
 
 -- what is in a list is in the mapped one
@@ -95,11 +94,10 @@ module _ {X : Type 0} (cells : X → Row) (same : X → X → Bool) (places : Li
     where
       fresh : ((t : ℕ × X) → Has ts t → same x t.1 ≡ false) → (found : List Row) → Clears task Abort (hidden cells (next ts, x)) db found (Ok w)
           → IsHiddenPut cells same task db ts x w.trees
-      fresh none [] h =
-          let it = inserted number (hidden cells) (λ _. refl) task calm casts low at project db ts (next ts, x) w has h in
-          record { after = put number (next ts, x) ts; placed = inr (none, refl); has = it.0; others = it.1 }
-      fresh none (there ∷ more) h =
-          let it = inserted number (hidden cells) (λ _. refl) task calm casts low at project db ts (next ts, x) w has h in
+      fresh none found h =
+          let new = hidden cells (next ts, x) in
+          let it = inserted number (hidden cells) (λ _. refl) task calm casts low at project db ts (next ts, x) w has
+          (cleared task new db found w h) in
           record { after = put number (next ts, x) ts; placed = inr (none, refl); has = it.0; others = it.1 }
 
       over : (t : ℕ × X) → Has ts t → same x t.1 ≡ true → with_key number t.0 ts ≡ t ∷ []
@@ -112,11 +110,7 @@ module _ {X : Type 0} (cells : X → Row) (same : X → X → Bool) (places : Li
           answered number (hidden cells) (λ _. refl) (overlay db []) (given_to t.0 (next ts) x) task.table.tree at t.0 project ts on.0
           (given t.0 (next ts)) tree t one (on.1.answer Null)
           ∙ ap (λ r. r ∷ []) (sets t.0 (next ts) t.1 tied) in
-          let did = went on.2 in
-          let edit = edit_of db task.table (ids_of on.0) Given 1 on.0 in
-          let a = one_step task.schema task.keys db did.0 edit (calm (taken_by db edit) edit.news) did.1 in
-          let same_trees : did.0 ≡ w.trees = sym (ap (λ (it : Written). it.trees) (same_value did.2)) in
-          let b = subst (Applies task.schema task.keys db edit) same_trees a in
+          let b = edits task calm db (ids_of on.0) Given 1 on.0 _ w on.2 (λ next. refl) in
           record {
             after = put number (t.0, x) ts;
             placed = inl (t, inside, tied, refl);
@@ -156,21 +150,6 @@ module _ {X : Type 0} (cells : X → Row) (same : X → X → Bool) (places : Li
       → InsertsOr task Abort (clause_on places task.table.tree at project ∷ []) (Values terms width) db (Ok done)
       → IsHiddenPut cells same task db ts x done.trees
   puts_hidden db ts x terms width done uncounted has up clash given sets cast_new source h =
-      let rows = went h in
-      let counter = went rows.2 in
-      let all = went counter.2 in
-      let counts = went all.2 in
-      let one =
-      went (subst
-      (λ rs. TriesEach task Abort (clause_on places task.table.tree at project ∷ []) rs (count_of counter.0) (nothing db) (Ok all.0))
-      (rows.1.1 ∙ source) all.1) in
-      let top = count_of counter.0 in
-      let is_new : with_rowid (rowids_for task.table top) (db task.table.tree) (cast_row task.table (Null ∷ cells x)) ≡ hidden cells (next ts, x) =
-      numbered_next cells task top (db task.table.tree) ts x uncounted has cast_new in
-      let met = subst (λ new. Upserts task Abort new db (clause_on places task.table.tree at project ∷ []) (Ok one.0)) is_new
-      (tried task (clause_on places task.table.tree at project ∷ []) _ db one.0 one.1) in
-      let is_put = upserts_hidden db ts x one.0 has up clash given sets met in
-      let last : done.trees ≡ counts.0 = ap (λ (it : Written). it.trees) (same_value counts.2) in
-      let after : counts.0 ≡ all.0.0.trees = uncounts task all.0.0.trees counter.0 all.0.1 counts.0 uncounted counts.1 in
-      let written : all.0.0.trees ≡ one.0.trees = ap (λ (p : Written × ℤ). p.0.trees) (same_value one.2) in
-      subst (IsHiddenPut cells same task db ts x) (sym (last ∙ after ∙ written)) is_put
+      let one = one_tried task (clause_on places task.table.tree at project ∷ []) db terms width (Null ∷ cells x) (hidden cells (next ts, x)) done
+      uncounted source (λ top. numbered_next cells task top (db task.table.tree) ts x uncounted has cast_new) h in
+      subst (IsHiddenPut cells same task db ts x) (sym one.1) (upserts_hidden db ts x one.0 has up clash given sets one.2)

@@ -1,6 +1,10 @@
 -- What follows for a database that holds the tables of a desk.
-use Rattle.std.proofs.Common.{◌≡◌, [], ◌∷◌, sym, subst, ◌∙◌, arith}
+use Rattle.std.proofs.Common.{◌≡◌, ℕ, List, [], ◌∷◌, map, Bool, true, false, refl, sym, subst, ◌∙◌, arith}
+use Rattle.std.specs.Prelude.{MatchBool}
 use Rattle.std.proofs.lemmas.List.Sorted.{IsPermutation-refl}
+use Rattle.desk_model.specs.declared.rows.Listed.{Listed}
+use Rattle.store_columns.specs.declared.flat_rows.Owned.{Owned}
+use Rattle.sqlite.specs.Order.{Row}
 use Rattle.sqlite.specs.Effect.{Database, IsDatabase}
 use Rattle.sqlite.specs.State.{State, IsUnchanged}
 use Rattle.sqlite_trees.specs.Objects.{catalog_tree}
@@ -10,15 +14,15 @@ use Rattle.sqlite_catalog.proofs.ReadLemmas.{lists_once}
 use Rattle.desk_model.specs.Tables.{Tables}
 use Rattle.desk_model.specs.declared.rows.Meta.{Meta}
 use Rattle.sql_schema.specs.Defined.{Defines}
-use Rattle.sql_schema.specs.Schema.{no_schema}
-use Rattle.store_columns.specs.Flat.{challenge_rows, key_rows}
+use Rattle.sql_schema.specs.Schema.{desk_schema, no_schema}
+use Rattle.store_columns.specs.Flat.{challenge_rows, key_rows, listed_rows}
 use Rattle.sql_tables.specs.Effects.{Puts}
-use Rattle.sql_tables.specs.Holds.{Holds}
+use Rattle.sql_tables.specs.Holds.{AreRising, Holds, HoldsListed}
+use Rattle.sql_tables.specs.Images.{account_image, authorization_image, challenge_image, key_image, meta_image, nonce_image, order_image}
 use Rattle.sql_tables.specs.Layouts.{HasRows, account_layout, authorization_layout, challenge_layout, key_layout, listed_layout, meta_layout}
 use Rattle.sql_tables.specs.Layouts.{nonce_layout, order_layout}
 use Rattle.sql_tables.specs.Sorted.{sorted_by}
-use Rattle.sql_tables.proofs.NoIndexes.{no_index_account, no_index_authorization, no_index_challenge, no_index_key}
-use Rattle.sql_tables.proofs.NoIndexes.{no_index_listed, no_index_nonce, no_index_order}
+use Rattle.sql_tables.proofs.NoIndexes.{KeepsBut, beside, kept_at}
 use Rattle.sql_tables.proofs.Sorting.{sorted_rises}
 
 -- ---- table by table
@@ -57,6 +61,61 @@ module _ (db : Database) (T : Tables) (has : Holds db T) where
   pub keys_held : HasRows key_layout db (sorted_by key_layout.key (key_rows (challenge_rows T.authorizations)))
   keys_held = record { schema = has.schema; rows_are = has.keys; rising = sorted_rises key_layout.key (key_rows (challenge_rows T.authorizations)) }
 
+-- ---- some tables
+
+-- where each tree but these is as it was
+module _ (moved : List ℕ) (old new : Database) (keeps : KeepsBut moved old new) where
+  -- a tree has other rows, which are told, or is to have those that it had
+  abbrev Told : ℕ → List Row → List Row → Type 0
+  Told t was is = MatchBool (beside moved t) (was ≡ is) (new.trees t ≡ is)
+
+  -- either way it has these
+  told : (t : ℕ) (was is : List Row) → old.trees t ≡ was → Told t was is → new.trees t ≡ is
+  told t was is held h = go (beside moved t) refl h
+    where
+      go : (b : Bool) → beside moved t ≡ b → MatchBool b (was ≡ is) (new.trees t ≡ is) → new.trees t ≡ is
+      go true other same = keeps t other ∙ held ∙ same
+      go false one rows = rows
+
+  -- the same of what orders list
+  abbrev ToldListed : List (Owned Listed) → List (Owned Listed) → Type 0
+  ToldListed was is = MatchBool (beside moved 6) (was ≡ is) (HoldsListed (new.trees 6) is)
+
+  told_listed : (was is : List (Owned Listed)) → HoldsListed (old.trees 6) was → ToldListed was is → HoldsListed (new.trees 6) is
+  told_listed was is held h = go (beside moved 6) refl h
+    where
+      go : (b : Bool) → beside moved 6 ≡ b → MatchBool b (was ≡ is) (HoldsListed (new.trees 6) is) → HoldsListed (new.trees 6) is
+      go true other same =
+          subst (HoldsListed (new.trees 6)) same
+          (record { numbered = held.numbered; has = keeps 6 other ∙ held.has; rising = held.rising; same = held.same })
+      go false one rows = rows
+
+  -- so it holds other tables
+  pub holds_on : (T U : Tables) → Holds old T → IsDatabase new → new.schema ≡ desk_schema → AreRising U
+      → Told 0 (meta_image T.meta ∷ []) (meta_image U.meta ∷ [])
+      → Told 1 (map nonce_image T.nonces) (map nonce_image U.nonces)
+      → Told 2 (map account_image T.accounts) (map account_image U.accounts)
+      → Told 4 (map order_image T.orders) (map order_image U.orders)
+      → Told 5 (map authorization_image T.authorizations) (map authorization_image U.authorizations)
+      → ToldListed (listed_rows T.orders) (listed_rows U.orders)
+      → Told 8 (map challenge_image (sorted_by challenge_layout.key (challenge_rows T.authorizations)))
+      (map challenge_image (sorted_by challenge_layout.key (challenge_rows U.authorizations)))
+      → Told 17 (map key_image (sorted_by key_layout.key (key_rows (challenge_rows T.authorizations))))
+      (map key_image (sorted_by key_layout.key (key_rows (challenge_rows U.authorizations)))) → Holds new U
+  holds_on T U has sound schema rising meta nonces accounts orders authorizations listed challenges keys = record {
+    sound = sound;
+    schema = schema;
+    meta = told 0 _ _ has.meta meta;
+    nonces = told 1 _ _ has.nonces nonces;
+    accounts = told 2 _ _ has.accounts accounts;
+    orders = told 4 _ _ has.orders orders;
+    authorizations = told 5 _ _ has.authorizations authorizations;
+    listed = told_listed _ _ has.listed listed;
+    challenges = told 8 _ _ has.challenges challenges;
+    keys = told 17 _ _ has.keys keys;
+    rising = rising;
+  }
+
 -- ---- the same database
 
 -- a call that changed nothing
@@ -83,16 +142,17 @@ holds_first old mid new meta defines puts none =
     let it = defines none in
     let e = it.empty in
     let p = puts [] (record { schema = it.schema; rows_are = e.0; rising = tt }) in
+    let kept = kept_at 0 mid new p.others in
     record {
       sound = p.sound;
       schema = p.has.schema;
       meta = p.has.rows_are;
-      nonces = p.others 1 (λ e. cc) no_index_nonce ∙ e.1.0;
-      accounts = p.others 2 (λ e. cc) no_index_account ∙ e.1.1.0;
-      orders = p.others 4 (λ e. cc) no_index_order ∙ e.1.1.1.0;
-      authorizations = p.others 5 (λ e. cc) no_index_authorization ∙ e.1.1.1.1.0;
-      listed = record { numbered = []; has = p.others 6 (λ e. cc) no_index_listed ∙ e.1.1.1.1.1.0; rising = tt; same = IsPermutation-refl [] };
-      challenges = p.others 8 (λ e. cc) no_index_challenge ∙ e.1.1.1.1.1.1.0;
-      keys = p.others 17 (λ e. cc) no_index_key ∙ e.1.1.1.1.1.1.1.0;
+      nonces = kept 1 refl ∙ e.1.0;
+      accounts = kept 2 refl ∙ e.1.1.0;
+      orders = kept 4 refl ∙ e.1.1.1.0;
+      authorizations = kept 5 refl ∙ e.1.1.1.1.0;
+      listed = record { numbered = []; has = kept 6 refl ∙ e.1.1.1.1.1.0; rising = tt; same = IsPermutation-refl [] };
+      challenges = kept 8 refl ∙ e.1.1.1.1.1.1.0;
+      keys = kept 17 refl ∙ e.1.1.1.1.1.1.1.0;
       rising = record { nonces = tt; accounts = tt; orders = tt; authorizations = tt; challenges = tt; listed = tt };
     }

@@ -1,28 +1,98 @@
 -- The parts of a statement, and INSERT of one row where no foreign key acts.
 use Rattle.std.specs.Prelude.{flat_map, filter_map, length, ◌==◌}
-use Rattle.std.proofs.Common.{◌≡◌, ℕ, List, [], ◌∷◌, Bool, true, false, None, Ok, refl, sym, ap, subst}
+use Rattle.std.proofs.Common.{◌≡◌, ◌≢◌, ℕ, ℤ, List, [], ◌∷◌, map, Bool, true, false, None, Ok, refl, sym, ap, subst, ◌∙◌}
 use Rattle.sqlite_value.specs.Order.{Row}
 use Rattle.sqlite_trees.specs.Tree.{Trees, put_row}
+use Rattle.sqlite_schema.specs.declared.command.Command.{Command}
 use Rattle.sqlite_schema.specs.declared.schema.Keys.TheVariants.{Enforced}
+use Rattle.sqlite_schema.specs.declared.schema.Table.{Table}
 use Rattle.sqlite_schema.specs.Rules.{parent_key}
+use Rattle.sqlite_rules.specs.declared.error.Rowids.{Rowids}
 use Rattle.sqlite_rules.specs.declared.error.Rowids.TheVariants.{Given}
-use Rattle.sqlite_rules.specs.Edit.{Edit, edit_of, taken_by, Applies}
+use Rattle.sqlite_rules.specs.Edit.{IsNoIndex, edit_of, taken_by, Applies}
 use Rattle.sqlite_rules.specs.Cast.{cast_row}
 use Rattle.sqlite_rules.specs.Action.{works, work_by, deed_for, pairs}
 use Rattle.sqlite.specs.declared.run.Mode.{Mode}
-use Rattle.sqlite.specs.Does.{Concludes, Tally}
-use Rattle.sqlite.specs.Effect.{Database}
-use Rattle.sqlite.specs.Rows.{Task, Written, Puts}
-use Rattle.sqlite.proofs.Callers.{one_step}
-use Rattle.sql_schema.specs.Schema.{desk_schema}
+use Rattle.sqlite.specs.Does.{Concludes, Does, Tally}
+use Rattle.sqlite.specs.Effect.{Database, IsDatabase}
+use Rattle.sqlite.specs.Listing.{understood}
+use Rattle.sqlite.specs.Rows.{Edited, Gives, Task, Then, Written, Puts}
+use Rattle.sqlite.specs.State.{State, mode_of, Executes, Runs, Writes}
+use Rattle.sqlite.proofs.Callers.{IsPlain, command_of, one_step, runs_as, statement_of}
+use Rattle.sql_schema.proofs.AdvanceLemmas.{performs_advances}
 use Rattle.sql_schema.proofs.Making.{same_value, went}
+use Rattle.sql_schema.specs.Advances.{Advances, Performs}
+use Rattle.sql_schema.specs.Schema.{desk_schema}
+use Rattle.sql_tables.specs.Effects.{BecomesRows}
+use Rattle.sql_tables.specs.Layouts.{IsRising, Layout}
+
+-- ---- a text that is run
+
+-- over the schema of a desk the text means this command alone
+pub record Means (text : List ℕ) (command : Command) : Type 0 where
+  pub is : command_of (understood desk_schema text) ≡ command
+  pub plain : IsPlain (understood desk_schema text)
+
+-- what its command did
+pub record HasDone (text : List ℕ) (params : Row) (command : Command) (old new : State) : Type 0 where
+  pub sound : IsDatabase new.now
+  pub tally : Tally
+  pub did : Does old.step_limit (mode_of old) params (record old.now { schema = desk_schema }) (statement_of text (understood desk_schema text)) None
+      command (Ok (tally, new.now))
+
+-- it was run
+pub ran : (text : List ℕ) (params : Row) (command : Command) (old new : State) (count : ℕ) → Means text command → old.now.schema ≡ desk_schema
+    → Executes text params old new (Ok count) → Runs old new None command (statement_of text (understood desk_schema text)) params count
+ran text params command old new count means has = runs_as text params old new desk_schema has command means.is means.plain count
+
+-- and wrote
+pub has_done : (text : List ℕ) (params : Row) (command : Command) (old new : State) (count : ℕ) → old.now.schema ≡ desk_schema
+    → Writes old new None command (statement_of text (understood desk_schema text)) params count → HasDone text params command old new
+has_done text params command old new count has w = record {
+  sound = w.sound;
+  tally = w.tally;
+  did = subst (λ s. Does old.step_limit (mode_of old) params (record old.now { schema = s }) (statement_of text (understood desk_schema text)) None
+      command (Ok (w.tally, new.now))) has w.changed;
+}
+
+-- what a statement on this table reads
+abbrev pub task_of : State → Table → Row → Task
+task_of old table params = record { limit = old.step_limit; keys = Enforced; schema = desk_schema; table = table; params = params }
 
 -- without RETURNING a statement leaves what it wrote
-pub concluded : (task : Task) (mode : Mode) (w : Written) (end : Tally × Database) → Concludes task mode None w (Ok end)
+concluded : (task : Task) (mode : Mode) (w : Written) (end : Tally × Database) → Concludes task mode None w (Ok end)
     → end.1 ≡ record { schema = task.schema; trees = w.trees }
 concluded task mode w end h = ap (λ (p : Tally × Database). p.1) (same_value (went (went h).2).2)
 
--- no foreign key acts on the table
+-- so its table has the rows that it wrote
+pub becomes : {X : Type 0} (L : Layout X) (old new : State) (params : Row) (rows : List X) (w : Written) (tally : Tally) → IsDatabase new.now
+    → Concludes (task_of old L.table params) (mode_of old) None w (Ok (tally, new.now)) → IsRising L.key rows
+    → (w.trees L.table.tree ≡ map L.image rows) × ((t : ℕ) → t ≢ L.table.tree → IsNoIndex desk_schema t → w.trees t ≡ old.now.trees t)
+    → BecomesRows L rows old.now new.now
+becomes L old new params rows w tally sound ends up wrote =
+    let now = concluded (task_of old L.table params) (mode_of old) w (tally, new.now) ends in
+    record {
+      sound = sound;
+      has = record {
+        schema = ap (λ (d : Database). d.schema) now;
+        rows_are = ap (λ (d : Database). d.trees L.table.tree) now ∙ wrote.0;
+        rising = up;
+      };
+      others = λ t other none. ap (λ (d : Database). d.trees t) now ∙ wrote.1 t other none;
+    }
+
+-- what a text does of a row, it does of each that has the columns, whose parameters are these values
+pub advances_of : {X C : Type 0} (text : List ℕ) (columns_of : X → C) (params_of : C → Row) (Made : X → Database → Database → Type 0)
+    → ((old new : State) (x : X) (count : ℕ) → Executes text (params_of (columns_of x)) old new (Ok count) → Made x old.now new.now)
+    → (old new : State) (columns : C) (values : Row) → values ≡ params_of columns → (count : ℕ) → Performs text values old new (Ok count)
+    → Advances old new (λ a b. (x : X) → columns_of x ≡ columns → Made x a b)
+advances_of {X} text columns_of params_of Made makes old new columns values are count ran =
+    performs_advances text values old new count (λ a b. (x : X) → columns_of x ≡ columns → Made x a b) (λ executes x has.
+    makes old new x count (subst (λ row. Executes text row old new (Ok count)) (are ∙ ap params_of (sym has)) executes)) ran
+
+-- ---- where no foreign key acts
+
+-- none acts on the table
 abbrev pub NoWorks : Task → Type 0
 NoWorks task = (olds news : List Row) → works task.schema task.keys 0 task.table.tree olds news ≡ []
 
@@ -39,16 +109,18 @@ no_works tree olds news = go (length news == 0)
     go false = refl
 
 module _ (task : Task) (calm : NoWorks task) where
-  abbrev edit_in : Trees → Row → Edit
-  edit_in db new = edit_of db task.table [] Given 0 (new ∷ [])
+  -- an edit of its rows is its one step
+  pub edits : (db : Trees) (gone : List ℤ) (rowids : Rowids) (from : ℕ) (rows : List Row) (wrote : Trees → Written) (w : Written)
+      → Then (Edited task.schema task.keys db (edit_of db task.table gone rowids from rows)) (λ next. Gives (wrote next)) (Ok w)
+      → ((next : Trees) → (wrote next).trees ≡ next) → Applies task.schema task.keys db (edit_of db task.table gone rowids from rows) w.trees
+  edits db gone rowids from rows wrote w h trees =
+      let did = went h in
+      let edit = edit_of db task.table gone rowids from rows in
+      subst (Applies task.schema task.keys db edit) (sym (ap (λ (it : Written). it.trees) (same_value did.2) ∙ trees did.0))
+      (one_step task.schema task.keys db did.0 edit (calm (taken_by db edit) edit.news) did.1)
 
   -- the row is there then
   pub puts : (db : Trees) (new : Row) (w : Written) → Puts task new db (Ok w)
-      → Applies task.schema task.keys db (edit_in db new) w.trees × (w.trees task.table.tree ≡ put_row (cast_row task.table new) (db task.table.tree))
-  puts db new w h =
-      let on = went h in
-      let edit = edit_in db new in
-      let a = one_step task.schema task.keys db on.0 edit (calm (taken_by db edit) edit.news) on.1 in
-      let same : on.0 ≡ w.trees = sym (ap (λ (it : Written). it.trees) (same_value on.2)) in
-      let b = subst (Applies task.schema task.keys db edit) same a in
-      (b, b.rows)
+      → (w.trees task.table.tree ≡ put_row (cast_row task.table new) (db task.table.tree))
+      × ((t : ℕ) → t ≢ task.table.tree → IsNoIndex task.schema t → w.trees t ≡ db t)
+  puts db new w h = let it = edits db [] Given 0 (new ∷ []) _ w h (λ next. refl) in (it.rows, it.others)

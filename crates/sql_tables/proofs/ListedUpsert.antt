@@ -1,58 +1,53 @@
--- The upsert into `ord_authz`.
-use Rattle.std.proofs.Common.{◌≡◌, inl, inr, ℕ, pos, ◌&&◌, ◌||◌, List, [], ◌∷◌, Bool, true, false, Some, None, Ok, refl, sym, ap, subst, ◌∙◌, arith}
+-- The upsert into `ord_authz`, and the insertion.
+use Rattle.std.proofs.Common.{◌≡◌, inl, inr, ℕ, pos, ◌&&◌, ◌||◌, List, [], ◌∷◌, Bool, true, false, Some, Ok, refl, sym, subst, ◌∙◌, arith}
 use Rattle.std.specs.Prelude.{◌==◌}
 use Rattle.sqlite.specs.declared.types.Value.TheVariants.{Int, Null}
 use Rattle.sqlite_value.specs.Order.{Row}
 use Rattle.sqlite_value.proofs.KeyLemmas.{first_key-plain}
-use Rattle.sqlite_schema.specs.declared.command.Command.TheVariants.{InsertOr}
+use Rattle.sqlite_schema.specs.declared.command.Command.TheVariants.{Insert, InsertOr}
 use Rattle.sqlite_schema.specs.declared.command.Conflict.TheVariants.{Abort}
 use Rattle.sqlite_schema.specs.declared.command.Source.TheVariants.{Values}
-use Rattle.sqlite_schema.specs.declared.schema.Keys.TheVariants.{Enforced}
 use Rattle.sqlite_sql.specs.Term.{Term, lit, col}
 use Rattle.sqlite_rules.specs.Cast.{cast_row}
 use Rattle.sqlite_rules.specs.Keys.{conflicts}
 use Rattle.sqlite_tied.specs.Compute.{everything}
-use Rattle.sqlite.specs.Does.{Does}
-use Rattle.sqlite.specs.Effect.{Database}
 use Rattle.sqlite.specs.Listing.{understood}
-use Rattle.sqlite.specs.Rows.{Task}
-use Rattle.sqlite.specs.State.{State, mode_of, Executes}
-use Rattle.sqlite.proofs.Callers.{IsPlain, command_of, runs_as, statement_of}
+use Rattle.sqlite.specs.State.{State, Executes}
 use Rattle.store_columns.specs.Columns.{listed_columns}
 use Rattle.store_columns.specs.declared.columns.OrderAuthzColumns.{OrderAuthzColumns}
 use Rattle.store_columns.specs.declared.flat_rows.Owned.{Owned}
 use Rattle.desk_model.specs.declared.rows.Listed.{Listed}
-use Rattle.sql_schema.proofs.AdvanceLemmas.{performs_advances}
 use Rattle.sql_schema.specs.Advances.{Advances, Performs}
 use Rattle.sql_schema.specs.Schema.{desk_schema, ord_authz_table}
-use Rattle.sql_tables.specs.Effects.{Places, PlacesColumns, is_same_place}
+use Rattle.sql_tables.specs.Effects.{Appends, AppendsColumns, Places, PlacesColumns, is_same_place}
 use Rattle.sql_tables.specs.Hidden.{IsPlaced, hidden, next, number}
 use Rattle.sql_tables.specs.Images.{listed_cells, listed_params}
-use Rattle.sql_tables.specs.Layouts.{IsRising}
+use Rattle.sql_tables.specs.Layouts.{IsRising, listed_layout}
 use Rattle.sql_schema.specs.declared.listed.TheConstants as ord_authz
 use Rattle.sql_tables.proofs.Casts.{cast_int, new_kept, row_kept}
 use Rattle.sql_tables.proofs.Found.{equal_is}
-use Rattle.sql_tables.proofs.HiddenUpsert.{clause_on, puts_hidden}
-use Rattle.sql_tables.proofs.Inserts.{concluded, no_works}
+use Rattle.sql_tables.proofs.HiddenUpsert.{clause_on, numbered_next, puts_hidden}
+use Rattle.sql_tables.proofs.InsertStatement.{inserts_row}
+use Rattle.sql_tables.proofs.Inserts.{Means, advances_of, becomes, has_done, no_works, ran, task_of}
 use Rattle.sql_tables.proofs.Keyed.{eq_is, put_ascends, same_of_eq}
 use Rattle.sql_schema.proofs.Making.{went}
 use Rattle.std.proofs.lemmas.Bool.{and_parts}
 
 -- the row that is inserted, in terms of the parameters
-abbrev pub terms : List Term
+abbrev terms : List Term
 terms = lit Null ∷ col 0 0 ∷ col 0 1 ∷ col 0 2 ∷ []
 
 -- the hidden number of the row that is there, then the row with the new authorization
 abbrev project : List Term
 project = col 1 0 ∷ col 1 0 ∷ col 1 1 ∷ col 1 2 ∷ col 0 7 ∷ []
 
-upsert_is : command_of (understood desk_schema ord_authz.UPSERT.now) ≡ InsertOr 5 Abort (Values terms 4) (clause_on (1 ∷ 2 ∷ []) 6 3 project ∷ [])
+upsert_means : Means ord_authz.UPSERT.now (InsertOr 5 Abort (Values terms 4) (clause_on (1 ∷ 2 ∷ []) 6 3 project ∷ []))
 unfolding understood everything
-upsert_is = refl
+upsert_means = record { is = refl; plain = (refl, refl) }
 
-upsert_plain : IsPlain (understood desk_schema ord_authz.UPSERT.now)
+insert_means : Means ord_authz.INSERT.now (Insert 5 (Values terms 4))
 unfolding understood everything
-upsert_plain = (refl, refl)
+insert_means = record { is = refl; plain = (refl, refl) }
 
 casts : (t : ℕ × Owned Listed) → cast_row ord_authz_table (hidden listed_cells t) ≡ hidden listed_cells t
 casts t = row_kept ord_authz_table _ _ (cast_int _, (cast_int _, (cast_int _, tt)))
@@ -79,45 +74,51 @@ sets k x y same =
     λ i. Int (pos k) ∷ Int (pos k) ∷ Int (pos (owner i)) ∷ Int (pos (place i)) ∷ Int (pos x.row.authorization) ∷ []
 
 -- rows stay in the order of their hidden numbers
-pub placed_rises : (x : Owned Listed) (before after : List (ℕ × Owned Listed)) → IsRising number before → IsPlaced is_same_place x before after
+placed_rises : (x : Owned Listed) (before after : List (ℕ × Owned Listed)) → IsRising number before → IsPlaced is_same_place x before after
     → IsRising number after
 placed_rises x before after up (inl there) = subst (IsRising number) (sym there.3) (put_ascends number 0 (there.0.0, x) before (omega arith) up)
 placed_rises x before after up (inr fresh) = subst (IsRising number) (sym fresh.1) (put_ascends number 0 (next before, x) before (omega arith) up)
 
+-- a row without its number keeps the others
+new_row : (x : Owned Listed) → cast_row ord_authz_table (Null ∷ listed_cells x) ≡ Null ∷ listed_cells x
+new_row x = new_kept ord_authz_table _ (cast_int _, (cast_int _, (cast_int _, tt)))
+
 -- the statement puts the row
-pub places_listed : (old new : State) (x : Owned Listed) (count : ℕ) → Executes ord_authz.UPSERT.now (listed_params (listed_columns x)) old new (Ok count)
+places_listed : (old new : State) (x : Owned Listed) (count : ℕ) → Executes ord_authz.UPSERT.now (listed_params (listed_columns x)) old new (Ok count)
     → Places x old.now new.now
 places_listed old new x count h before has =
     let params = listed_params (listed_columns x) in
-    let task : Task = record { limit = old.step_limit; keys = Enforced; schema = desk_schema; table = ord_authz_table; params = params } in
-    let command = InsertOr 5 Abort (Values terms 4) (clause_on (1 ∷ 2 ∷ []) 6 3 project ∷ []) in
-    let statement = statement_of ord_authz.UPSERT.now (understood desk_schema ord_authz.UPSERT.now) in
-    let w = runs_as ord_authz.UPSERT.now params old new desk_schema has.schema command upsert_is upsert_plain count h in
-    let did =
-    subst (λ s. Does old.step_limit (mode_of old) params (record old.now { schema = s }) statement None command (Ok (w.tally, new.now)))
-    has.schema w.changed in
-    let done = went did in
-    let now = concluded task (mode_of old) done.0 (w.tally, new.now) done.2 in
-    let it = puts_hidden listed_cells is_same_place (1 ∷ 2 ∷ []) task (no_works 6) casts (λ _. refl) 3 project old.now.trees before x terms 4 done.0
-    refl has.rows_are has.rising (λ n t. clash n x t) (λ k n. refl)
-    (λ k n y same. sets k x y same) (new_kept ord_authz_table _ (cast_int _, (cast_int _, (cast_int _, tt)))) refl done.1 in (
+    let did = has_done ord_authz.UPSERT.now params _ old new count has.schema (ran ord_authz.UPSERT.now params _ old new count upsert_means has.schema h) in
+    let done = went did.did in
+    let it = puts_hidden listed_cells is_same_place (1 ∷ 2 ∷ []) (task_of old ord_authz_table params) (no_works 6) casts (λ _. refl) 3 project
+    old.now.trees before x terms 4 done.0 refl has.rows_are has.rising (λ n t. clash n x t) (λ k n. refl) (λ k n y same. sets k x y same)
+    (new_row x) refl done.1 in (
       it.after,
       it.placed,
-      record {
-        sound = w.sound;
-        has = record {
-          schema = ap (λ (d : Database). d.schema) now;
-          rows_are = ap (λ (d : Database). d.trees 6) now ∙ it.has;
-          rising = placed_rises x before it.after has.rising it.placed;
-        };
-        others = λ t other none. ap (λ (d : Database). d.trees t) now ∙ it.others t other none;
-      },
+      becomes listed_layout old new params it.after done.0 did.tally did.sound done.2 (placed_rises x before it.after has.rising it.placed)
+          (it.has, it.others),
     )
+
+-- and the other one appends it
+appends_listed : (old new : State) (x : Owned Listed) (count : ℕ) → Executes ord_authz.INSERT.now (listed_params (listed_columns x)) old new (Ok count)
+    → Appends x old.now new.now
+appends_listed old new x count h before has =
+    let params = listed_params (listed_columns x) in
+    let did = has_done ord_authz.INSERT.now params _ old new count has.schema (ran ord_authz.INSERT.now params _ old new count insert_means has.schema h) in
+    let done = went did.did in
+    let task = task_of old ord_authz_table params in
+    let it = inserts_row number (hidden listed_cells) (λ _. refl) task (no_works 6) old.now.trees before (next before, x) terms 4
+    (Null ∷ listed_cells x) done.0 refl has.rows_are refl
+    (λ top. numbered_next listed_cells task top (old.now.trees 6) before x refl has.rows_are (new_row x)) done.1 in
+    becomes listed_layout old new params _ done.0 did.tally did.sound done.2 (put_ascends number 0 (next before, x) before (omega arith) has.rising) it.1
 
 -- and so of each row that has the columns, whose parameters are these values
 pub advances_listed : (old new : State) (columns : OrderAuthzColumns) (values : Row) → values ≡ listed_params columns → (count : ℕ)
     → Performs ord_authz.UPSERT.now values old new (Ok count)
     → Advances old new (PlacesColumns columns)
-advances_listed old new columns values are count ran =
-    performs_advances ord_authz.UPSERT.now values old new count (PlacesColumns columns) (λ executes x has.
-    places_listed old new x count (subst (λ row. Executes ord_authz.UPSERT.now row old new (Ok count)) (are ∙ ap listed_params (sym has)) executes)) ran
+advances_listed = advances_of ord_authz.UPSERT.now listed_columns listed_params Places places_listed
+
+pub advances_appended : (old new : State) (columns : OrderAuthzColumns) (values : Row) → values ≡ listed_params columns → (count : ℕ)
+    → Performs ord_authz.INSERT.now values old new (Ok count)
+    → Advances old new (AppendsColumns columns)
+advances_appended = advances_of ord_authz.INSERT.now listed_columns listed_params Appends appends_listed

@@ -1,35 +1,52 @@
--- The trees of the tables are no trees of indexes.
-use Rattle.sqlite_rules.specs.Edit.{IsNoIndex}
+-- Which trees a statement on one table leaves as they were.
+use Rattle.std.specs.List.{AllByRecursion, list_all}
+use Rattle.std.specs.Prelude.{◌==◌}
+use Rattle.std.proofs.Common.{◌≡◌, ◌≢◌, ℕ, List, [], ◌∷◌, ◌&&◌, ◌++◌, not, Bool, true, ◌∙◌}
+use Rattle.std.proofs.lemmas.Bool.{and_parts, eq-eqb}
+use Rattle.sqlite.specs.Effect.{Database}
+use Rattle.sqlite_schema.specs.declared.schema.Index.{Index}
 use Rattle.sql_schema.specs.Schema.{desk_schema}
+use Rattle.sql_tables.specs.Effects.{KeepsOthers}
 
--- that of `meta`
-pub no_index_meta : IsNoIndex desk_schema 0
-no_index_meta = (λ e. cc, (λ e. cc, (λ e. cc, (λ e. cc, (λ e. cc, (λ e. cc, (λ e. cc, (λ e. cc, (λ e. cc, (λ e. cc, tt))))))))))
+-- numbers that are found unlike
+unlike : (a b : ℕ) → not (a == b) ≡ true → a ≢ b
+unlike a b is same = let tied = eq-eqb a b same in absurd (cc (is, tied))
 
--- that of `nonce`
-pub no_index_nonce : IsNoIndex desk_schema 1
-no_index_nonce = (λ e. cc, (λ e. cc, (λ e. cc, (λ e. cc, (λ e. cc, (λ e. cc, (λ e. cc, (λ e. cc, (λ e. cc, (λ e. cc, tt))))))))))
+-- the tree is that of none of these indexes
+abbrev of_none : ℕ → List Index → Bool
+of_none t = list_all (λ (i : Index). not (i.tree == t))
 
--- that of `account`
-pub no_index_account : IsNoIndex desk_schema 2
-no_index_account = (λ e. cc, (λ e. cc, (λ e. cc, (λ e. cc, (λ e. cc, (λ e. cc, (λ e. cc, (λ e. cc, (λ e. cc, (λ e. cc, tt))))))))))
+-- so none has its number
+none_has : (t : ℕ) (is : List Index) → of_none t is ≡ true → AllByRecursion (λ i. i.tree ≢ t) is
+none_has t [] none = tt
+none_has t (i ∷ is) none = let parts = and_parts (not (i.tree == t)) (of_none t is) none in (unlike i.tree t parts.0, none_has t is parts.1)
 
--- that of `ord`
-pub no_index_order : IsNoIndex desk_schema 4
-no_index_order = (λ e. cc, (λ e. cc, (λ e. cc, (λ e. cc, (λ e. cc, (λ e. cc, (λ e. cc, (λ e. cc, (λ e. cc, (λ e. cc, tt))))))))))
+-- the tree is none of these, and of no index
+abbrev pub beside : List ℕ → ℕ → Bool
+beside [] t = of_none t desk_schema.indexes
+beside (m ∷ ms) t = not (t == m) && beside ms t
 
--- that of `authz`
-pub no_index_authorization : IsNoIndex desk_schema 5
-no_index_authorization = (λ e. cc, (λ e. cc, (λ e. cc, (λ e. cc, (λ e. cc, (λ e. cc, (λ e. cc, (λ e. cc, (λ e. cc, (λ e. cc, tt))))))))))
+-- each such tree is as it was
+abbrev pub KeepsBut : List ℕ → Database → Database → Type 0
+KeepsBut moved old new = (t : ℕ) → beside moved t ≡ true → new.trees t ≡ old.trees t
 
--- that of `ord_authz`
-pub no_index_listed : IsNoIndex desk_schema 6
-no_index_listed = (λ e. cc, (λ e. cc, (λ e. cc, (λ e. cc, (λ e. cc, (λ e. cc, (λ e. cc, (λ e. cc, (λ e. cc, (λ e. cc, tt))))))))))
+-- behind a statement on one table
+pub kept_at : (tree : ℕ) (old new : Database) → KeepsOthers tree old new → KeepsBut (tree ∷ []) old new
+kept_at tree old new others t is =
+    let parts = and_parts (not (t == tree)) (of_none t desk_schema.indexes) is in
+    others t (unlike t tree parts.0) (none_has t desk_schema.indexes parts.1)
 
--- that of `chall`
-pub no_index_challenge : IsNoIndex desk_schema 8
-no_index_challenge = (λ e. cc, (λ e. cc, (λ e. cc, (λ e. cc, (λ e. cc, (λ e. cc, (λ e. cc, (λ e. cc, (λ e. cc, (λ e. cc, tt))))))))))
+-- none of more trees is none of some
+beside_last : (xs ys : List ℕ) (t : ℕ) → beside (xs ++ ys) t ≡ true → beside ys t ≡ true
+beside_last [] ys t is = is
+beside_last (x ∷ xs) ys t is = beside_last xs ys t (and_parts (not (t == x)) (beside (xs ++ ys) t) is).1
 
--- that of `chall_key`
-pub no_index_key : IsNoIndex desk_schema 17
-no_index_key = (λ e. cc, (λ e. cc, (λ e. cc, (λ e. cc, (λ e. cc, (λ e. cc, (λ e. cc, (λ e. cc, (λ e. cc, (λ e. cc, tt))))))))))
+beside_first : (xs ys : List ℕ) (t : ℕ) → beside (xs ++ ys) t ≡ true → beside xs t ≡ true
+beside_first [] [] t is = is
+beside_first [] (y ∷ ys) t is = beside_first [] ys t (and_parts (not (t == y)) (beside ys t) is).1
+beside_first (x ∷ xs) ys t is =
+    let parts = and_parts (not (t == x)) (beside (xs ++ ys) t) is in rw (parts.0) (beside_first xs ys t parts.1)
+
+-- behind one call and another
+pub keeps_both : (xs ys : List ℕ) (a b c : Database) → KeepsBut xs a b → KeepsBut ys b c → KeepsBut (xs ++ ys) a c
+keeps_both xs ys a b c first last t is = last t (beside_last xs ys t is) ∙ first t (beside_first xs ys t is)

@@ -1,28 +1,36 @@
--- DELETE of the row that has a key.
-use Rattle.std.proofs.Common.{◌≡◌, ◌≢◌, inl, inr, ℕ, pos, List, [], ◌∷◌, map, Ok, sym, ap, subst, ◌∙◌}
+-- DELETE of the row that has a key, and the deletion of a nonce.
+use Rattle.std.proofs.Common.{◌≡◌, ◌≢◌, inl, inr, ℕ, ℤ, pos, List, [], ◌∷◌, map, Ok, refl, sym, ap, ◌∙◌}
 use Rattle.sqlite.specs.declared.types.Value.TheVariants.{Int, Null}
 use Rattle.sqlite_value.specs.Order.{Row, column}
 use Rattle.sqlite_trees.specs.Tree.{Trees, rowid}
 use Rattle.sqlite_sql.specs.Term.{Term, col}
 use Rattle.sqlite_sql.specs.Program.{overlay}
+use Rattle.sqlite_schema.specs.declared.command.Command.TheVariants.{Delete}
 use Rattle.sqlite_rules.specs.declared.error.Rowids.TheVariants.{Given}
-use Rattle.sqlite_rules.specs.Edit.{edit_of, edited, taken_by, Applies, IsNoIndex}
+use Rattle.sqlite_rules.specs.Edit.{edit_of, edited, IsNoIndex}
 use Rattle.sqlite_rules.specs.Calls.{ids_of}
+use Rattle.sqlite_tied.specs.Compute.{everything}
+use Rattle.sqlite.specs.Listing.{understood}
 use Rattle.sqlite.specs.Rows.{Task, Written, Deletes}
-use Rattle.sqlite.proofs.Callers.{one_step}
+use Rattle.sqlite.specs.State.{State, Executes}
 use Rattle.desk_model.specs.Change.{remove}
-use Rattle.sql_tables.specs.Layouts.{IsRising}
+use Rattle.model_laws.proofs.RowLists.{ascends_filter}
+use Rattle.sql_schema.specs.Advances.{Advances, Performs}
+use Rattle.sql_schema.specs.Schema.{nonce_table}
+use Rattle.sql_schema.specs.declared.nonces.TheConstants as nonce
+use Rattle.sql_tables.specs.Effects.{Removes, RemovesNumbered}
+use Rattle.sql_tables.specs.Layouts.{IsRising, nonce_layout}
 use Rattle.sql_tables.proofs.Keyed.{none_out, one_or_none, without_as}
 use Rattle.sql_tables.proofs.Found.{answered, answered_none, by_key}
-use Rattle.sql_tables.proofs.Inserts.{NoWorks}
-use Rattle.sql_schema.proofs.Making.{same_value, went}
+use Rattle.sql_tables.proofs.Inserts.{Means, NoWorks, advances_of, becomes, edits, has_done, no_works, ran, task_of}
+use Rattle.sql_schema.proofs.Making.{went}
 
 -- the key of the row that goes
-abbrev pub keys : List Term
+abbrev keys : List Term
 keys = col 1 0 ∷ []
 
 -- the row with the key is gone, and every other tree is as it was
-pub removes : {X : Type 0} (key : X → ℕ) (row : X → Row) → ((x : X) → rowid (row x) ≡ Int (pos (key x)))
+removes : {X : Type 0} (key : X → ℕ) (row : X → Row) → ((x : X) → rowid (row x) ≡ Int (pos (key x)))
     → (task : Task) → NoWorks task → ((db : Trees) → overlay db [] task.table.tree ≡ db task.table.tree)
     → (at n : ℕ) (db : Trees) (xs : List X) (w : Written)
     → db task.table.tree ≡ map row xs → IsRising key xs → column task.params at ≡ Int (pos n)
@@ -30,11 +38,7 @@ pub removes : {X : Type 0} (key : X → ℕ) (row : X → Row) → ((x : X) → 
     → (w.trees task.table.tree ≡ map row (remove key n xs)) × ((t : ℕ) → t ≢ task.table.tree → IsNoIndex task.schema t → w.trees t ≡ db t)
 removes key row first task calm low at n db xs w has up given h =
     let on = went h in
-    let did = went on.2 in
-    let edit = edit_of db task.table (ids_of on.0) Given 0 [] in
-    let a = one_step task.schema task.keys db did.0 edit (calm (taken_by db edit) edit.news) did.1 in
-    let same_trees : did.0 ≡ w.trees = sym (ap (λ (it : Written). it.trees) (same_value did.2)) in
-    let b = subst (Applies task.schema task.keys db edit) same_trees a in
+    let b = edits task calm db (ids_of on.0) Given 0 [] _ w on.2 (λ next. refl) in
     let tree = low db ∙ has in
     let found = on.1.answer Null in (
       b.rows ∙ elim (one_or_none key n 0 xs up) [
@@ -49,3 +53,26 @@ removes key row first task calm low at n db xs w has up given h =
       ],
       b.others,
     )
+
+-- ---- a nonce
+
+delete_means : Means nonce.DELETE.now (Delete 1 (record { lets = []; body = by_key 1 0 keys }))
+unfolding understood everything
+delete_means = record { is = refl; plain = (refl, refl) }
+
+-- the statement removes the nonce
+removes_nonce : (old new : State) (n : ℕ) (count : ℕ) → Executes nonce.DELETE.now (Int (pos n) ∷ []) old new (Ok count)
+    → Removes nonce_layout n old.now new.now
+removes_nonce old new n count h xs has =
+    let did = has_done nonce.DELETE.now (Int (pos n) ∷ []) _ old new count has.schema (ran nonce.DELETE.now (Int (pos n) ∷ []) _ old new count delete_means has.schema h) in
+    let done = went did.did in
+    becomes nonce_layout old new (Int (pos n) ∷ []) (remove nonce_layout.key n xs) done.0 did.tally did.sound done.2
+    (ascends_filter nonce_layout.key _ 0 xs has.rising)
+    (removes nonce_layout.key nonce_layout.image (λ _. refl) (task_of old nonce_table (Int (pos n) ∷ [])) (no_works 1) (λ _. refl) 0 n old.now.trees xs
+    done.0 has.rows_are has.rising refl done.1)
+
+-- and so of each number that is the value
+pub advances_removal : (old new : State) (serial : ℤ) (values : Row) → values ≡ Int serial ∷ [] → (count : ℕ)
+    → Performs nonce.DELETE.now values old new (Ok count)
+    → Advances old new (RemovesNumbered nonce_layout serial)
+advances_removal = advances_of nonce.DELETE.now (λ n. pos n) (λ number. Int number ∷ []) (Removes nonce_layout) removes_nonce

@@ -73,7 +73,7 @@ module _ {X : Type 0} (key : X → ℕ) where
   ]
 
   -- of two rows of one number the last one stays
-  put_over : (x y : X) → key y ≡ key x → (zs : List X) → put key x (put key y zs) ≡ put key x zs
+  pub put_over : (x y : X) → key y ≡ key x → (zs : List X) → put key x (put key y zs) ≡ put key x zs
   put_over x y same [] = put_instead key x y [] same
   put_over x y same (z ∷ zs) = elim (ranked (key z) (key y)) [
     | inl less ↦

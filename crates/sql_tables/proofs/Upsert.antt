@@ -12,7 +12,7 @@ use Rattle.sqlite_schema.specs.declared.command.Conflict.TheVariants.{Abort}
 use Rattle.sqlite_schema.specs.declared.command.Source.TheVariants.{Values}
 use Rattle.sqlite_rules.specs.declared.error.Rowids.{Rowids}
 use Rattle.sqlite_rules.specs.declared.error.Rowids.TheVariants.{Given, Chosen, Above}
-use Rattle.sqlite_rules.specs.Edit.{edit_of, edited, taken_by, with_rowid, Applies, IsNoIndex}
+use Rattle.sqlite_rules.specs.Edit.{edit_of, edited, with_rowid, IsNoIndex}
 use Rattle.sqlite_rules.specs.Keys.{AreConflicts, conflicts}
 use Rattle.sqlite_rules.specs.Cast.{cast_row}
 use Rattle.sqlite_rules.specs.Calls.{ids_of}
@@ -20,12 +20,11 @@ use Rattle.sqlite_rules.specs.Lists.{Has}
 use Rattle.sqlite.specs.Rows.{Task, Written, Puts, Clears, Meets, Updates, Upserts, Tries, TriesEach, InsertsOr, stamped}
 use Rattle.sqlite.specs.Rows.{count_of, nothing, rowids_for, Counts, shown}
 use Rattle.sqlite.specs.Effect.{value_rows}
-use Rattle.sqlite.proofs.Callers.{one_step}
 use Rattle.desk_model.specs.Change.{put, remove}
 use Rattle.sql_tables.specs.Layouts.{IsRising}
 use Rattle.sql_tables.proofs.Keyed.{three, same_of_eq, with_key, one_with, put_row_as, without_as, put_anew}
 use Rattle.sql_tables.proofs.Found.{by_key, answered}
-use Rattle.sql_tables.proofs.Inserts.{NoWorks, puts}
+use Rattle.sql_tables.proofs.Inserts.{NoWorks, edits, puts}
 use Rattle.sql_schema.proofs.Making.{same_value, went}
 
 -- a row of the tree is that of a typed row
@@ -60,6 +59,31 @@ tried task clauses new db w (inl refused) = absurd (let e = refused.1 in cc)
 tried task clauses new db w (inr (None, judged, h)) = h
 tried task clauses new db w (inr (Some why, judged, h)) = absurd (let e = h in cc)
 
+-- where nothing is replaced a row is put, whatever was found
+pub cleared : (task : Task) (new : Row) (db : Trees) (found : List Row) (w : Written) → Clears task Abort new db found (Ok w) → Puts task new db (Ok w)
+cleared task new db [] w h = h
+cleared task new db (there ∷ more) w h = h
+
+-- where one row comes, what is written is what is written of it
+pub one_tried : (task : Task) (clauses : List Upsert) (db : Trees) (terms : List Term) (width : ℕ) (given new : Row) (done : Written)
+    → task.table.is_counted ≡ false → value_rows (stamped task.table task.params) width (length terms / width) terms ≡ given ∷ []
+    → ((top : ℤ) → with_rowid (rowids_for task.table top) (db task.table.tree) (cast_row task.table given) ≡ new)
+    → InsertsOr task Abort clauses (Values terms width) db (Ok done)
+    → (w : Written) × (done.trees ≡ w.trees) × Upserts task Abort new db clauses (Ok w)
+one_tried task clauses db terms width given new done uncounted source is_new h =
+    let rows = went h in
+    let counter = went rows.2 in
+    let all = went counter.2 in
+    let counts = went all.2 in
+    let one = went (subst (λ rs. TriesEach task Abort clauses rs (count_of counter.0) (nothing db) (Ok all.0)) (rows.1.1 ∙ source) all.1) in
+    let last : done.trees ≡ counts.0 = ap (λ (it : Written). it.trees) (same_value counts.2) in
+    let after : counts.0 ≡ all.0.0.trees = uncounts task all.0.0.trees counter.0 all.0.1 counts.0 uncounted counts.1 in
+    let written : all.0.0.trees ≡ one.0.trees = ap (λ (p : Written × ℤ). p.0.trees) (same_value one.2) in (
+      one.0,
+      last ∙ after ∙ written,
+      subst (λ row. Upserts task Abort row db clauses (Ok one.0)) (is_new (count_of counter.0)) (tried task clauses _ db one.0 one.1),
+    )
+
 module _ {X : Type 0} (key : X → ℕ) (row : X → Row) (first : (x : X) → rowid (row x) ≡ Int (pos (key x)))
     (task : Task) (calm : NoWorks task) (casts : (x : X) → cast_row task.table (row x) ≡ row x)
     (low : (db : Trees) → overlay db [] task.table.tree ≡ db task.table.tree)
@@ -71,9 +95,7 @@ module _ {X : Type 0} (key : X → ℕ) (row : X → Row) (first : (x : X) → r
   -- no row had the key
   pub inserted : (db : Trees) (xs : List X) (x : X) (w : Written) → db task.table.tree ≡ map row xs → Puts task (row x) db (Ok w)
       → IsPut key row task db xs x w.trees
-  inserted db xs x w has h =
-      let it = puts task calm db (row x) w h in
-      (it.1 ∙ rw (casts x, has) (put_row_as key row first x xs), it.0.others)
+  inserted db xs x w has h = let it = puts task calm db (row x) w h in (it.0 ∙ rw (casts x, has) (put_row_as key row first x xs), it.1)
 
   -- the row that had it is taken out, and the new one is put
   pub edited_as : (db : Trees) (xs : List X) (x : X) (k : ℕ) (rows : List Row) → k ≡ key x → db task.table.tree ≡ map row xs → IsRising key xs
@@ -92,10 +114,6 @@ module _ {X : Type 0} (key : X → ℕ) (row : X → Row) (first : (x : X) → r
       → Upserts task Abort (row x) db (clause task.table.tree at project ∷ []) (Ok w) → IsPut key row task db xs x w.trees
   upserts db xs x w has up clash given sets h = go h.0 h.1 h.2
     where
-      fresh : (found : List Row) → Clears task Abort (row x) db found (Ok w) → IsPut key row task db xs x w.trees
-      fresh [] h = inserted db xs x w has h
-      fresh (there ∷ more) h = inserted db xs x w has h
-
       over : (y : X) → key y ≡ key x → with_key key (key x) xs ≡ y ∷ []
           → Updates task (record { lets = []; body = by_key task.table.tree at project }) (given_to x) db (Ok w) → IsPut key row task db xs x w.trees
       over y same one h =
@@ -104,17 +122,13 @@ module _ {X : Type 0} (key : X → ℕ) (row : X → Row) (first : (x : X) → r
           let rows : on.0 ≡ (Int (pos (key y)) ∷ row x) ∷ [] =
           answered key row first (overlay db []) (given_to x) task.table.tree at (key x) project xs on.0 given tree y one
           (on.1.answer Null) ∙ ap (λ r. r ∷ []) (sets y same) in
-          let did = went on.2 in
-          let edit = edit_of db task.table (ids_of on.0) Given 1 on.0 in
-          let a = one_step task.schema task.keys db did.0 edit (calm (taken_by db edit) edit.news) did.1 in
-          let same_trees : did.0 ≡ w.trees = sym (ap (λ (it : Written). it.trees) (same_value did.2)) in
-          let b = subst (Applies task.schema task.keys db edit) same_trees a in
+          let b = edits task calm db (ids_of on.0) Given 1 on.0 _ w on.2 (λ next. refl) in
           (b.rows ∙ edited_as db xs x (key y) on.0 same has up rows, b.others)
 
       go : (found : List Row) → AreConflicts (Some (0 ∷ [])) task.schema.indexes task.table (db task.table.tree) (row x) found
           → Meets task (Upserts task Abort (row x) db []) (row x) db (clause task.table.tree at project) found (Ok w)
           → IsPut key row task db xs x w.trees
-      go [] none h = fresh h.0 h.2
+      go [] none h = inserted db xs x w has (cleared task (row x) db h.0 w h.2)
       go (there ∷ more) some h =
           let it = some.sound there (inl refl) in
           let inside : Has (map row xs) it.0 = subst (λ rows. Has rows it.0) has it.1 in
@@ -138,21 +152,7 @@ module _ {X : Type 0} (key : X → ℕ) (row : X → Row) (first : (x : X) → r
       → value_rows (stamped task.table task.params) width (length terms / width) terms ≡ row x ∷ []
       → InsertsOr task Abort (clause task.table.tree at project ∷ []) (Values terms width) db (Ok done) → IsPut key row task db xs x done.trees
   puts_row db xs x terms width done uncounted has up clash given sets source h =
-      let rows = went h in
-      let counter = went rows.2 in
-      let all = went counter.2 in
-      let counts = went all.2 in
-      let one =
-      went (subst (λ rs. TriesEach task Abort (clause task.table.tree at project ∷ []) rs (count_of counter.0) (nothing db) (Ok all.0))
-      (rows.1.1 ∙ source) all.1) in
-      let top = count_of counter.0 in
-      let is_new : with_rowid (rowids_for task.table top) (db task.table.tree) (cast_row task.table (row x)) ≡ row x =
-      ap (with_rowid (rowids_for task.table top) (db task.table.tree)) (casts x)
-      ∙ keeps_id (rowids_for task.table top) (db task.table.tree) (row x) (pos (key x)) (first x) in
-      let met = subst (λ new. Upserts task Abort new db (clause task.table.tree at project ∷ []) (Ok one.0)) is_new
-      (tried task (clause task.table.tree at project ∷ []) _ db one.0 one.1) in
-      let is_put = upserts db xs x one.0 has up clash given sets met in
-      let last : done.trees ≡ counts.0 = ap (λ (it : Written). it.trees) (same_value counts.2) in
-      let after : counts.0 ≡ all.0.0.trees = uncounts task all.0.0.trees counter.0 all.0.1 counts.0 uncounted counts.1 in
-      let written : all.0.0.trees ≡ one.0.trees = ap (λ (p : Written × ℤ). p.0.trees) (same_value one.2) in
-      subst (IsPut key row task db xs x) (sym (last ∙ after ∙ written)) is_put
+      let tree = db task.table.tree in
+      let one = one_tried task (clause task.table.tree at project ∷ []) db terms width (row x) (row x) done uncounted source (λ top.
+      ap (with_rowid (rowids_for task.table top) tree) (casts x) ∙ keeps_id (rowids_for task.table top) tree (row x) (pos (key x)) (first x)) h in
+      subst (IsPut key row task db xs x) (sym one.1) (upserts db xs x one.0 has up clash given sets one.2)

@@ -1,90 +1,87 @@
 -- What a text that puts a row by its key does, from what the text means.
-use Rattle.std.proofs.Common.{◌≡◌, ℕ, pos, ◌++◌, List, [], ◌∷◌, length, ◌/◌, false, None, Some, Ok, slice_get, sym, ap, subst, ◌∙◌, arith}
+use Rattle.std.proofs.Common.{◌≡◌, ℕ, zero, suc, pos, ◌+◌, ◌++◌, List, [], ◌∷◌, drop, length, ◌/◌, false, Some, Ok, slice_get, arith}
 use Rattle.std.specs.Ordering.{is_eq}
-use Rattle.sqlite.specs.declared.types.Value.TheVariants.{Int}
+use Rattle.sqlite.specs.declared.types.Value.TheVariants.{Int, Null}
 use Rattle.sqlite_value.specs.Order.{Row, column}
 use Rattle.sqlite_trees.specs.Tree.{Trees, rowid}
-use Rattle.sqlite_sql.specs.Term.{Term, eval_all}
+use Rattle.sqlite_sql.specs.Term.{Term, col, lit, eval_all}
 use Rattle.sqlite_sql.specs.Program.{overlay}
 use Rattle.sqlite_schema.specs.declared.command.Command.TheVariants.{InsertOr}
 use Rattle.sqlite_schema.specs.declared.command.Conflict.TheVariants.{Abort}
 use Rattle.sqlite_schema.specs.declared.command.Source.TheVariants.{Values}
-use Rattle.sqlite_schema.specs.declared.schema.Keys.TheVariants.{Enforced}
 use Rattle.sqlite_rules.specs.Cast.{cast_row}
 use Rattle.sqlite_rules.specs.Keys.{conflicts}
-use Rattle.sqlite.specs.Does.{Does}
-use Rattle.sqlite.specs.Effect.{Database, value_rows}
-use Rattle.sqlite.specs.Listing.{understood}
-use Rattle.sqlite.specs.Rows.{Task, shown, stamped}
-use Rattle.sqlite.specs.State.{State, mode_of, Executes}
-use Rattle.sqlite.proofs.Callers.{IsPlain, command_of, runs_as, statement_of}
-use Rattle.sql_schema.proofs.AdvanceLemmas.{performs_advances}
+use Rattle.sqlite.specs.Effect.{value_rows}
+use Rattle.sqlite.specs.Rows.{shown, stamped}
+use Rattle.sqlite.specs.State.{State, Executes}
+use Rattle.desk_model.specs.Change.{put}
+use Rattle.sql_schema.proofs.Making.{went}
 use Rattle.sql_schema.specs.Advances.{Advances, Performs}
 use Rattle.sql_schema.specs.Schema.{desk_schema}
 use Rattle.sql_tables.specs.Effects.{Puts, PutsColumns}
 use Rattle.sql_tables.specs.Layouts.{Layout}
-use Rattle.sql_tables.proofs.Inserts.{concluded, no_works}
+use Rattle.sql_tables.proofs.Inserts.{Means, advances_of, becomes, has_done, no_works, ran, task_of}
 use Rattle.sql_tables.proofs.Keyed.{put_ascends, three}
 use Rattle.sql_tables.proofs.Upsert.{clause, puts_row}
-use Rattle.sql_schema.proofs.Making.{went}
 
--- the text puts a row of the layout, whose parameters are these
-pub record IsUpsert {X : Type 0} (L : Layout X) (params : X → Row) (text : List ℕ) : Type 0 where
-  -- the place of the table in the schema
-  pub place : ℕ
-  -- the row that is inserted, in terms of the parameters, and how many values it has
-  pub terms : List Term
-  pub width : ℕ
-  -- the place of the key in what the update is given, and the row that the update makes
-  pub at : ℕ
-  pub project : List Term
-  pub command : command_of (understood desk_schema text) ≡ InsertOr place Abort (Values terms width) (clause L.table.tree at project ∷ [])
-  pub plain : IsPlain (understood desk_schema text)
+-- the values at so many places, from this one on
+abbrev columns : ℕ → ℕ → List Term
+columns from zero = []
+columns from (suc n) = col 0 from ∷ columns (from + 1) n
+
+-- the row that is inserted, in terms of the parameters, which are its key and so many columns more: NULL stands in the column of the key
+abbrev pub inserted_terms : ℕ → List Term
+inserted_terms more = col 0 0 ∷ lit Null ∷ columns 1 more
+
+-- the row that the update makes, by the number of the one that is there, and by the one that is not inserted
+abbrev pub updated_terms : ℕ → List Term
+updated_terms more = col 1 0 ∷ col 1 0 ∷ lit Null ∷ columns (more + 4) more
+
+-- the table of the layout has this place in the schema, and its rows are numbered by the key
+pub record IsKeyed {X : Type 0} (L : Layout X) (place : ℕ) : Type 0 where
   pub found : slice_get desk_schema.tables place ≡ Some L.table
   pub uncounted : L.table.is_counted ≡ false
   pub low : (db : Trees) → overlay db [] L.table.tree ≡ db L.table.tree
   pub first : (x : X) → rowid (L.image x) ≡ Int (pos (L.key x))
+
+-- the text puts a row of the layout, whose parameters are these
+pub record IsUpsert {X : Type 0} (L : Layout X) (params : X → Row) (text : List ℕ) : Type 0 where
+  -- the place of the table in the schema, and how many columns there are beside the key
+  pub place : ℕ
+  pub more : ℕ
+  pub means : Means text
+      (InsertOr place Abort (Values (inserted_terms more) (more + 2)) (clause L.table.tree (more + 1) (updated_terms more) ∷ []))
+  pub table : IsKeyed L place
   -- each column keeps its value
   pub casts : (x : X) → cast_row L.table (L.image x) ≡ L.image x
   -- two rows clash where their keys are one
   pub clash : (x y : X) → conflicts (Some (0 ∷ [])) desk_schema.indexes L.table (L.image x) (L.image y) ≡ is_eq (three (L.key y) (L.key x))
-  pub given : (x : X) → column (params x ++ Int (pos (L.key x)) ∷ shown L.table (L.image x)) at ≡ Int (pos (L.key x))
+  pub given : (x : X) → column (params x ++ Int (pos (L.key x)) ∷ shown L.table (L.image x)) (more + 1) ≡ Int (pos (L.key x))
   pub sets : (x y : X) → L.key y ≡ L.key x
-      → eval_all project ((params x ++ Int (pos (L.key x)) ∷ shown L.table (L.image x)) ∷ L.image y ∷ []) ≡ Int (pos (L.key y)) ∷ L.image x
-  pub source : (x : X) → value_rows (stamped L.table (params x)) width (length terms / width) terms ≡ L.image x ∷ []
+      → eval_all (updated_terms more) ((params x ++ Int (pos (L.key x)) ∷ shown L.table (L.image x)) ∷ L.image y ∷ []) ≡ Int (pos (L.key y)) ∷ L.image x
+  pub source : (x : X) → value_rows (stamped L.table (params x)) (more + 2) (length (inserted_terms more) / (more + 2)) (inserted_terms more) ≡ L.image x ∷ []
+
+-- the number of the row that is there is the key of the new one
+pub sets_key : {X : Type 0} (L : Layout X) (x y : X) → L.key y ≡ L.key x
+    → Int (pos (L.key y)) ∷ Int (pos (L.key y)) ∷ drop 1 (L.image x) ≡ Int (pos (L.key y)) ∷ Int (pos (L.key x)) ∷ drop 1 (L.image x)
+sets_key L x y same i = Int (pos (L.key y)) ∷ Int (pos (same i)) ∷ drop 1 (L.image x)
 
 -- so it puts the row
-pub puts_by : {X : Type 0} (L : Layout X) (params : X → Row) (text : List ℕ) → IsUpsert L params text → (old new : State) (x : X) (count : ℕ)
+puts_by : {X : Type 0} (L : Layout X) (params : X → Row) (text : List ℕ) → IsUpsert L params text → (old new : State) (x : X) (count : ℕ)
     → Executes text (params x) old new (Ok count)
     → Puts L x old.now new.now
 puts_by L params text is old new x count h xs has =
-    let task : Task = record { limit = old.step_limit; keys = Enforced; schema = desk_schema; table = L.table; params = params x } in
-    let command = InsertOr is.place Abort (Values is.terms is.width) (clause L.table.tree is.at is.project ∷ []) in
-    let statement = statement_of text (understood desk_schema text) in
-    let w = runs_as text (params x) old new desk_schema has.schema command is.command is.plain count h in
-    let did =
-    subst (λ s. Does old.step_limit (mode_of old) (params x) (record old.now { schema = s }) statement None command
-    (Ok (w.tally, new.now))) has.schema w.changed in
-    let done = went (rw (is.found) at did) in
-    let now = concluded task (mode_of old) done.0 (w.tally, new.now) done.2 in
-    let put = puts_row L.key L.image is.first task (no_works L.table.tree) is.casts is.low is.at is.project old.now.trees xs x is.terms is.width done.0
-    is.uncounted has.rows_are has.rising (is.clash x) (is.given x) (is.sets x) (is.source x) done.1 in
-    record {
-      sound = w.sound;
-      has = record {
-        schema = ap (λ (d : Database). d.schema) now;
-        rows_are = ap (λ (d : Database). d.trees L.table.tree) now ∙ put.0;
-        rising = put_ascends L.key 0 x xs (omega arith) has.rising;
-      };
-      others = λ t other none. ap (λ (d : Database). d.trees t) now ∙ put.1 t other none;
-    }
+    let did = has_done text (params x) _ old new count has.schema (ran text (params x) _ old new count is.means has.schema h) in
+    let done = went (rw (is.table.found) at did.did) in
+    becomes L old new (params x) (put L.key x xs) done.0 did.tally did.sound done.2 (put_ascends L.key 0 x xs (omega arith) has.rising)
+    (puts_row L.key L.image is.table.first (task_of old L.table (params x)) (no_works L.table.tree) is.casts is.table.low (is.more + 1)
+    (updated_terms is.more) old.now.trees xs x (inserted_terms is.more) (is.more + 2) done.0 is.table.uncounted has.rows_are has.rising
+    (is.clash x) (is.given x) (is.sets x) (is.source x) done.1)
 
 -- and so of each row that has the columns, whose parameters are these values
 pub advances_by : {X C : Type 0} (L : Layout X) (columns_of : X → C) (params_of : C → Row) (text : List ℕ)
     → IsUpsert L (λ x. params_of (columns_of x)) text
     → (old new : State) (columns : C) (values : Row) → values ≡ params_of columns → (count : ℕ) → Performs text values old new (Ok count)
     → Advances old new (PutsColumns L columns_of columns)
-advances_by L columns_of params_of text is old new columns values are count ran =
-    performs_advances text values old new count (PutsColumns L columns_of columns) (λ executes x has.
-    puts_by L (λ x. params_of (columns_of x)) text is old new x count
-    (subst (λ row. Executes text row old new (Ok count)) (are ∙ ap params_of (sym has)) executes)) ran
+advances_by L columns_of params_of text is =
+    advances_of text columns_of params_of (Puts L) (puts_by L (λ x. params_of (columns_of x)) text is)

@@ -5,6 +5,7 @@ use Rattle.std.proofs.lemmas.List.{append_assoc}
 use Rattle.sqlite.specs.Effect.{Database}
 use Rattle.store_columns.specs.Flat.{challenge_rows, listed_rows, owned_by}
 use Rattle.store_columns.specs.declared.flat_rows.Owned.{Owned}
+use Rattle.model_laws.proofs.Basics.{each_parts}
 use Rattle.model_laws.proofs.NewChildren.{kept_bring_new}
 use Rattle.model_laws.proofs.RowLists.{ascends_filter, put_before, put_past}
 use Rattle.model_laws.specs.Distinct.{Distinct}
@@ -18,7 +19,7 @@ use Rattle.desk_model.specs.declared.rows.Listed.{Listed}
 use Rattle.desk_model.specs.declared.rows.OrderRow.{OrderRow}
 use Rattle.sql_write.specs.Fitting.{AreFit, InOrder, Saves}
 use Rattle.sql_write.specs.Makes.{MakesAll}
-use Rattle.sql_write.proofs.ListedAfter.{found_in}
+use Rattle.sql_write.proofs.ListedAfter.{apart_parts, found_in}
 use Rattle.sql_write.proofs.ChallengeNumbers.{numbers_differ, rows_differ}
 use Rattle.sql_write.proofs.Numbered.{find_here, find_later}
 use Rattle.sql_tables.specs.Effects.{is_same_place}
@@ -42,24 +43,14 @@ challenges_back T c kept apart =
 
 -- ---- places that are apart
 
--- of two lists, the second
-each_rest : (P : Owned Listed → Type 0) (xs ys : List (Owned Listed)) → EachOf P (xs ++ ys) → EachOf P ys
-each_rest P [] ys h = h
-each_rest P (x ∷ xs) ys h = each_rest P xs ys h.1
-
 -- of three lists, without the second
 each_without : (P : Owned Listed → Type 0) (xs ys zs : List (Owned Listed)) → EachOf P (xs ++ (ys ++ zs)) → EachOf P (xs ++ zs)
-each_without P [] ys zs h = each_rest P ys zs h
+each_without P [] ys zs h = (each_parts P ys zs h).1
 each_without P (x ∷ xs) ys zs h = (h.0, each_without P xs ys zs h.1)
-
--- of two lists, the second is apart
-apart_rest : (xs ys : List (Owned Listed)) → AreApart (xs ++ ys) → AreApart ys
-apart_rest [] ys h = h
-apart_rest (x ∷ xs) ys h = apart_rest xs ys h.1
 
 -- of three lists, without the second
 apart_without : (xs ys zs : List (Owned Listed)) → AreApart (xs ++ (ys ++ zs)) → AreApart (xs ++ zs)
-apart_without [] ys zs h = apart_rest ys zs h
+apart_without [] ys zs h = (apart_parts ys zs h).1
 apart_without (x ∷ xs) ys zs h = (each_without (λ k. is_same_place x k ≡ false) xs ys zs h.0, apart_without xs ys zs h.1)
 
 -- an order that is not there yet goes between two parts
@@ -94,16 +85,21 @@ apart_back x os up kept apart = go (find (λ o. o.number == x.number) os) refl k
         subst AreApart (sym it.2) (apart_without it.0 (owned_by x.number x.listed) it.1 (subst AreApart it.3 apart))
     go (Some o) is k = subst AreApart (found_in 0 x os o up is k).0 apart
 
+-- and before any change, where they are after
+listed_back : (T : Tables) (c : Change) → IsRising order_layout.key T.orders → KeepsChildren T c → AreApart (listed_rows (applied_one c T).orders)
+    → AreApart (listed_rows T.orders)
+listed_back T (PutMeta x) up kept h = h
+listed_back T (PutNonce x) up kept h = h
+listed_back T (RemoveNonce n) up kept h = h
+listed_back T (PutAccount x) up kept h = h
+listed_back T (PutAuthorization x) up kept h = h
+listed_back T (PutOrder x) up kept h = apart_back x T.orders up kept h
+
 -- ---- one change
 
 -- no two children are one before a change, where they are not after
 one_back : (T : Tables) (c : Change) → IsRising order_layout.key T.orders → KeepsChildren T c → InOrder (applied_one c T) → InOrder T
-one_back T (PutMeta x) up kept h = record { challenges = h.challenges; listed = h.listed }
-one_back T (PutNonce x) up kept h = record { challenges = h.challenges; listed = h.listed }
-one_back T (RemoveNonce n) up kept h = record { challenges = h.challenges; listed = h.listed }
-one_back T (PutAccount x) up kept h = record { challenges = h.challenges; listed = h.listed }
-one_back T (PutAuthorization x) up kept h = record { challenges = challenges_back T (PutAuthorization x) kept h.challenges; listed = h.listed }
-one_back T (PutOrder x) up kept h = record { challenges = h.challenges; listed = apart_back x T.orders up kept h.listed }
+one_back T c up kept h = record { challenges = challenges_back T c kept h.challenges; listed = listed_back T c up kept h.listed }
 
 -- orders rise after a change
 orders_rise : (T : Tables) (c : Change) → IsRising order_layout.key T.orders → IsRising order_layout.key (applied_one c T).orders
@@ -119,56 +115,26 @@ all_back : (cs : List Change) (T : Tables) → IsRising order_layout.key T.order
 all_back [] T up kept h = h
 all_back (c ∷ cs) T up kept h = one_back T c up kept.0 (all_back cs (applied_one c T) (orders_rise T c up) kept.1 h)
 
+-- numbers that rise, where no two children are one
+all_rise : (T : Tables) → IsRising nonce_layout.key T.nonces → IsRising account_layout.key T.accounts → IsRising order_layout.key T.orders
+    → IsRising authorization_layout.key T.authorizations → InOrder T → AreRising T
+all_rise T n a o z h =
+    record { nonces = n; accounts = a; orders = o; authorizations = z; challenges = h.challenges; listed = h.listed }
+
 -- all numbers rise after a change
 rises_on : (T : Tables) (c : Change) → AreRising T → InOrder (applied_one c T) → AreRising (applied_one c T)
-rises_on T (PutMeta x) up h = record {
-  nonces = up.nonces;
-  accounts = up.accounts;
-  orders = up.orders;
-  authorizations = up.authorizations;
-  challenges = h.challenges;
-  listed = h.listed;
-}
-rises_on T (PutNonce x) up h = record {
-  nonces = put_rises nonce_layout.key x T.nonces up.nonces;
-  accounts = up.accounts;
-  orders = up.orders;
-  authorizations = up.authorizations;
-  challenges = h.challenges;
-  listed = h.listed;
-}
-rises_on T (RemoveNonce n) up h = record {
-  nonces = ascends_filter nonce_layout.key _ 0 T.nonces up.nonces;
-  accounts = up.accounts;
-  orders = up.orders;
-  authorizations = up.authorizations;
-  challenges = h.challenges;
-  listed = h.listed;
-}
-rises_on T (PutAccount x) up h = record {
-  nonces = up.nonces;
-  accounts = put_rises account_layout.key x T.accounts up.accounts;
-  orders = up.orders;
-  authorizations = up.authorizations;
-  challenges = h.challenges;
-  listed = h.listed;
-}
-rises_on T (PutAuthorization x) up h = record {
-  nonces = up.nonces;
-  accounts = up.accounts;
-  orders = up.orders;
-  authorizations = put_rises authorization_layout.key x T.authorizations up.authorizations;
-  challenges = h.challenges;
-  listed = h.listed;
-}
-rises_on T (PutOrder x) up h = record {
-  nonces = up.nonces;
-  accounts = up.accounts;
-  orders = put_rises order_layout.key x T.orders up.orders;
-  authorizations = up.authorizations;
-  challenges = h.challenges;
-  listed = h.listed;
-}
+rises_on T (PutMeta x) up = all_rise (applied_one (PutMeta x) T) up.nonces up.accounts up.orders up.authorizations
+rises_on T (PutNonce x) up =
+    all_rise (applied_one (PutNonce x) T) (put_rises nonce_layout.key x T.nonces up.nonces) up.accounts up.orders up.authorizations
+rises_on T (RemoveNonce n) up =
+    all_rise (applied_one (RemoveNonce n) T) (ascends_filter nonce_layout.key _ 0 T.nonces up.nonces) up.accounts up.orders up.authorizations
+rises_on T (PutAccount x) up =
+    all_rise (applied_one (PutAccount x) T) up.nonces (put_rises account_layout.key x T.accounts up.accounts) up.orders up.authorizations
+rises_on T (PutAuthorization x) up =
+    all_rise (applied_one (PutAuthorization x) T) up.nonces up.accounts up.orders
+    (put_rises authorization_layout.key x T.authorizations up.authorizations)
+rises_on T (PutOrder x) up =
+    all_rise (applied_one (PutOrder x) T) up.nonces up.accounts (put_rises order_layout.key x T.orders up.orders) up.authorizations
 
 -- ---- all changes
 

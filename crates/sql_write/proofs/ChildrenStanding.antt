@@ -15,7 +15,7 @@ use Rattle.desk_model.specs.declared.rows.ChallengeRow.{ChallengeRow}
 use Rattle.sql_write.specs.Makes.{StandUnder, challenge_under, key_under}
 use Rattle.sql_write.specs.Standing.{known_challenge}
 use Rattle.sql_write.proofs.Over.{has_sorted}
-use Rattle.sql_write.proofs.PlacedRows.{has_left, has_right}
+use Rattle.sql_write.proofs.PlacedRows.{each_at, has_left, has_right}
 use Rattle.sql_write.proofs.KnownRows.{found_has}
 use Rattle.sql_tables.specs.Layouts.{challenge_layout, key_layout}
 use Rattle.sql_tables.specs.Sorted.{sorted_by}
@@ -25,12 +25,6 @@ use Rattle.sql_tables.proofs.HiddenUpsert.{has_map}
 -- the row of this number stands among these, with these challenges and maybe more
 abbrev pub IsThere : List AuthorizationRow → ℕ → AuthorizationRow → Type 0
 IsThere rows n a = (b : AuthorizationRow) × Has rows b × (b.number ≡ n) × EachOf (λ c. Has b.challenges c) a.challenges
-
--- what holds of each item
-of_each : {X : Type 0} (P : X → Type 0) (xs : List X) (x : X) → EachOf P xs → Has xs x → P x
-of_each P [] x all h = absurd h
-of_each P (y ∷ ys) x all (inl here) = subst P (sym here) all.0
-of_each P (y ∷ ys) x all (inr later) = of_each P ys x all.1 later
 
 -- a challenge under its authorization
 abbrev under : ℕ → ChallengeRow → Owned ChallengeRow
@@ -64,7 +58,7 @@ known_is : (n : ℕ) (rows : List AuthorizationRow) (known : Option Authorizatio
 known_is n rows None there k c is = absurd (cc is)
 known_is n rows (Some a) there k c is =
     let found = found_has (λ (r : ChallengeRow). r.number) k a.challenges c is in
-    let own = of_each (λ d. Has there.0.challenges d) a.challenges c there.3 found.0 in
+    let own = each_at (λ d. Has there.0.challenges d) a.challenges c there.3 found.0 in
     (subst (λ m. Has (challenge_rows rows) (under m c)) there.2 (among_all rows there.0 c there.1 own), found.1)
 
 -- what is known of the challenges stands in their table

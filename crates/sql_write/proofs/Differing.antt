@@ -20,6 +20,7 @@ use Rattle.desk_model.specs.declared.rows.AuthorizationRow.{AuthorizationRow}
 use Rattle.desk_model.specs.declared.rows.ChallengeRow.{ChallengeRow}
 use Rattle.desk_model.specs.declared.rows.Meta.{Meta}
 use Rattle.desk_model.specs.declared.rows.OrderRow.{OrderRow}
+use Rattle.sql_write.specs.Differences.{account_difference, authorization_difference, challenge_difference, key_difference, meta_difference}
 use Rattle.sql_write.specs.Differences.{is_same_authorization, is_same_challenge, is_same_date, is_same_end, is_same_report}
 use Rattle.sql_write.specs.Differences.{keeps_authorization, keeps_challenge, keeps_order, keeps_policy, order_difference}
 use Rattle.sql_write.specs.Write.{difference, write}
@@ -29,23 +30,25 @@ use Rattle.sql_write.specs.declared.write.Difference.{Difference}
 use Rattle.sql_write.specs.declared.write.Difference.TheVariants.{Same, Moved, Other}
 use Rattle.sql_tables.specs.Images.{account_kept, authorization_image, authorization_kept, challenge_image, challenge_kept, formatted_columns}
 use Rattle.sql_tables.specs.Images.{int_or_null, key_image, meta_kept, order_kept, text_or_null}
+use Rattle.sql_tables.specs.Layouts.{account_layout, authorization_layout, challenge_layout, formatted_layout, key_layout}
+use Rattle.sql_write.proofs.Over.{Differs, owner_is}
 
 -- ---- what a difference tells
 
 -- it is kept, where the row moved
-pub moved_keeps : (kept same : Bool) → difference kept same ≡ Moved → kept ≡ true
+moved_keeps : (kept same : Bool) → difference kept same ≡ Moved → kept ≡ true
 moved_keeps true true is = refl
 moved_keeps true false is = refl
 moved_keeps false same is = absurd (cc is)
 
 -- all is the same
-pub same_is : (kept same : Bool) → difference kept same ≡ Same → (kept ≡ true) × (same ≡ true)
+same_is : (kept same : Bool) → difference kept same ≡ Same → (kept ≡ true) × (same ≡ true)
 same_is true true is = (refl, refl)
 same_is true false is = absurd (cc is)
 same_is false same is = absurd (cc is)
 
 -- which is not so where nothing was looked at
-pub never_same : (kept : Bool) → difference kept false ≡ Same → ⊥
+never_same : (kept : Bool) → difference kept false ≡ Same → ⊥
 never_same true is = absurd (cc is)
 never_same false is = absurd (cc is)
 
@@ -56,7 +59,7 @@ equal_bytes a b is = (bytes_eq-Decides a b).0 is
 -- ---- what a row was made with
 
 -- the terms
-pub policy_kept : (old row : Meta) → keeps_policy old row ≡ true
+policy_kept : (old row : Meta) → keeps_policy old row ≡ true
     → meta_kept (formatted_columns (known_format, old)) ≡ meta_kept (formatted_columns (known_format, row))
 policy_kept old row is =
     let p = and_parts (bytes_eq old.policy.base row.policy.base) _ is in
@@ -69,11 +72,11 @@ policy_kept old row is =
     λ i. Int known_format ∷ Text (base i) ∷ Int (pos (nonce i)) ∷ Int (pos (order i)) ∷ Int (pos (authz i)) ∷ []
 
 -- when an account was opened
-pub opened_kept : (old row : AccountRow) → (old.opened == row.opened) ≡ true → account_kept (account_columns old) ≡ account_kept (account_columns row)
+opened_kept : (old row : AccountRow) → (old.opened == row.opened) ≡ true → account_kept (account_columns old) ≡ account_kept (account_columns row)
 opened_kept old row is = ap (λ n. Int (pos n) ∷ []) (eqb-true old.opened row.opened is)
 
 -- the account and the dates of an order
-pub order_is_kept : (old row : OrderRow) → keeps_order old row ≡ true → order_kept (order_columns old) ≡ order_kept (order_columns row)
+order_is_kept : (old row : OrderRow) → keeps_order old row ≡ true → order_kept (order_columns old) ≡ order_kept (order_columns row)
 order_is_kept old row is =
     let p = and_parts (old.account == row.account) _ is in
     let q = and_parts (old.made == row.made) _ p.1 in
@@ -90,7 +93,7 @@ equal_marks false true is = absurd (cc is)
 equal_marks false false is = refl
 
 -- the account, the name and the dates of an authorization
-pub authorization_is_kept : (old row : AuthorizationRow) → keeps_authorization old row ≡ true
+authorization_is_kept : (old row : AuthorizationRow) → keeps_authorization old row ≡ true
     → authorization_kept (authorization_columns old) ≡ authorization_kept (authorization_columns row)
 authorization_is_kept old row is =
     let p = and_parts (old.account == row.account) _ is in
@@ -105,7 +108,7 @@ authorization_is_kept old row is =
     λ i. Int (pos (account i)) ∷ Text (base i) ∷ Int (wildcard_column (mark i)) ∷ Int (pos (made i)) ∷ Int (pos (expires i)) ∷ []
 
 -- the type and the token of a challenge
-pub challenge_is_kept : (n : ℕ) (old row : ChallengeRow) → keeps_challenge old row ≡ true
+challenge_is_kept : (n : ℕ) (old row : ChallengeRow) → keeps_challenge old row ≡ true
     → challenge_kept (challenge_columns (bare_row (record { owner = n; row = old })))
     ≡ challenge_kept (challenge_columns (bare_row (record { owner = n; row = row })))
 challenge_is_kept n old row is =
@@ -157,7 +160,7 @@ same_date (Some a) (Some b) is = ap (λ n. Int (pos n) ∷ []) (eqb-true a.date 
 -- ---- rows that are as they were
 
 -- an authorization
-pub same_authorization : (old row : AuthorizationRow) → old.number ≡ row.number → keeps_authorization old row ≡ true → is_same_authorization old row ≡ true
+same_authorization : (old row : AuthorizationRow) → old.number ≡ row.number → keeps_authorization old row ≡ true → is_same_authorization old row ≡ true
     → authorization_image old ≡ authorization_image row
 same_authorization old row number kept same =
     let p = and_parts (is_same_end old.ended row.ended) _ same in
@@ -167,7 +170,7 @@ same_authorization old row number kept same =
     λ i. Int (pos (number i)) ∷ Null ∷ (columns i ++ (ended i ++ Text (status i) ∷ []))
 
 -- a challenge of one authorization
-pub same_challenge : (n : ℕ) (old row : ChallengeRow) → old.number ≡ row.number → keeps_challenge old row ≡ true → is_same_challenge old row ≡ true
+same_challenge : (n : ℕ) (old row : ChallengeRow) → old.number ≡ row.number → keeps_challenge old row ≡ true → is_same_challenge old row ≡ true
     → challenge_image (record { owner = n; row = old }) ≡ challenge_image (record { owner = n; row = row })
 same_challenge n old row number kept same =
     let p = and_parts (is_same_date old.answered row.answered) _ same in
@@ -179,29 +182,15 @@ same_challenge n old row number kept same =
     λ i. Int (pos (number i)) ∷ Null ∷ (columns i ++ (answered i ++ (reported i ++ Text (status i) ∷ [])))
 
 -- the key of an answer
-pub same_key : (old row : AnswerKey) → old.challenge ≡ row.challenge → bytes_eq old.thumb row.thumb ≡ true → key_image old ≡ key_image row
+same_key : (old row : AnswerKey) → old.challenge ≡ row.challenge → bytes_eq old.thumb row.thumb ≡ true → key_image old ≡ key_image row
 same_key old row number is =
     let thumb = equal_bytes old.thumb row.thumb is in
     λ i. Int (pos (number i)) ∷ Null ∷ Blob (thumb i) ∷ []
 
--- ---- under an owner
-
--- the columns of a challenge of an authorization
-pub owned_kept : (n : ℕ) (old : Owned ChallengeRow) (row : ChallengeRow) → old.owner ≡ n → keeps_challenge old.row row ≡ true
-    → challenge_kept (challenge_columns (bare_row old)) ≡ challenge_kept (challenge_columns (bare_row (record { owner = n; row = row })))
-owned_kept n old row owner is =
-    ap (λ k. challenge_kept (challenge_columns (bare_row (record { owner = k; row = old.row })))) owner ∙ challenge_is_kept n old.row row is
-
--- and its row
-pub owned_same : (n : ℕ) (old : Owned ChallengeRow) (row : ChallengeRow) → old.owner ≡ n → old.row.number ≡ row.number → keeps_challenge old.row row ≡ true
-    → is_same_challenge old.row row ≡ true → challenge_image old ≡ challenge_image (record { owner = n; row = row })
-owned_same n old row owner number kept same =
-    ap (λ k. challenge_image (record { owner = k; row = old.row })) owner ∙ same_challenge n old.row row number kept same
-
 -- ---- the row of `meta`
 
 -- one that is known, in its format
-pub policy_kept_as : (known : Option Meta) (x : ℤ × Meta) (row : Meta) → option_map (λ m. (known_format, m)) known ≡ Some x → keeps_policy x.1 row ≡ true
+policy_kept_as : (known : Option Meta) (x : ℤ × Meta) (row : Meta) → option_map (λ m. (known_format, m)) known ≡ Some x → keeps_policy x.1 row ≡ true
     → meta_kept (formatted_columns x) ≡ meta_kept (formatted_columns (known_format, row))
 policy_kept_as None x row stands is = absurd (cc stands)
 policy_kept_as (Some m) x row stands is =
@@ -244,3 +233,50 @@ order_written (Some old) new row is = by (keeps_order old row) is
     by : (kept : Bool) → write (Some (difference kept false)) new ≡ None → ⊥
     by true is = absurd (cc is)
     by false is = absurd (cc is)
+
+-- ---- what is told of a row by how it differs
+
+-- the row of `meta`
+pub meta_differs : (row : Meta) (known : Option Meta)
+    → Differs formatted_layout (λ x. meta_kept (formatted_columns x)) (λ x. meta_difference x.1 row) (known_format, row)
+    (option_map (λ m. (known_format, m)) known)
+meta_differs row known = record {
+  moved = λ x stands is. policy_kept_as known x row stands (moved_keeps (keeps_policy x.1 row) false is);
+  same = λ x stands number is. absurd (never_same (keeps_policy x.1 row) is);
+}
+
+-- an account
+pub account_differs : (row : AccountRow) (known : Option AccountRow)
+    → Differs account_layout (λ x. account_kept (account_columns x)) (λ old. account_difference old row) row known
+account_differs row known = record {
+  moved = λ old stands is. opened_kept old row (moved_keeps (old.opened == row.opened) false is);
+  same = λ old stands number is. absurd (never_same (old.opened == row.opened) is);
+}
+
+-- an authorization
+pub authorization_differs : (row : AuthorizationRow) (known : Option AuthorizationRow)
+    → Differs authorization_layout (λ x. authorization_kept (authorization_columns x)) (λ old. authorization_difference old row) row known
+authorization_differs row known = record {
+  moved = λ old stands is. authorization_is_kept old row (moved_keeps (keeps_authorization old row) (is_same_authorization old row) is);
+  same = λ old stands number is. let all = same_is (keeps_authorization old row) (is_same_authorization old row) is in
+      same_authorization old row number all.0 all.1;
+}
+
+-- a challenge of this authorization
+pub challenge_differs : (n : ℕ) (row : ChallengeRow) (known : Option ChallengeRow)
+    → Differs challenge_layout (λ c. challenge_kept (challenge_columns (bare_row c))) (λ (c : Owned ChallengeRow). challenge_difference c.row row)
+    (record { owner = n; row = row }) (option_map (λ c. record { owner = n; row = c }) known)
+challenge_differs n row known = record {
+  moved = λ old stands is.
+      ap (λ k. challenge_kept (challenge_columns (bare_row (record { owner = k; row = old.row })))) (owner_is n known old stands)
+      ∙ challenge_is_kept n old.row row (moved_keeps (keeps_challenge old.row row) (is_same_challenge old.row row) is);
+  same = λ old stands number is. let all = same_is (keeps_challenge old.row row) (is_same_challenge old.row row) is in
+      ap (λ k. challenge_image (record { owner = k; row = old.row })) (owner_is n known old stands) ∙ same_challenge n old.row row number all.0 all.1;
+}
+
+-- the key of an answer
+pub key_differs : (row : AnswerKey) (known : Option AnswerKey) → Differs key_layout (λ _. []) (λ old. key_difference old row) row known
+key_differs row known = record {
+  moved = λ old stands is. refl;
+  same = λ old stands number is. same_key old row number (same_is (bytes_eq old.thumb row.thumb) true is).0;
+}

@@ -1,37 +1,13 @@
 -- A row in the place of one with its number, whose columns it has.
 use Rattle.std.specs.Prelude.{find, ◌==◌}
-use Rattle.std.proofs.Common.{◌≡◌, inl, inr, ℕ, ◌+◌, List, [], ◌∷◌, map, Some, None, refl, sym, ap, subst, ◌∙◌, arith}
-use Rattle.sqlite_rules.specs.Lists.{Has}
-use Rattle.model_laws.proofs.RowLists.{ascends_above, put_before, put_instead, put_past}
+use Rattle.std.proofs.Common.{◌≡◌, inl, inr, ℕ, ◌+◌, List, [], ◌∷◌, map, Some, None, sym, ap, ◌∙◌, arith}
+use Rattle.model_laws.proofs.RowLists.{ascends_above, put_instead, put_past}
 use Rattle.model_laws.specs.Ordered.{Ascends}
 use Rattle.desk_model.specs.Change.{put}
 use Rattle.sql_write.proofs.Numbered.{find_here, find_later, find_none}
 use Rattle.sql_tables.proofs.Keyed.{ranked}
 
 module _ {X : Type 0} (key : X → ℕ) where
-  -- it is among the rows
-  pub has_put : (x : X) (rows : List X) → Has (put key x rows) x
-  has_put x [] = inl refl
-  has_put x (y ∷ ys) = elim (ranked (key y) (key x)) [
-    | inl less ↦ subst (λ rows. Has rows x) (sym (put_past key x y ys less.low)) (inr (has_put x ys))
-    | inr (inl tied) ↦ subst (λ rows. Has rows x) (sym (put_instead key x y ys tied.same)) (inl refl)
-    | inr (inr more) ↦ subst (λ rows. Has rows x) (sym (put_before key x y ys more.high)) (inl refl)
-  ]
-
-  -- a further row of its number takes its place
-  pub put_again : (x y : X) → key y ≡ key x → (rows : List X) → put key x (put key y rows) ≡ put key x rows
-  put_again x y same [] = put_instead key x y [] same
-  put_again x y same (z ∷ zs) = elim (ranked (key z) (key y)) [
-    | inl less ↦
-        ap (put key x) (put_past key y z zs less.low) ∙ put_past key x z (put key y zs) (omega (arith, same, less.low))
-        ∙ ap (λ l. z ∷ l) (put_again x y same zs) ∙ sym (put_past key x z zs (omega (arith, same, less.low)))
-    | inr (inl tied) ↦
-        ap (put key x) (put_instead key y z zs tied.same) ∙ put_instead key x y zs same ∙ sym (put_instead key x z zs (tied.same ∙ same))
-    | inr (inr more) ↦
-        ap (put key x) (put_before key y z zs more.high) ∙ put_instead key x y (z ∷ zs) same
-        ∙ sym (put_before key x z zs (omega (arith, same, more.high)))
-  ]
-
   -- what both have stays as it was
   pub put_alike : {Y : Type 0} (image : X → Y) (n : ℕ) (x y : X) (rows : List X) → Ascends key n rows → find (λ r. key r == key x) rows ≡ Some y
       → image x ≡ image y → map image (put key x rows) ≡ map image rows

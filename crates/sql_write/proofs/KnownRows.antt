@@ -103,29 +103,25 @@ all_of x = record { columns = refl; challenges = own x.challenges (λ c h. h) }
     own [] h = tt
     own (c ∷ cs) h = (h c (inl refl), own cs (λ d k. h d (inr k)))
 
+-- each table of a part stands in that of the tables
+all_stand : (part T : Tables) → part.meta ≡ T.meta → Stand (λ (a : AccountRow). a.number) IsRow part.accounts T.accounts
+    → Stand (λ (a : AuthorizationRow). a.number) HasSome part.authorizations T.authorizations
+    → Stand (λ (o : OrderRow). o.number) IsWithout part.orders T.orders → StandsIn part T
+all_stand part T meta accounts authorizations orders =
+    record { meta = meta; accounts = accounts; authorizations = authorizations; orders = orders }
+
 -- behind one
 stands_on : (c : Change) (part T : Tables) → StandsIn part T → StandsIn (applied_one c part) (applied_one c T)
-stands_on (PutMeta x) part T h = record { meta = refl; accounts = h.accounts; authorizations = h.authorizations; orders = h.orders }
-stands_on (PutNonce x) part T h = record { meta = h.meta; accounts = h.accounts; authorizations = h.authorizations; orders = h.orders }
-stands_on (RemoveNonce n) part T h = record { meta = h.meta; accounts = h.accounts; authorizations = h.authorizations; orders = h.orders }
-stands_on (PutAccount x) part T h = record {
-  meta = h.meta;
-  accounts = stand_put (λ (a : AccountRow). a.number) IsRow (λ a. refl) x part.accounts T.accounts h.accounts;
-  authorizations = h.authorizations;
-  orders = h.orders;
-}
-stands_on (PutAuthorization x) part T h = record {
-  meta = h.meta;
-  accounts = h.accounts;
-  authorizations = stand_put (λ (a : AuthorizationRow). a.number) HasSome all_of x part.authorizations T.authorizations h.authorizations;
-  orders = h.orders;
-}
-stands_on (PutOrder x) part T h = record {
-  meta = h.meta;
-  accounts = h.accounts;
-  authorizations = h.authorizations;
-  orders = stand_put (λ (o : OrderRow). o.number) IsWithout (λ o. refl) x part.orders T.orders h.orders;
-}
+stands_on (PutMeta x) part T h = all_stand _ _ refl h.accounts h.authorizations h.orders
+stands_on (PutNonce x) part T h = all_stand _ _ h.meta h.accounts h.authorizations h.orders
+stands_on (RemoveNonce n) part T h = all_stand _ _ h.meta h.accounts h.authorizations h.orders
+stands_on (PutAccount x) part T h =
+    all_stand _ _ h.meta (stand_put (λ (a : AccountRow). a.number) IsRow (λ a. refl) x part.accounts T.accounts h.accounts) h.authorizations h.orders
+stands_on (PutAuthorization x) part T h =
+    all_stand _ _ h.meta h.accounts
+    (stand_put (λ (a : AuthorizationRow). a.number) HasSome all_of x part.authorizations T.authorizations h.authorizations) h.orders
+stands_on (PutOrder x) part T h =
+    all_stand _ _ h.meta h.accounts h.authorizations (stand_put (λ (o : OrderRow). o.number) IsWithout (λ o. refl) x part.orders T.orders h.orders)
 
 -- behind all
 stands_after : (cs : List Change) (part T : Tables) → StandsIn part T → StandsIn (applied cs part) (applied cs T)
@@ -189,56 +185,30 @@ pub known_or : {X : Type 0} (a b : Option (Bor X)) → option_copied (option_or 
 known_or None b = refl
 known_or (Some x) b = refl
 
--- the row that was put, where it has the number
-pub put_then : {X : Type 0} (key : X → ℕ) (n : ℕ) (x : X) (rows : List X)
-    → find (λ r. key r == n) (put key x rows) ≡ option_or (then_some (key x == n) x) (find (λ r. key r == n) rows)
-put_then key n x rows = find_put key n x rows ∙ go (key x == n) (find (λ r. key r == n) rows)
+-- what a change leaves that puts no such row
+pub record Leaves (c : Change) (T : Tables) (n : ℕ) : Type 0 where
+  pub meta : ((x : Meta) → c ≢ PutMeta x) → (applied_one c T).meta ≡ T.meta
+  pub account : ((x : AccountRow) → c ≢ PutAccount x) → account_on (applied_one c T) n ≡ account_on T n
+  pub authorization : ((x : AuthorizationRow) → c ≢ PutAuthorization x) → authorization_on (applied_one c T) n ≡ authorization_on T n
+  pub order : ((x : OrderRow) → c ≢ PutOrder x) → order_on (applied_one c T) n ≡ order_on T n
+
+pub leaves : (c : Change) (T : Tables) (n : ℕ) → Leaves c T n
+leaves (PutMeta x) T n = record { meta = λ never. absurd (never x refl); account = λ _. refl; authorization = λ _. refl; order = λ _. refl }
+leaves (PutNonce x) T n = record { meta = λ _. refl; account = λ _. refl; authorization = λ _. refl; order = λ _. refl }
+leaves (RemoveNonce k) T n = record { meta = λ _. refl; account = λ _. refl; authorization = λ _. refl; order = λ _. refl }
+leaves (PutAccount x) T n = record { meta = λ _. refl; account = λ never. absurd (never x refl); authorization = λ _. refl; order = λ _. refl }
+leaves (PutAuthorization x) T n = record { meta = λ _. refl; account = λ _. refl; authorization = λ never. absurd (never x refl); order = λ _. refl }
+leaves (PutOrder x) T n = record { meta = λ _. refl; account = λ _. refl; authorization = λ _. refl; order = λ never. absurd (never x refl) }
+
+-- what a change puts is lent where it has the number, and is found before what was found
+pub put_lent : {X : Type 0} (key : X → ℕ) (n : ℕ) (x : Bor X) (rows : List X) (lent : Option (Bor X)) → lent ≡ then_some (key x.now == n) x
+    → find (λ r. key r == n) (put key x.now rows) ≡ option_or (option_copied lent) (find (λ r. key r == n) rows)
+put_lent key n x rows lent is =
+    find_put key n x.now rows ∙ go (key x.now == n) (find (λ r. key r == n) rows) ∙ ap (λ l. option_or (option_copied l) (find (λ r. key r == n) rows)) (sym is)
   where
-    go : (b : Bool) (o : Option _) → cond b (Some x) o ≡ option_or (then_some b x) o
+    go : (b : Bool) (o : Option _) → cond b (Some x.now) o ≡ option_or (option_copied (then_some b x)) o
     go true o = refl
     go false o = refl
-
--- another change puts no account
-pub no_account : (c : Change) (T : Tables) (n : ℕ) → ((x : AccountRow) → c ≢ PutAccount x) → account_on (applied_one c T) n ≡ account_on T n
-no_account (PutMeta x) T n never = refl
-no_account (PutNonce x) T n never = refl
-no_account (RemoveNonce k) T n never = refl
-no_account (PutAccount x) T n never = absurd (never x refl)
-no_account (PutAuthorization x) T n never = refl
-no_account (PutOrder x) T n never = refl
-
--- another puts no order
-pub no_order : (c : Change) (T : Tables) (n : ℕ) → ((x : OrderRow) → c ≢ PutOrder x) → order_on (applied_one c T) n ≡ order_on T n
-no_order (PutMeta x) T n never = refl
-no_order (PutNonce x) T n never = refl
-no_order (RemoveNonce k) T n never = refl
-no_order (PutAccount x) T n never = refl
-no_order (PutAuthorization x) T n never = refl
-no_order (PutOrder x) T n never = absurd (never x refl)
-
--- another puts no authorization
-pub no_authorization : (c : Change) (T : Tables) (n : ℕ) → ((x : AuthorizationRow) → c ≢ PutAuthorization x)
-    → authorization_on (applied_one c T) n ≡ authorization_on T n
-no_authorization (PutMeta x) T n never = refl
-no_authorization (PutNonce x) T n never = refl
-no_authorization (RemoveNonce k) T n never = refl
-no_authorization (PutAccount x) T n never = refl
-no_authorization (PutAuthorization x) T n never = absurd (never x refl)
-no_authorization (PutOrder x) T n never = refl
-
--- another leaves the row of `meta`
-pub no_meta : (c : Change) (T : Tables) → ((x : Meta) → c ≢ PutMeta x) → (applied_one c T).meta ≡ T.meta
-no_meta (PutMeta x) T never = absurd (never x refl)
-no_meta (PutNonce x) T never = refl
-no_meta (RemoveNonce k) T never = refl
-no_meta (PutAccount x) T never = refl
-no_meta (PutAuthorization x) T never = refl
-no_meta (PutOrder x) T never = refl
-
--- one row, lent or not
-pub lent_some : {X : Type 0} (b : Bool) (x : Bor X) → option_copied (then_some b x) ≡ then_some b x.now
-lent_some true x = refl
-lent_some false x = refl
 
 -- what each of some changes leaves, all of them leave
 pub left_by_all : {X : Type 0} (on : Tables → ℕ → Option X) (n : ℕ) (cs : List Change) (T : Tables)

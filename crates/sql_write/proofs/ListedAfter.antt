@@ -33,7 +33,7 @@ abbrev order_at : ℕ → List OrderRow → Option OrderRow
 order_at n os = find (λ o. o.number == n) os
 
 -- the parts of a list that is apart
-apart_parts : (xs ys : List (Owned Listed)) → AreApart (xs ++ ys) → AreApart xs × AreApart ys
+pub apart_parts : (xs ys : List (Owned Listed)) → AreApart (xs ++ ys) → AreApart xs × AreApart ys
 apart_parts [] ys h = (tt, h)
 apart_parts (x ∷ xs) ys h = let rest = apart_parts xs ys h.1 in (((each_parts (λ k. is_same_place x k ≡ false) xs ys h.0).0, rest.0), rest.1)
 

@@ -12,7 +12,7 @@ use Rattle.store_columns.specs.Flat.{challenge_rows, key_rows, listed_rows, owne
 use Rattle.model_laws.specs.Distinct.{Distinct}
 use Rattle.model_laws.specs.News.{KeepChallenges, KeepsChildren}
 use Rattle.model_laws.specs.Placing.{puts}
-use Rattle.desk_model.specs.Change.{put}
+use Rattle.desk_model.specs.Change.{applied_one, put}
 use Rattle.desk_model.specs.Tables.{Tables}
 use Rattle.desk_model.specs.declared.objects.Nonce.{Nonce}
 use Rattle.desk_model.specs.declared.rows.AccountRow.{AccountRow}
@@ -31,7 +31,8 @@ use Rattle.sql_write.specs.declared.write.Write.{Write}
 use Rattle.sql_write.specs.declared.write.Write.TheVariants.{Upsert, Insert, Update}
 use Rattle.sql_write.proofs.ChallengeNumbers.{keys_owned}
 use Rattle.sql_write.proofs.ChildrenStanding.{IsThere, challenges_stand, keys_stand}
-use Rattle.sql_write.proofs.InPlace.{has_put, put_again, put_alike}
+use Rattle.sql_write.proofs.InPlace.{put_alike}
+use Rattle.sql_write.proofs.Over.{has_own}
 use Rattle.sql_write.proofs.KeyRows.{keys_flat, keys_within}
 use Rattle.sql_write.proofs.ListedAfter.{added as added_listed, found_in, listed_after}
 use Rattle.sql_write.proofs.NestedRows.{children_put, own_apart}
@@ -40,23 +41,16 @@ use Rattle.sql_write.proofs.PlacedRows.{appended_rows}
 use Rattle.sql_write.proofs.Written.{written_as}
 use Rattle.sql_write.proofs.KnownRows.{account_stands, authorization_stands, found_has, order_stands}
 use Rattle.sql_tables.specs.Effects.{Adds, BecomesRows, Puts, Removes, Renews}
-use Rattle.sql_tables.specs.Hidden.{row_of}
-use Rattle.sql_tables.specs.Holds.{AreRising, Holds, HoldsListed}
+use Rattle.sql_tables.specs.Holds.{AreRising, Holds}
 use Rattle.sql_tables.specs.Images.{challenge_image, key_image, order_kept}
 use Rattle.sql_tables.specs.Layouts.{HasRows, account_layout, authorization_layout, challenge_layout, formatted_layout}
 use Rattle.sql_tables.specs.Layouts.{key_layout, listed_layout, nonce_layout, order_layout}
 use Rattle.sql_tables.specs.Sorted.{sorted_by}
 use Rattle.sql_tables.proofs.Keyed.{put_ascends}
-use Rattle.sql_tables.proofs.Holding.{accounts_held, authorizations_held, meta_held, nonces_held, orders_held}
+use Rattle.sql_tables.proofs.Holding.{accounts_held, authorizations_held, holds_on, meta_held, nonces_held, orders_held}
 use Rattle.sql_tables.proofs.AnswerKeys.{keys_apart}
-use Rattle.sql_tables.proofs.NoIndexes.{no_index_account, no_index_authorization, no_index_challenge, no_index_key, no_index_listed}
-use Rattle.sql_tables.proofs.NoIndexes.{no_index_meta, no_index_nonce, no_index_order}
-use Rattle.sql_tables.proofs.Sorting.{sorted_rises}
-
--- what orders list, in a table that is as it was
-listed_as : (old new : Database) (T : Tables) → new.trees 6 ≡ old.trees 6 → HoldsListed (old.trees 6) (listed_rows T.orders)
-    → HoldsListed (new.trees 6) (listed_rows T.orders)
-listed_as old new T is h = record { numbered = h.numbered; has = is ∙ h.has; rising = h.rising; same = h.same }
+use Rattle.sql_tables.proofs.NoIndexes.{keeps_both, kept_at}
+use Rattle.sql_tables.proofs.Sorting.{put_over, sorted_rises}
 
 -- ---- one row
 
@@ -66,19 +60,8 @@ makes_meta known x old new sets T has stands fits =
     let first = meta_held old T has in
     let p = sets has.sound rows (record { schema = first.schema; rows_are = first.rows_are; rising = (omega arith, tt) })
     (there known stands) in
-    record {
-      sound = p.sound;
-      schema = p.has.schema;
-      meta = p.has.rows_are;
-      nonces = p.others 1 (λ e. cc) no_index_nonce ∙ has.nonces;
-      accounts = p.others 2 (λ e. cc) no_index_account ∙ has.accounts;
-      orders = p.others 4 (λ e. cc) no_index_order ∙ has.orders;
-      authorizations = p.others 5 (λ e. cc) no_index_authorization ∙ has.authorizations;
-      listed = listed_as old new T (p.others 6 (λ e. cc) no_index_listed) has.listed;
-      challenges = p.others 8 (λ e. cc) no_index_challenge ∙ has.challenges;
-      keys = p.others 17 (λ e. cc) no_index_key ∙ has.keys;
-      rising = fits.rising;
-    }
+    holds_on (0 ∷ []) old new (kept_at 0 old new p.others) T (applied_one (PutMeta x) T) has p.sound p.has.schema fits.rising
+    p.has.rows_are refl refl refl refl refl refl refl
   where
     rows : List (ℤ × Meta)
     rows = (known_format, T.meta) ∷ []
@@ -91,19 +74,9 @@ makes_meta known x old new sets T has stands fits =
 -- nonces that are put or removed
 nonces_become : (old new : Database) (T : Tables) (nonces : List Nonce) → Holds old T → BecomesRows nonce_layout nonces old new
     → AreRising (record T { nonces = nonces }) → Holds new (record T { nonces = nonces })
-nonces_become old new T nonces has p rising = record {
-  sound = p.sound;
-  schema = p.has.schema;
-  meta = p.others 0 (λ e. cc) no_index_meta ∙ has.meta;
-  nonces = p.has.rows_are;
-  accounts = p.others 2 (λ e. cc) no_index_account ∙ has.accounts;
-  orders = p.others 4 (λ e. cc) no_index_order ∙ has.orders;
-  authorizations = p.others 5 (λ e. cc) no_index_authorization ∙ has.authorizations;
-  listed = listed_as old new T (p.others 6 (λ e. cc) no_index_listed) has.listed;
-  challenges = p.others 8 (λ e. cc) no_index_challenge ∙ has.challenges;
-  keys = p.others 17 (λ e. cc) no_index_key ∙ has.keys;
-  rising = rising;
-}
+nonces_become old new T nonces has p rising =
+    holds_on (1 ∷ []) old new (kept_at 1 old new p.others) T (record T { nonces = nonces }) has p.sound p.has.schema rising
+    refl p.has.rows_are refl refl refl refl refl refl
 
 -- a nonce
 pub makes_nonce : (known : Option Tables) (x : Nonce) (old new : Database) → Puts nonce_layout x old new → Makes known (PutNonce x) old new
@@ -118,19 +91,8 @@ pub makes_account : (known : Option Tables) (x : AccountRow) (old new : Database
     → Makes known (PutAccount x) old new
 makes_account known x old new puts T has stands fits =
     let p = puts has.sound T.accounts (accounts_held old T has) (account_stands known x.number T stands) in
-    record {
-      sound = p.sound;
-      schema = p.has.schema;
-      meta = p.others 0 (λ e. cc) no_index_meta ∙ has.meta;
-      nonces = p.others 1 (λ e. cc) no_index_nonce ∙ has.nonces;
-      accounts = p.has.rows_are;
-      orders = p.others 4 (λ e. cc) no_index_order ∙ has.orders;
-      authorizations = p.others 5 (λ e. cc) no_index_authorization ∙ has.authorizations;
-      listed = listed_as old new T (p.others 6 (λ e. cc) no_index_listed) has.listed;
-      challenges = p.others 8 (λ e. cc) no_index_challenge ∙ has.challenges;
-      keys = p.others 17 (λ e. cc) no_index_key ∙ has.keys;
-      rising = fits.rising;
-    }
+    holds_on (2 ∷ []) old new (kept_at 2 old new p.others) T (applied_one (PutAccount x) T) has p.sound p.has.schema fits.rising
+    refl refl p.has.rows_are refl refl refl refl refl
 
 -- ---- a row with its children
 
@@ -182,8 +144,8 @@ held_with db rows has x (Some a) (b, found, some) =
             ∙ sym (put_alike key authorization_layout.image 0 a b rows has.rising at_own (ap authorization_layout.image some.columns));
         rising = put_ascends key 0 a rows (omega arith) has.rising;
       },
-      (has_put key a rows, same),
-      put_again key x a same rows,
+      (has_own key a rows, same),
+      put_over key x a same rows,
     )
 
 -- its challenges stand there
@@ -208,64 +170,43 @@ makes_authorization known x old new sets T has stands fits =
     let own = own_apart (λ (a : AuthorizationRow). a.number) (λ a. owned_by a.number a.challenges) challenge_layout.key x T.authorizations
     fits.rising.challenges in
     let p = sets.1 has.sound held.0 held.1 held.2 in
+    let first = kept_at 5 old sets.0 p.others in
     let between : HasRows challenge_layout sets.0 challenges =
-    record { schema = p.has.schema; rows_are = p.others 8 (λ e. cc) no_index_challenge ∙ has.challenges; rising = sorted_rises challenge_layout.key rows } in
+    record { schema = p.has.schema; rows_are = first 8 refl ∙ has.challenges; rising = sorted_rises challenge_layout.key rows } in
     let q = sets.2.1 p.sound challenges between (challenges_stand stood x.number x.challenges T.authorizations has.rising.challenges there) own in
+    let then = kept_at 8 sets.0 sets.2.0 q.others in
     let behind : HasRows key_layout sets.2.0 keys =
-    record {
-      schema = q.has.schema;
-      rows_are = q.others 17 (λ e. cc) no_index_key ∙ p.others 17 (λ e. cc) no_index_key ∙ has.keys;
-      rising = sorted_rises key_layout.key (key_rows rows);
-    } in
+    record { schema = q.has.schema; rows_are = then 17 refl ∙ first 17 refl ∙ has.keys; rising = sorted_rises key_layout.key (key_rows rows) } in
     let r = sets.2.2 q.sound keys behind (keys_stand stood x.number x.challenges T.authorizations has.rising.challenges there)
     (keys_apart (owned_by x.number x.challenges) own) in
     let children = children_put (λ a. a.number) (λ a. owned_by a.number a.challenges) challenge_layout.key x T.authorizations
     (numbers_within T x fits.children) fits.rising.challenges in
-    record {
-      sound = r.sound;
-      schema = r.has.schema;
-      meta = r.others 0 (λ e. cc) no_index_meta ∙ q.others 0 (λ e. cc) no_index_meta ∙ p.others 0 (λ e. cc) no_index_meta ∙ has.meta;
-      nonces = r.others 1 (λ e. cc) no_index_nonce ∙ q.others 1 (λ e. cc) no_index_nonce ∙ p.others 1 (λ e. cc) no_index_nonce ∙ has.nonces;
-      accounts = r.others 2 (λ e. cc) no_index_account ∙ q.others 2 (λ e. cc) no_index_account ∙ p.others 2 (λ e. cc) no_index_account ∙ has.accounts;
-      orders = r.others 4 (λ e. cc) no_index_order ∙ q.others 4 (λ e. cc) no_index_order ∙ p.others 4 (λ e. cc) no_index_order ∙ has.orders;
-      authorizations = r.others 5 (λ e. cc) no_index_authorization ∙ q.others 5 (λ e. cc) no_index_authorization ∙ p.has.rows_are
-          ∙ ap (map authorization_layout.image) held.3;
-      listed = listed_as old new T
-          (r.others 6 (λ e. cc) no_index_listed ∙ q.others 6 (λ e. cc) no_index_listed ∙ p.others 6 (λ e. cc) no_index_listed) has.listed;
-      challenges = r.others 8 (λ e. cc) no_index_challenge ∙ q.has.rows_are ∙ ap (map challenge_image) children;
-      keys = r.has.rows_are ∙ ap (map key_image) (keys_put T x fits.children fits.rising.challenges);
-      rising = fits.rising;
-    }
+    let last = kept_at 17 sets.2.0 new r.others in
+    let later = keeps_both (8 ∷ []) (17 ∷ []) sets.0 sets.2.0 new then last in
+    holds_on (5 ∷ 8 ∷ 17 ∷ []) old new (keeps_both (5 ∷ []) (8 ∷ 17 ∷ []) old sets.0 new first later) T (applied_one (PutAuthorization x) T) has
+    r.sound r.has.schema fits.rising refl refl refl refl (later 5 refl ∙ p.has.rows_are ∙ ap (map authorization_layout.image) held.3) refl
+    (last 8 refl ∙ q.has.rows_are ∙ ap (map challenge_image) children)
+    (r.has.rows_are ∙ ap (map key_image) (keys_put T x fits.children fits.rising.challenges))
 
 -- an order, then what it lists
 makes_order : (known : Option Tables) (x : OrderRow) (old mid new : Database) → Puts order_layout x old mid → PlacesAll (owned_by x.number x.listed) mid new
     → Makes known (PutOrder x) old new
 makes_order known x old mid new first last T has stands fits =
     let p = first T.orders (orders_held old T has) in
+    let kept = kept_at 4 old mid p.others in
     let between : HasRows listed_layout mid has.listed.numbered =
-    record { schema = p.has.schema; rows_are = p.others 6 (λ e. cc) no_index_listed ∙ has.listed.has; rising = has.listed.rising } in
+    record { schema = p.has.schema; rows_are = kept 6 refl ∙ has.listed.has; rising = has.listed.rising } in
     let placed = last p.sound has.listed.numbered between in
     let q = placed.2 in
-    record {
-      sound = q.sound;
-      schema = q.has.schema;
-      meta = q.others 0 (λ e. cc) no_index_meta ∙ p.others 0 (λ e. cc) no_index_meta ∙ has.meta;
-      nonces = q.others 1 (λ e. cc) no_index_nonce ∙ p.others 1 (λ e. cc) no_index_nonce ∙ has.nonces;
-      accounts = q.others 2 (λ e. cc) no_index_account ∙ p.others 2 (λ e. cc) no_index_account ∙ has.accounts;
-      orders = q.others 4 (λ e. cc) no_index_order ∙ p.has.rows_are;
-      authorizations = q.others 5 (λ e. cc) no_index_authorization ∙ p.others 5 (λ e. cc) no_index_authorization ∙ has.authorizations;
-      listed = record {
-        numbered = placed.0;
-        has = q.has.rows_are;
-        rising = q.has.rising;
-        same = listed_after x T.orders has.listed.numbered placed.0 has.rising.orders has.listed.rising has.listed.same has.rising.listed fits.rising.listed
-            fits.children
-            placed.1;
-      };
-      challenges = q.others 8 (λ e. cc) no_index_challenge ∙ p.others 8 (λ e. cc) no_index_challenge ∙ has.challenges;
-      keys = q.others 17 (λ e. cc) no_index_key ∙ p.others 17 (λ e. cc) no_index_key ∙ has.keys;
-      rising = fits.rising;
-    }
+    let last = kept_at 6 mid new q.others in
+    holds_on (4 ∷ 6 ∷ []) old new (keeps_both (4 ∷ []) (6 ∷ []) old mid new kept last) T (applied_one (PutOrder x) T) has q.sound q.has.schema
+    fits.rising refl refl refl (last 4 refl ∙ p.has.rows_are) refl (record {
+      numbered = placed.0;
+      has = q.has.rows_are;
+      rising = q.has.rising;
+      same = listed_after x T.orders has.listed.numbered placed.0 has.rising.orders has.listed.rising has.listed.same has.rising.listed fits.rising.listed
+          fits.children placed.1;
+    }) refl refl
 
 -- a new order, then what it lists
 makes_new_order : (known : Option Tables) (x : OrderRow) (old mid new : Database) → Adds order_layout x old mid → AppendsAll (owned_by x.number x.listed)
@@ -275,29 +216,20 @@ makes_new_order known x old mid new first last T has stands fits =
     let added = first T.orders (orders_held old T has) in
     let p = added.1 in
     let ls = owned_by x.number x.listed in
+    let kept = kept_at 4 old mid p.others in
     let between : HasRows listed_layout mid has.listed.numbered =
-    record { schema = p.has.schema; rows_are = p.others 6 (λ e. cc) no_index_listed ∙ has.listed.has; rising = has.listed.rising } in
+    record { schema = p.has.schema; rows_are = kept 6 refl ∙ has.listed.has; rising = has.listed.rising } in
     let q = last p.sound has.listed.numbered between in
-    record {
-      sound = q.sound;
-      schema = q.has.schema;
-      meta = q.others 0 (λ e. cc) no_index_meta ∙ p.others 0 (λ e. cc) no_index_meta ∙ has.meta;
-      nonces = q.others 1 (λ e. cc) no_index_nonce ∙ p.others 1 (λ e. cc) no_index_nonce ∙ has.nonces;
-      accounts = q.others 2 (λ e. cc) no_index_account ∙ p.others 2 (λ e. cc) no_index_account ∙ has.accounts;
-      orders = q.others 4 (λ e. cc) no_index_order ∙ p.has.rows_are;
-      authorizations = q.others 5 (λ e. cc) no_index_authorization ∙ p.others 5 (λ e. cc) no_index_authorization ∙ has.authorizations;
-      listed = record {
-        numbered = appended ls has.listed.numbered;
-        has = q.has.rows_are;
-        rising = q.has.rising;
-        same = subst (λ rows. IsPermutation rows (listed_rows (put order_layout.key x T.orders)))
-            (sym (appended_rows ls has.listed.numbered has.listed.rising))
-            (IsPermutation-trans _ _ _ (IsPermutation-append_left ls _ _ has.listed.same) (added_listed x T.orders added.0));
-      };
-      challenges = q.others 8 (λ e. cc) no_index_challenge ∙ p.others 8 (λ e. cc) no_index_challenge ∙ has.challenges;
-      keys = q.others 17 (λ e. cc) no_index_key ∙ p.others 17 (λ e. cc) no_index_key ∙ has.keys;
-      rising = fits.rising;
-    }
+    let on = kept_at 6 mid new q.others in
+    holds_on (4 ∷ 6 ∷ []) old new (keeps_both (4 ∷ []) (6 ∷ []) old mid new kept on) T (applied_one (PutOrder x) T) has q.sound q.has.schema
+    fits.rising refl refl refl (on 4 refl ∙ p.has.rows_are) refl (record {
+      numbered = appended ls has.listed.numbered;
+      has = q.has.rows_are;
+      rising = q.has.rising;
+      same = subst (λ rows. IsPermutation rows (listed_rows (put order_layout.key x T.orders)))
+          (sym (appended_rows ls has.listed.numbered has.listed.rising))
+          (IsPermutation-trans _ _ _ (IsPermutation-append_left ls _ _ has.listed.same) (added_listed x T.orders added.0));
+    }) refl refl
 
 -- an order that is known to be there, which keeps what it lists
 makes_renewed_order : (known : Option Tables) (x there : OrderRow) → known_order known x.number ≡ Some there
@@ -312,24 +244,8 @@ makes_renewed_order known x there is keeps old new renews T has stands fits =
     let stood = found_has order_layout.key x.number T.orders whole found in
     let kept = subst (λ o. IfSome o (λ (o : OrderRow). o.listed ≡ x.listed)) found fits.children in
     let p = renews T.orders (orders_held old T has) whole stood.0 stood.1 columns in
-    record {
-      sound = p.sound;
-      schema = p.has.schema;
-      meta = p.others 0 (λ e. cc) no_index_meta ∙ has.meta;
-      nonces = p.others 1 (λ e. cc) no_index_nonce ∙ has.nonces;
-      accounts = p.others 2 (λ e. cc) no_index_account ∙ has.accounts;
-      orders = p.has.rows_are;
-      authorizations = p.others 5 (λ e. cc) no_index_authorization ∙ has.authorizations;
-      listed = record {
-        numbered = has.listed.numbered;
-        has = p.others 6 (λ e. cc) no_index_listed ∙ has.listed.has;
-        rising = has.listed.rising;
-        same = subst (IsPermutation (map row_of has.listed.numbered)) (sym (found_in 0 x T.orders whole has.rising.orders found kept).0) has.listed.same;
-      };
-      challenges = p.others 8 (λ e. cc) no_index_challenge ∙ has.challenges;
-      keys = p.others 17 (λ e. cc) no_index_key ∙ has.keys;
-      rising = fits.rising;
-    }
+    holds_on (4 ∷ []) old new (kept_at 4 old new p.others) T (applied_one (PutOrder x) T) has p.sound p.has.schema fits.rising
+    refl refl refl p.has.rows_are refl (sym (found_in 0 x T.orders whole has.rising.orders found kept).0) refl refl
 
 -- an order, by how it was written
 pub makes_set_order : (known : Option Tables) (x : OrderRow) (old new : Database) → SetsOrder (known_order known x.number) x old new

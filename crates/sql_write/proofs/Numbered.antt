@@ -1,10 +1,9 @@
 -- Rows put by number, and the places of those that stood there.
 use Rattle.std.specs.Prelude.{◌==◌, find}
-use Rattle.std.proofs.Common.{◌≡◌, ◌≢◌, ◌⊎◌, inl, inr, ℕ, ◌++◌, List, [], ◌∷◌, map, cond, Some, None, refl, ap, ◌∙◌, arith}
+use Rattle.std.proofs.Common.{◌≡◌, ◌≢◌, ◌⊎◌, inl, inr, ℕ, List, [], ◌∷◌, map, cond, Some, None, refl, ap, ◌∙◌, arith}
 use Rattle.std.proofs.lemmas.Bool.{eq-eqb, ne_eqb}
 use Rattle.model_laws.proofs.RowLists.{Above}
 use Rattle.model_laws.specs.Distinct.{Distinct}
-use Rattle.model_laws.specs.Placing.{puts}
 use Rattle.desk_model.specs.Change.{put}
 use Rattle.sql_tables.proofs.Sorting.{put_each, put_each_over}
 
@@ -62,8 +61,3 @@ module _ {X : Type 0} (key : X → ℕ) where
   put_each_within [] xs zs h apart = refl
   put_each_within (y ∷ ys) xs zs h apart =
       put_among y (map key ys) xs (put_each key ys zs) h apart ∙ put_each_within ys xs zs (within_rest (key y) (map key ys) (map key xs) h) apart
-
-  -- one more after several
-  pub puts_snoc : (ys : List X) (y : X) (xs : List X) → puts key (ys ++ y ∷ []) xs ≡ put key y (puts key ys xs)
-  puts_snoc [] y xs = refl
-  puts_snoc (z ∷ zs) y xs = puts_snoc zs y (put key z xs)

@@ -78,14 +78,18 @@ module _ {X : Type 0} (key : X → ℕ) where
 
 -- ---- one row
 
--- what was written by how a row differs from the one that is known puts it over that
-pub over_known : {X : Type 0} (L : Layout X) (kept : X → Row) (diff : X → Difference) (row : X) (new : Bool) (known : Option X)
-    → ((old : X) → known ≡ Some old → diff old ≡ Moved → kept old ≡ kept row)
-    → ((old : X) → known ≡ Some old → L.key old ≡ L.key row → diff old ≡ Same → L.image old ≡ L.image row)
+-- of a row that differs so from the one that is known, the one keeps what the other has: these columns where it moved, all where it is the same
+pub record Differs {X : Type 0} (L : Layout X) (kept : X → Row) (diff : X → Difference) (row : X) (known : Option X) : Type 0 where
+  pub moved : (old : X) → known ≡ Some old → diff old ≡ Moved → kept old ≡ kept row
+  pub same : (old : X) → known ≡ Some old → L.key old ≡ L.key row → diff old ≡ Same → L.image old ≡ L.image row
+
+-- what was written by how it differs puts it over that
+over_known : {X : Type 0} (L : Layout X) (kept : X → Row) (diff : X → Difference) (row : X) (new : Bool) (known : Option X)
+    → Differs L kept diff row known
     → (a b : Database) → Sets L kept (write (option_map diff known) new) row a b → PutsOver L known row a b
-over_known L kept diff row true None moved same a b adds = λ sound rows has stands. (adds rows has).1
-over_known L kept diff row false None moved same a b put_it = λ sound rows has stands. put_it rows has
-over_known L kept diff row new (Some old) moved same a b sets = go (diff old) refl sets
+over_known L kept diff row true None differs a b adds = λ sound rows has stands. (adds rows has).1
+over_known L kept diff row false None differs a b put_it = λ sound rows has stands. put_it rows has
+over_known L kept diff row new (Some old) differs a b sets = go (diff old) refl sets
   where
     go : (d : Difference) → diff old ≡ d → Sets L kept (write (Some d) new) row a b → PutsOver L (Some old) row a b
     go Same is unmoved = λ sound rows has stands.
@@ -93,12 +97,12 @@ over_known L kept diff row new (Some old) moved same a b sets = go (diff old) re
           sound = sound;
           has = record {
             schema = has.schema;
-            rows_are = has.rows_are ∙ sym (put_as_it_is L row old 0 rows has.rising stands.0 stands.1 (same old refl stands.1 is));
+            rows_are = has.rows_are ∙ sym (put_as_it_is L row old 0 rows has.rising stands.0 stands.1 (differs.same old refl stands.1 is));
             rising = put_ascends L.key 0 row rows (omega arith) has.rising;
           };
           others = λ t other none. refl;
         })
-    go Moved is renews = λ sound rows has stands. renews rows has old stands.0 stands.1 (moved old refl is)
+    go Moved is renews = λ sound rows has stands. renews rows has old stands.0 stands.1 (differs.moved old refl is)
     go Other is put_it = λ sound rows has stands. put_it rows has
 
 -- ---- several rows
@@ -138,31 +142,28 @@ module _ {X : Type 0} (L : Layout X) (known : X → Option X) where
 
 -- ---- what a call wrote of one row
 
-module _ {S : Type 0} (g : Ghosts S) {X : Type 0} (L : Layout X) (kept : X → Row) (diff : X → Difference) (row : X) (new : Bool) (known : Option X)
-    (moved : (old : X) → known ≡ Some old → diff old ≡ Moved → kept old ≡ kept row)
-    (same : (old : X) → known ≡ Some old → L.key old ≡ L.key row → diff old ≡ Same → L.image old ≡ L.image row)
-    (of : Write → List Sql) where
-  -- those of the row, by how it differs
-  abbrev statements : List Sql
-  statements = of_some of (write (option_map diff known) new)
+-- the call was told how to write it, by how it differs
+module _ {S : Type 0} (g : Ghosts S) {X : Type 0} {L : Layout X} {kept : X → Row} {diff : X → Difference} {row : X} {known : Option X}
+    (differs : Differs L kept diff row known) (new : Bool) (of : Write → List Sql) {told : Option Write} {found wanted : Option Difference}
+    (like : option_map diff known ≡ wanted) (by : told ≡ write found new) (are : found ≡ wanted) where
+  -- it is what is done of the row
+  set_as : {R : Type 0} (a b : Held S) (r : Result R SaveFault) (m : Option Write) → told ≡ m
+      → HasWritten g (of_some of m) (Sets L kept m row) a b r → HasWritten g (of_some of (write wanted new)) (PutsOver L known row) a b r
+  set_as a b r m is it =
+      let same : m ≡ write (option_map diff known) new = sym is ∙ by ∙ ap (λ d. write d new) (are ∙ sym like) in
+      written_with g _ _ (PutsOver L known row) a b r (ap (of_some of) (same ∙ ap (λ d. write d new) like))
+      (written_as g (of_some of m) (Sets L kept m row) (PutsOver L known row) a b r
+      (λ did. over_known L kept diff row new known differs (state g a).now (state g b).now
+      (subst (λ o. Sets L kept o row (state g a).now (state g b).now) same did)) it)
 
   -- a row that is written in this write
-  pub set_some : {R : Type 0} (a b : Held S) (r : Result R SaveFault) (m : Write) → write (option_map diff known) new ≡ Some m
-      → HasWritten g (of m) (Writes L kept m row) a b r → HasWritten g statements (PutsOver L known row) a b r
-  set_some a b r m is it =
-      written_with g (of m) statements (PutsOver L known row) a b r (sym (ap (of_some of) is))
-      (written_as g (of m) (Writes L kept m row) (PutsOver L known row) a b r
-      (λ did. over_known L kept diff row new known moved same (state g a).now (state g b).now
-      (subst (λ o. Sets L kept o row (state g a).now (state g b).now) (sym is) did)) it)
+  pub set_some : {R : Type 0} (a b : Held S) (r : Result R SaveFault) (m : Write) → told ≡ Some m → HasWritten g (of m) (Writes L kept m row) a b r
+      → HasWritten g (of_some of (write wanted new)) (PutsOver L known row) a b r
+  set_some a b r m = set_as a b r (Some m)
 
   -- and one that is not
-  pub set_none : {R : Type 0} (a : Held S) (u : R) → write (option_map diff known) new ≡ None
-      → HasWritten g statements (PutsOver L known row) a a (Ok u)
-  set_none a u is =
-      written_with g [] statements (PutsOver L known row) a a (Ok u) (sym (ap (of_some of) is))
-      (nothing_written g (PutsOver L known row) a u
-      (over_known L kept diff row new known moved same (state g a).now (state g a).now
-      (subst (λ o. Sets L kept o row (state g a).now (state g a).now) (sym is) refl)))
+  pub set_none : {R : Type 0} (a : Held S) (u : R) → told ≡ None → HasWritten g (of_some of (write wanted new)) (PutsOver L known row) a a (Ok u)
+  set_none a u is = set_as a a (Ok u) None is (nothing_written g (Sets L kept None row) a u refl)
 
 -- ---- what is known, under an owner
 

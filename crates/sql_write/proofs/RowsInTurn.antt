@@ -30,7 +30,7 @@ use Rattle.sql_write.specs.Standing.{known_after, last_given}
 use Rattle.sql_write.specs.Statements.{save_statements, statements_from, statements_of}
 use Rattle.sql_write.specs.declared.write.Write.{Write}
 use Rattle.sql_write.specs.declared.write.Write.TheVariants.{Upsert, Insert, Update}
-use Rattle.sql_write.proofs.Numbered.{puts_snoc}
+use Rattle.model_laws.proofs.RowLists.{puts_append}
 use Rattle.sql_write.proofs.Over.{over_both, over_one}
 use Rattle.sql_write.proofs.KnownRows.{known_first, known_next, known_stands}
 use Rattle.sql_tables.specs.Effects.{Appends, Places, Puts, Removes, RemovesNumbered, is_same_place}
@@ -85,7 +85,7 @@ one_more_put L ys y a b c before last sound rows has =
     let two = last (puts L.key ys rows) one.has in
     record {
       sound = two.sound;
-      has = subst (HasRows L c) (sym (puts_snoc L.key ys y rows)) two.has;
+      has = subst (HasRows L c) (sym (puts_append L.key ys (y ∷ []) rows)) two.has;
       others = λ t other none. two.others t other none ∙ one.others t other none;
     }
 

@@ -39,6 +39,15 @@ one_more of rows i d low =
     ap (λ k. flat_map of (take k rows)) (add-one i) ∙ ap (flat_map of) (take-suc rows i d low) ∙ flat_map-append of (take i rows) (get_or rows i d ∷ [])
     ∙ ap (λ last. flat_map of (take i rows) ++ last) (append-nil (of (get_or rows i d)))
 
+-- two parts of the second of three lists
+among : (xs ys zs all ran rest : List Sql) → (xs ++ ys) ++ zs ≡ all → ys ≡ ran ++ rest → all ≡ (xs ++ ran) ++ (rest ++ zs)
+among xs ys zs all ran rest is are =
+    sym is
+    ∙ append_assoc xs ys zs
+    ∙ ap (λ l. xs ++ (l ++ zs)) are
+    ∙ ap (λ l. xs ++ l) (append_assoc ran rest zs)
+    ∙ sym (append_assoc xs ran (rest ++ zs))
+
 module _ {S : Type 0} (g : Ghosts S) where
   -- the parameters are these, too
   pub runs_with : (text : List ℕ) (old new : Held S) (answer : Result ℕ Error) (params wanted : Row) → params ≡ wanted
@@ -63,48 +72,34 @@ module _ {S : Type 0} (g : Ghosts S) where
   run_both [] ys a b c first last = subst (λ h. HaveRun g ys h c) first last
   run_both (x ∷ xs) ys a b c first last = (first.0, first.1, first.2, run_both xs ys first.0 b c first.3 last)
 
-  -- what stops some stops them with more behind them
-  pub stops_some : (xs ys : List Sql) (a b : Held S) (why : SaveFault) → Stops g xs a b why → Stops g (xs ++ ys) a b why
-  stops_some xs ys a b (save.Row why) it = record {
-    ran = it.ran;
-    rest = it.rest ++ ys;
-    are = ap (λ all. all ++ ys) it.are ∙ append_assoc it.ran it.rest ys;
-    have_run = it.have_run;
-  }
-  stops_some xs ys a b (save.Statement error) it = record {
-    ran = it.ran;
-    sql = it.sql;
-    rest = it.rest ++ ys;
-    are = ap (λ all. all ++ ys) it.are ∙ append_assoc it.ran (it.sql ∷ it.rest) ys;
-    before = it.before;
-    have_run = it.have_run;
-    refused = it.refused;
-  }
-  stops_some xs ys a b (save.Commit error) it = it
-
-  -- and behind others that were run
-  pub stops_behind : (xs ys : List Sql) (a b c : Held S) (why : SaveFault) → HaveRun g xs a b → Stops g ys b c why → Stops g (xs ++ ys) a c why
-  stops_behind xs ys a b c (save.Row why) first it = record {
+  -- what stops some stops them behind others that were run, and with more behind them
+  pub stops_among : (xs ys zs all : List Sql) → (xs ++ ys) ++ zs ≡ all → (a b c : Held S) (why : SaveFault) → HaveRun g xs a b → Stops g ys b c why
+      → Stops g all a c why
+  stops_among xs ys zs all is a b c (save.Row why) first it = record {
     ran = xs ++ it.ran;
-    rest = it.rest;
-    are = ap (λ all. xs ++ all) it.are ∙ sym (append_assoc xs it.ran it.rest);
+    rest = it.rest ++ zs;
+    are = among xs ys zs all it.ran it.rest is it.are;
     have_run = run_both xs it.ran a b c first it.have_run;
   }
-  stops_behind xs ys a b c (save.Statement error) first it = record {
+  stops_among xs ys zs all is a b c (save.Statement error) first it = record {
     ran = xs ++ it.ran;
     sql = it.sql;
-    rest = it.rest;
-    are = ap (λ all. xs ++ all) it.are ∙ sym (append_assoc xs it.ran (it.sql ∷ it.rest));
+    rest = it.rest ++ zs;
+    are = among xs ys zs all it.ran (it.sql ∷ it.rest) is it.are;
     before = it.before;
     have_run = run_both xs it.ran a b it.before first it.have_run;
     refused = it.refused;
   }
-  stops_behind xs ys a b c (save.Commit error) first it = it
+  stops_among xs ys zs all is a b c (save.Commit error) first it = it
+
+  -- with more behind them
+  pub stops_some : (xs ys : List Sql) (a b : Held S) (why : SaveFault) → Stops g xs a b why → Stops g (xs ++ ys) a b why
+  stops_some xs ys a b why = stops_among [] xs ys (xs ++ ys) refl a a b why refl
 
   -- a call behind others
   pub ran_behind : {X : Type 0} (xs ys : List Sql) (a b c : Held S) (r : Result X SaveFault) → HaveRun g xs a b → Ran g ys b c r → Ran g (xs ++ ys) a c r
   ran_behind xs ys a b c (Ok x) first last = run_both xs ys a b c first last
-  ran_behind xs ys a b c (Err why) first last = stops_behind xs ys a b c why first last
+  ran_behind xs ys a b c (Err why) first last = stops_among xs ys [] (xs ++ ys) (append-nil (xs ++ ys)) a b c why first last
 
   -- ---- the rows of a list
 
@@ -112,10 +107,9 @@ module _ {S : Type 0} (g : Ghosts S) where
   pub stops_at : {X : Type 0} (of : X → List Sql) (rows : List X) (i : ℕ) (d : X) (a b c : Held S) (why : SaveFault) → i < length rows
       → HaveRun g (flat_map of (take i rows)) a b → Stops g (of (get_or rows i d)) b c why → Stops g (flat_map of rows) a c why
   stops_at of rows i d a b c why low first last =
-      let here = stops_behind (flat_map of (take i rows)) (of (get_or rows i d)) a b c why first last in
       let begins = sym (flat_map-append of (take (i + 1) rows) (drop (i + 1) rows)) ∙ ap (flat_map of) (take-append-drop (i + 1) rows) in
-      subst (λ all. Stops g all a c why) (ap (λ all. all ++ flat_map of (drop (i + 1) rows)) (sym (one_more of rows i d low)) ∙ begins)
-      (stops_some _ (flat_map of (drop (i + 1) rows)) a c why here)
+      stops_among (flat_map of (take i rows)) (of (get_or rows i d)) (flat_map of (drop (i + 1) rows)) (flat_map of rows)
+      (ap (λ all. all ++ flat_map of (drop (i + 1) rows)) (sym (one_more of rows i d low)) ∙ begins) a b c why first last
 
 -- those of the first steps begin those of more
 begin_with : (step more : ℕ) → (rest : List Sql) × (defines_before (more + step) ≡ defines_before step ++ rest)
@@ -144,11 +138,10 @@ module _ {S : Type 0} (g : Ghosts S) where
   stops_defining step all low error a b c first last =
       let alone : Stops g (defines step) b c (save.Statement error) =
       record { ran = []; sql = record { text = definition_at step; params = [] }; rest = []; are = refl; before = b; have_run = refl; refused = last } in
-      let here = stops_behind g (defines_before step) (defines step) a b c (save.Statement error) first alone in
       let whole = begin_with (suc step) (all - suc step) in
       let count : all - suc step + suc step ≡ all = omega (arith, low) in
-      subst (λ sqls. Stops g sqls a c (save.Statement error)) (sym whole.1 ∙ ap defines_before count)
-      (stops_some g (defines_before (suc step)) whole.0 a c (save.Statement error) here)
+      stops_among g (defines_before step) (defines step) whole.0 (defines_before all) (sym whole.1 ∙ ap defines_before count) a b c
+      (save.Statement error) first alone
 
 -- ---- the end of a transaction
 

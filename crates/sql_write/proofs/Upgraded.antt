@@ -16,8 +16,7 @@ use Rattle.sql_schema.specs.Defined.{AddsKeyTable}
 use Rattle.sql_write.specs.Upgrading.{Fills, Upgrades}
 use Rattle.sql_tables.specs.Images.{formatted_image, key_image}
 use Rattle.sql_tables.specs.Layouts.{HasRows, formatted_layout, key_layout}
-use Rattle.sql_tables.proofs.NoIndexes.{no_index_account, no_index_authorization, no_index_challenge, no_index_key, no_index_listed}
-use Rattle.sql_tables.proofs.NoIndexes.{no_index_meta, no_index_nonce, no_index_order}
+use Rattle.sql_tables.proofs.NoIndexes.{keeps_both, kept_at}
 
 -- the table that format 1 lacks, then its rows, then the row of `meta`
 pub upgrades : (meta : Meta) (keys : List AnswerKey) (old mid new : Database) → AddsKeyTable old mid → Fills meta keys mid new → Upgrades meta keys old new
@@ -26,25 +25,28 @@ upgrades meta keys old mid new adds fills T has same are =
     let k = adds has.schema in
     let none : HasRows key_layout mid [] = record { schema = k.schema; rows_are = k.empty; rising = tt } in
     let q = fills.1 k.sound [] none in
-    let first : HasRows formatted_layout late ((first_format, T.meta) ∷ []) =
-    record { schema = q.has.schema; rows_are = q.others 0 (λ e. cc) no_index_meta ∙ k.kept.0 ∙ has.meta; rising = (omega arith, tt) } in
-    let p = fills.2 ((first_format, T.meta) ∷ []) first in
+    let first = kept_at 17 mid late q.others in
+    let before : HasRows formatted_layout late ((first_format, T.meta) ∷ []) =
+    record { schema = q.has.schema; rows_are = first 0 refl ∙ k.kept.0 ∙ has.meta; rising = (omega arith, tt) } in
+    let p = fills.2 ((first_format, T.meta) ∷ []) before in
+    let last = kept_at 0 late new p.others in
+    let on = keeps_both (17 ∷ []) (0 ∷ []) mid late new first last in
     record {
       sound = p.sound;
       schema = p.has.schema;
       meta = p.has.rows_are ∙ ap (λ m. formatted_image (known_format, m) ∷ []) (sym same);
-      nonces = p.others 1 (λ e. cc) no_index_nonce ∙ q.others 1 (λ e. cc) no_index_nonce ∙ k.kept.1.0 ∙ has.nonces;
-      accounts = p.others 2 (λ e. cc) no_index_account ∙ q.others 2 (λ e. cc) no_index_account ∙ k.kept.1.1.0 ∙ has.accounts;
-      orders = p.others 4 (λ e. cc) no_index_order ∙ q.others 4 (λ e. cc) no_index_order ∙ k.kept.1.1.1.0 ∙ has.orders;
-      authorizations = p.others 5 (λ e. cc) no_index_authorization ∙ q.others 5 (λ e. cc) no_index_authorization ∙ k.kept.1.1.1.1.0 ∙ has.authorizations;
+      nonces = on 1 refl ∙ k.kept.1.0 ∙ has.nonces;
+      accounts = on 2 refl ∙ k.kept.1.1.0 ∙ has.accounts;
+      orders = on 4 refl ∙ k.kept.1.1.1.0 ∙ has.orders;
+      authorizations = on 5 refl ∙ k.kept.1.1.1.1.0 ∙ has.authorizations;
       listed = record {
         numbered = has.listed.numbered;
-        has = p.others 6 (λ e. cc) no_index_listed ∙ q.others 6 (λ e. cc) no_index_listed ∙ k.kept.1.1.1.1.1.0 ∙ has.listed.has;
+        has = on 6 refl ∙ k.kept.1.1.1.1.1.0 ∙ has.listed.has;
         rising = has.listed.rising;
         same = has.listed.same;
       };
-      challenges = p.others 8 (λ e. cc) no_index_challenge ∙ q.others 8 (λ e. cc) no_index_challenge ∙ k.kept.1.1.1.1.1.1.0 ∙ has.challenges;
-      keys = p.others 17 (λ e. cc) no_index_key ∙ q.has.rows_are ∙ ap (map key_image) are;
+      challenges = on 8 refl ∙ k.kept.1.1.1.1.1.1.0 ∙ has.challenges;
+      keys = last 17 refl ∙ q.has.rows_are ∙ ap (map key_image) are;
       rising = has.rising;
     }
 

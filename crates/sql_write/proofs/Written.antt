@@ -9,7 +9,7 @@ use Rattle.sql_schema.proofs.AdvanceLemmas.{advances_as, performs_keeps}
 use Rattle.sql_schema.proofs.StaysLemmas.{asks_nothing}
 use Rattle.sql_schema.specs.Advances.{Advances, Performs}
 use Rattle.sql_write.proofs.Exits.{advances_both, kept_behind, survives_both}
-use Rattle.sql_write.proofs.Told.{none_begun, one_more, ran_behind, runs_with, stops_behind, stops_some, stops_at}
+use Rattle.sql_write.proofs.Told.{none_begun, one_more, ran_behind, runs_with, stops_among, stops_some, stops_at}
 use Rattle.sql_write.specs.Refusals.{HasWritten, IsRun, Stops}
 use Rattle.sql_write.specs.Statements.{Sql}
 use Rattle.sql_write.specs.declared.fault.SaveFault.{SaveFault}
@@ -135,5 +135,5 @@ module _ {S : Type 0} (g : Ghosts S) where
     does = tt;
     kept = kept_behind (state g a) (state g b) (state g c) A first.does last.survives last.kept;
     survives = survives_both (state g a) (state g b) (state g c) first.survives last.survives;
-    told = subst (λ sqls. Stops g sqls a c why) is (stops_some g (xs ++ ys) zs a c why (stops_behind g xs ys a b c why first.told last.told));
+    told = stops_among g xs ys zs all is a b c why first.told last.told;
   }

@@ -1,14 +1,5 @@
 use Rattle.std.proofs.Common.{rules}
-use Rattle.store_columns.specs.Columns.{challenge_columns}
-use Rattle.store_columns.specs.Flat.{bare_row}
-use Rattle.store_columns.specs.declared.flat_rows.Owned.{Owned}
-use Rattle.desk_model.specs.declared.rows.ChallengeRow.{ChallengeRow}
-use Rattle.sql_write.specs.Makes.{Writes}
-use Rattle.sql_write.specs.Statements.{writes_challenge}
-use Rattle.sql_write.proofs.RowWrites.{challenge_texts, row_added, row_put, row_renewed}
-use Rattle.sql_write.proofs.Written.{none_written}
-use Rattle.sql_tables.specs.Images.{challenge_kept}
-use Rattle.sql_tables.specs.Layouts.{challenge_layout}
+use Rattle.sql_write.proofs.RowWrites.{challenge_texts, row_added, row_put, row_renewed, row_unwritten}
 use Rattle.sql_write.proofs.challenges.write_challenge.Goals as goal
 
 pub returns-in-Upsert-clause-writes : goal.returns-in-Upsert-clause-writes
@@ -28,8 +19,5 @@ returns-in-Update-clause-writes g c =
 
 pub returns-in_err-numbers-clause-writes : goal.returns-in_err-numbers-clause-writes
 returns-in_err-numbers-clause-writes g c =
-    let row : Owned ChallengeRow = record { owner = c.args.authorization; row = c.args.row.now } in
-    let none = none_written g.S.Store {X = Unit {0}} (writes_challenge c.args.write c.args.authorization c.args.row.now)
-    (Writes challenge_layout (λ c. challenge_kept (challenge_columns (bare_row c))) c.args.write row)
-    c.args.tx.now.conn.now c.in_err-numbers.field-0.0 in
+    let none = row_unwritten g.S.Store challenge_texts (record { owner = c.args.authorization; row = c.args.row.now }) c.args.write c.args.tx.now.conn.now c.in_err-numbers.field-0.0 in
     search (rules, none)

@@ -4,7 +4,7 @@ use Rattle.sql_write.specs.Makes.{AddsOrPuts}
 use Rattle.sql_tables.specs.Images.{key_params}
 use Rattle.sql_tables.specs.Layouts.{key_layout}
 use Rattle.sql_tables.proofs.InsertStatement.{advances_inserted}
-use Rattle.sql_tables.proofs.KeyUpsert.{key_insert, key_upsert}
+use Rattle.sql_tables.proofs.Upserts.{key_insert, key_upsert}
 use Rattle.sql_tables.proofs.UpsertStatement.{advances_by}
 use Rattle.sql_schema.specs.declared.keys.TheConstants as chall_key
 use Rattle.sql_write.specs.Refusals.{HasWritten}
@@ -29,7 +29,7 @@ returns-in-Insert-clause-writes g c =
     subst (λ m. HasWritten g.S.Store (writes_key m row) (AddsOrPuts key_layout key_columns m (key_columns row)) c.args.tx.now.conn.now
     run.new.tx.conn.now run.result) (sym c.in-Insert.is)
     (run_written g.S.Store chall_key.INSERT.now _ (key_params (key_columns row)) _ _ _ run.result (search rules) run.ensures.ran
-    (λ count ran. advances_inserted key_layout key_columns key_params chall_key.UPSERT.now key_upsert chall_key.INSERT.now key_insert _ _
+    (λ count ran. advances_inserted key_layout key_columns key_params key_upsert chall_key.INSERT.now key_insert _ _
     (key_columns row) _ (search rules) count ran))
 
 pub returns-in_err-challenge-clause-writes : goal.returns-in_err-challenge-clause-writes

@@ -2,8 +2,7 @@ use Rattle.std.proofs.Common.{rules, subst, sym}
 use Rattle.store_columns.specs.Columns.{listed_columns}
 use Rattle.sql_write.specs.Makes.{AppendsOrPlaces}
 use Rattle.sql_tables.specs.Images.{listed_params}
-use Rattle.sql_tables.proofs.ListedInsert.{advances_appended}
-use Rattle.sql_tables.proofs.ListedUpsert.{advances_listed}
+use Rattle.sql_tables.proofs.ListedUpsert.{advances_appended, advances_listed}
 use Rattle.sql_schema.specs.declared.listed.TheConstants as ord_authz
 use Rattle.sql_write.specs.Refusals.{HasWritten}
 use Rattle.sql_write.specs.Statements.{writes_listed}

@@ -3,7 +3,7 @@ use Rattle.store_columns.specs.Columns.{known_format}
 use Rattle.sql_write.specs.Makes.{RenewsOrPuts}
 use Rattle.sql_tables.specs.Images.{formatted_columns, meta_kept, meta_moved, meta_params}
 use Rattle.sql_tables.specs.Layouts.{formatted_layout}
-use Rattle.sql_tables.proofs.MetaUpsert.{meta_update, meta_upsert}
+use Rattle.sql_tables.proofs.Upserts.{meta_update, meta_upsert}
 use Rattle.sql_tables.proofs.UpdateStatement.{advances_renewed}
 use Rattle.sql_tables.proofs.UpsertStatement.{advances_by}
 use Rattle.sql_schema.specs.declared.meta.TheConstants as meta
@@ -34,7 +34,7 @@ returns-in-Update-clause-writes g c =
     (formatted_columns (known_format, row))) c.args.tx.now.conn.now
     run.new.tx.conn.now run.result) (sym c.in-Update.is)
     (run_written g.S.Store meta.UPDATE.now _ (meta_moved (formatted_columns (known_format, row))) _ _ _ run.result are run.ensures.ran
-    (λ count ran. advances_renewed formatted_layout formatted_columns meta_params meta_moved meta_kept meta.UPSERT.now meta_upsert meta.UPDATE.now
+    (λ count ran. advances_renewed formatted_layout formatted_columns meta_params meta_moved meta_kept meta_upsert meta.UPDATE.now
     meta_update _ _ (formatted_columns (known_format, row)) _ are count ran))
 
 pub returns-in_err-numbers-clause-writes : goal.returns-in_err-numbers-clause-writes

@@ -6,7 +6,7 @@ use Rattle.sql_schema.specs.declared.nonces.TheConstants as nonce
 use Rattle.sql_write.proofs.nonces.remove_nonce.Goals as goal
 use Rattle.sql_tables.specs.Effects.{Removes}
 use Rattle.sql_tables.specs.Layouts.{nonce_layout}
-use Rattle.sql_tables.proofs.NonceRemoval.{advances_removal}
+use Rattle.sql_tables.proofs.Removal.{advances_removal}
 
 pub returns-clause-writes : goal.returns-clause-writes
 returns-clause-writes g c =

@@ -10,7 +10,7 @@ use Rattle.sql_write.proofs.Written.{none_written, run_written}
 use Rattle.sql_tables.specs.Images.{nonce_params}
 use Rattle.sql_tables.specs.Layouts.{nonce_layout}
 use Rattle.sql_tables.proofs.InsertStatement.{advances_inserted}
-use Rattle.sql_tables.proofs.NonceUpsert.{nonce_insert, nonce_upsert}
+use Rattle.sql_tables.proofs.Upserts.{nonce_insert, nonce_upsert}
 use Rattle.sql_tables.proofs.UpsertStatement.{advances_by}
 use Rattle.sql_write.proofs.nonces.write_nonce.Goals as goal
 
@@ -30,7 +30,7 @@ returns-in-Insert-clause-writes g c =
     subst (λ m. HasWritten g.S.Store (writes_nonce m row) (AddsOrPuts nonce_layout nonce_columns m (nonce_columns row)) c.args.tx.now.conn.now
     c.run-in-Insert.new.tx.conn.now c.run-in-Insert.result) (sym c.in-Insert.is)
     (run_written g.S.Store nonce.INSERT.now _ (nonce_params (nonce_columns row)) _ _ _ c.run-in-Insert.result are c.run-in-Insert.ensures.ran
-    (λ count ran. advances_inserted nonce_layout nonce_columns nonce_params nonce.UPSERT.now nonce_upsert nonce.INSERT.now nonce_insert _ _
+    (λ count ran. advances_inserted nonce_layout nonce_columns nonce_params nonce_upsert nonce.INSERT.now nonce_insert _ _
     (nonce_columns row) _ are count ran))
 
 pub returns-in_err-serial-clause-writes : goal.returns-in_err-serial-clause-writes

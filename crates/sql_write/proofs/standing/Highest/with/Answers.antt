@@ -5,7 +5,7 @@ use Rattle.desk_model.specs.declared.rows.OrderRow.{OrderRow}
 use Rattle.desk_model.specs.declared.rows.Change.TheVariants.{PutAccount, PutAuthorization, PutOrder}
 use Rattle.sql_write.specs.Highest.{IsAbove}
 use Rattle.sql_write.specs.declared.standing.Highest.{Highest}
-use Rattle.sql_write.proofs.KnownRows.{above_more, no_account, no_authorization, no_order, put_below}
+use Rattle.sql_write.proofs.KnownRows.{above_more, leaves, put_below}
 use Rattle.sql_write.proofs.standing.Highest.with.Goals as goal
 
 pub returns-in-PutAccount : goal.returns-in-PutAccount
@@ -43,6 +43,6 @@ returns-in_default c before =
     let highest = c.args.self in
     let change = c.args.change.now in
     above_more highest highest before change (omega arith) (omega arith) (omega arith)
-    (λ T n high. no_account change T n c.in_default.not-PutAccount)
-    (λ T n high. no_authorization change T n c.in_default.not-PutAuthorization)
-    (λ T n high. no_order change T n c.in_default.not-PutOrder)
+    (λ T n high. (leaves change T n).account c.in_default.not-PutAccount)
+    (λ T n high. (leaves change T n).authorization c.in_default.not-PutAuthorization)
+    (λ T n high. (leaves change T n).order c.in_default.not-PutOrder)
