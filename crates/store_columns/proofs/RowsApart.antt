@@ -22,9 +22,9 @@ use Rattle.desk_model.specs.Facts.{ending_text, end_kind_text, outcome_text}
 use Rattle.store_columns.specs.Spelling.{contacts_text, problem_text}
 use Rattle.store_columns.proofs.JsonTexts.{read-contacts_text}
 use Rattle.store_columns.proofs.ProblemTexts.{spelled}
-use Rattle.store_columns.proofs.SpellingApart.{account_status_text-apart, order_status_text-apart, authorization_status_text-apart}
-use Rattle.store_columns.proofs.SpellingApart.{challenge_status_text-apart, kind_text-apart, ending_text-apart}
-use Rattle.store_columns.proofs.SpellingApart.{end_kind_text-apart, outcome_text-apart, wildcard_column-apart}
+use Rattle.desk_model.specs.Document.{account_status_text, authorization_status_text, challenge_status_text, kind_text, order_status_text}
+use Rattle.store_columns.proofs.SpellingApart.{account_statuses, authorization_statuses, challenge_statuses, end_kinds, endings, kinds}
+use Rattle.store_columns.proofs.SpellingApart.{order_statuses, outcomes, told_apart, wildcard_column-apart}
 
 pos-apart : (m n : ℕ) → pos m ≡ pos n → m ≡ n
 pos-apart m n same = cc same
@@ -70,12 +70,12 @@ number-apart (Some x) (Some y) p = ap Some (pos-apart x y (same_Some (pos x) (po
 account_end-apart : (x y : Option AccountEnd) → account_end_columns x ≡ account_end_columns y → x ≡ y
 account_end-apart x y same =
     dated-apart (λ e. e.date) (λ e. ending_text e.ending)
-    (λ e f date text. λ i. record { date = date i; ending = ending_text-apart e.ending f.ending text i }) x y same
+    (λ e f date text. λ i. record { date = date i; ending = told_apart ending_text _ endings e.ending f.ending text i }) x y same
 
 authorization_end-apart : (x y : Option AuthorizationEnd) → authorization_end_columns x ≡ authorization_end_columns y → x ≡ y
 authorization_end-apart x y same =
     dated-apart (λ e. e.date) (λ e. end_kind_text e.kind)
-    (λ e f date text. λ i. record { date = date i; kind = end_kind_text-apart e.kind f.kind text i }) x y same
+    (λ e f date text. λ i. record { date = date i; kind = told_apart end_kind_text _ end_kinds e.kind f.kind text i }) x y same
 
 dated_bytes-apart : (x y : Option DatedBytes) → dated_bytes_columns x ≡ dated_bytes_columns y → x ≡ y
 dated_bytes-apart x y same =
@@ -89,7 +89,7 @@ dated_problem-apart x y same =
 report-apart : (x y : Option Report) → report_columns x ≡ report_columns y → x ≡ y
 report-apart x y same =
     dated-apart (λ r. r.date) (λ r. outcome_text r.outcome)
-    (λ r s date text. λ i. record { date = date i; outcome = outcome_text-apart r.outcome s.outcome text i }) x y same
+    (λ r s date text. λ i. record { date = date i; outcome = told_apart outcome_text _ outcomes r.outcome s.outcome text i }) x y same
 
 -- ---- rows
 
@@ -128,7 +128,7 @@ accounts-apart row other kept kept2 same =
       contacts = contacts_text-apart row.contacts other.contacts (ap (λ c. c.contacts) same) i;
       opened = pos-apart _ _ (ap (λ c. c.opened) same) i;
       ended = account_end-apart row.ended other.ended (λ j. (ap (λ c. c.ended) same j, ap (λ c. c.end_kind) same j)) i;
-      status = account_status_text-apart row.status other.status (ap (λ c. c.status) same) i;
+      status = told_apart account_status_text _ account_statuses row.status other.status (ap (λ c. c.status) same) i;
     }
 
 pub orders-apart : AreToldApart order_columns IsStoredOrder
@@ -142,7 +142,7 @@ orders-apart row other kept kept2 same =
       finalized = dated_bytes-apart row.finalized other.finalized (λ j. (ap (λ c. c.finalized) same j, ap (λ c. c.csr) same j)) i;
       certified = dated_bytes-apart row.certified other.certified (λ j. (ap (λ c. c.certified) same j, ap (λ c. c.cert) same j)) i;
       failed = dated_problem-apart row.failed other.failed (λ j. (ap (λ c. c.failed) same j, ap (λ c. c.problem) same j)) i;
-      status = order_status_text-apart row.status other.status (ap (λ c. c.status) same) i;
+      status = told_apart order_status_text _ order_statuses row.status other.status (ap (λ c. c.status) same) i;
     }
 
 pub authorizations-apart : AreToldApart authorization_columns IsStoredAuthorization
@@ -158,7 +158,7 @@ authorizations-apart row other kept kept2 same =
       expires = pos-apart _ _ (ap (λ c. c.expires) same) i;
       ended = authorization_end-apart row.ended other.ended (λ j. (ap (λ c. c.ended) same j, ap (λ c. c.end_kind) same j)) i;
       challenges = (kept.challenges ∙ sym kept2.challenges) i;
-      status = authorization_status_text-apart row.status other.status (ap (λ c. c.status) same) i;
+      status = told_apart authorization_status_text _ authorization_statuses row.status other.status (ap (λ c. c.status) same) i;
     }
 
 pub listed-apart : AreToldApart listed_columns IsStoredListed
@@ -177,11 +177,11 @@ challenges-apart row other kept kept2 same =
       owner = pos-apart _ _ (ap (λ c. c.authz) same) i;
       row = record {
         number = pos-apart _ _ (ap (λ c. c.num) same) i;
-        kind = kind_text-apart row.row.kind other.row.kind (ap (λ c. c.kind) same) i;
+        kind = told_apart kind_text _ kinds row.row.kind other.row.kind (ap (λ c. c.kind) same) i;
         token = ap (λ c. c.token) same i;
         answered = number-apart row.row.answered other.row.answered (ap (λ c. c.answered) same) i;
         reported = report-apart row.row.reported other.row.reported (λ j. (ap (λ c. c.reported) same j, ap (λ c. c.outcome) same j)) i;
-        status = challenge_status_text-apart row.row.status other.row.status (ap (λ c. c.status) same) i;
+        status = told_apart challenge_status_text _ challenge_statuses row.row.status other.row.status (ap (λ c. c.status) same) i;
       };
     }
 

@@ -1,11 +1,17 @@
 -- Each TEXT column of rows that hold texts is UTF-8.
 use Rattle.std.proofs.Common.{ℕ, List, [], ◌∷◌, map, Option, Some, None, option_map, Bool, false, IsUtf8, IfSome, subst, refl}
-use Rattle.std.specs.Prelude.{codes}
+use Rattle.std.proofs.Common.{◌≡◌, true, cond}
+use Rattle.std.specs.List.{list_all}
+use Rattle.std.specs.Prelude.{bytes_eq, codes}
+use Rattle.std.proofs.lemmas.Bool.{and_parts}
+use Rattle.std.proofs.lemmas.Option.{same_Some}
+use Rattle.store_columns.proofs.SpellingApart.{AreSpelled, found_by, account_statuses, authorization_statuses, challenge_statuses}
+use Rattle.store_columns.proofs.SpellingApart.{end_kinds, endings, kinds, order_statuses, outcomes}
 use Rattle.std.proofs.lemmas.Str.{IsUtf8-append, IsUtf8-nil}
 use Rattle.json.specs.Token.{Token}
 use Rattle.json.specs.Print.{print_from, ends, separator, token_text}
 use Rattle.json.specs.Tree as tree
-use Rattle.json.proofs.Printed.Utf8.{IsUtf8-are_ascii, IsUtf8-key, IsUtf8-quoted, IsUtf8-separator}
+use Rattle.json.proofs.Printed.Utf8.{are_ascii, IsUtf8-are_ascii, IsUtf8-key, IsUtf8-quoted, IsUtf8-separator}
 use Rattle.serde_json.specs.Data.{Data, string}
 use Rattle.serde_json.specs.View.{items_of}
 use Rattle.serde_json.specs.Written.{compact_text, items_outline, outline}
@@ -15,26 +21,10 @@ use Rattle.desk_model.specs.Json.{list}
 use Rattle.desk_model.specs.Kept.{EachOf}
 use Rattle.desk_model.specs.Texts.{AreTexts, HoldsTextAccount, HoldsTextAuthorization, HoldsTextMeta, HoldsTextOrder, IsTextProblem}
 use Rattle.desk_model.specs.declared.call.OrderProblem.{OrderProblem}
-use Rattle.desk_model.specs.declared.entry.Ending.{Ending}
-use Rattle.desk_model.specs.declared.entry.Ending.TheVariants as ending
-use Rattle.desk_model.specs.declared.entry.Outcome.{Outcome}
-use Rattle.desk_model.specs.declared.entry.Outcome.TheVariants as outcome
-use Rattle.desk_model.specs.declared.objects.EndKind.{EndKind}
-use Rattle.desk_model.specs.declared.objects.EndKind.TheVariants as end
-use Rattle.desk_model.specs.declared.objects.Kind.{Kind}
-use Rattle.desk_model.specs.declared.objects.Kind.TheVariants as kind
 use Rattle.desk_model.specs.declared.rows.AccountRow.{AccountRow}
 use Rattle.desk_model.specs.declared.rows.AuthorizationRow.{AuthorizationRow}
 use Rattle.desk_model.specs.declared.rows.DatedProblem.{DatedProblem}
 use Rattle.desk_model.specs.declared.rows.OrderRow.{OrderRow}
-use Rattle.desk_model.specs.declared.status.AccountStatus.{AccountStatus}
-use Rattle.desk_model.specs.declared.status.AccountStatus.TheVariants as account
-use Rattle.desk_model.specs.declared.status.AuthzStatus.{AuthzStatus}
-use Rattle.desk_model.specs.declared.status.AuthzStatus.TheVariants as authz
-use Rattle.desk_model.specs.declared.status.ChallengeStatus.{ChallengeStatus}
-use Rattle.desk_model.specs.declared.status.ChallengeStatus.TheVariants as chall
-use Rattle.desk_model.specs.declared.status.OrderStatus.{OrderStatus}
-use Rattle.desk_model.specs.declared.status.OrderStatus.TheVariants as order
 use Rattle.store_columns.specs.Columns.{account_columns, authorization_columns, challenge_columns, meta_columns, order_columns, rows_columns}
 use Rattle.store_columns.specs.Laws.{TextsAreWritten}
 use Rattle.desk_model.specs.Facts.{ending_text, end_kind_text, outcome_text}
@@ -86,58 +76,24 @@ problem_is_text problem h =
 
 -- ---- words
 
--- how an account ended
-ending_is_text : (e : Ending) → IsUtf8 (ending_text e)
-ending_is_text ending.Deactivated = IsUtf8-are_ascii _ refl
-ending_is_text ending.Revoked = IsUtf8-are_ascii _ refl
+-- what is found by its text, among those whose texts are ASCII, has a text
+found_is_text : {X : Type 0} (text : X → List ℕ) (all : List X) (x : X) → found_by text all (text x) ≡ Some x
+    → list_all (λ y. are_ascii (text y)) all ≡ true → IsUtf8 (text x)
+found_is_text text [] x is ascii = absurd (cc is)
+found_is_text text (y ∷ ys) x is ascii =
+    let parts = and_parts (are_ascii (text y)) (list_all (λ z. are_ascii (text z)) ys) ascii in
+    by (bytes_eq (text y) (text x)) is (λ later. found_is_text text ys x later parts.1) (IsUtf8-are_ascii (text y) parts.0)
+  where
+    by : (b : Bool) → cond b (Some y) (found_by text ys (text x)) ≡ Some x → (found_by text ys (text x) ≡ Some x → IsUtf8 (text x))
+        → IsUtf8 (text y) → IsUtf8 (text x)
+    by true is rest own = subst (λ z. IsUtf8 (text z)) (same_Some y x is) own
+    by false is rest own = rest is
 
--- how an authorization ended
-end_kind_is_text : (k : EndKind) → IsUtf8 (end_kind_text k)
-end_kind_is_text end.Invalid = IsUtf8-are_ascii _ refl
-end_kind_is_text end.Deactivated = IsUtf8-are_ascii _ refl
-end_kind_is_text end.Revoked = IsUtf8-are_ascii _ refl
-
--- what a validation showed
-outcome_is_text : (o : Outcome) → IsUtf8 (outcome_text o)
-outcome_is_text outcome.Good = IsUtf8-are_ascii _ refl
-outcome_is_text outcome.IncorrectResponse = IsUtf8-are_ascii _ refl
-outcome_is_text outcome.Connection = IsUtf8-are_ascii _ refl
-outcome_is_text outcome.Dns = IsUtf8-are_ascii _ refl
-
--- the kind of a challenge
-kind_is_text : (k : Kind) → IsUtf8 (kind_text k)
-kind_is_text kind.Http01 = IsUtf8-are_ascii _ refl
-kind_is_text kind.Dns01 = IsUtf8-are_ascii _ refl
-
--- the status of an account
-account_status_is_text : (s : AccountStatus) → IsUtf8 (account_status_text s)
-account_status_is_text account.Valid = IsUtf8-are_ascii _ refl
-account_status_is_text account.Deactivated = IsUtf8-are_ascii _ refl
-account_status_is_text account.Revoked = IsUtf8-are_ascii _ refl
-
--- of an order
-order_status_is_text : (s : OrderStatus) → IsUtf8 (order_status_text s)
-order_status_is_text order.Pending = IsUtf8-are_ascii _ refl
-order_status_is_text order.Ready = IsUtf8-are_ascii _ refl
-order_status_is_text order.Processing = IsUtf8-are_ascii _ refl
-order_status_is_text order.Valid = IsUtf8-are_ascii _ refl
-order_status_is_text order.Invalid = IsUtf8-are_ascii _ refl
-
--- of an authorization
-authorization_status_is_text : (s : AuthzStatus) → IsUtf8 (authorization_status_text s)
-authorization_status_is_text authz.Pending = IsUtf8-are_ascii _ refl
-authorization_status_is_text authz.Valid = IsUtf8-are_ascii _ refl
-authorization_status_is_text authz.Invalid = IsUtf8-are_ascii _ refl
-authorization_status_is_text authz.Deactivated = IsUtf8-are_ascii _ refl
-authorization_status_is_text authz.Expired = IsUtf8-are_ascii _ refl
-authorization_status_is_text authz.Revoked = IsUtf8-are_ascii _ refl
-
--- of a challenge
-challenge_status_is_text : (s : ChallengeStatus) → IsUtf8 (challenge_status_text s)
-challenge_status_is_text chall.Pending = IsUtf8-are_ascii _ refl
-challenge_status_is_text chall.Processing = IsUtf8-are_ascii _ refl
-challenge_status_is_text chall.Valid = IsUtf8-are_ascii _ refl
-challenge_status_is_text chall.Invalid = IsUtf8-are_ascii _ refl
+-- so each that is spelled so does
+spelled_is_text : {X : Type 0} (text : X → List ℕ) (all : List X) → AreSpelled text all → list_all (λ x. are_ascii (text x)) all ≡ true
+    → (x : X) → IsUtf8 (text x)
+unfolding AreSpelled
+spelled_is_text text all found ascii x = found_is_text text all x (found x) ascii
 
 -- what is written of a fact, if it is recorded
 written : {X : Type 0} (P : X → Type 0) (write : X → List ℕ) → ((x : X) → P x → IsUtf8 (write x)) → (o : Option X) → IfSome o P →
@@ -158,8 +114,8 @@ account_written row h =
     record {
       jwk = h.canonical;
       contacts = contacts_is_text row.contacts h.contact;
-      end_kind = worded _ (λ e. ending_is_text e.ending) row.ended;
-      status = account_status_is_text row.status;
+      end_kind = worded _ (λ e. spelled_is_text ending_text _ endings refl e.ending) row.ended;
+      status = spelled_is_text account_status_text _ account_statuses refl row.status;
     }
 
 -- a row of `ord`
@@ -167,21 +123,25 @@ order_written : (row : OrderRow) → HoldsTextOrder row → HasTextOrder (order_
 order_written row h =
     record {
       problem = written (λ (f : DatedProblem). IsTextProblem f.problem) _ (λ f k. problem_is_text f.problem k) row.failed h;
-      status = order_status_is_text row.status;
+      status = spelled_is_text order_status_text _ order_statuses refl row.status;
     }
 
 -- a row of `authz`
 authorization_written : (row : AuthorizationRow) → HoldsTextAuthorization row → HasTextAuthorization (authorization_columns row)
 authorization_written row h =
-    record { name = h; end_kind = worded _ (λ e. end_kind_is_text e.kind) row.ended; status = authorization_status_is_text row.status }
+    record {
+      name = h;
+      end_kind = worded _ (λ e. spelled_is_text end_kind_text _ end_kinds refl e.kind) row.ended;
+      status = spelled_is_text authorization_status_text _ authorization_statuses refl row.status;
+    }
 
 -- a row of `chall`
 challenge_written : (row : Owned BareChallenge) → HasTextChallenge (challenge_columns row)
 challenge_written row =
     record {
-      kind = kind_is_text row.row.kind;
-      outcome = worded _ (λ r. outcome_is_text r.outcome) row.row.reported;
-      status = challenge_status_is_text row.row.status;
+      kind = spelled_is_text kind_text _ kinds refl row.row.kind;
+      outcome = worded _ (λ r. spelled_is_text outcome_text _ outcomes refl r.outcome) row.row.reported;
+      status = spelled_is_text challenge_status_text _ challenge_statuses refl row.row.status;
     }
 
 -- ---- tables
