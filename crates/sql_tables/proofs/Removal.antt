@@ -64,7 +64,8 @@ delete_means = record { is = refl; plain = (refl, refl) }
 removes_nonce : (old new : State) (n : ℕ) (count : ℕ) → Executes nonce.DELETE.now (Int (pos n) ∷ []) old new (Ok count)
     → Removes nonce_layout n old.now new.now
 removes_nonce old new n count h xs has =
-    let did = has_done nonce.DELETE.now (Int (pos n) ∷ []) _ old new count has.schema (ran nonce.DELETE.now (Int (pos n) ∷ []) _ old new count delete_means has.schema h) in
+    let did = has_done nonce.DELETE.now (Int (pos n) ∷ []) _ old new count has.schema
+    (ran nonce.DELETE.now (Int (pos n) ∷ []) _ old new count delete_means has.schema h) in
     let done = went did.did in
     becomes nonce_layout old new (Int (pos n) ∷ []) (remove nonce_layout.key n xs) done.0 did.tally did.sound done.2
     (ascends_filter nonce_layout.key _ 0 xs has.rising)

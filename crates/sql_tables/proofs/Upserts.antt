@@ -116,7 +116,8 @@ account_upsert = record {
 }
 
 -- that renews one, in the columns that calls move
-pub account_update : IsUpdate account_layout account_upsert (λ row. account_moved (account_columns row)) (λ row. account_kept (account_columns row)) account.UPDATE.now
+pub account_update : IsUpdate account_layout account_upsert (λ row. account_moved (account_columns row))
+    (λ row. account_kept (account_columns row)) account.UPDATE.now
 unfolding understood everything account_upsert
 account_update = record {
   project = col 1 0 ∷ col 1 0 ∷ lit Null ∷ col 0 1 ∷ col 0 2 ∷ col 1 4 ∷ col 0 3 ∷ col 0 4 ∷ col 0 5 ∷ [];
@@ -190,7 +191,8 @@ authorization_upsert = record {
 }
 
 -- that renews one, in the columns that calls move
-pub authorization_update : IsUpdate authorization_layout authorization_upsert (λ row. authorization_moved (authorization_columns row)) (λ row. authorization_kept (authorization_columns row)) authz.UPDATE.now
+pub authorization_update : IsUpdate authorization_layout authorization_upsert (λ row. authorization_moved (authorization_columns row))
+    (λ row. authorization_kept (authorization_columns row)) authz.UPDATE.now
 unfolding understood everything authorization_upsert
 authorization_update = record {
   project = col 1 0 ∷ col 1 0 ∷ lit Null ∷ col 1 2 ∷ col 1 3 ∷ col 1 4 ∷ col 1 5 ∷ col 1 6 ∷ col 0 1 ∷ col 0 2 ∷ col 0 3 ∷ [];
@@ -224,7 +226,8 @@ challenge_upsert = record {
 }
 
 -- that renews one, in the columns that calls move
-pub challenge_update : IsUpdate challenge_layout challenge_upsert (λ row. challenge_moved (challenge_columns (bare_row row))) (λ row. challenge_kept (challenge_columns (bare_row row))) chall.UPDATE.now
+pub challenge_update : IsUpdate challenge_layout challenge_upsert (λ row. challenge_moved (challenge_columns (bare_row row)))
+    (λ row. challenge_kept (challenge_columns (bare_row row))) chall.UPDATE.now
 unfolding understood everything challenge_upsert
 challenge_update = record {
   project = col 1 0 ∷ col 1 0 ∷ lit Null ∷ col 1 2 ∷ col 1 3 ∷ col 1 4 ∷ col 0 1 ∷ col 0 2 ∷ col 0 3 ∷ col 0 4 ∷ [];
