@@ -19,5 +19,6 @@ returns-in-Update-clause-writes g c =
 
 pub returns-in_err-numbers-clause-writes : goal.returns-in_err-numbers-clause-writes
 returns-in_err-numbers-clause-writes g c =
-    let none = row_unwritten g.S.Store challenge_texts (record { owner = c.args.authorization; row = c.args.row.now }) c.args.write c.args.tx.now.conn.now c.in_err-numbers.field-0.0 in
+    let none = row_unwritten g.S.Store challenge_texts (record { owner = c.args.authorization; row = c.args.row.now }) c.args.write
+    c.args.tx.now.conn.now c.in_err-numbers.field-0.0 in
     search (rules, none)

@@ -19,7 +19,8 @@ returns-in-Some-clause-writes g c =
     let known = option_copied c.args.known in
     let new = lacks_key (known_challenge known key.challenge) c.args.last key.challenge in
     set_some g.S.Store (key_differs key (key_under known key)) new (λ m. writes_key m key) refl
-    (c.of.ensures ∙ ap (write c.key_difference-difference.result) (c.lacks_key-is_new.ensures ∙ ap (λ o. lacks_key o c.args.last key.challenge) c.known_challenge.ensures))
+    (c.of.ensures ∙ ap (write c.key_difference-difference.result)
+    (c.lacks_key-is_new.ensures ∙ ap (λ o. lacks_key o c.args.last key.challenge) c.known_challenge.ensures))
     (c.key_difference-difference.ensures ∙ ap (option_map (λ old. key_difference old key)) c.known_key.ensures) _ _ c.write_key.result
     c.in-Some.write c.in-Some.is
     (written_as g.S.Store _ _ _ _ _ _ (writes_added key_layout key_columns key c.in-Some.write _ _) c.write_key.ensures.writes)
@@ -30,5 +31,6 @@ returns-in-None-clause-writes g c =
     let known = option_copied c.args.known in
     let new = lacks_key (known_challenge known key.challenge) c.args.last key.challenge in
     set_none g.S.Store (key_differs key (key_under known key)) new (λ m. writes_key m key) refl
-    (c.of.ensures ∙ ap (write c.key_difference-difference.result) (c.lacks_key-is_new.ensures ∙ ap (λ o. lacks_key o c.args.last key.challenge) c.known_challenge.ensures))
+    (c.of.ensures ∙ ap (write c.key_difference-difference.result)
+    (c.lacks_key-is_new.ensures ∙ ap (λ o. lacks_key o c.args.last key.challenge) c.known_challenge.ensures))
     (c.key_difference-difference.ensures ∙ ap (option_map (λ old. key_difference old key)) c.known_key.ensures) _ _ c.in-None.is
