@@ -4,31 +4,22 @@ use Rattle.std.specs.Prelude.{◌==◌, ◌&&◌, ◌||◌, find, nat_lt}
 use Rattle.std.specs.List.{list_all, list_any}
 use Rattle.std.specs.Option.{option_map}
 use Rattle.std.proofs.lemmas.Bool.{and_parts, le-ltb}
-use Rattle.desk_model.specs.Allowed.{may_want_on}
+use Rattle.desk_model.specs.{Allowed.may_want_on, Tables.Tables, Kept.EachOf, Lookup.holds}
 use Rattle.desk_model.specs.Questions.{order_end, serves}
-use Rattle.desk_model.specs.Tables.{Tables}
-use Rattle.desk_model.specs.Kept.{EachOf}
-use Rattle.desk_model.specs.Lookup.{holds}
 use Rattle.desk_model.specs.Authorization.{authorization_status_by, is_good, is_over, is_pending, is_valid, made_for}
 use Rattle.desk_model.specs.Derived.{and_status, authorization_numbered, derived_order, numbers_of, stored_statuses}
 use Rattle.desk_model.specs.Effect.{authorizations_after, fresh_challenge, fresh_order, moved_authorization, new_authorizations}
 use Rattle.desk_model.specs.Order.{listed_by, made_status, order_status_by}
-use Rattle.desk_model.specs.declared.entry.Entry.TheVariants.{Ordered as ordered}
-use Rattle.desk_model.specs.declared.entry.Wanted.{Wanted}
+use Rattle.desk_model.specs.declared.{entry.Entry.TheVariants.Ordered as ordered, entry.Wanted.Wanted, objects.Authorization.Authorization}
+use Rattle.desk_model.specs.declared.{objects.Challenge.Challenge, objects.Order.Order, rows.AuthorizationRow.AuthorizationRow, status.AuthzStatus.AuthzStatus}
 use Rattle.desk_model.specs.declared.entry.Wanted.TheVariants.{New as new, Reused as reused}
-use Rattle.desk_model.specs.declared.objects.Authorization.{Authorization}
-use Rattle.desk_model.specs.declared.objects.Challenge.{Challenge}
-use Rattle.desk_model.specs.declared.objects.Order.{Order}
-use Rattle.desk_model.specs.declared.rows.AuthorizationRow.{AuthorizationRow}
-use Rattle.desk_model.specs.declared.status.AuthzStatus.{AuthzStatus}
 use Rattle.desk_model.specs.declared.status.AuthzStatus.TheVariants as authz
 use Rattle.model_laws.specs.Ordered.{Ascends, Below}
 use Rattle.model_laws.specs.Reused.{OfReused}
 use Rattle.model_laws.proofs.Basics.{each, each_both, each_of_map, find-append}
-use Rattle.model_laws.proofs.Finds.{found_moved}
+use Rattle.model_laws.proofs.{Finds.found_moved, Local.moved_number}
 use Rattle.model_laws.proofs.RowLists.{ascends_above, ascends_found, ascends_map, none_below, numbered_ascends}
 use Rattle.model_laws.proofs.OrderFacts.{made_by_numbered, numbers_listed}
-use Rattle.model_laws.proofs.Local.{moved_number}
 use Rattle.core_changes.specs.Made.{AreStanding, made_row, made_rows}
 use Rattle.desk_book.proofs.SweptRows.{find-moved}
 
@@ -154,11 +145,7 @@ waits_on (Some row) rest h = by row.status h
     by : (s : AuthzStatus) → is_pending s ≡ true → ((is_over s || list_any is_over rest) ≡ list_any is_over rest)
         × ((is_valid s && list_all is_valid rest) ≡ false)
     by authz.Pending k = (refl, refl)
-    by authz.Valid k = cc
-    by authz.Invalid k = cc
-    by authz.Deactivated k = cc
-    by authz.Expired k = cc
-    by authz.Revoked k = cc
+    by _ k = cc
 
 stands_on : (o : Option AuthorizationRow) (rest : List AuthzStatus) → holds (λ r. is_valid r.status) o ≡ true →
     (list_any is_over (and_status o rest) ≡ list_any is_over rest) × (list_all is_valid (and_status o rest) ≡ list_all is_valid rest)
@@ -167,12 +154,8 @@ stands_on (Some row) rest h = by row.status h
   where
     by : (s : AuthzStatus) → is_valid s ≡ true →
         ((is_over s || list_any is_over rest) ≡ list_any is_over rest) × ((is_valid s && list_all is_valid rest) ≡ list_all is_valid rest)
-    by authz.Pending k = cc
     by authz.Valid k = (refl, refl)
-    by authz.Invalid k = cc
-    by authz.Deactivated k = cc
-    by authz.Expired k = cc
-    by authz.Revoked k = cc
+    by _ k = cc
 
 -- none of its authorizations is over
 none_over : (rows : List AuthorizationRow) (account date expires : ℕ) (ws : List Wanted) (n c : ℕ) →

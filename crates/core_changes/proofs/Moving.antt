@@ -1,31 +1,18 @@
 -- What is recorded of moves, and of a new order.
 use Rattle.std.proofs.Common.{◌≡◌, ℕ, ◌+◌, List, [], ◌∷◌, ◌++◌, map, length, refl, sym, ap, subst, ◌∙◌, append-nil, add-zero, ◌<◌}
-use Rattle.desk_model.specs.Tables.{Tables}
-use Rattle.desk_model.specs.History.{terms_after}
-use Rattle.desk_model.specs.Nonce.{issued_by}
-use Rattle.desk_model.specs.Account.{opened_by}
+use Rattle.desk_model.specs.{Tables.Tables, History.terms_after, Nonce.issued_by, Account.opened_by, Authorization.count_challenges, Entry.entry_of}
+use Rattle.desk_model.specs.{Terms.Terms}
 use Rattle.desk_model.specs.Order.{listed_by, ordered_by}
-use Rattle.desk_model.specs.Authorization.{count_challenges}
 use Rattle.desk_model.specs.Derived.{restated_authorization, restated_order}
-use Rattle.desk_model.specs.Effect.{effect, effects, swept, swept_authorization, fresh_account, fresh_authorization, fresh_order}
-use Rattle.desk_model.specs.Effect.{moved_authorization, new_authorizations, authorizations_after, noted_account, noted_order}
-use Rattle.desk_model.specs.Effect.{touches_account, touches_authorization, touches_order}
+use Rattle.desk_model.specs.Effect.{effect, effects, swept, swept_authorization, fresh_account, fresh_authorization, fresh_order, moved_authorization}
+use Rattle.desk_model.specs.Effect.{new_authorizations, authorizations_after, noted_account, noted_order, touches_account, touches_authorization, touches_order}
 use Rattle.desk_model.specs.Change.{changes, moved_rows, account_differs, authorization_differs, order_differs, spent_by}
-use Rattle.desk_model.specs.Entry.{entry_of}
-use Rattle.desk_model.specs.declared.entry.Entry.{Entry}
-use Rattle.desk_model.specs.declared.moves.Move.{Move}
+use Rattle.desk_model.specs.declared.{entry.Entry.Entry, moves.Move.Move, objects.Account.Account, objects.Authorization.Authorization, objects.Nonce.Nonce}
+use Rattle.desk_model.specs.declared.{objects.Order.Order, rows.Counters.Counters, rows.AuthorizationRow.AuthorizationRow, rows.Change.Change}
+use Rattle.desk_model.specs.declared.{entry.Wanted.Wanted}
 use Rattle.desk_model.specs.declared.entry.Entry.TheVariants.{Issued as issued, Ordered as ordered, Spent as spent}
 use Rattle.desk_model.specs.declared.moves.Move.TheVariants as move
-use Rattle.desk_model.specs.declared.objects.Account.{Account}
-use Rattle.desk_model.specs.declared.objects.Authorization.{Authorization}
-use Rattle.desk_model.specs.declared.objects.Nonce.{Nonce}
-use Rattle.desk_model.specs.declared.objects.Order.{Order}
-use Rattle.desk_model.specs.Terms.{Terms}
-use Rattle.desk_model.specs.declared.rows.Counters.{Counters}
-use Rattle.desk_model.specs.declared.rows.AuthorizationRow.{AuthorizationRow}
-use Rattle.desk_model.specs.declared.rows.Change.{Change}
 use Rattle.desk_model.specs.declared.rows.Change.TheVariants.{PutNonce, RemoveNonce, PutAccount, PutAuthorization, PutOrder}
-use Rattle.desk_model.specs.declared.entry.Wanted.{Wanted}
 use Rattle.model_laws.specs.Ordered.{Below, IsOrdered}
 use Rattle.model_laws.proofs.Basics.{each, each-map}
 use Rattle.model_laws.proofs.Plain.{issued_effect, spent_effect}
@@ -47,71 +34,8 @@ pub record MakesNothing (m : ℕ) (T : Tables) (e : Entry) : Type 0 where
   pub orders : (first : ℕ) → ordered_by e m T.meta.policy first (T.meta.counters.orders + 1) ≡ []
 
 pub makes_nothing : (m : ℕ) (T : Tables) (v : Move) → MakesNothing m T (entry_of v)
-makes_nothing m T (move.ContactsChanged n contacts) = record {
-  policy = refl;
-  unspent = refl;
-  nonces = refl;
-  accounts = refl;
-  authorizations = refl;
-  orders = λ first. refl;
-}
-makes_nothing m T (move.KeyChanged n key) = record {
-  policy = refl;
-  unspent = refl;
-  nonces = refl;
-  accounts = refl;
-  authorizations = refl;
-  orders = λ made. refl;
-}
-makes_nothing m T (move.AccountEnded n ending) = record {
-  policy = refl;
-  unspent = refl;
-  nonces = refl;
-  accounts = refl;
-  authorizations = refl;
-  orders = λ first. refl;
-}
 makes_nothing m T (move.Answered n) = record { policy = refl; unspent = refl; nonces = refl; accounts = refl; authorizations = refl; orders = λ first. refl }
-makes_nothing m T (move.Reported n outcome) = record {
-  policy = refl;
-  unspent = refl;
-  nonces = refl;
-  accounts = refl;
-  authorizations = refl;
-  orders = λ first. refl;
-}
-makes_nothing m T (move.AuthorizationEnded n ending) = record {
-  policy = refl;
-  unspent = refl;
-  nonces = refl;
-  accounts = refl;
-  authorizations = refl;
-  orders = λ first. refl;
-}
-makes_nothing m T (move.Finalized n csr) = record {
-  policy = refl;
-  unspent = refl;
-  nonces = refl;
-  accounts = refl;
-  authorizations = refl;
-  orders = λ first. refl;
-}
-makes_nothing m T (move.Certified n certificate) = record {
-  policy = refl;
-  unspent = refl;
-  nonces = refl;
-  accounts = refl;
-  authorizations = refl;
-  orders = λ first. refl;
-}
-makes_nothing m T (move.Failed n problem) = record {
-  policy = refl;
-  unspent = refl;
-  nonces = refl;
-  accounts = refl;
-  authorizations = refl;
-  orders = λ first. refl;
-}
+makes_nothing m T _ = record { policy = refl; unspent = refl; nonces = refl; accounts = refl; authorizations = refl; orders = λ first. refl }
 
 -- the counters stay, but for the clock
 pub moving_counters : (m : ℕ) (T : Tables) (v : Move) → (effect m T (entry_of v)).meta.counters ≡ record T.meta.counters { clock = m }

@@ -1,23 +1,15 @@
 -- What entries that touch no standing row do to the tables, and what they record.
 use Rattle.std.proofs.Common.{◌≡◌, ℕ, ◌+◌, List, [], ◌∷◌, ◌++◌, map, filter, Bool, false, cond, Option, Some, None, refl, ap, ◌∙◌, add-zero}
 use Rattle.std.specs.Prelude.{◌&&◌, ◌||◌}
-use Rattle.desk_model.specs.Tables.{Tables}
-use Rattle.desk_model.specs.declared.rows.Counters.{Counters}
+use Rattle.desk_model.specs.{Tables.Tables, Lookup.holds, Account.opened_by, Order.ordered_by}
+use Rattle.desk_model.specs.declared.{rows.Counters.Counters, objects.Nonce.Nonce, entry.Entry.Entry, rows.AccountRow.AccountRow}
+use Rattle.desk_model.specs.declared.{rows.AuthorizationRow.AuthorizationRow, rows.OrderRow.OrderRow}
 use Rattle.desk_model.specs.declared.rows.Change.TheVariants.{PutNonce, RemoveNonce, PutAccount, PutAuthorization, PutOrder}
-use Rattle.desk_model.specs.declared.objects.Nonce.{Nonce}
-use Rattle.desk_model.specs.declared.entry.Entry.{Entry}
 use Rattle.desk_model.specs.declared.entry.Entry.TheVariants.{Issued as issued, Spent as spent, Opened as opened}
-use Rattle.desk_model.specs.declared.rows.AccountRow.{AccountRow}
-use Rattle.desk_model.specs.declared.rows.AuthorizationRow.{AuthorizationRow}
-use Rattle.desk_model.specs.declared.rows.OrderRow.{OrderRow}
 use Rattle.desk_model.specs.declared.status.AccountStatus.TheVariants as account
-use Rattle.desk_model.specs.Lookup.{holds}
-use Rattle.desk_model.specs.Account.{opened_by}
-use Rattle.desk_model.specs.Order.{ordered_by}
 use Rattle.desk_model.specs.Derived.{numbers_of, authorization_numbered, restated_authorization, restated_order}
-use Rattle.desk_model.specs.Effect.{effect, noted_account, noted_authorization, noted_order, touches_account}
-use Rattle.desk_model.specs.Effect.{touches_authorization, touches_order, names_order, lists_one, fresh_account}
-use Rattle.desk_model.specs.Effect.{fresh_authorization, fresh_order, new_authorizations, authorizations_after}
+use Rattle.desk_model.specs.Effect.{effect, noted_account, noted_authorization, noted_order, touches_account, touches_authorization, touches_order, names_order}
+use Rattle.desk_model.specs.Effect.{lists_one, fresh_account, fresh_authorization, fresh_order, new_authorizations, authorizations_after}
 use Rattle.desk_model.specs.Change.{changes, moved_rows, account_differs, authorization_differs, order_differs, spent_by, nonces_put}
 
 -- the same counters with nothing added

@@ -1,17 +1,12 @@
 -- What is recorded, entry by entry.
 use Rattle.std.proofs.Common.{◌≡◌, ℕ, ◌+◌, List, [], ◌∷◌, ◌++◌, None, refl, sym, subst, ap, ◌∙◌, append-nil, append_assoc, Result, Ok, Err, IfOk, OnOk}
 use Rattle.std.specs.Result.{result_and}
-use Rattle.desk_model.specs.Tables.{Tables}
+use Rattle.desk_model.specs.{Tables.Tables, Terms.Terms}
 use Rattle.desk_model.specs.Effect.{effect, effects, swept}
 use Rattle.desk_model.specs.Change.{changes, all_changes, recorded_changes, sweep_changes}
-use Rattle.desk_model.specs.Terms.{Terms}
-use Rattle.desk_model.specs.declared.rows.AccountRow.{AccountRow}
-use Rattle.desk_model.specs.declared.rows.Change.{Change}
+use Rattle.desk_model.specs.declared.{rows.AccountRow.AccountRow, rows.Change.Change, rows.Counters.Counters, objects.Nonce.Nonce, entry.Entry.Entry}
 use Rattle.desk_model.specs.declared.rows.Change.TheVariants.{PutMeta, PutNonce, RemoveNonce, PutAccount}
-use Rattle.desk_model.specs.declared.rows.Counters.{Counters}
-use Rattle.desk_model.specs.declared.objects.Nonce.{Nonce}
 use Rattle.desk_model.specs.declared.status.AccountStatus.TheVariants as account
-use Rattle.desk_model.specs.declared.entry.Entry.{Entry}
 use Rattle.desk_model.specs.declared.entry.Entry.TheVariants.{Issued as issued, Spent as spent, Opened as opened}
 use Rattle.core_changes.specs.Recorded.{IsRecorded}
 use Rattle.core_changes.proofs.QuietEntries.{spent_counters, spent_changes, issued_counters, issued_changes, opened_counters, opened_changes}

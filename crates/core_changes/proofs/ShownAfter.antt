@@ -2,19 +2,13 @@
 use Rattle.std.proofs.Common.{◌≡◌, ℕ, List, [], ◌∷◌, ◌++◌, map, Bool, true, false, cond, Option, Some, None, refl, sym, ap, ◌∙◌, append-nil}
 use Rattle.std.specs.Prelude.{◌==◌, ◌||◌, find}
 use Rattle.std.specs.Option.{option_map}
-use Rattle.desk_model.specs.Tables.{Tables}
+use Rattle.desk_model.specs.{Tables.Tables, Entry.entry_of, declared.entry.Entry.Entry, declared.moves.Move.Move, declared.rows.AccountRow.AccountRow}
+use Rattle.desk_model.specs.{declared.rows.AuthorizationRow.AuthorizationRow, declared.rows.OrderRow.OrderRow}
 use Rattle.desk_model.specs.Derived.{authorization_numbered, numbers_of, restated_authorization, restated_order}
 use Rattle.desk_model.specs.Document.{and_row, listed_rows, rows_of}
-use Rattle.desk_model.specs.Effect.{effect, fresh_account, fresh_order, has_row, lists_one, names_order, noted_account}
-use Rattle.desk_model.specs.Effect.{noted_authorization, swept, swept_authorization, moved_account, moved_authorization}
-use Rattle.desk_model.specs.Effect.{moved_order, touches_account, touches_authorization, touches_order}
-use Rattle.desk_model.specs.Entry.{entry_of}
+use Rattle.desk_model.specs.Effect.{effect, fresh_account, fresh_order, has_row, lists_one, names_order, noted_account, noted_authorization, swept}
+use Rattle.desk_model.specs.Effect.{swept_authorization, moved_account, moved_authorization, moved_order, touches_account, touches_authorization, touches_order}
 use Rattle.desk_model.specs.Questions.{account_on, authorization_on, order_on, owner_on}
-use Rattle.desk_model.specs.declared.entry.Entry.{Entry}
-use Rattle.desk_model.specs.declared.moves.Move.{Move}
-use Rattle.desk_model.specs.declared.rows.AccountRow.{AccountRow}
-use Rattle.desk_model.specs.declared.rows.AuthorizationRow.{AuthorizationRow}
-use Rattle.desk_model.specs.declared.rows.OrderRow.{OrderRow}
 use Rattle.core_changes.specs.Moved.{accounts_moved, authorizations_moved, orders_moved, standing_rows, stated_authorization, stated_order}
 use Rattle.core_changes.proofs.RowMoves.{find-touched}
 use Rattle.core_changes.proofs.Moving.{makes_nothing, moving_after}

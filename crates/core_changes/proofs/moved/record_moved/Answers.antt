@@ -1,6 +1,5 @@
 use Rattle.std.proofs.Common.{◌++◌, map, filter, ap, sym, ◌∙◌}
-use Rattle.desk_model.specs.Entry.{entry_of}
-use Rattle.desk_model.specs.Change.{moved_rows}
+use Rattle.desk_model.specs.{Entry.entry_of, Change.moved_rows}
 use Rattle.core_changes.proofs.RowMoves.{puts-step, touches-given, went}
 use Rattle.core_changes.proofs.moved.record_moved.Goals as goal
 

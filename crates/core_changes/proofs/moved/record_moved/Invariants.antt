@@ -1,6 +1,5 @@
 use Rattle.std.proofs.Common.{◌≡◌, ◌++◌, map, filter}
-use Rattle.desk_model.specs.Entry.{entry_of}
-use Rattle.desk_model.specs.Change.{moved_rows}
+use Rattle.desk_model.specs.{Entry.entry_of, Change.moved_rows}
 use Rattle.core_changes.proofs.moved.record_moved.Given as goal
 
 abbrev pub invariant-loop-row : goal.invariant-loop-row

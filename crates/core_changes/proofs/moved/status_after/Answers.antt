@@ -1,7 +1,6 @@
 use Rattle.std.proofs.Common.{◌∙◌, ap, sym, None, Some}
 use Rattle.std.specs.Prelude.{option_copied}
-use Rattle.desk_model.specs.Derived.{authorization_numbered}
-use Rattle.desk_model.specs.Entry.{entry_of}
+use Rattle.desk_model.specs.{Derived.authorization_numbered, Entry.entry_of}
 use Rattle.core_changes.proofs.RowMoves.{status-none, status-touched, status-untouched}
 use Rattle.core_changes.proofs.moved.status_after.Goals as goal
 

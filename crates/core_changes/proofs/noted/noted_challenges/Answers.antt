@@ -1,6 +1,5 @@
 use Rattle.std.proofs.Common.{◌∙◌}
-use Rattle.desk_model.specs.Entry.{entry_of}
-use Rattle.desk_model.specs.Effect.{noted_challenge}
+use Rattle.desk_model.specs.{Entry.entry_of, Effect.noted_challenge}
 use Rattle.core_changes.proofs.RowMoves.{maps-end, maps-step}
 use Rattle.core_changes.proofs.noted.noted_challenges.Goals as goal
 

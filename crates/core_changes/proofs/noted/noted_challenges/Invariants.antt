@@ -1,6 +1,5 @@
 use Rattle.std.proofs.Common.{◌≡◌, ◌++◌, map, drop}
-use Rattle.desk_model.specs.Entry.{entry_of}
-use Rattle.desk_model.specs.Effect.{noted_challenge}
+use Rattle.desk_model.specs.{Entry.entry_of, Effect.noted_challenge}
 use Rattle.core_changes.proofs.noted.noted_challenges.Given as goal
 
 abbrev pub invariant-loop-row : goal.invariant-loop-row

@@ -1,6 +1,5 @@
 use Rattle.std.proofs.Common.{◌≡◌, ◌+◌, ◌++◌, ap, ◌∙◌}
-use Rattle.desk_model.specs.Order.{listed_by}
-use Rattle.desk_model.specs.Tables.{listed_from}
+use Rattle.desk_model.specs.{Order.listed_by, Tables.listed_from}
 use Rattle.core_changes.specs.Made.{made_order}
 use Rattle.core_changes.proofs.orders.made_order.Goals as goal
 

@@ -1,8 +1,7 @@
 use Rattle.std.proofs.Common.{sym, ◌∙◌}
 use Rattle.std.proofs.lemmas.List.{at_drop_all}
-use Rattle.desk_model.specs.Derived.{numbers_of}
+use Rattle.desk_model.specs.{Derived.numbers_of, Entry.entry_of}
 use Rattle.desk_model.specs.Effect.{lists_one, touches_authorization}
-use Rattle.desk_model.specs.Entry.{entry_of}
 use Rattle.core_changes.proofs.RowMoves.{touched_place, untouched_place}
 use Rattle.core_changes.proofs.touched.lists_touched.Goals as goal
 

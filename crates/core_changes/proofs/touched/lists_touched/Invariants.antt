@@ -1,7 +1,6 @@
 use Rattle.std.proofs.Common.{◌≡◌, drop}
-use Rattle.desk_model.specs.Derived.{numbers_of}
+use Rattle.desk_model.specs.{Derived.numbers_of, Entry.entry_of}
 use Rattle.desk_model.specs.Effect.{lists_one, touches_authorization}
-use Rattle.desk_model.specs.Entry.{entry_of}
 use Rattle.core_changes.proofs.touched.lists_touched.Given as goal
 
 abbrev pub invariant-loop-place : goal.invariant-loop-place

@@ -1,7 +1,6 @@
 use Rattle.core_changes.proofs.Recordings.{and_ok, and_opened, recorded_as, both_ok}
 use Rattle.core_changes.specs.Made.{next_account}
-use Rattle.desk_model.specs.declared.entry.Entry.TheVariants.{Opened as opened}
-use Rattle.desk_model.specs.declared.rows.Change.TheVariants.{PutAccount}
+use Rattle.desk_model.specs.declared.{entry.Entry.TheVariants.Opened as opened, rows.Change.TheVariants.PutAccount}
 use Rattle.std.proofs.Common.{rules, ◌≡◌, ◌++◌, ◌∷◌, [], ap, ◌∙◌}
 use Rattle.core_changes.proofs.recording.Recording.open.Goals as goal
 

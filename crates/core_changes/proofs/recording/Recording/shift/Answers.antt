@@ -1,7 +1,6 @@
 use Rattle.std.proofs.Common.{refl, ◌++◌, ◌∷◌, [], ap, subst, ◌∙◌}
 use Rattle.desk_model.specs.Entry.{entry_of}
-use Rattle.core_changes.specs.Moved.{AreMoved}
-use Rattle.core_changes.specs.Recorded.{book_moves}
+use Rattle.core_changes.specs.{Moved.AreMoved, Recorded.book_moves}
 use Rattle.core_changes.proofs.Recordings.{and_gives, and_ok, both_ok, clock_is, recorded_as}
 use Rattle.core_changes.proofs.Moving.{and_moved}
 use Rattle.core_changes.proofs.recording.Recording.shift.Goals as goal
