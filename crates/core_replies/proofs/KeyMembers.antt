@@ -4,9 +4,8 @@ use Rattle.std.specs.Prelude.{◌==◌, codes}
 use Rattle.std.specs.List.{list_all, slice_split, onto_first}
 use Rattle.std.proofs.lemmas.Bool.{and_parts, eqb-true}
 use Rattle.serde_json.specs.Data.{no_members}
-use Rattle.desk_model.specs.Json.{members}
+use Rattle.desk_model.specs.{Json.members, Document.key_members}
 use Rattle.desk_model.specs.Keys.{Key, ec, rsa, okp, IsCurve, IsKey, IsKeyText, canonical_text, is_base64url_byte}
-use Rattle.desk_model.specs.Document.{key_members}
 use Rattle.desk_model.proofs.Numbers.{number_bytes}
 use Rattle.core_replies.specs.Shown.{with_members}
 
@@ -70,8 +69,7 @@ parts-are (okp x) formed =
 in_order : (k : Key) → with_members (key_members (parts-canonical k)) no_members ≡ members (key_members (parts-canonical k))
 unfolding parts-canonical
 in_order (ec crv x y) = refl
-in_order (rsa e n) = refl
-in_order (okp x) = refl
+in_order _ = refl
 
 -- put one by one, the members of a canonical text are in their places
 pub key_members-put : (text : List ℕ) → IsKeyText text → with_members (key_members (parts text)) no_members ≡ members (key_members (parts text))

@@ -7,30 +7,16 @@ use Rattle.serde_json.specs.View.{items_of}
 use Rattle.desk_model.proofs.PlainData.{each_plain}
 use Rattle.desk_model.specs.Plain.{is_document, is_plain, items_are_plain, members_are_plain}
 use Rattle.desk_model.specs.Json.{members, when}
-use Rattle.desk_model.specs.Terms.{Terms}
-use Rattle.desk_model.specs.Moment.{moment_text}
-use Rattle.desk_model.specs.Name.{Name}
-use Rattle.desk_model.specs.Names.{shown_name}
-use Rattle.desk_model.specs.Document.{account_document, identifier, order_error, order_status_text, authorization_url}
-use Rattle.desk_model.specs.Document.{finalize_url, certificate_url, challenge_url, kind_text, challenge_status_text}
-use Rattle.desk_model.specs.Document.{authorization_status_text, error_of, report_error, validated, validated_by}
-use Rattle.desk_model.specs.Document.{challenge_document, shown_challenges, authorization_document, order_url, is_listed}
-use Rattle.desk_model.specs.Document.{orders_document, work_document, work_of, challenge_work, listed_rows, order_work_document}
-use Rattle.desk_model.specs.Document.{order_work, key_members, key_document, order_with_names}
-use Rattle.desk_model.specs.Authorization.{is_pending}
-use Rattle.desk_model.specs.Order.{is_processing}
-use Rattle.desk_model.specs.Legal.{is_processing_challenge}
-use Rattle.desk_model.specs.Tables.{Tables}
-use Rattle.desk_model.specs.Tokens.{token_text}
-use Rattle.desk_model.specs.declared.objects.Report.{Report}
-use Rattle.desk_model.specs.declared.entry.Outcome.{Outcome}
-use Rattle.desk_model.specs.declared.entry.Outcome.TheVariants.{Good, IncorrectResponse, Connection, Dns}
-use Rattle.desk_model.specs.declared.rows.OrderRow.{OrderRow}
-use Rattle.desk_model.specs.declared.rows.ChallengeRow.{ChallengeRow}
-use Rattle.desk_model.specs.declared.rows.AuthorizationRow.{AuthorizationRow}
-use Rattle.desk_model.specs.declared.rows.DatedBytes.{DatedBytes}
-use Rattle.desk_model.specs.declared.rows.DatedProblem.{DatedProblem}
-use Rattle.desk_model.specs.declared.rows.AccountRow.{AccountRow}
+use Rattle.desk_model.specs.{Terms.Terms, Moment.moment_text, Name.Name, Names.shown_name, Authorization.is_pending, Order.is_processing}
+use Rattle.desk_model.specs.{Legal.is_processing_challenge, Tables.Tables, Tokens.token_text}
+use Rattle.desk_model.specs.declared.{objects.Report.Report, entry.Outcome.Outcome, rows.OrderRow.OrderRow, rows.ChallengeRow.ChallengeRow}
+use Rattle.desk_model.specs.declared.{rows.AuthorizationRow.AuthorizationRow, rows.DatedBytes.DatedBytes, rows.DatedProblem.DatedProblem}
+use Rattle.desk_model.specs.declared.{rows.AccountRow.AccountRow, entry.Outcome.TheVariants.Good}
+use Rattle.desk_model.specs.Document.{account_document, identifier, order_error, order_status_text, authorization_url, finalize_url, certificate_url}
+use Rattle.desk_model.specs.Document.{challenge_url, kind_text, challenge_status_text, authorization_status_text, error_of, report_error, validated}
+use Rattle.desk_model.specs.Document.{validated_by, challenge_document, shown_challenges, authorization_document, order_url, is_listed, orders_document}
+use Rattle.desk_model.specs.Document.{work_document, work_of, challenge_work, listed_rows, order_work_document, order_work, key_members, key_document}
+use Rattle.desk_model.specs.Document.{order_with_names}
 
 -- the document of an account
 pub account_plain : (t : Terms) (row : AccountRow) → is_document (account_document t row) ≡ true
@@ -68,9 +54,7 @@ challenge_plain_by n (Some r) s t k u = by r.outcome
         (members (report_error o ++ (codes "status", string s) ∷ (codes "token", string t) ∷ (codes "type", string k)
         ∷ (codes "url", string u) ∷ validated_by o r.date)) ≡ true
     by Good = refl
-    by IncorrectResponse = refl
-    by Connection = refl
-    by Dns = refl
+    by _ = refl
 
 -- the document of a challenge, within others or alone
 challenge_in : (n : ℕ) (t : Terms) (c : ChallengeRow) → is_plain (suc (suc (suc n))) (challenge_document t c) ≡ true
@@ -131,11 +115,8 @@ pub order_work_plain : (T : Tables) → is_document (order_work T) ≡ true
 order_work_plain T = ap (λ b. b && true) (each_plain 6 (order_work_document T) (order_work_document_plain T) (filter (λ o. is_processing o.status) T.orders))
 
 key_members_plain : (parts : List (List ℕ)) → members_are_plain 7 (members (key_members parts)) ≡ true
-key_members_plain [] = refl
-key_members_plain (a ∷ []) = refl
-key_members_plain (a ∷ b ∷ []) = refl
-key_members_plain (a ∷ b ∷ c ∷ []) = refl
 key_members_plain (before ∷ name ∷ between ∷ value ∷ rest) = key_members_plain rest
+key_members_plain _ = refl
 
 -- the document of a key
 pub key_plain : (text : List ℕ) → is_document (key_document text) ≡ true

@@ -4,23 +4,14 @@ use Rattle.std.specs.Prelude.{is_some, codes, not, ◌||◌}
 use Rattle.std.specs.List.{flat_map, list_any}
 use Rattle.std.proofs.lemmas.Simd.{map-map}
 use Rattle.serde_json.specs.Data.{Data, string, boolean}
-use Rattle.desk_model.specs.Json.{when}
-use Rattle.desk_model.specs.Authorization.{is_good}
-use Rattle.desk_model.specs.Terms.{Terms}
-use Rattle.desk_model.specs.Moment.{moment_text}
-use Rattle.desk_model.specs.Kept.{EachOf}
-use Rattle.desk_model.specs.declared.rows.ChallengeRow.{ChallengeRow}
-use Rattle.desk_model.specs.declared.rows.AuthorizationRow.{AuthorizationRow}
-use Rattle.desk_model.specs.declared.objects.Report.{Report}
-use Rattle.desk_model.specs.declared.entry.Outcome.{Outcome}
-use Rattle.desk_model.specs.declared.entry.Outcome.TheVariants.{Good, IncorrectResponse, Connection, Dns}
-use Rattle.desk_model.specs.Document.{error_of, report_error, validated, validated_by}
-use Rattle.desk_model.specs.Document.{challenge_document, or_all, shown_challenges}
-use Rattle.core_replies.specs.Shown.{authorization_members, capped_report, capped_challenge, capped_authorization, challenge_members, HasDatedReport, HasMoments}
-use Rattle.core_replies.specs.Shown.{shown_challenge}
+use Rattle.desk_model.specs.{Json.when, Authorization.is_good, Terms.Terms, Moment.moment_text, Kept.EachOf}
+use Rattle.desk_model.specs.declared.{rows.ChallengeRow.ChallengeRow, rows.AuthorizationRow.AuthorizationRow, objects.Report.Report, entry.Outcome.Outcome}
+use Rattle.desk_model.specs.declared.{entry.Outcome.TheVariants.Good}
+use Rattle.desk_model.specs.Document.{error_of, report_error, validated, validated_by, challenge_document, or_all, shown_challenges}
+use Rattle.core_replies.specs.Shown.{authorization_members, capped_report, capped_challenge, capped_authorization, challenge_members, HasDatedReport}
+use Rattle.core_replies.specs.Shown.{HasMoments, shown_challenge}
 use Rattle.core_replies.specs.Texts.{AreInOrder}
-use Rattle.core_replies.proofs.Gathered.{passing-show-one}
-use Rattle.core_replies.proofs.ShownOrders.{capped-same}
+use Rattle.core_replies.proofs.{Gathered.passing-show-one, ShownOrders.capped-same}
 
 -- ---- moments that have a text are shown as they are
 
@@ -81,16 +72,12 @@ challenges-shown t rows reported is =
 -- when a good report was made
 pub validated-good : (o : Outcome) (date : ℕ) → is_good o ≡ true → validated_by o date ≡ (codes "validated", string (moment_text date)) ∷ []
 validated-good Good date good = refl
-validated-good IncorrectResponse date good = cc good
-validated-good Connection date good = cc good
-validated-good Dns date good = cc good
+validated-good _ date good = cc good
 
 challenge_in_order-by : (o : Outcome) (date : ℕ) (s t k u : Data) →
     AreInOrder (report_error o ++ (codes "status", s) ∷ (codes "token", t) ∷ (codes "type", k) ∷ (codes "url", u) ∷ validated_by o date)
 challenge_in_order-by Good date s t k u = refl
-challenge_in_order-by IncorrectResponse date s t k u = refl
-challenge_in_order-by Connection date s t k u = refl
-challenge_in_order-by Dns date s t k u = refl
+challenge_in_order-by _ date s t k u = refl
 
 challenge_in_order-of : (r : Option Report) (s t k u : Data) →
     AreInOrder (error_of r ++ (codes "status", s) ∷ (codes "token", t) ∷ (codes "type", k) ∷ (codes "url", u) ∷ validated r)

@@ -1,13 +1,9 @@
 -- The lists of a book at a moment, as the tables at that moment have them.
 use Rattle.std.proofs.Common.{◌≡◌, ℕ, List, [], ◌∷◌, sym, ap, ◌∙◌}
-use Rattle.std.specs.Prelude.{codes}
-use Rattle.std.specs.List.{flat_map}
+use Rattle.std.specs.{Prelude.codes, List.flat_map}
 use Rattle.desk_model.specs.Document.{challenge_work, order_work, orders_document}
-use Rattle.desk_model.specs.Effect.{swept}
+use Rattle.desk_model.specs.{Effect.swept, Tables.Tables, declared.rows.AuthorizationRow.AuthorizationRow, declared.rows.OrderRow.OrderRow}
 use Rattle.desk_model.specs.Json.{document, list}
-use Rattle.desk_model.specs.Tables.{Tables}
-use Rattle.desk_model.specs.declared.rows.AuthorizationRow.{AuthorizationRow}
-use Rattle.desk_model.specs.declared.rows.OrderRow.{OrderRow}
 use Rattle.core_replies.specs.Shown.{listed_order, order_work_at, work_at}
 use Rattle.core_replies.proofs.ShownWork.{challenges-waiting, orders-listed, orders-waiting}
 

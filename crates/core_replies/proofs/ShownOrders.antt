@@ -3,20 +3,11 @@ use Rattle.std.proofs.Common.{◌≡◌, ℕ, ◌≤◌, List, [], ◌∷◌, �
 use Rattle.std.specs.Prelude.{is_some, codes}
 use Rattle.std.proofs.lemmas.Simd.{map-map}
 use Rattle.serde_json.specs.Data.{Data, string}
-use Rattle.desk_model.specs.Limits.{last_end}
-use Rattle.desk_model.specs.Json.{when}
-use Rattle.desk_model.specs.Terms.{Terms}
-use Rattle.desk_model.specs.Name.{Name}
-use Rattle.desk_model.specs.Tables.{Tables}
-use Rattle.desk_model.specs.declared.rows.OrderRow.{OrderRow}
-use Rattle.desk_model.specs.declared.rows.DatedBytes.{DatedBytes}
-use Rattle.desk_model.specs.declared.rows.DatedProblem.{DatedProblem}
-use Rattle.desk_model.specs.Document.{order_error, authorization_url}
-use Rattle.desk_model.specs.Document.{listed_rows, order_document, order_with_names}
+use Rattle.desk_model.specs.{Limits.last_end, Json.when, Terms.Terms, Name.Name, Tables.Tables, Derived.numbers_of}
+use Rattle.desk_model.specs.declared.rows.{OrderRow.OrderRow, DatedBytes.DatedBytes, DatedProblem.DatedProblem, Listed.Listed}
+use Rattle.desk_model.specs.Document.{order_error, authorization_url, listed_rows, order_document, order_with_names}
 use Rattle.moments.specs.Capped.{capped}
 use Rattle.std.specs.List.{flat_map}
-use Rattle.desk_model.specs.Derived.{numbers_of}
-use Rattle.desk_model.specs.declared.rows.Listed.{Listed}
 use Rattle.core_replies.specs.Shown.{capped_order, order_members}
 use Rattle.core_replies.specs.Texts.{AreInOrder}
 use Rattle.core_replies.proofs.Gathered.{each-shows-one}

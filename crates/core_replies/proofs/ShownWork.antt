@@ -1,26 +1,15 @@
 -- What the lists of orders and of work show at a moment, by the rows that stand.
 use Rattle.std.proofs.Common.{◌≡◌, ℕ, List, [], ◌∷◌, ◌++◌, map, filter, Bool, true, false, cond, Option, Some, None, refl, sym, ap, ◌∙◌}
-use Rattle.std.specs.List.{flat_map}
-use Rattle.std.specs.Option.{option_map}
-use Rattle.std.specs.Prelude.{codes}
+use Rattle.std.specs.{List.flat_map, Option.option_map, Prelude.codes}
 use Rattle.std.proofs.lemmas.Simd.{map-map}
 use Rattle.serde_json.specs.Data.{Data, string, number, unsigned}
 use Rattle.desk_model.specs.Json.{document, list}
-use Rattle.desk_model.specs.Tokens.{base64url}
-use Rattle.desk_model.specs.Name.{Name}
-use Rattle.desk_model.specs.Names.{shown_name}
-use Rattle.desk_model.specs.Tables.{Tables}
-use Rattle.desk_model.specs.Order.{is_processing}
+use Rattle.desk_model.specs.{Tokens.base64url, Name.Name, Names.shown_name, Tables.Tables, Order.is_processing, Questions.authorization_on}
+use Rattle.desk_model.specs.{Authorization.is_pending, Legal.is_processing_challenge}
 use Rattle.desk_model.specs.Effect.{swept, swept_authorization, swept_order}
 use Rattle.desk_model.specs.Derived.{authorization_numbered, numbers_of}
-use Rattle.desk_model.specs.Questions.{authorization_on}
-use Rattle.desk_model.specs.declared.rows.AuthorizationRow.{AuthorizationRow}
-use Rattle.desk_model.specs.declared.rows.Listed.{Listed}
-use Rattle.desk_model.specs.declared.rows.OrderRow.{OrderRow}
-use Rattle.desk_model.specs.Document.{and_row, rows_of, listed_rows, order_url, is_listed, bytes_of, work_document, work_of}
-use Rattle.desk_model.specs.Document.{order_work_document}
-use Rattle.desk_model.specs.Authorization.{is_pending}
-use Rattle.desk_model.specs.Legal.{is_processing_challenge}
+use Rattle.desk_model.specs.declared.rows.{AuthorizationRow.AuthorizationRow, Listed.Listed, OrderRow.OrderRow}
+use Rattle.desk_model.specs.Document.{and_row, rows_of, listed_rows, order_url, is_listed, bytes_of, work_document, work_of, order_work_document}
 use Rattle.core_replies.specs.Shown.{answered, listed_name, listed_order, order_work_at, work_at}
 use Rattle.core_replies.proofs.Gathered.{passing-show-one}
 use Rattle.desk_book.proofs.SweptRows.{swept_authorization-status, swept_order-status, swept_authorization_on}

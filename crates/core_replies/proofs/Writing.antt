@@ -1,31 +1,26 @@
 -- What is written of documents, one part behind the other, and that it is read as they are.
-use Rattle.std.proofs.Common.{◌≡◌, ◌≤◌, ◌<◌, ◌^◌, ◌∙◌, ℕ, suc, max, true, List, [], ◌∷◌, ◌++◌, Option, Some, option_map, option_and_then, refl, sym, ap, subst, append-nil, append_assoc}
+use Rattle.std.proofs.Common.{◌≡◌, ◌≤◌, ◌<◌, ◌^◌, ◌∙◌, ℕ, suc, max, true, List, [], ◌∷◌, ◌++◌, Option, Some, option_map, option_and_then, refl, sym, ap, subst}
+use Rattle.std.proofs.Common.{append-nil, append_assoc, OnOk, Result}
 use Rattle.std.specs.List.{flat_map}
 use Rattle.std.proofs.lemmas.Grind.{flat_map-append}
 use Rattle.json.specs.Json as json
-use Rattle.json.specs.Lex.{tokens}
-use Rattle.json.specs.Print.{print}
+use Rattle.json.specs.{Lex.tokens, Print.print}
 use Rattle.json.specs.Token.{Token, begin_array, begin_object, end_array, end_object, key}
 use Rattle.json.specs.Tree as tree
 use Rattle.json.proofs.Printed.Trees.{value-json_tokens}
-use Rattle.serde_json.specs.Data.{Data, Items, Members, array, boolean, depth, items_depth, item, member, members_depth, no_items, no_members, null, number, object, put, string, unsigned}
+use Rattle.serde_json.specs.Data.{Data, Items, Members, array, depth, items_depth, item, member, members_depth, no_items, no_members, number, object, put}
+use Rattle.serde_json.specs.Data.{string, unsigned}
 use Rattle.serde_json.specs.Read.{max_depth, of_items, of_json, of_members, read}
 use Rattle.serde_json.specs.View.{items_of}
 use Rattle.serde_json.specs.Written.{compact_text, items_outline, members_outline, outline}
-use Rattle.serde_json.proofs.Numbers.{number_of-decimal}
-use Rattle.serde_json.proofs.Texts.{print-outline}
+use Rattle.serde_json.proofs.{Numbers.number_of-decimal, Texts.print-outline}
 use Rattle.desk_model.proofs.PlainData.{document_fits}
 use Rattle.desk_model.specs.Json.{document, list, members}
-use Rattle.desk_model.specs.Kept.{EachOf}
-use Rattle.desk_model.specs.Plain.{is_document}
+use Rattle.desk_model.specs.{Kept.EachOf, Plain.is_document}
+use Rattle.model_laws.proofs.Basics.{each-append}
 use Rattle.core_replies.specs.Shown.{with_members}
-use Rattle.core_replies.specs.Texts.{AreInOrder, HasMembers, HasValues, ReadsBack, member_tokens, tokens_of}
-
--- ---- what each of two lists has, their one list has
-
-pub each_and : {X : Type 0} (P : X → Type 0) (xs ys : List X) → EachOf P xs → EachOf P ys → EachOf P (xs ++ ys)
-each_and P [] ys p q = q
-each_and P (x ∷ xs) ys p q = (p.0, each_and P xs ys p.1 q)
+use Rattle.core_replies.specs.Texts.{AreInOrder, HasMembers, HasValues, IsText, ReadsBack, member_tokens, tokens_of}
+use Rattle.core_replies.proofs.Results.{on_ok}
 
 -- ---- members and values, one behind the other
 
@@ -41,14 +36,20 @@ none_written a = record { text = sym (append-nil a); back = tt }
 pub nothing_written : (a : List Token) → HasValues a a []
 nothing_written a = record { text = sym (append-nil a); back = tt }
 
+-- what was written alone is the text of its document
+pub written_text : {U E : Type 0} (r : Result U E) (before after : List Token) (d : Data) → before ≡ [] → is_document d ≡ true →
+    OnOk r (HasValues before after (d ∷ [])) → OnOk r (IsText after d)
+written_text r before after d none plain =
+    on_ok r (λ has. record { values = subst (λ b. HasValues b after (d ∷ [])) none has; plain = plain })
+
 pub members_then : {a b c : List Token} {ms ns : List (List ℕ × Data)} → HasMembers a b ms → HasMembers b c ns → HasMembers a c (ms ++ ns)
 members_then {a} {b} {c} {ms} {ns} p q = record {
   text = more member_tokens ms ns a b c p.text q.text;
-  back = each_and (λ m. ReadsBack m.1) ms ns p.back q.back;
+  back = each-append (λ m. ReadsBack m.1) ms ns p.back q.back;
 }
 
 pub values_then : {a b c : List Token} {ds es : List Data} → HasValues a b ds → HasValues b c es → HasValues a c (ds ++ es)
-values_then {a} {b} {c} {ds} {es} p q = record { text = more tokens_of ds es a b c p.text q.text; back = each_and ReadsBack ds es p.back q.back }
+values_then {a} {b} {c} {ds} {es} p q = record { text = more tokens_of ds es a b c p.text q.text; back = each-append ReadsBack ds es p.back q.back }
 
 -- ---- one value
 
@@ -128,12 +129,9 @@ list_member {a} {b} {c} {d} {e} name ds named begun has ended =
 
 mutual
   depth-outline : (d : Data) → tree.depth (outline d) ≡ depth d
-  depth-outline null = refl
-  depth-outline (boolean b) = refl
-  depth-outline (number n) = refl
-  depth-outline (string s) = refl
   depth-outline (array ds) = ap suc (items_depth-outline ds)
   depth-outline (object ms) = ap suc (members_depth-outline ms)
+  depth-outline _ = refl
 
   items_depth-outline : (ds : Items) → tree.items_depth (items_outline ds) ≡ items_depth ds
   items_depth-outline no_items = refl

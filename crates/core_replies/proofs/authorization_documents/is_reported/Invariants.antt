@@ -1,6 +1,5 @@
 use Rattle.std.proofs.Common.{◌≡◌, drop}
-use Rattle.std.specs.Prelude.{is_some}
-use Rattle.std.specs.List.{list_any}
+use Rattle.std.specs.{Prelude.is_some, List.list_any}
 use Rattle.core_replies.proofs.authorization_documents.is_reported.Given as goal
 
 abbrev pub invariant-loop-challenge : goal.invariant-loop-challenge

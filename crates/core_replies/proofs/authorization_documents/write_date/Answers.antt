@@ -2,8 +2,7 @@ use Rattle.std.proofs.Common.{◌≡◌, rules, true, subst, sym}
 use Rattle.desk_model.specs.Authorization.{is_good}
 use Rattle.moments.specs.Capped.{capped}
 use Rattle.core_replies.specs.Texts.{HasMembers}
-use Rattle.core_replies.proofs.Results.{on_ok}
-use Rattle.core_replies.proofs.ShownAuthorizations.{validated-good}
+use Rattle.core_replies.proofs.{Results.on_ok, ShownAuthorizations.validated-good}
 use Rattle.core_replies.proofs.authorization_documents.write_date.Goals as goal
 
 pub returns : goal.returns

@@ -1,6 +1,5 @@
 use Rattle.std.proofs.Common.{◌≡◌, ◌∙◌, IfOk, ap, subst, sym}
-use Rattle.desk_model.specs.Plain.{is_document}
-use Rattle.desk_model.specs.Shown.{list_reply}
+use Rattle.desk_model.specs.{Plain.is_document, Shown.list_reply}
 use Rattle.core_replies.proofs.PlainDocuments.{challenge_work_plain, order_work_plain, orders_plain}
 use Rattle.core_replies.proofs.Results.{ok_so}
 use Rattle.core_replies.proofs.ShownLists.{challenges-are, orders-are, work-is}

@@ -1,5 +1,4 @@
-use Rattle.core_replies.proofs.Results.{on_ok}
-use Rattle.core_replies.proofs.Writing.{list_member}
+use Rattle.core_replies.proofs.{Results.on_ok, Writing.list_member}
 use Rattle.core_replies.proofs.lists.write_list.Goals as goal
 
 pub returns : goal.returns

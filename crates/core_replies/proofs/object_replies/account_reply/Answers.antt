@@ -1,8 +1,6 @@
 use Rattle.std.proofs.Common.{◌∙◌, ap, sym}
-use Rattle.desk_model.specs.Document.{account_document}
-use Rattle.desk_model.specs.Shown.{ok}
-use Rattle.core_replies.proofs.PlainDocuments.{account_plain}
-use Rattle.core_replies.proofs.Results.{ok_so}
+use Rattle.desk_model.specs.{Document.account_document, Shown.ok}
+use Rattle.core_replies.proofs.{PlainDocuments.account_plain, Results.ok_so}
 use Rattle.core_replies.proofs.object_replies.account_reply.Goals as goal
 
 pub shown_document-account-requires : goal.shown_document-account-requires

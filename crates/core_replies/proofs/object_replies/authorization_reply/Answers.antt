@@ -1,10 +1,7 @@
 use Rattle.std.proofs.Common.{◌∙◌, ap, sym}
-use Rattle.desk_model.specs.Document.{authorization_document}
+use Rattle.desk_model.specs.{Document.authorization_document, Shown.ok}
 use Rattle.core_replies.specs.Shown.{capped_authorization}
-use Rattle.core_replies.proofs.ShownAuthorizations.{capped_authorization-same}
-use Rattle.desk_model.specs.Shown.{ok}
-use Rattle.core_replies.proofs.PlainDocuments.{authorization_plain}
-use Rattle.core_replies.proofs.Results.{ok_so}
+use Rattle.core_replies.proofs.{ShownAuthorizations.capped_authorization-same, PlainDocuments.authorization_plain, Results.ok_so}
 use Rattle.core_replies.proofs.object_replies.authorization_reply.Goals as goal
 
 pub shown_document-authorization-requires : goal.shown_document-authorization-requires

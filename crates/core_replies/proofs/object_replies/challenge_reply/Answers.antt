@@ -1,10 +1,7 @@
 use Rattle.std.proofs.Common.{◌∙◌, ap, sym}
-use Rattle.desk_model.specs.Document.{challenge_document}
+use Rattle.desk_model.specs.{Document.challenge_document, Shown.ok}
 use Rattle.core_replies.specs.Shown.{capped_challenge}
-use Rattle.core_replies.proofs.ShownAuthorizations.{capped_challenge-same}
-use Rattle.desk_model.specs.Shown.{ok}
-use Rattle.core_replies.proofs.PlainDocuments.{challenge_plain}
-use Rattle.core_replies.proofs.Results.{ok_so}
+use Rattle.core_replies.proofs.{ShownAuthorizations.capped_challenge-same, PlainDocuments.challenge_plain, Results.ok_so}
 use Rattle.core_replies.proofs.object_replies.challenge_reply.Goals as goal
 
 pub shown_document-challenge-requires : goal.shown_document-challenge-requires

@@ -1,8 +1,7 @@
 use Rattle.std.proofs.Common.{◌∙◌, ap, sym}
 use Rattle.desk_model.specs.Document.{account_document, account_url}
 use Rattle.desk_model.specs.Shown.{at, ok}
-use Rattle.core_replies.proofs.PlainDocuments.{account_plain}
-use Rattle.core_replies.proofs.Results.{ok_so}
+use Rattle.core_replies.proofs.{PlainDocuments.account_plain, Results.ok_so}
 use Rattle.core_replies.proofs.object_replies.located_account.Goals as goal
 
 pub shown_document-account-requires : goal.shown_document-account-requires

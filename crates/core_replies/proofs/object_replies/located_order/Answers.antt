@@ -2,9 +2,7 @@ use Rattle.std.proofs.Common.{◌∙◌, ap, sym}
 use Rattle.desk_model.specs.Document.{order_document, order_url}
 use Rattle.desk_model.specs.Shown.{at, ok}
 use Rattle.core_replies.specs.Shown.{capped_order}
-use Rattle.core_replies.proofs.PlainDocuments.{order_plain}
-use Rattle.core_replies.proofs.ShownOrders.{order_with_names-is}
-use Rattle.core_replies.proofs.Results.{ok_so}
+use Rattle.core_replies.proofs.{PlainDocuments.order_plain, ShownOrders.order_with_names-is, Results.ok_so}
 use Rattle.core_replies.proofs.object_replies.located_order.Goals as goal
 
 pub shown_document-order-requires : goal.shown_document-order-requires

@@ -1,9 +1,7 @@
 use Rattle.std.proofs.Common.{◌∙◌, ap}
 use Rattle.core_replies.specs.Shown.{capped_order}
-use Rattle.core_replies.proofs.ShownOrders.{order_with_names-is}
+use Rattle.core_replies.proofs.{ShownOrders.order_with_names-is, PlainDocuments.order_plain, Results.ok_so}
 use Rattle.desk_model.specs.Shown.{ok}
-use Rattle.core_replies.proofs.PlainDocuments.{order_plain}
-use Rattle.core_replies.proofs.Results.{ok_so}
 use Rattle.core_replies.proofs.object_replies.order_reply.Goals as goal
 
 pub shown_document-order-requires : goal.shown_document-order-requires

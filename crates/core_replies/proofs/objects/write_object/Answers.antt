@@ -1,5 +1,4 @@
-use Rattle.core_replies.proofs.Results.{on_ok}
-use Rattle.core_replies.proofs.Writing.{object_value}
+use Rattle.core_replies.proofs.{Results.on_ok, Writing.object_value}
 use Rattle.core_replies.proofs.objects.write_object.Goals as goal
 
 pub returns : goal.returns

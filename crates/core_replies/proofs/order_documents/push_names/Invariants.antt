@@ -1,6 +1,5 @@
 use Rattle.std.proofs.Common.{◌≡◌, ◌++◌, map, drop}
-use Rattle.desk_model.specs.Derived.{numbers_of}
-use Rattle.desk_model.specs.Document.{rows_of}
+use Rattle.desk_model.specs.{Derived.numbers_of, Document.rows_of}
 use Rattle.core_replies.proofs.order_documents.push_names.Given as goal
 
 abbrev pub invariant-loop-place : goal.invariant-loop-place

@@ -1,8 +1,7 @@
 use Rattle.std.proofs.Common.{ap, subst, sym}
 use Rattle.std.specs.Prelude.{codes, is_some}
 use Rattle.serde_json.specs.Data.{string}
-use Rattle.desk_model.specs.Json.{when}
-use Rattle.desk_model.specs.Document.{certificate_url}
+use Rattle.desk_model.specs.{Json.when, Document.certificate_url}
 use Rattle.core_replies.specs.Texts.{HasMembers}
 use Rattle.core_replies.proofs.Results.{on_ok}
 use Rattle.core_replies.proofs.order_documents.write_certificate.Goals as goal

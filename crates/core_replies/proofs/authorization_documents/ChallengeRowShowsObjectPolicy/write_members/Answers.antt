@@ -1,6 +1,5 @@
 use Rattle.core_replies.specs.Shown.{capped_challenge}
-use Rattle.core_replies.proofs.Results.{on_ok}
-use Rattle.core_replies.proofs.ShownAuthorizations.{challenge_in_order}
+use Rattle.core_replies.proofs.{Results.on_ok, ShownAuthorizations.challenge_in_order}
 use Rattle.core_replies.proofs.Writing.{member_is, members_then}
 use Rattle.core_replies.proofs.authorization_documents.ChallengeRowShowsObjectPolicy.write_members.Goals as goal
 

@@ -1,7 +1,6 @@
 use Rattle.std.proofs.Common.{ap, map, ◌∙◌}
 use Rattle.serde_json.specs.Data.{string}
-use Rattle.core_replies.proofs.Results.{on_ok}
-use Rattle.core_replies.proofs.Gathered.{each-shows-one}
+use Rattle.core_replies.proofs.{Results.on_ok, Gathered.each-shows-one}
 use Rattle.core_replies.proofs.Writing.{list_is, member_is, members_then}
 use Rattle.core_replies.proofs.documents.AccountRowShowsObjectPolicy.write_members.Goals as goal
 

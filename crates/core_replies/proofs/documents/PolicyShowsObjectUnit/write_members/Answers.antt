@@ -1,5 +1,4 @@
-use Rattle.core_replies.proofs.Results.{on_ok}
-use Rattle.core_replies.proofs.Writing.{members_then}
+use Rattle.core_replies.proofs.{Results.on_ok, Writing.members_then}
 use Rattle.core_replies.proofs.documents.PolicyShowsObjectUnit.write_members.Goals as goal
 
 pub returns-clause-written : goal.returns-clause-written

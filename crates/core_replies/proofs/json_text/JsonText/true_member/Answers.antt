@@ -1,7 +1,6 @@
 use Rattle.std.proofs.Common.{refl, true}
 use Rattle.serde_json.specs.Data.{boolean}
-use Rattle.core_replies.proofs.Results.{on_ok}
-use Rattle.core_replies.proofs.Writing.{one_member}
+use Rattle.core_replies.proofs.{Results.on_ok, Writing.one_member}
 use Rattle.core_replies.proofs.json_text.JsonText.true_member.Goals as goal
 
 pub returns : goal.returns

@@ -1,11 +1,9 @@
 use Rattle.std.proofs.Common.{ap, map, ◌∙◌}
 use Rattle.serde_json.specs.Data.{string}
-use Rattle.desk_model.specs.Derived.{numbers_of}
-use Rattle.desk_model.specs.Names.{shown_name}
+use Rattle.desk_model.specs.{Derived.numbers_of, Names.shown_name}
 use Rattle.desk_model.specs.Document.{authorization_url, identifier}
 use Rattle.core_replies.specs.Shown.{capped_order}
-use Rattle.core_replies.proofs.Results.{on_ok}
-use Rattle.core_replies.proofs.Gathered.{each-shows-one}
+use Rattle.core_replies.proofs.{Results.on_ok, Gathered.each-shows-one}
 use Rattle.core_replies.proofs.ShownOrders.{order_in_order, urls-shown}
 use Rattle.core_replies.proofs.Writing.{list_is, member_is, members_then}
 use Rattle.core_replies.proofs.order_documents.OrderRowShowsObjectTuple2RefPolicyRefSliceDnsName.write_members.Goals as goal

@@ -1,10 +1,8 @@
 use Rattle.std.proofs.Common.{ap, subst, sym, ◌∙◌}
 use Rattle.std.specs.List.{flat_map}
 use Rattle.desk_model.specs.Authorization.{is_pending}
-use Rattle.core_replies.specs.Shown.{answered}
-use Rattle.core_replies.specs.Texts.{HasValues}
-use Rattle.core_replies.proofs.Results.{on_ok}
-use Rattle.core_replies.proofs.ShownWork.{answered-waiting}
+use Rattle.core_replies.specs.{Shown.answered, Texts.HasValues}
+use Rattle.core_replies.proofs.{Results.on_ok, ShownWork.answered-waiting}
 use Rattle.core_replies.proofs.work_documents.AuthorizationRowListItemU64.write_shown.Goals as goal
 
 pub returns : goal.returns

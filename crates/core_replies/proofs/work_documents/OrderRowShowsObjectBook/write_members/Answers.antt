@@ -1,10 +1,7 @@
 use Rattle.std.proofs.Common.{ap, map, ◌∙◌}
 use Rattle.serde_json.specs.Data.{string}
-use Rattle.desk_model.specs.Derived.{numbers_of}
-use Rattle.desk_model.specs.Document.{rows_of}
-use Rattle.desk_model.specs.Names.{shown_name}
-use Rattle.core_replies.proofs.Results.{on_ok}
-use Rattle.core_replies.proofs.ShownWork.{listed-names}
+use Rattle.desk_model.specs.{Derived.numbers_of, Document.rows_of, Names.shown_name}
+use Rattle.core_replies.proofs.{Results.on_ok, ShownWork.listed-names}
 use Rattle.core_replies.proofs.Writing.{list_is, members_then}
 use Rattle.core_replies.proofs.work_documents.OrderRowShowsObjectBook.write_members.Goals as goal
 
