@@ -4,39 +4,27 @@ use Rattle.std.specs.Prelude.{IsTrue, ◌==◌, ◌&&◌, ◌||◌, is_some, is_
 use Rattle.std.specs.List.{list_any, list_all}
 use Rattle.std.specs.Option.{option_map}
 use Rattle.std.proofs.lemmas.Bool.{eqb-true}
-use Rattle.desk_model.specs.Lookup.{holds}
-use Rattle.desk_model.specs.Entry.{History}
-use Rattle.desk_model.specs.Contact.{contacts_pass}
+use Rattle.desk_model.specs.{Lookup.holds, Entry.History, Contact.contacts_pass, Questions.serves, Effect.has_row}
 use Rattle.desk_model.specs.Nonce.{nonces, is_open}
 use Rattle.desk_model.specs.Account.{accounts, account_by_key, key_of, is_valid as is_valid_account}
 use Rattle.desk_model.specs.Authorization.{authorizations, authorization_of, has_challenge, authorization_status, challenge_status, is_live, is_pending}
 use Rattle.desk_model.specs.Order.{orders, is_ready, is_processing}
 use Rattle.desk_model.specs.History.{clock, terms}
-use Rattle.desk_model.specs.Legal.{EachFollows, IsFormed, may_follow, is_pending_challenge, is_processing_challenge, has_length}
-use Rattle.desk_model.specs.Legal.{all_different, is_wanted, may_want, wanted_name, is_problem}
-use Rattle.desk_model.specs.Questions.{serves}
+use Rattle.desk_model.specs.Legal.{EachFollows, IsFormed, may_follow, is_pending_challenge, is_processing_challenge, has_length, all_different, is_wanted}
+use Rattle.desk_model.specs.Legal.{may_want, wanted_name, is_problem}
 use Rattle.desk_model.specs.Limits.{last_moment, longest_certificate, longest_csr, most_names}
 use Rattle.desk_model.specs.Tables.{account_row, challenge_row, authorization_row, order_row, tables_at}
-use Rattle.desk_model.specs.Effect.{has_row}
 use Rattle.desk_model.specs.Allowed.{may_on, may_want_on, challenge_passes}
-use Rattle.desk_model.specs.declared.status.ChallengeStatus.{ChallengeStatus}
-use Rattle.desk_model.specs.declared.entry.Entry.{Entry}
+use Rattle.desk_model.specs.declared.{status.ChallengeStatus.ChallengeStatus, entry.Entry.Entry, entry.Wanted.Wanted, objects.Authorization.Authorization}
+use Rattle.desk_model.specs.declared.{objects.Challenge.Challenge, objects.Nonce.Nonce}
 use Rattle.desk_model.specs.declared.entry.Entry.TheVariants.{Made as made, Issued as issued, Spent as spent, Opened as opened}
 use Rattle.desk_model.specs.declared.entry.Entry.TheVariants.{ContactsChanged as contacts_changed, KeyChanged as key_changed, AccountEnded as account_ended}
 use Rattle.desk_model.specs.declared.entry.Entry.TheVariants.{Ordered as ordered, Answered as answered, Reported as reported}
-use Rattle.desk_model.specs.declared.entry.Entry.TheVariants.{AuthorizationEnded as authorization_ended, Finalized as finalized}
-use Rattle.desk_model.specs.declared.entry.Entry.TheVariants.{Certified as certified, Failed as failed}
-use Rattle.desk_model.specs.declared.entry.Wanted.{Wanted}
+use Rattle.desk_model.specs.declared.entry.Entry.TheVariants.{AuthorizationEnded as authorization_ended, Finalized as finalized, Certified as certified}
+use Rattle.desk_model.specs.declared.entry.Entry.TheVariants.{Failed as failed}
 use Rattle.desk_model.specs.declared.entry.Wanted.TheVariants.{New, Reused}
-use Rattle.desk_model.specs.declared.objects.Authorization.{Authorization}
-use Rattle.desk_model.specs.declared.objects.Challenge.{Challenge}
-use Rattle.desk_model.specs.declared.objects.Nonce.{Nonce}
-use Rattle.model_laws.proofs.Basics.{find-map}
-use Rattle.model_laws.proofs.RowFacts.{has_row-row}
-use Rattle.model_laws.specs.Later.{IsLater}
-use Rattle.model_laws.specs.Ordered.{Ascends}
-use Rattle.model_laws.proofs.RowLists.{numbered_ascends}
-use Rattle.model_laws.proofs.Numbers.{nonces_numbered}
+use Rattle.model_laws.proofs.{Basics.find-map, RowFacts.has_row-row, RowLists.numbered_ascends, Numbers.nonces_numbered}
+use Rattle.model_laws.specs.{Later.IsLater, Ordered.Ascends}
 
 -- a test of what a map makes
 holds-map : {X Y : Type 0} (test : Y → Bool) (f : X → Y) (o : Option X) → holds test (option_map f o) ≡ holds (λ x. test (f x)) o

@@ -4,13 +4,10 @@ use Rattle.std.specs.Prelude.{nat_le, codes}
 use Rattle.std.specs.Char.{is_ascii}
 use Rattle.std.specs.List.{list_all, join_with_byte}
 use Rattle.std.proofs.Math.Seq.{take-append_seam, drop-append-add, get_or-append_seam}
-use Rattle.std.proofs.lemmas.Bool.{and_parts}
-use Rattle.std.proofs.lemmas.Bool.Decides.{nat_tests}
-use Rattle.std.proofs.lemmas.List.Splits.{join_with_byte-slice_split}
-use Rattle.std.proofs.lemmas.List.Sums.{AllPass-from_list_all}
-use Rattle.std.proofs.lemmas.Str.{IsUtf8-append, IsUtf8-drop, IsUtf8-from_ascii, IsUtf8-nil, IsUtf8-take}
-use Rattle.std.proofs.lemmas.Str.{IsCharBoundary-before_ascii, IsCharBoundary-after_ascii}
-use Rattle.std.proofs.lemmas.Str.Ascii.{IsAscii-from_all}
+use Rattle.std.proofs.lemmas.{Bool.and_parts, Bool.Decides.nat_tests, List.Splits.join_with_byte-slice_split, List.Sums.AllPass-from_list_all}
+use Rattle.std.proofs.lemmas.{Str.Ascii.IsAscii-from_all}
+use Rattle.std.proofs.lemmas.Str.{IsUtf8-append, IsUtf8-drop, IsUtf8-from_ascii, IsUtf8-nil, IsUtf8-take, IsCharBoundary-before_ascii}
+use Rattle.std.proofs.lemmas.Str.{IsCharBoundary-after_ascii}
 use Rattle.desk_model.specs.BaseName.{is_base_name, is_label, is_label_byte, labels_of}
 use Rattle.desk_model.specs.Keys.{Key, ec, rsa, okp, IsCurve, IsKey, IsKeyText, canonical_text, is_base64url_byte, is_number_text}
 use Rattle.desk_model.specs.Terms.{Terms, are_terms, has_scheme, is_base, is_base_byte}

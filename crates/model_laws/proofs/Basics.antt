@@ -1,13 +1,10 @@
 -- Small lemmas on options and lists.
-use Rattle.std.proofs.Common.{◌≡◌, ◌<◌, ◌≢◌, ℕ, ◌+◌, List, [], ◌∷◌, ◌++◌, length, map, Option, Some, None, refl, sym, ap, ◌∙◌}
-use Rattle.std.proofs.Common.{subst, true, false, Bool, cond, arith}
+use Rattle.std.proofs.Common.{◌≡◌, ◌<◌, ◌≢◌, ℕ, ◌+◌, List, [], ◌∷◌, ◌++◌, length, map, Option, Some, None, refl, sym, ap, ◌∙◌, subst, true, false, Bool, cond}
+use Rattle.std.proofs.Common.{arith}
 use Rattle.std.specs.Prelude.{◌==◌, ◌||◌, find, is_some, IsSome}
-use Rattle.std.specs.List.{list_any}
-use Rattle.std.specs.Option.{option_map}
+use Rattle.std.specs.{List.list_any, Option.option_map}
 use Rattle.std.proofs.lemmas.Bool.{eqb-true, eq-eqb, ne_eqb}
-use Rattle.desk_model.specs.History.{earlier}
-use Rattle.desk_model.specs.Kept.{EachOf}
-use Rattle.desk_model.specs.Lookup.{holds}
+use Rattle.desk_model.specs.{History.earlier, Kept.EachOf, Lookup.holds}
 
 -- what came first stays first
 pub earlier-some : {X : Type 0} (x : X) (o : Option X) → earlier (Some x) o ≡ Some x

@@ -2,14 +2,10 @@
 use Rattle.std.proofs.Common.{ℕ, ◌+◌, List, [], ◌∷◌, length, arith, length-append}
 use Rattle.std.specs.Prelude.{IsTrue}
 use Rattle.desk_model.specs.Account.{accounts, opened_by}
-use Rattle.desk_model.specs.Authorization.{authorizations}
-use Rattle.desk_model.specs.Entry.{History}
+use Rattle.desk_model.specs.{Authorization.authorizations, Entry.History, Order.orders, declared.entry.Dated.Dated, declared.entry.Entry.Entry}
 use Rattle.desk_model.specs.History.{clock, record_all}
 use Rattle.desk_model.specs.Legal.{BeginsMade, Legal, numbers_fit}
 use Rattle.desk_model.specs.Nonce.{issued_by, nonces}
-use Rattle.desk_model.specs.Order.{orders}
-use Rattle.desk_model.specs.declared.entry.Dated.{Dated}
-use Rattle.desk_model.specs.declared.entry.Entry.{Entry}
 use Rattle.model_laws.proofs.Keeps.{counters_fit, numbers_fit_counters}
 use Rattle.model_laws.proofs.Numbers.{count-append, made_now, ordered_now}
 use Rattle.model_laws.proofs.Step.{follows_before}

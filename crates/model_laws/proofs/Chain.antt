@@ -1,31 +1,22 @@
 -- Several entries on a part.
 use Rattle.std.proofs.Common.{◌≡◌, ◌≤◌, ◌<◌, ℕ, ◌+◌, List, [], ◌∷◌, ◌++◌, map, filter, refl, sym, ap, ◌∙◌, true, false, Bool, cond, arith}
-use Rattle.desk_model.specs.Entry.{History}
+use Rattle.desk_model.specs.{Entry.History, Legal.EachFollows, Nonce.issued_by, Account.opened_by, Order.ordered_by}
 use Rattle.desk_model.specs.History.{clock, record_all}
-use Rattle.desk_model.specs.Legal.{EachFollows}
-use Rattle.desk_model.specs.Nonce.{issued_by}
-use Rattle.desk_model.specs.Account.{opened_by}
-use Rattle.desk_model.specs.Order.{ordered_by}
 use Rattle.desk_model.specs.Tables.{Tables, picture}
 use Rattle.desk_model.specs.Derived.{numbers_of, restated_authorization, restated_order}
-use Rattle.desk_model.specs.Effect.{noted_account, noted_order, touches_account, touches_order, moved_account}
-use Rattle.desk_model.specs.Effect.{moved_authorization, moved_order, fresh_account, fresh_authorization, fresh_order, not_spent}
-use Rattle.desk_model.specs.Effect.{new_authorizations, authorizations_after, effect, effects, swept}
+use Rattle.desk_model.specs.Effect.{noted_account, noted_order, touches_account, touches_order, moved_account, moved_authorization, moved_order, fresh_account}
+use Rattle.desk_model.specs.Effect.{fresh_authorization, fresh_order, not_spent, new_authorizations, authorizations_after, effect, effects, swept}
 use Rattle.desk_model.specs.Change.{all_changes, recorded_changes, applied}
 use Rattle.desk_model.specs.Kept.{Kept, restricted, EachOf, IsClosed, CoversSweep, HoldersKept}
-use Rattle.desk_model.specs.declared.entry.Entry.{Entry}
-use Rattle.desk_model.specs.declared.objects.Nonce.{Nonce}
-use Rattle.desk_model.specs.declared.rows.AccountRow.{AccountRow}
-use Rattle.desk_model.specs.declared.rows.AuthorizationRow.{AuthorizationRow}
-use Rattle.desk_model.specs.declared.rows.Change.TheVariants.{PutMeta}
-use Rattle.desk_model.specs.declared.rows.OrderRow.{OrderRow}
+use Rattle.desk_model.specs.declared.{entry.Entry.Entry, objects.Nonce.Nonce, rows.AccountRow.AccountRow, rows.AuthorizationRow.AuthorizationRow}
+use Rattle.desk_model.specs.declared.{rows.Change.TheVariants.PutMeta, rows.OrderRow.OrderRow}
 use Rattle.model_laws.specs.Ordered.{Ascends}
 use Rattle.model_laws.specs.Parts.{FreshKept, CoversAll}
 use Rattle.model_laws.proofs.Basics.{each, each_all}
 use Rattle.model_laws.proofs.Recorded.{issued_up, opened_up, ordered_up, made_up, recorded}
 use Rattle.model_laws.proofs.Step.{filter-append}
-use Rattle.model_laws.proofs.Local.{all_moved_same, filters_swap, filter_all, moved_part, restated_same, kept_after, moved_number, touches_same}
-use Rattle.model_laws.proofs.Local.{changes_local, sweep_changes_local, swept_part}
+use Rattle.model_laws.proofs.Local.{all_moved_same, filters_swap, filter_all, moved_part, restated_same, kept_after, moved_number, touches_same, changes_local}
+use Rattle.model_laws.proofs.Local.{sweep_changes_local, swept_part}
 
 -- new rows are kept
 pub up_kept : {X : Type 0} (number : X → ℕ) (kept : ℕ → Bool) (count : ℕ) → ((n : ℕ) → count < n → kept n ≡ true) → (n : ℕ) → count < n →

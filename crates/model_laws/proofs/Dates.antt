@@ -3,30 +3,21 @@ use Rattle.std.proofs.Common.{◌≤◌, ℕ, ◌+◌, List, [], ◌∷◌, leng
 use Rattle.std.specs.Prelude.{◌==◌, IfSome}
 use Rattle.std.proofs.lemmas.Option.{IfSome_then}
 use Rattle.desk_model.specs.Account.{account_key, accounts, opened_by, ends as account_ends}
-use Rattle.desk_model.specs.Authorization.{answer, answer_by, answering, authorizations, count_challenges, ends}
-use Rattle.desk_model.specs.Authorization.{has_challenge, in_time, is_good, made_by, made_for, reporting}
-use Rattle.desk_model.specs.Entry.{History}
+use Rattle.desk_model.specs.Authorization.{answer, answer_by, answering, authorizations, count_challenges, ends, has_challenge, in_time, is_good, made_by}
+use Rattle.desk_model.specs.Authorization.{made_for, reporting}
+use Rattle.desk_model.specs.{Entry.History, Kept.EachOf, Legal.EachFollows, Limits.last_moment, declared.entry.Dated.Dated, declared.entry.Entry.Entry}
+use Rattle.desk_model.specs.{declared.entry.Wanted.Wanted, declared.objects.Authorization.Authorization, declared.objects.AuthorizationEnd.AuthorizationEnd}
 use Rattle.desk_model.specs.History.{clock, terms}
-use Rattle.desk_model.specs.Kept.{EachOf}
-use Rattle.desk_model.specs.Legal.{EachFollows}
-use Rattle.desk_model.specs.Limits.{last_moment}
 use Rattle.desk_model.specs.Nonce.{is_open, issued_by, nonces}
 use Rattle.desk_model.specs.Order.{ordered_by, orders}
 use Rattle.desk_model.specs.Tables.{account_row, authorization_row, challenge_row, order_row, tables_at}
-use Rattle.desk_model.specs.declared.entry.Dated.{Dated}
-use Rattle.desk_model.specs.declared.entry.Entry.{Entry}
-use Rattle.desk_model.specs.declared.entry.Entry.TheVariants.{Issued as issued, Opened as opened, AccountEnded as account_ended}
-use Rattle.desk_model.specs.declared.entry.Entry.TheVariants.{Ordered as ordered, Answered as answered, Reported as reported}
-use Rattle.desk_model.specs.declared.entry.Entry.TheVariants.{AuthorizationEnded as authorization_ended}
-use Rattle.desk_model.specs.declared.entry.Wanted.{Wanted}
+use Rattle.desk_model.specs.declared.entry.Entry.TheVariants.{Issued as issued, Opened as opened, AccountEnded as account_ended, Ordered as ordered}
+use Rattle.desk_model.specs.declared.entry.Entry.TheVariants.{Answered as answered, Reported as reported, AuthorizationEnded as authorization_ended}
 use Rattle.desk_model.specs.declared.entry.Wanted.TheVariants.{New, Reused}
-use Rattle.desk_model.specs.declared.objects.Authorization.{Authorization}
-use Rattle.desk_model.specs.declared.objects.AuthorizationEnd.{AuthorizationEnd}
 use Rattle.model_laws.specs.DateLaws.{AreDatedBy, IsChallengeDatedBy}
 use Rattle.model_laws.proofs.Basics.{each, each_all, each-append, each-map}
-use Rattle.model_laws.proofs.Keeps.{each-filter}
+use Rattle.model_laws.proofs.{Keeps.each-filter, OrderDates.order_dated}
 use Rattle.model_laws.proofs.Numbers.{made_now, ordered_now}
-use Rattle.model_laws.proofs.OrderDates.{order_dated}
 use Rattle.model_laws.proofs.StatedFacts.{earlier_holds, first_dated, stated}
 
 -- ---- each fact has the date of its entry

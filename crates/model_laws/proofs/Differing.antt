@@ -5,25 +5,17 @@ use Rattle.std.specs.Cmp.Lexicographic.{pointwise}
 use Rattle.std.specs.List.{list_any, zip}
 use Rattle.std.proofs.lemmas.Bool.{eqb-true, eq-eqb, or_parts}
 use Rattle.std.proofs.lemmas.Slice.Eq.{bytes_eq-Decides, slice_eq-Decides}
-use Rattle.desk_model.specs.Account.{ends as account_ends}
+use Rattle.desk_model.specs.{Account.ends as account_ends, Keys.thumbprint, Kept.EachOf}
 use Rattle.desk_model.specs.Derived.{account_code, chall_code, authz_code, order_code, derived_order, restated_authorization, restated_order}
-use Rattle.desk_model.specs.Keys.{thumbprint}
 use Rattle.desk_model.specs.Effect.{key_numbered, noted_account, noted_challenge, answered_challenge, reported_challenge, noted_authorization, noted_order}
 use Rattle.desk_model.specs.Change.{is_gained, account_differs, challenge_differs, authorization_differs, order_differs}
-use Rattle.desk_model.specs.Kept.{EachOf}
-use Rattle.desk_model.specs.declared.entry.Entry.{Entry}
+use Rattle.desk_model.specs.declared.{entry.Entry.Entry, rows.AccountRow.AccountRow, rows.ChallengeRow.ChallengeRow, rows.AuthorizationRow.AuthorizationRow}
+use Rattle.desk_model.specs.declared.{rows.OrderRow.OrderRow, status.AccountStatus.AccountStatus, status.ChallengeStatus.ChallengeStatus}
+use Rattle.desk_model.specs.declared.{status.AuthzStatus.AuthzStatus, status.OrderStatus.OrderStatus}
 use Rattle.desk_model.specs.declared.entry.Entry.TheVariants.{Answered as answered, Reported as reported}
-use Rattle.desk_model.specs.declared.rows.AccountRow.{AccountRow}
-use Rattle.desk_model.specs.declared.rows.ChallengeRow.{ChallengeRow}
-use Rattle.desk_model.specs.declared.rows.AuthorizationRow.{AuthorizationRow}
-use Rattle.desk_model.specs.declared.rows.OrderRow.{OrderRow}
-use Rattle.desk_model.specs.declared.status.AccountStatus.{AccountStatus}
 use Rattle.desk_model.specs.declared.status.AccountStatus.TheVariants as account
-use Rattle.desk_model.specs.declared.status.ChallengeStatus.{ChallengeStatus}
 use Rattle.desk_model.specs.declared.status.ChallengeStatus.TheVariants as chall
-use Rattle.desk_model.specs.declared.status.AuthzStatus.{AuthzStatus}
 use Rattle.desk_model.specs.declared.status.AuthzStatus.TheVariants as authz
-use Rattle.desk_model.specs.declared.status.OrderStatus.{OrderStatus}
 use Rattle.desk_model.specs.declared.status.OrderStatus.TheVariants as order
 use Rattle.model_laws.proofs.OrderDates.{order_dates_kept, order_status_differs}
 use Rattle.model_laws.proofs.RowFacts.{kept_challenges}
@@ -39,8 +31,7 @@ account_by_code n = cond (n == 0) account.Valid (cond (n == 1) account.Deactivat
 account_coded : (s : AccountStatus) → account_by_code (account_code s) ≡ s
 unfolding account_by_code
 account_coded account.Valid = refl
-account_coded account.Deactivated = refl
-account_coded account.Revoked = refl
+account_coded _ = refl
 
 -- for a challenge
 chall_by_code : ℕ → ChallengeStatus
@@ -50,9 +41,7 @@ chall_by_code n = cond (n == 0) chall.Pending (cond (n == 1) chall.Processing (c
 chall_coded : (s : ChallengeStatus) → chall_by_code (chall_code s) ≡ s
 unfolding chall_by_code
 chall_coded chall.Pending = refl
-chall_coded chall.Processing = refl
-chall_coded chall.Valid = refl
-chall_coded chall.Invalid = refl
+chall_coded _ = refl
 
 -- for an authorization
 authz_by_code : ℕ → AuthzStatus
@@ -65,11 +54,7 @@ authz_by_code n =
 authz_coded : (s : AuthzStatus) → authz_by_code (authz_code s) ≡ s
 unfolding authz_by_code
 authz_coded authz.Pending = refl
-authz_coded authz.Valid = refl
-authz_coded authz.Invalid = refl
-authz_coded authz.Deactivated = refl
-authz_coded authz.Expired = refl
-authz_coded authz.Revoked = refl
+authz_coded _ = refl
 
 -- for an order
 order_by_code : ℕ → OrderStatus
@@ -81,10 +66,7 @@ order_by_code n =
 order_coded : (s : OrderStatus) → order_by_code (order_code s) ≡ s
 unfolding order_by_code
 order_coded order.Pending = refl
-order_coded order.Ready = refl
-order_coded order.Processing = refl
-order_coded order.Valid = refl
-order_coded order.Invalid = refl
+order_coded _ = refl
 
 -- a test whose negation fails
 unnegated : (b : Bool) → not b ≡ false → b ≡ true

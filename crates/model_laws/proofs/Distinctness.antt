@@ -1,8 +1,7 @@
 -- Lists without repetition, and their parts.
 use Rattle.std.proofs.Common.{◌≡◌, ◌≢◌, ◌<◌, ℕ, ◌+◌, List, [], ◌∷◌, ◌++◌, map, sym, arith}
 use Rattle.desk_model.specs.Kept.{EachOf}
-use Rattle.model_laws.specs.Distinct.{Distinct}
-use Rattle.model_laws.specs.Ordered.{Ascends}
+use Rattle.model_laws.specs.{Distinct.Distinct, Ordered.Ascends}
 use Rattle.model_laws.proofs.Basics.{each, each_both, each_of_map, each_parts, each-append, each-map}
 use Rattle.model_laws.proofs.RowLists.{ascends_above}
 

@@ -3,21 +3,13 @@ use Rattle.std.proofs.Common.{◌≡◌, ℕ, List, [], ◌∷◌, ◌++◌, map
 use Rattle.std.specs.Prelude.{◌==◌, nat_le}
 use Rattle.std.specs.List.{flat_map}
 use Rattle.std.proofs.lemmas.Bool.{eq-eqb}
-use Rattle.desk_model.specs.Entry.{History}
-use Rattle.desk_model.specs.Account.{accounts}
+use Rattle.desk_model.specs.{Entry.History, Account.accounts, Order.orders, Legal.EachFollows, Kept.EachOf}
 use Rattle.desk_model.specs.Authorization.{authorizations, challenge_status_by, report}
-use Rattle.desk_model.specs.Order.{orders}
-use Rattle.desk_model.specs.Legal.{EachFollows}
 use Rattle.desk_model.specs.Tables.{account_row, challenge_row, authorization_row, order_row, tables_at}
-use Rattle.desk_model.specs.Derived.{unless, chall_code, order_code, authz_code, account_faults, order_faults, authorization_faults}
-use Rattle.desk_model.specs.Derived.{challenge_faults, insert_challenge, sorted_challenges, status_faults}
-use Rattle.desk_model.specs.Kept.{EachOf}
-use Rattle.desk_model.specs.declared.objects.Authorization.{Authorization}
-use Rattle.desk_model.specs.declared.objects.Challenge.{Challenge}
-use Rattle.desk_model.specs.declared.rows.AuthorizationRow.{AuthorizationRow}
-use Rattle.desk_model.specs.declared.rows.ChallengeRow.{ChallengeRow}
-use Rattle.desk_model.specs.declared.rows.OrderRow.{OrderRow}
-use Rattle.desk_model.specs.declared.rows.StatusFault.{StatusFault}
+use Rattle.desk_model.specs.Derived.{unless, chall_code, order_code, authz_code, account_faults, order_faults, authorization_faults, challenge_faults}
+use Rattle.desk_model.specs.Derived.{insert_challenge, sorted_challenges, status_faults}
+use Rattle.desk_model.specs.declared.{objects.Authorization.Authorization, objects.Challenge.Challenge, rows.AuthorizationRow.AuthorizationRow}
+use Rattle.desk_model.specs.declared.{rows.ChallengeRow.ChallengeRow, rows.OrderRow.OrderRow, rows.StatusFault.StatusFault}
 use Rattle.model_laws.proofs.Basics.{each_all, each-append}
 use Rattle.model_laws.proofs.RowFacts.{answered_alike, authorization_stated}
 use Rattle.model_laws.proofs.OrderFacts.{order_stated}

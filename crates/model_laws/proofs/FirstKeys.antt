@@ -1,32 +1,20 @@
 -- Where no account got another key, each answer was under the key that its account has now.
-use Rattle.std.proofs.Common.{◌≡◌, ◌<◌, ℕ, ◌+◌, List, [], ◌∷◌, ◌++◌, length, map, Option, Some, None, refl, sym, ap, ◌∙◌, subst}
-use Rattle.std.proofs.Common.{true, false, Bool, cond, arith}
+use Rattle.std.proofs.Common.{◌≡◌, ◌<◌, ℕ, ◌+◌, List, [], ◌∷◌, ◌++◌, length, map, Option, Some, None, refl, sym, ap, ◌∙◌, subst, true, false, Bool, cond, arith}
 use Rattle.std.specs.Prelude.{◌==◌, IfSome, IsSome, find, unwrap_or}
 use Rattle.desk_model.specs.Account.{account_by_number, account_key, accounts, key_if, opened_by, rekeying}
 use Rattle.desk_model.specs.Authorization.{answer, answer_by, answering, authorizations, challenges_from, count_challenges, kinds_of, made_by, made_for}
-use Rattle.desk_model.specs.Effect.{fresh_challenge}
-use Rattle.desk_model.specs.Entry.{History}
+use Rattle.desk_model.specs.{Effect.fresh_challenge, Entry.History, Keys.thumbprint, Kept.EachOf, Legal.EachFollows}
 use Rattle.desk_model.specs.History.{earlier, latest, terms}
-use Rattle.desk_model.specs.Keys.{thumbprint}
-use Rattle.desk_model.specs.Kept.{EachOf}
-use Rattle.desk_model.specs.Legal.{EachFollows}
 use Rattle.desk_model.specs.Tables.{authorization_row, challenge_row, tables_at}
-use Rattle.desk_model.specs.declared.entry.Dated.{Dated}
-use Rattle.desk_model.specs.declared.entry.Entry.{Entry}
+use Rattle.desk_model.specs.declared.{entry.Dated.Dated, entry.Entry.Entry, entry.Wanted.Wanted, objects.Account.Account, objects.Answer.Answer}
+use Rattle.desk_model.specs.declared.{objects.Authorization.Authorization, objects.Challenge.Challenge, rows.ChallengeRow.ChallengeRow}
 use Rattle.desk_model.specs.declared.entry.Entry.TheVariants.{KeyChanged as key_changed, Ordered as ordered}
-use Rattle.desk_model.specs.declared.entry.Wanted.{Wanted}
 use Rattle.desk_model.specs.declared.entry.Wanted.TheVariants.{New, Reused}
-use Rattle.desk_model.specs.declared.objects.Account.{Account}
-use Rattle.desk_model.specs.declared.objects.Answer.{Answer}
-use Rattle.desk_model.specs.declared.objects.Authorization.{Authorization}
-use Rattle.desk_model.specs.declared.objects.Challenge.{Challenge}
-use Rattle.desk_model.specs.declared.rows.ChallengeRow.{ChallengeRow}
 use Rattle.model_laws.specs.FirstLaws.{AreUnderKeysNow, IsNoKeyChange, IsUnder, KeepsKeys}
 use Rattle.model_laws.proofs.Basics.{each, each_both, each-append, each-map, none_earlier}
-use Rattle.model_laws.proofs.Fresh.{challenges_fresh}
+use Rattle.model_laws.proofs.{Fresh.challenges_fresh, RowFacts.key_row}
 use Rattle.model_laws.proofs.Numbers.{challenges_numbered, made_now}
 use Rattle.model_laws.proofs.References.{HasAccount, authorizations_have_accounts}
-use Rattle.model_laws.proofs.RowFacts.{key_row}
 
 -- ---- the key of an account stays
 

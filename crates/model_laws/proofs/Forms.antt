@@ -4,25 +4,15 @@ use Rattle.std.specs.Prelude.{◌==◌, IfSome}
 use Rattle.std.specs.List.{list_all}
 use Rattle.std.proofs.lemmas.Bool.{eqb-true, and_parts}
 use Rattle.desk_model.specs.Authorization.{authorizations, challenges_from, count_challenges, kinds_of, made_by, made_for}
-use Rattle.desk_model.specs.BaseName.{is_base_name}
-use Rattle.desk_model.specs.Entry.{History}
-use Rattle.desk_model.specs.History.{terms}
-use Rattle.desk_model.specs.Kept.{EachOf}
+use Rattle.desk_model.specs.{BaseName.is_base_name, Entry.History, History.terms, Kept.EachOf}
 use Rattle.desk_model.specs.Legal.{EachFollows, Follows, is_problem, is_wanted, may_follow}
 use Rattle.desk_model.specs.Nonce.{issued_by, nonces}
 use Rattle.desk_model.specs.Order.{failing, failure}
-use Rattle.desk_model.specs.declared.entry.Dated.{Dated}
-use Rattle.desk_model.specs.declared.entry.Entry.{Entry}
+use Rattle.desk_model.specs.declared.{entry.Dated.Dated, entry.Entry.Entry, entry.Wanted.Wanted, objects.Authorization.Authorization, objects.Kind.Kind}
+use Rattle.desk_model.specs.declared.{rows.DatedProblem.DatedProblem}
 use Rattle.desk_model.specs.declared.entry.Entry.TheVariants.{Issued as issued, Ordered as ordered, Failed as failed}
-use Rattle.desk_model.specs.declared.entry.Wanted.{Wanted}
 use Rattle.desk_model.specs.declared.entry.Wanted.TheVariants.{New, Reused}
-use Rattle.desk_model.specs.declared.objects.Authorization.{Authorization}
-use Rattle.desk_model.specs.declared.objects.Kind.{Kind}
-use Rattle.desk_model.specs.declared.rows.DatedProblem.{DatedProblem}
-use Rattle.model_laws.proofs.Basics.{each-append}
-use Rattle.model_laws.proofs.StatedFacts.{first_holds}
-use Rattle.model_laws.proofs.NewOrders.{may_be_ordered}
-use Rattle.model_laws.proofs.Numbers.{made_now}
+use Rattle.model_laws.proofs.{Basics.each-append, StatedFacts.first_holds, NewOrders.may_be_ordered, Numbers.made_now}
 
 -- ---- random bytes
 

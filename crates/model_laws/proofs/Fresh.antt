@@ -3,47 +3,31 @@ use Rattle.std.proofs.Common.{◌≡◌, ◌≤◌, ◌<◌, ℕ, ◌+◌, List,
 use Rattle.std.specs.Prelude.{◌==◌, ◌||◌, find, is_some, unwrap_or}
 use Rattle.std.specs.List.{list_any}
 use Rattle.std.proofs.lemmas.Bool.{eqb-true, and_parts}
-use Rattle.desk_model.specs.Entry.{History}
+use Rattle.desk_model.specs.{Entry.History, Lookup.holds, Nonce.spending, Legal.EachFollows, Kept.EachOf}
 use Rattle.desk_model.specs.History.{terms, first, latest, earlier}
-use Rattle.desk_model.specs.Lookup.{holds}
-use Rattle.desk_model.specs.Nonce.{spending}
-use Rattle.desk_model.specs.Account.{accounts, opened_by, account_by_number, account_end, account_key, account_status, changing, rekeying}
-use Rattle.desk_model.specs.Account.{ends as account_ends, status_of as account_status_of, is_valid as is_valid_account}
-use Rattle.desk_model.specs.Authorization.{authorizations, has_challenge, made_for, kinds_of, challenges_from, count_challenges}
-use Rattle.desk_model.specs.Authorization.{authorization_end, ends, in_time, is_good, kind_of, answering, reporting}
-use Rattle.desk_model.specs.Authorization.{answer, answer_by, when_answered, report, challenge_status_by}
+use Rattle.desk_model.specs.Account.{accounts, opened_by, account_by_number, account_end, account_key, account_status, changing, rekeying, ends as account_ends}
+use Rattle.desk_model.specs.Account.{status_of as account_status_of, is_valid as is_valid_account}
+use Rattle.desk_model.specs.Authorization.{authorizations, has_challenge, made_for, kinds_of, challenges_from, count_challenges, authorization_end, ends}
+use Rattle.desk_model.specs.Authorization.{in_time, is_good, kind_of, answering, reporting, answer, answer_by, when_answered, report, challenge_status_by}
 use Rattle.desk_model.specs.Order.{orders, ordered_by, listed_by}
-use Rattle.desk_model.specs.Legal.{EachFollows}
 use Rattle.desk_model.specs.Tables.{account_row, challenge_row, authorization_row, order_row}
 use Rattle.desk_model.specs.Derived.{restated_authorization, restated_order}
 use Rattle.desk_model.specs.Effect.{names_order, fresh_account, fresh_challenge, fresh_authorization, fresh_order}
 use Rattle.desk_model.specs.declared.objects.EndKind.TheVariants as kind
 use Rattle.desk_model.specs.declared.status.AccountStatus.TheVariants as account
-use Rattle.desk_model.specs.Kept.{EachOf}
-use Rattle.desk_model.specs.declared.entry.Dated.{Dated}
-use Rattle.desk_model.specs.declared.entry.Ending.{Ending}
+use Rattle.desk_model.specs.declared.{entry.Dated.Dated, entry.Ending.Ending, entry.Entry.Entry, entry.Wanted.Wanted, objects.Account.Account}
+use Rattle.desk_model.specs.declared.{objects.AccountEnd.AccountEnd, objects.Authorization.Authorization, objects.AuthorizationEnd.AuthorizationEnd}
+use Rattle.desk_model.specs.declared.{objects.Challenge.Challenge, objects.Order.Order, rows.AuthorizationRow.AuthorizationRow}
 use Rattle.desk_model.specs.declared.entry.Ending.TheVariants.{Deactivated as deactivated, Revoked as revoked}
-use Rattle.desk_model.specs.declared.entry.Entry.{Entry}
-use Rattle.desk_model.specs.declared.entry.Entry.TheVariants.{Spent as spent, Opened as opened}
-use Rattle.desk_model.specs.declared.entry.Entry.TheVariants.{ContactsChanged as contacts_changed, KeyChanged as key_changed, AccountEnded as account_ended}
-use Rattle.desk_model.specs.declared.entry.Entry.TheVariants.{Ordered as ordered, Answered as answered, Reported as reported}
-use Rattle.desk_model.specs.declared.entry.Entry.TheVariants.{AuthorizationEnded as authorization_ended, Finalized as finalized}
-use Rattle.desk_model.specs.declared.entry.Entry.TheVariants.{Certified as certified, Failed as failed}
-use Rattle.desk_model.specs.declared.entry.Wanted.{Wanted}
+use Rattle.desk_model.specs.declared.entry.Entry.TheVariants.{Spent as spent, Opened as opened, ContactsChanged as contacts_changed, KeyChanged as key_changed}
+use Rattle.desk_model.specs.declared.entry.Entry.TheVariants.{AccountEnded as account_ended, Ordered as ordered, Answered as answered, Reported as reported}
+use Rattle.desk_model.specs.declared.entry.Entry.TheVariants.{AuthorizationEnded as authorization_ended, Finalized as finalized, Certified as certified}
+use Rattle.desk_model.specs.declared.entry.Entry.TheVariants.{Failed as failed}
 use Rattle.desk_model.specs.declared.entry.Wanted.TheVariants.{New, Reused}
-use Rattle.desk_model.specs.declared.objects.Account.{Account}
-use Rattle.desk_model.specs.declared.objects.AccountEnd.{AccountEnd}
-use Rattle.desk_model.specs.declared.objects.Authorization.{Authorization}
-use Rattle.desk_model.specs.declared.objects.AuthorizationEnd.{AuthorizationEnd}
-use Rattle.desk_model.specs.declared.objects.Challenge.{Challenge}
-use Rattle.desk_model.specs.declared.objects.Order.{Order}
-use Rattle.desk_model.specs.declared.rows.AuthorizationRow.{AuthorizationRow}
 use Rattle.model_laws.proofs.Basics.{less_differs, each, each_both, map-each, IsNumbered}
-use Rattle.model_laws.proofs.OrderDates.{order_unnoted}
+use Rattle.model_laws.proofs.{OrderDates.order_unnoted, RowFacts.authorization_stated, OrderFacts.order_stated}
 use Rattle.model_laws.specs.Given.{Counts, counts, NamesGiven}
-use Rattle.model_laws.proofs.RowFacts.{authorization_stated}
 use Rattle.model_laws.proofs.Numbers.{no_first, no_latest, first_no, made_now, challenges_numbered, all_named}
-use Rattle.model_laws.proofs.OrderFacts.{order_stated}
 
 -- ---- new rows
 

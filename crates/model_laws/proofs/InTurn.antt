@@ -1,18 +1,12 @@
 -- What is so of the changes of a sweep and of each entry is so of all that a call records, change after change.
 use Rattle.std.proofs.Common.{◌≡◌, ◌≤◌, ℕ, List, [], ◌∷◌, ◌++◌, map, sym, ap, subst, ◌∙◌}
-use Rattle.desk_model.specs.Entry.{History}
+use Rattle.desk_model.specs.{Entry.History, Legal.EachFollows, declared.entry.Entry.Entry, declared.rows.Change.Change, declared.rows.Meta.Meta}
 use Rattle.desk_model.specs.History.{clock, record_all}
-use Rattle.desk_model.specs.Legal.{EachFollows}
 use Rattle.desk_model.specs.Tables.{Tables, tables_at, picture}
 use Rattle.desk_model.specs.Effect.{effect, effects, swept}
 use Rattle.desk_model.specs.Change.{applied, applied_one, changes, sweep_changes, all_changes, recorded_changes}
-use Rattle.desk_model.specs.declared.entry.Entry.{Entry}
-use Rattle.desk_model.specs.declared.rows.Change.{Change}
 use Rattle.desk_model.specs.declared.rows.Change.TheVariants.{PutMeta, RemoveNonce}
-use Rattle.desk_model.specs.declared.rows.Meta.{Meta}
-use Rattle.model_laws.specs.News.{InTurn}
-use Rattle.model_laws.specs.Ordered.{IsOrdered}
-use Rattle.model_laws.specs.Placing.{removes}
+use Rattle.model_laws.specs.{News.InTurn, Ordered.IsOrdered, Placing.removes}
 use Rattle.model_laws.proofs.Recorded.{tables_ordered, changes_make, sweep_makes}
 use Rattle.model_laws.proofs.Step.{follows_before, step, sweep}
 

@@ -1,44 +1,32 @@
 -- What every legal history keeps.
-use Rattle.std.proofs.Common.{◌≡◌, ◌≢◌, ◌≤◌, ℕ, ◌+◌, List, [], ◌∷◌, length, filter, Option, Some, None, refl, sym, ap, ◌∙◌, subst}
-use Rattle.std.proofs.Common.{true, false, Bool, cond, arith}
+use Rattle.std.proofs.Common.{◌≡◌, ◌≢◌, ◌≤◌, ℕ, ◌+◌, List, [], ◌∷◌, length, filter, Option, Some, None, refl, sym, ap, ◌∙◌, subst, true, false, Bool, cond}
+use Rattle.std.proofs.Common.{arith}
 use Rattle.std.specs.Prelude.{◌==◌, nat_le, IfSome, IsTrue, find, is_none, is_some, bytes_eq, unwrap_or}
 use Rattle.std.specs.List.{list_all}
 use Rattle.std.proofs.lemmas.Bool.{leb-true, le-leb, eqb-true, and_parts, and_from}
 use Rattle.std.proofs.lemmas.Slice.Eq.{bytes_eq-Decides}
 use Rattle.desk_model.specs.Account.{account_by_key, accounts, key_of, opened_by, rekeying}
 use Rattle.desk_model.specs.Authorization.{authorizations, challenge_status, count_challenges, made_by, made_for, report, reporting, kinds_of, challenges_from}
-use Rattle.desk_model.specs.BaseName.{is_base_name}
-use Rattle.desk_model.specs.Contact.{contacts_pass}
-use Rattle.desk_model.specs.Entry.{History}
+use Rattle.desk_model.specs.{BaseName.is_base_name, Contact.contacts_pass, Entry.History, Keys.IsKeyText, Kept.EachOf}
 use Rattle.desk_model.specs.History.{earlier, latest, terms}
-use Rattle.desk_model.specs.Keys.{IsKeyText}
-use Rattle.desk_model.specs.Legal.{EachFollows, Follows, IsFormed, BeginsMade, IsMade, Legal, is_empty}
-use Rattle.desk_model.specs.Legal.{is_processing_challenge, is_wanted, may_follow, numbers_fit}
+use Rattle.desk_model.specs.Legal.{EachFollows, Follows, IsFormed, BeginsMade, IsMade, Legal, is_empty, is_processing_challenge, is_wanted, may_follow}
+use Rattle.desk_model.specs.Legal.{numbers_fit}
 use Rattle.desk_model.specs.Limits.{last_end, last_moment, last_number, longest_life}
 use Rattle.desk_model.specs.Nonce.{is_open, issued_by, nonces}
 use Rattle.desk_model.specs.Order.{ordered_by, orders}
 use Rattle.desk_model.specs.Tables.{account_row, authorization_row, order_row, tables_at}
 use Rattle.desk_model.specs.Terms.{Terms, are_terms, is_base, is_life}
-use Rattle.desk_model.specs.Kept.{EachOf}
-use Rattle.desk_model.specs.declared.entry.Dated.{Dated}
-use Rattle.desk_model.specs.declared.entry.Entry.{Entry}
-use Rattle.desk_model.specs.declared.entry.Entry.TheVariants.{Made as made, Issued as issued, Opened as opened, KeyChanged as key_changed}
-use Rattle.desk_model.specs.declared.entry.Entry.TheVariants.{Ordered as ordered, Reported as reported}
-use Rattle.desk_model.specs.declared.entry.Wanted.{Wanted}
+use Rattle.desk_model.specs.declared.{entry.Dated.Dated, entry.Entry.Entry, entry.Wanted.Wanted, objects.Account.Account, objects.Report.Report}
+use Rattle.desk_model.specs.declared.entry.Entry.TheVariants.{Made as made, Issued as issued, Opened as opened, KeyChanged as key_changed, Ordered as ordered}
+use Rattle.desk_model.specs.declared.entry.Entry.TheVariants.{Reported as reported}
 use Rattle.desk_model.specs.declared.entry.Wanted.TheVariants.{New, Reused}
-use Rattle.desk_model.specs.declared.objects.Account.{Account}
-use Rattle.desk_model.specs.declared.objects.Report.{Report}
-use Rattle.model_laws.specs.Distinct.{Distinct}
+use Rattle.model_laws.specs.{Distinct.Distinct, Given.counts}
 use Rattle.model_laws.specs.LegalLaws.{CountersFit, EndsInTime, reports_on}
 use Rattle.model_laws.proofs.Basics.{each, each_both, each-append, each-map, earlier-some, none_earlier}
 use Rattle.model_laws.proofs.Distinctness.{ascends_distinct, distinct-append, distinct-map}
-use Rattle.model_laws.proofs.Fresh.{new_account_key}
-use Rattle.model_laws.proofs.RowLists.{numbered_ascends}
+use Rattle.model_laws.proofs.{Fresh.new_account_key, RowLists.numbered_ascends, NewOrders.may_be_ordered, RowFacts.processing_unreported}
 use Rattle.model_laws.proofs.StatedFacts.{latest_holds, now_holds, stated}
-use Rattle.model_laws.specs.Given.{counts}
 use Rattle.model_laws.proofs.Numbers.{accounts_numbered, all_named, first_no, made_now, no_latest, ordered_now}
-use Rattle.model_laws.proofs.NewOrders.{may_be_ordered}
-use Rattle.model_laws.proofs.RowFacts.{processing_unreported}
 
 -- ---- reports
 

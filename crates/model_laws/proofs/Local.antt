@@ -4,34 +4,23 @@ use Rattle.std.specs.Prelude.{nat_lt, ◌==◌, ◌&&◌, ◌||◌, find}
 use Rattle.std.specs.Option.{option_or}
 use Rattle.std.proofs.lemmas.Bool.{eqb-true, and_parts}
 use Rattle.std.proofs.lemmas.List.Folds.{find-append}
-use Rattle.desk_model.specs.Lookup.{holds}
-use Rattle.desk_model.specs.History.{earlier}
-use Rattle.desk_model.specs.Account.{opened_by}
-use Rattle.desk_model.specs.Authorization.{in_time}
-use Rattle.desk_model.specs.Order.{ordered_by}
-use Rattle.desk_model.specs.Tables.{Tables}
+use Rattle.desk_model.specs.{Lookup.holds, History.earlier, Account.opened_by, Authorization.in_time, Order.ordered_by, Tables.Tables}
 use Rattle.desk_model.specs.Derived.{numbers_of, authorization_numbered, stored_statuses, and_status, restated_authorization, restated_order}
-use Rattle.desk_model.specs.Effect.{noted_account, noted_authorization, noted_order, touches_account, touches_authorization}
-use Rattle.desk_model.specs.Effect.{key_in, key_numbered, noted_challenge, row_ends, touches_order, names_order, lists_one, moved_authorization, fresh_account}
-use Rattle.desk_model.specs.Effect.{fresh_authorization, fresh_order, new_authorizations, authorizations_after, lasts, swept}
-use Rattle.desk_model.specs.Effect.{swept_authorization, swept_order, is_overdue, falls, is_live_order}
-use Rattle.desk_model.specs.Change.{moved_rows, account_differs, authorization_differs, order_differs, spent_by, nonces_put}
-use Rattle.desk_model.specs.Change.{accounts_put, authorizations_put, changes, sweep_changes, nonces_gone, authorizations_expired}
-use Rattle.desk_model.specs.Change.{orders_fallen}
+use Rattle.desk_model.specs.Effect.{noted_account, noted_authorization, noted_order, touches_account, touches_authorization, key_in, key_numbered}
+use Rattle.desk_model.specs.Effect.{noted_challenge, row_ends, touches_order, names_order, lists_one, moved_authorization, fresh_account, fresh_authorization}
+use Rattle.desk_model.specs.Effect.{fresh_order, new_authorizations, authorizations_after, lasts, swept, swept_authorization, swept_order, is_overdue, falls}
+use Rattle.desk_model.specs.Effect.{is_live_order}
+use Rattle.desk_model.specs.Change.{moved_rows, account_differs, authorization_differs, order_differs, spent_by, nonces_put, accounts_put, authorizations_put}
+use Rattle.desk_model.specs.Change.{changes, sweep_changes, nonces_gone, authorizations_expired, orders_fallen}
 use Rattle.desk_model.specs.Kept.{Kept, restricted, EachOf, IsClosed, Covers, CoversSweep, HoldersKept}
 use Rattle.desk_model.specs.declared.status.AuthzStatus.TheVariants as authz
 use Rattle.desk_model.specs.declared.status.OrderStatus.TheVariants as order
-use Rattle.desk_model.specs.declared.entry.Entry.{Entry}
-use Rattle.desk_model.specs.declared.objects.Nonce.{Nonce}
-use Rattle.desk_model.specs.declared.objects.Order.{Order}
-use Rattle.desk_model.specs.declared.rows.AccountRow.{AccountRow}
-use Rattle.desk_model.specs.declared.rows.AuthorizationRow.{AuthorizationRow}
+use Rattle.desk_model.specs.declared.{entry.Entry.Entry, objects.Nonce.Nonce, objects.Order.Order, rows.AccountRow.AccountRow}
+use Rattle.desk_model.specs.declared.{rows.AuthorizationRow.AuthorizationRow, rows.OrderRow.OrderRow}
 use Rattle.desk_model.specs.declared.rows.Change.TheVariants.{PutNonce, RemoveNonce, PutAccount, PutAuthorization, PutOrder}
-use Rattle.desk_model.specs.declared.rows.OrderRow.{OrderRow}
 use Rattle.model_laws.specs.Parts.{FreshKept}
 use Rattle.model_laws.proofs.Basics.{each, each_all}
-use Rattle.model_laws.proofs.OrderFacts.{restated_alike}
-use Rattle.model_laws.proofs.RowFacts.{authorization_untouched}
+use Rattle.model_laws.proofs.{OrderFacts.restated_alike, RowFacts.authorization_untouched}
 
 -- ---- lists
 

@@ -5,19 +5,12 @@ use Rattle.std.specs.Prelude.{IfSome, find, nat_lt, ◌==◌, ◌||◌}
 use Rattle.std.specs.List.{flat_map, list_any}
 use Rattle.std.proofs.lemmas.Bool.{ne_eqb}
 use Rattle.std.proofs.lemmas.List.{append_assoc, map-append}
-use Rattle.desk_model.specs.Entry.{History}
+use Rattle.desk_model.specs.{Entry.History, Legal.EachFollows, Effect.has_row, Kept.EachOf, Questions.authorization_on}
 use Rattle.desk_model.specs.History.{clock, record_all}
-use Rattle.desk_model.specs.Legal.{EachFollows}
 use Rattle.desk_model.specs.Tables.{Tables, tables_at, picture}
-use Rattle.desk_model.specs.Effect.{has_row}
 use Rattle.desk_model.specs.Change.{put, applied, applied_one, recorded_changes}
-use Rattle.desk_model.specs.Kept.{EachOf}
-use Rattle.desk_model.specs.Questions.{authorization_on}
-use Rattle.desk_model.specs.declared.entry.Entry.{Entry}
-use Rattle.desk_model.specs.declared.rows.AuthorizationRow.{AuthorizationRow}
-use Rattle.desk_model.specs.declared.rows.Change.{Change}
+use Rattle.desk_model.specs.declared.{entry.Entry.Entry, rows.AuthorizationRow.AuthorizationRow, rows.Change.Change, rows.ChallengeRow.ChallengeRow}
 use Rattle.desk_model.specs.declared.rows.Change.TheVariants.{PutMeta, PutNonce, RemoveNonce, PutAccount, PutAuthorization, PutOrder}
-use Rattle.desk_model.specs.declared.rows.ChallengeRow.{ChallengeRow}
 use Rattle.model_laws.specs.Distinct.{Distinct}
 use Rattle.model_laws.specs.News.{AreKept, AreNewChildren, BringsNewChildren, KeepChallenges, KeepsChildren}
 use Rattle.model_laws.proofs.Basics.{each, each_of_map, each_parts, eq_turn}

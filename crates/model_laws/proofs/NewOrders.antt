@@ -3,12 +3,8 @@ use Rattle.std.proofs.Common.{◌≡◌, ℕ, List, map, true}
 use Rattle.std.specs.List.{list_all}
 use Rattle.std.proofs.lemmas.Bool.{and_parts}
 use Rattle.desk_model.specs.Account.{account_by_number, account_status, is_valid}
-use Rattle.desk_model.specs.Entry.{History}
+use Rattle.desk_model.specs.{Entry.History, Limits.most_names, Lookup.holds, declared.entry.Entry.TheVariants.Ordered as ordered, declared.entry.Wanted.Wanted}
 use Rattle.desk_model.specs.Legal.{all_different, has_length, is_wanted, may_follow, may_want, wanted_name}
-use Rattle.desk_model.specs.Limits.{most_names}
-use Rattle.desk_model.specs.Lookup.{holds}
-use Rattle.desk_model.specs.declared.entry.Entry.TheVariants.{Ordered as ordered}
-use Rattle.desk_model.specs.declared.entry.Wanted.{Wanted}
 
 -- the tests that it passes
 pub record MayBeOrdered (F : History) (m account : ℕ) (ws : List Wanted) : Type 0 where

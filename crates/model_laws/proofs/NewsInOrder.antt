@@ -2,27 +2,18 @@
 use Rattle.std.proofs.Common.{◌≡◌, ◌≢◌, ◌≤◌, ◌<◌, ℕ, ◌+◌, List, [], ◌∷◌, ◌++◌, map, Some, None, refl, sym, ap, ◌∙◌, true, false, Bool, cond, not, arith}
 use Rattle.std.specs.Prelude.{find, nat_lt, ◌==◌, ◌&&◌}
 use Rattle.std.proofs.lemmas.Bool.{eqb-true}
-use Rattle.desk_model.specs.Entry.{History}
+use Rattle.desk_model.specs.{Entry.History, Legal.EachFollows, Kept.EachOf}
 use Rattle.desk_model.specs.History.{clock, record_all}
-use Rattle.desk_model.specs.Legal.{EachFollows}
 use Rattle.desk_model.specs.Tables.{Tables, picture}
 use Rattle.desk_model.specs.Derived.{restated_authorization, restated_order}
-use Rattle.desk_model.specs.Effect.{noted_account, noted_authorization, noted_order, touches_account, touches_authorization}
-use Rattle.desk_model.specs.Effect.{touches_order, authorizations_after, is_overdue}
-use Rattle.desk_model.specs.Effect.{falls}
-use Rattle.desk_model.specs.Change.{put, remove, moved_rows, account_differs, authorization_differs, order_differs}
-use Rattle.desk_model.specs.Change.{applied_one, spent_by, nonces_put, accounts_put, authorizations_put, orders_put, changes}
-use Rattle.desk_model.specs.Change.{nonces_gone, authorizations_expired, orders_fallen, sweep_changes}
+use Rattle.desk_model.specs.Effect.{noted_account, noted_authorization, noted_order, touches_account, touches_authorization, touches_order}
+use Rattle.desk_model.specs.Effect.{authorizations_after, is_overdue, falls}
+use Rattle.desk_model.specs.Change.{put, remove, moved_rows, account_differs, authorization_differs, order_differs, applied_one, spent_by, nonces_put}
+use Rattle.desk_model.specs.Change.{accounts_put, authorizations_put, orders_put, changes, nonces_gone, authorizations_expired, orders_fallen, sweep_changes}
 use Rattle.desk_model.specs.Change.{recorded_changes}
-use Rattle.desk_model.specs.Kept.{EachOf}
-use Rattle.desk_model.specs.declared.entry.Entry.{Entry}
-use Rattle.desk_model.specs.declared.objects.Nonce.{Nonce}
-use Rattle.desk_model.specs.declared.rows.AccountRow.{AccountRow}
-use Rattle.desk_model.specs.declared.rows.AuthorizationRow.{AuthorizationRow}
-use Rattle.desk_model.specs.declared.rows.Change.{Change}
+use Rattle.desk_model.specs.declared.{entry.Entry.Entry, objects.Nonce.Nonce, rows.AccountRow.AccountRow, rows.AuthorizationRow.AuthorizationRow}
+use Rattle.desk_model.specs.declared.{rows.Change.Change, rows.Meta.Meta, rows.OrderRow.OrderRow}
 use Rattle.desk_model.specs.declared.rows.Change.TheVariants.{PutNonce, PutAccount, PutAuthorization, PutOrder}
-use Rattle.desk_model.specs.declared.rows.Meta.{Meta}
-use Rattle.desk_model.specs.declared.rows.OrderRow.{OrderRow}
 use Rattle.desk_model.specs.declared.status.AuthzStatus.TheVariants as authz
 use Rattle.desk_model.specs.declared.status.OrderStatus.TheVariants as order
 use Rattle.model_laws.specs.News.{AreNews, IsNews}

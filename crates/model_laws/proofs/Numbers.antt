@@ -1,36 +1,28 @@
 -- Numbers: how they are given, and that an entry names only such as were given.
-use Rattle.std.proofs.Common.{◌≡◌, ◌≤◌, ◌<◌, ℕ, ◌+◌, List, [], ◌∷◌, ◌++◌, length, Option, Some, None, refl, subst, true, false}
-use Rattle.std.proofs.Common.{Bool, cond, arith, length-append}
+use Rattle.std.proofs.Common.{◌≡◌, ◌≤◌, ◌<◌, ℕ, ◌+◌, List, [], ◌∷◌, ◌++◌, length, Option, Some, None, refl, subst, true, false, Bool, cond, arith}
+use Rattle.std.proofs.Common.{length-append}
 use Rattle.std.specs.Prelude.{◌==◌, ◌||◌, find}
 use Rattle.std.specs.List.{list_any, list_all}
 use Rattle.std.proofs.lemmas.Bool.{eqb-true, and_parts}
-use Rattle.desk_model.specs.Entry.{History}
+use Rattle.desk_model.specs.{Entry.History, Lookup.holds, Kept.EachOf}
 use Rattle.desk_model.specs.History.{terms, first, latest, earlier}
-use Rattle.desk_model.specs.Lookup.{holds}
 use Rattle.desk_model.specs.Nonce.{nonces, issued_by}
 use Rattle.desk_model.specs.Account.{accounts, opened_by}
 use Rattle.desk_model.specs.Authorization.{authorizations, has_challenge, made_by, made_for, kinds_of, challenges_from, count_challenges, challenge_status}
 use Rattle.desk_model.specs.Order.{orders, ordered_by}
 use Rattle.desk_model.specs.Legal.{EachFollows, may_follow, may_want, is_pending_challenge, is_processing_challenge}
-use Rattle.desk_model.specs.Kept.{EachOf}
-use Rattle.desk_model.specs.declared.entry.Dated.{Dated}
-use Rattle.desk_model.specs.declared.entry.Entry.{Entry}
+use Rattle.desk_model.specs.declared.{entry.Dated.Dated, entry.Entry.Entry, entry.Wanted.Wanted, objects.Authorization.Authorization}
+use Rattle.desk_model.specs.declared.{objects.Challenge.Challenge, objects.Kind.Kind, objects.Order.Order}
 use Rattle.desk_model.specs.declared.entry.Entry.TheVariants.{Made as made, Issued as issued, Spent as spent, Opened as opened}
 use Rattle.desk_model.specs.declared.entry.Entry.TheVariants.{ContactsChanged as contacts_changed, KeyChanged as key_changed, AccountEnded as account_ended}
 use Rattle.desk_model.specs.declared.entry.Entry.TheVariants.{Ordered as ordered, Answered as answered, Reported as reported}
-use Rattle.desk_model.specs.declared.entry.Entry.TheVariants.{AuthorizationEnded as authorization_ended, Finalized as finalized}
-use Rattle.desk_model.specs.declared.entry.Entry.TheVariants.{Certified as certified, Failed as failed}
-use Rattle.desk_model.specs.declared.entry.Wanted.{Wanted}
+use Rattle.desk_model.specs.declared.entry.Entry.TheVariants.{AuthorizationEnded as authorization_ended, Finalized as finalized, Certified as certified}
+use Rattle.desk_model.specs.declared.entry.Entry.TheVariants.{Failed as failed}
 use Rattle.desk_model.specs.declared.entry.Wanted.TheVariants.{New, Reused}
-use Rattle.desk_model.specs.declared.objects.Authorization.{Authorization}
-use Rattle.desk_model.specs.declared.objects.Challenge.{Challenge}
-use Rattle.desk_model.specs.declared.objects.Kind.{Kind}
-use Rattle.desk_model.specs.declared.objects.Order.{Order}
 use Rattle.model_laws.proofs.Basics.{each, IsNumbered, numbered-append}
 use Rattle.model_laws.specs.Given.{Counts, counts, NamesGiven}
 use Rattle.model_laws.specs.Reused.{OfReused}
-use Rattle.model_laws.proofs.NewOrders.{may_be_ordered}
-use Rattle.model_laws.proofs.OrderFacts.{authorizations_numbered}
+use Rattle.model_laws.proofs.{NewOrders.may_be_ordered, OrderFacts.authorizations_numbered}
 
 -- ---- facts that no entry states
 

@@ -3,19 +3,13 @@ use Rattle.std.proofs.Common.{◌≡◌, ◌≤◌, ℕ, Option, Some, None, ref
 use Rattle.std.specs.Prelude.{◌==◌, ◌||◌, IfSome}
 use Rattle.std.proofs.lemmas.Bool.{or_parts}
 use Rattle.desk_model.specs.Change.{is_gained, order_differs}
-use Rattle.desk_model.specs.Derived.{order_code}
+use Rattle.desk_model.specs.{Derived.order_code, Entry.History, Tables.order_row}
 use Rattle.desk_model.specs.Effect.{names_order, noted_order}
-use Rattle.desk_model.specs.Entry.{History}
 use Rattle.desk_model.specs.History.{clock, earlier}
 use Rattle.desk_model.specs.Order.{certifying, failing, finalizing}
-use Rattle.desk_model.specs.Tables.{order_row}
-use Rattle.desk_model.specs.declared.entry.Entry.{Entry}
+use Rattle.desk_model.specs.declared.{entry.Entry.Entry, objects.Order.Order, rows.DatedBytes.DatedBytes, rows.DatedProblem.DatedProblem}
+use Rattle.desk_model.specs.declared.{rows.OrderRow.OrderRow, status.OrderStatus.OrderStatus}
 use Rattle.desk_model.specs.declared.entry.Entry.TheVariants.{Finalized as finalized, Certified as certified, Failed as failed}
-use Rattle.desk_model.specs.declared.objects.Order.{Order}
-use Rattle.desk_model.specs.declared.rows.DatedBytes.{DatedBytes}
-use Rattle.desk_model.specs.declared.rows.DatedProblem.{DatedProblem}
-use Rattle.desk_model.specs.declared.rows.OrderRow.{OrderRow}
-use Rattle.desk_model.specs.declared.status.OrderStatus.{OrderStatus}
 use Rattle.model_laws.specs.DateLaws.{IsOrderDatedBy}
 use Rattle.model_laws.proofs.StatedFacts.{earlier_stays, first_dated, none_gained, stated}
 

@@ -5,38 +5,27 @@ use Rattle.std.specs.List.{list_any, list_all}
 use Rattle.std.specs.Option.{option_map}
 use Rattle.std.proofs.lemmas.Bool.{or_parts, and_parts}
 use Rattle.std.proofs.lemmas.List.Folds.{list_all-map}
-use Rattle.desk_model.specs.Entry.{History}
+use Rattle.desk_model.specs.{Entry.History, Lookup.holds, Kept.EachOf}
 use Rattle.desk_model.specs.History.{clock, terms}
-use Rattle.desk_model.specs.Lookup.{holds}
 use Rattle.desk_model.specs.Authorization.{authorizations, authorization, made_by, made_for, count_challenges, authorization_status, is_over, is_valid, is_live}
-use Rattle.desk_model.specs.Order.{orders, ordered_by, order_status, order_status_by}
-use Rattle.desk_model.specs.Order.{has_lost, all_valid, and_found, authorizations_at, listed_by}
+use Rattle.desk_model.specs.Order.{orders, ordered_by, order_status, order_status_by, has_lost, all_valid, and_found, authorizations_at, listed_by}
 use Rattle.desk_model.specs.Legal.{EachFollows, may_follow, may_serve, may_want}
 use Rattle.desk_model.specs.Tables.{authorization_row, order_row, listed_from}
 use Rattle.desk_model.specs.Derived.{stored_statuses, and_status, authorization_numbered, numbers_of, restated_order}
-use Rattle.desk_model.specs.Effect.{noted_order, touches_authorization, names_order, lists_one, touches_order, moved_order}
-use Rattle.desk_model.specs.Effect.{is_overdue, is_live_order, falls, swept_order}
-use Rattle.desk_model.specs.declared.status.AuthzStatus.{AuthzStatus}
+use Rattle.desk_model.specs.Effect.{noted_order, touches_authorization, names_order, lists_one, touches_order, moved_order, is_overdue, is_live_order, falls}
+use Rattle.desk_model.specs.Effect.{swept_order}
+use Rattle.desk_model.specs.declared.{status.AuthzStatus.AuthzStatus, entry.Dated.Dated, entry.Entry.Entry, entry.Entry.TheVariants.Ordered as ordered}
+use Rattle.desk_model.specs.declared.{entry.Wanted.Wanted, objects.Authorization.Authorization, objects.Order.Order, rows.AuthorizationRow.AuthorizationRow}
+use Rattle.desk_model.specs.declared.{rows.OrderRow.OrderRow}
 use Rattle.desk_model.specs.declared.status.AuthzStatus.TheVariants as authz
 use Rattle.desk_model.specs.declared.status.OrderStatus.TheVariants as order
-use Rattle.desk_model.specs.Kept.{EachOf}
-use Rattle.desk_model.specs.declared.entry.Dated.{Dated}
-use Rattle.desk_model.specs.declared.entry.Entry.{Entry}
-use Rattle.desk_model.specs.declared.entry.Entry.TheVariants.{Ordered as ordered}
-use Rattle.desk_model.specs.declared.entry.Wanted.{Wanted}
 use Rattle.desk_model.specs.declared.entry.Wanted.TheVariants.{New as new, Reused as reused}
-use Rattle.desk_model.specs.declared.objects.Authorization.{Authorization}
-use Rattle.desk_model.specs.declared.objects.Order.{Order}
-use Rattle.desk_model.specs.declared.rows.AuthorizationRow.{AuthorizationRow}
-use Rattle.desk_model.specs.declared.rows.OrderRow.{OrderRow}
-use Rattle.model_laws.proofs.Basics.{list_any-map, list_any-same, any_or, each, each-append, each_after}
-use Rattle.model_laws.proofs.Basics.{map-each, find-map, find-append, still_some, there, IsNumbered, numbered-append}
-use Rattle.model_laws.proofs.OrderDates.{order_unnoted}
-use Rattle.model_laws.proofs.NewOrders.{may_be_ordered}
+use Rattle.model_laws.proofs.Basics.{list_any-map, list_any-same, any_or, each, each-append, each_after, map-each, find-map, find-append, still_some, there}
+use Rattle.model_laws.proofs.Basics.{IsNumbered, numbered-append}
+use Rattle.model_laws.proofs.{OrderDates.order_unnoted, NewOrders.may_be_ordered}
 use Rattle.model_laws.proofs.RowLists.{ascends_found, numbered_ascends}
 use Rattle.model_laws.proofs.RowFacts.{authorization_kept, authorization_later, past_later}
-use Rattle.model_laws.specs.Ordered.{Ascends}
-use Rattle.model_laws.specs.Reused.{OfReused}
+use Rattle.model_laws.specs.{Ordered.Ascends, Reused.OfReused}
 
 -- ---- the authorizations of an order are found by their numbers
 

@@ -1,21 +1,15 @@
 -- A signed request spends a nonce and issues one before its own entry: these two touch no other table.
 use Rattle.std.proofs.Common.{◌≡◌, ℕ, ◌+◌, List, [], ◌∷◌, ◌++◌, map, Option, Some, None, refl, sym, ap, subst, true, false, cond, arith}
 use Rattle.std.specs.Prelude.{◌||◌}
-use Rattle.desk_model.specs.Lookup.{holds}
-use Rattle.desk_model.specs.Tables.{Tables}
+use Rattle.desk_model.specs.{Lookup.holds, Tables.Tables, Order.listed_by}
 use Rattle.desk_model.specs.Derived.{numbers_of, authorization_numbered, restated_order}
-use Rattle.desk_model.specs.Order.{listed_by}
 use Rattle.desk_model.specs.Effect.{effect, moved_order, lists_one, noted_order, new_authorizations}
 use Rattle.desk_model.specs.Kept.{Kept, EachOf, IsClosed, Covers}
-use Rattle.desk_model.specs.declared.entry.Entry.{Entry}
+use Rattle.desk_model.specs.declared.{entry.Entry.Entry, objects.Authorization.Authorization, rows.AuthorizationRow.AuthorizationRow}
 use Rattle.desk_model.specs.declared.entry.Entry.TheVariants.{Issued as issued, Spent as spent, Ordered as ordered}
-use Rattle.desk_model.specs.declared.objects.Authorization.{Authorization}
-use Rattle.desk_model.specs.declared.rows.AuthorizationRow.{AuthorizationRow}
-use Rattle.model_laws.proofs.RowLists.{numbered_ascends}
+use Rattle.model_laws.proofs.{RowLists.numbered_ascends, Basics.each_all, Chain.up_kept}
 use Rattle.model_laws.proofs.OrderFacts.{each_listed, made_by_numbered, numbers_listed}
 use Rattle.model_laws.specs.Parts.{FreshKept, ReusedKept, CoversAll}
-use Rattle.model_laws.proofs.Basics.{each_all}
-use Rattle.model_laws.proofs.Chain.{up_kept}
 
 -- no listed row passes a test that none passes
 pub nothing_touched : (rows : List AuthorizationRow) (ns : List ℕ) → lists_one (λ a. false) rows ns ≡ false

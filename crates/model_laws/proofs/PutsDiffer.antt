@@ -1,31 +1,20 @@
 -- What is put, beside what stands there.
-use Rattle.std.proofs.Common.{subst, ◌≡◌, ◌≢◌, ◌≤◌, ◌<◌, ℕ, ◌+◌, List, [], ◌∷◌, ◌++◌, map, filter, Some, None, refl, sym, ap, ◌∙◌}
-use Rattle.std.proofs.Common.{true, false, Bool, cond, arith}
+use Rattle.std.proofs.Common.{subst, ◌≡◌, ◌≢◌, ◌≤◌, ◌<◌, ℕ, ◌+◌, List, [], ◌∷◌, ◌++◌, map, filter, Some, None, refl, sym, ap, ◌∙◌, true, false, Bool, cond}
+use Rattle.std.proofs.Common.{arith}
 use Rattle.std.specs.Prelude.{IfSome, IsTrue, Option, ◌==◌, ◌&&◌, find, is_some, unwrap_or}
-use Rattle.desk_model.specs.Keys.{thumbprint}
-use Rattle.desk_model.specs.History.{earlier}
-use Rattle.desk_model.specs.declared.objects.Answer.{Answer}
+use Rattle.desk_model.specs.{Keys.thumbprint, History.earlier, Tables.Tables, Authorization.is_live, Kept.EachOf}
+use Rattle.desk_model.specs.declared.{objects.Answer.Answer, entry.Entry.Entry, objects.Nonce.Nonce, rows.AuthorizationRow.AuthorizationRow}
+use Rattle.desk_model.specs.declared.{rows.OrderRow.OrderRow, rows.ChallengeRow.ChallengeRow, rows.Change.Change}
 use Rattle.std.proofs.lemmas.Bool.{and_parts}
-use Rattle.desk_model.specs.Tables.{Tables}
 use Rattle.desk_model.specs.Derived.{restated_authorization, restated_order}
-use Rattle.desk_model.specs.Authorization.{is_live}
-use Rattle.desk_model.specs.Effect.{noted_challenge, answered_challenge, reported_challenge, noted_account, noted_authorization}
-use Rattle.desk_model.specs.Effect.{noted_order, touches_account, touches_authorization, touches_order}
-use Rattle.desk_model.specs.Effect.{authorizations_after, is_live_order, is_overdue, falls}
-use Rattle.desk_model.specs.Change.{moved_rows, account_differs, authorization_differs, order_differs, spent_by, nonces_put}
-use Rattle.desk_model.specs.Change.{accounts_put, authorizations_put, orders_put, changes, nonces_gone, authorizations_expired}
-use Rattle.desk_model.specs.Change.{orders_fallen, sweep_changes}
-use Rattle.desk_model.specs.Kept.{EachOf}
-use Rattle.desk_model.specs.declared.entry.Entry.{Entry}
+use Rattle.desk_model.specs.Effect.{noted_challenge, answered_challenge, reported_challenge, noted_account, noted_authorization, noted_order, touches_account}
+use Rattle.desk_model.specs.Effect.{touches_authorization, touches_order, authorizations_after, is_live_order, is_overdue, falls}
+use Rattle.desk_model.specs.Change.{moved_rows, account_differs, authorization_differs, order_differs, spent_by, nonces_put, accounts_put, authorizations_put}
+use Rattle.desk_model.specs.Change.{orders_put, changes, nonces_gone, authorizations_expired, orders_fallen, sweep_changes}
 use Rattle.desk_model.specs.declared.entry.Entry.TheVariants.{Answered as answered, Reported as reported}
-use Rattle.desk_model.specs.declared.objects.Nonce.{Nonce}
-use Rattle.desk_model.specs.declared.rows.AuthorizationRow.{AuthorizationRow}
 use Rattle.desk_model.specs.declared.rows.Change.TheVariants.{PutNonce, RemoveNonce, PutAccount, PutAuthorization, PutOrder}
-use Rattle.desk_model.specs.declared.rows.OrderRow.{OrderRow}
 use Rattle.desk_model.specs.declared.status.AuthzStatus.TheVariants as authz
 use Rattle.desk_model.specs.declared.status.OrderStatus.TheVariants as order
-use Rattle.desk_model.specs.declared.rows.ChallengeRow.{ChallengeRow}
-use Rattle.desk_model.specs.declared.rows.Change.{Change}
 use Rattle.model_laws.specs.News.{IsNews, KeepsChildren, StayAnswered}
 use Rattle.model_laws.specs.Ordered.{Ascends, Below, IsTable, IsOrdered}
 use Rattle.model_laws.proofs.Basics.{each_all, each-append, each-map}

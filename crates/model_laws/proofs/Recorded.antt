@@ -2,39 +2,29 @@
 use Rattle.std.proofs.Common.{length, ◌≡◌, ◌≤◌, ◌<◌, ℕ, ◌+◌, List, [], ◌∷◌, ◌++◌, map, filter, refl, sym, ap, ◌∙◌, true, false, Bool, cond, arith}
 use Rattle.std.specs.List.{flat_map}
 use Rattle.std.proofs.lemmas.List.{length-map}
-use Rattle.desk_model.specs.Entry.{History}
+use Rattle.desk_model.specs.{Entry.History, Terms.Terms, Legal.EachFollows}
 use Rattle.desk_model.specs.History.{clock, record_all}
 use Rattle.desk_model.specs.Nonce.{nonces, issued_by}
 use Rattle.desk_model.specs.Account.{accounts, opened_by}
 use Rattle.desk_model.specs.Authorization.{authorizations, made_by}
 use Rattle.desk_model.specs.Order.{orders, ordered_by}
-use Rattle.desk_model.specs.Terms.{Terms}
-use Rattle.desk_model.specs.Legal.{EachFollows}
 use Rattle.desk_model.specs.Tables.{challenge_row, Tables, account_row, authorization_row, order_row, tables_at, picture}
 use Rattle.desk_model.specs.Derived.{restated_authorization, restated_order}
-use Rattle.desk_model.specs.Effect.{noted_account, noted_authorization, noted_order, touches_account, touches_authorization}
-use Rattle.desk_model.specs.Effect.{touches_order, fresh_account, fresh_authorization, fresh_order, not_spent}
-use Rattle.desk_model.specs.Effect.{authorizations_after, effect, effects, lasts, swept, is_overdue, falls}
-use Rattle.desk_model.specs.Change.{moved_rows, account_differs, authorization_differs, order_differs, applied_one, applied}
-use Rattle.desk_model.specs.Change.{spent_by, nonces_put, accounts_put, authorizations_put, orders_put, changes, sweep_changes}
-use Rattle.desk_model.specs.Change.{all_changes, recorded_changes, nonces_gone, authorizations_expired, orders_fallen}
+use Rattle.desk_model.specs.Effect.{noted_account, noted_authorization, noted_order, touches_account, touches_authorization, touches_order, fresh_account}
+use Rattle.desk_model.specs.Effect.{fresh_authorization, fresh_order, not_spent, authorizations_after, effect, effects, lasts, swept, is_overdue, falls}
+use Rattle.desk_model.specs.Change.{moved_rows, account_differs, authorization_differs, order_differs, applied_one, applied, spent_by, nonces_put, accounts_put}
+use Rattle.desk_model.specs.Change.{authorizations_put, orders_put, changes, sweep_changes, all_changes, recorded_changes, nonces_gone, authorizations_expired}
+use Rattle.desk_model.specs.Change.{orders_fallen}
 use Rattle.desk_model.specs.declared.status.OrderStatus.TheVariants as order
 use Rattle.desk_model.specs.declared.status.AuthzStatus.TheVariants as authz
-use Rattle.desk_model.specs.declared.entry.Entry.{Entry}
+use Rattle.desk_model.specs.declared.{entry.Entry.Entry, objects.Authorization.Authorization, objects.Nonce.Nonce, rows.AccountRow.AccountRow}
+use Rattle.desk_model.specs.declared.{rows.AuthorizationRow.AuthorizationRow, rows.Change.Change, rows.Meta.Meta, rows.OrderRow.OrderRow}
 use Rattle.desk_model.specs.declared.entry.Entry.TheVariants.{Issued as issued, Spent as spent, Opened as opened, Ordered as ordered}
-use Rattle.desk_model.specs.declared.objects.Authorization.{Authorization}
-use Rattle.desk_model.specs.declared.objects.Nonce.{Nonce}
-use Rattle.desk_model.specs.declared.rows.AccountRow.{AccountRow}
-use Rattle.desk_model.specs.declared.rows.AuthorizationRow.{AuthorizationRow}
-use Rattle.desk_model.specs.declared.rows.Change.{Change}
 use Rattle.desk_model.specs.declared.rows.Change.TheVariants.{PutMeta, PutNonce, RemoveNonce, PutAccount, PutAuthorization, PutOrder}
-use Rattle.desk_model.specs.declared.rows.Meta.{Meta}
-use Rattle.desk_model.specs.declared.rows.OrderRow.{OrderRow}
 use Rattle.model_laws.proofs.Basics.{numbered-append, IsNumbered}
 use Rattle.model_laws.specs.Ordered.{Ascends, Below, IsTable, IsOrdered}
 use Rattle.model_laws.specs.Placing.{puts, removes}
-use Rattle.model_laws.proofs.RowLists.{numbered_ascends, ascends_map, ascends_filter, puts_moved, puts_differing}
-use Rattle.model_laws.proofs.RowLists.{puts_last, puts_append, removes_filter}
+use Rattle.model_laws.proofs.RowLists.{numbered_ascends, ascends_map, ascends_filter, puts_moved, puts_differing, puts_last, puts_append, removes_filter}
 use Rattle.model_laws.proofs.OrderFacts.{authorizations_numbered, made_by_numbered}
 use Rattle.model_laws.proofs.Numbers.{AreNumbered, challenges_count, nonces_numbered, accounts_numbered, orders_numbered}
 use Rattle.model_laws.proofs.Differing.{account_unmoved, authorization_unmoved, order_unmoved}

@@ -3,15 +3,10 @@ use Rattle.std.proofs.Common.{◌≡◌, ℕ, ◌+◌, List, [], ◌∷◌, leng
 use Rattle.std.specs.Prelude.{◌==◌, IsSome}
 use Rattle.desk_model.specs.Account.{account_by_number, account_status, accounts, is_valid, opened_by}
 use Rattle.desk_model.specs.Authorization.{authorizations, count_challenges, made_by, made_for}
-use Rattle.desk_model.specs.Entry.{History}
-use Rattle.desk_model.specs.History.{terms}
-use Rattle.desk_model.specs.Kept.{EachOf}
+use Rattle.desk_model.specs.{Entry.History, History.terms, Kept.EachOf}
 use Rattle.desk_model.specs.Legal.{EachFollows, may_follow}
 use Rattle.desk_model.specs.Order.{ordered_by, orders}
-use Rattle.desk_model.specs.declared.entry.Dated.{Dated}
-use Rattle.desk_model.specs.declared.entry.Entry.{Entry}
-use Rattle.desk_model.specs.declared.entry.Entry.TheVariants.{Ordered as ordered}
-use Rattle.desk_model.specs.declared.entry.Wanted.{Wanted}
+use Rattle.desk_model.specs.declared.entry.{Dated.Dated, Entry.Entry, Entry.TheVariants.Ordered as ordered, Wanted.Wanted}
 use Rattle.desk_model.specs.declared.entry.Wanted.TheVariants.{New, Reused}
 use Rattle.model_laws.proofs.Basics.{each, each-append, still_some, there}
 use Rattle.model_laws.proofs.NewOrders.{may_be_ordered}

@@ -1,41 +1,29 @@
 -- What an entry does to a row that is there.
 use Rattle.std.proofs.Common.{◌≡◌, ◌≤◌, ◌<◌, ℕ, List, [], ◌∷◌, map, Option, Some, None, refl, sym, ap, ◌∙◌, true, false, Bool, cond, arith, ltb, leb}
 use Rattle.std.specs.Prelude.{nat_lt, ◌==◌, ◌&&◌, ◌||◌, find, is_some}
-use Rattle.std.specs.Option.{option_map}
-use Rattle.std.specs.List.{list_any}
+use Rattle.std.specs.{Option.option_map, List.list_any}
 use Rattle.std.proofs.lemmas.Bool.{leb-true, le-leb, ltb-true, lt-ltb, eqb-true, and_parts, or_parts}
 use Rattle.std.proofs.Math.Bool.{or-false}
-use Rattle.desk_model.specs.Entry.{History}
+use Rattle.desk_model.specs.{Entry.History, Lookup.holds, Keys.thumbprint, Kept.EachOf}
 use Rattle.desk_model.specs.History.{clock, first, earlier}
-use Rattle.desk_model.specs.Lookup.{holds}
 use Rattle.desk_model.specs.Account.{account_key, accounts, key_if}
-use Rattle.desk_model.specs.Keys.{thumbprint}
-use Rattle.desk_model.specs.Authorization.{ends, in_time, authorization_end, authorization_status, authorization_status_by, ends_by}
-use Rattle.desk_model.specs.Authorization.{when_proved, proving, answer, answer_by, answering, reporting, when_answered, report, challenge_status}
-use Rattle.desk_model.specs.Authorization.{challenge_status_by, is_good, has_challenge, status_of, kind_of, is_live}
+use Rattle.desk_model.specs.Authorization.{ends, in_time, authorization_end, authorization_status, authorization_status_by, ends_by, when_proved, proving}
+use Rattle.desk_model.specs.Authorization.{answer, answer_by, answering, reporting, when_answered, report, challenge_status, challenge_status_by, is_good}
+use Rattle.desk_model.specs.Authorization.{has_challenge, status_of, kind_of, is_live}
 use Rattle.desk_model.specs.Legal.{may_follow, is_processing_challenge, EachFollows}
 use Rattle.desk_model.specs.Tables.{account_row, challenge_row, authorization_row}
 use Rattle.desk_model.specs.Derived.{is_proved, restated_authorization}
-use Rattle.desk_model.specs.Effect.{key_in, key_numbered, noted_challenge, answered_challenge, reported_challenge, noted_authorization, row_ends}
-use Rattle.desk_model.specs.Effect.{has_row, touches_authorization, moved_authorization, is_overdue, swept_authorization}
+use Rattle.desk_model.specs.Effect.{key_in, key_numbered, noted_challenge, answered_challenge, reported_challenge, noted_authorization, row_ends, has_row}
+use Rattle.desk_model.specs.Effect.{touches_authorization, moved_authorization, is_overdue, swept_authorization}
 use Rattle.desk_model.specs.declared.objects.EndKind.TheVariants as kind
 use Rattle.desk_model.specs.declared.status.AuthzStatus.TheVariants as authz
 use Rattle.desk_model.specs.declared.status.ChallengeStatus.TheVariants as chall
-use Rattle.desk_model.specs.Kept.{EachOf}
-use Rattle.desk_model.specs.declared.entry.Entry.{Entry}
-use Rattle.desk_model.specs.declared.entry.Entry.TheVariants.{AccountEnded as account_ended, Answered as answered}
-use Rattle.desk_model.specs.declared.entry.Entry.TheVariants.{Reported as reported, AuthorizationEnded as authorization_ended}
-use Rattle.desk_model.specs.declared.entry.Outcome.{Outcome}
-use Rattle.desk_model.specs.declared.objects.Account.{Account}
-use Rattle.desk_model.specs.declared.objects.Answer.{Answer}
-use Rattle.desk_model.specs.declared.objects.Authorization.{Authorization}
-use Rattle.desk_model.specs.declared.objects.AuthorizationEnd.{AuthorizationEnd}
-use Rattle.desk_model.specs.declared.objects.Challenge.{Challenge}
-use Rattle.desk_model.specs.declared.objects.EndKind.{EndKind}
-use Rattle.desk_model.specs.declared.objects.Report.{Report}
-use Rattle.desk_model.specs.declared.rows.AccountRow.{AccountRow}
-use Rattle.desk_model.specs.declared.rows.AuthorizationRow.{AuthorizationRow}
-use Rattle.desk_model.specs.declared.rows.ChallengeRow.{ChallengeRow}
+use Rattle.desk_model.specs.declared.{entry.Entry.Entry, entry.Outcome.Outcome, objects.Account.Account, objects.Answer.Answer}
+use Rattle.desk_model.specs.declared.{objects.Authorization.Authorization, objects.AuthorizationEnd.AuthorizationEnd, objects.Challenge.Challenge}
+use Rattle.desk_model.specs.declared.{objects.EndKind.EndKind, objects.Report.Report, rows.AccountRow.AccountRow, rows.AuthorizationRow.AuthorizationRow}
+use Rattle.desk_model.specs.declared.{rows.ChallengeRow.ChallengeRow}
+use Rattle.desk_model.specs.declared.entry.Entry.TheVariants.{AccountEnded as account_ended, Answered as answered, Reported as reported}
+use Rattle.desk_model.specs.declared.entry.Entry.TheVariants.{AuthorizationEnded as authorization_ended}
 use Rattle.model_laws.proofs.Basics.{earlier-some, none_earlier, is_some-earlier, list_any-map, list_any-same, any_or, each, each_all, find-map, map-moved}
 
 -- ---- challenges
@@ -366,8 +354,7 @@ past_later x t m le h = let past : x < t = ltb-true x t h in lt-ltb x m (omega a
 -- an end leaves nothing to prove
 ended_over : (k : EndKind) → is_live (status_of k) ≡ false
 ended_over kind.Invalid = refl
-ended_over kind.Deactivated = refl
-ended_over kind.Revoked = refl
+ended_over _ = refl
 
 -- an authorization's status at a later moment
 swept_status : (o : Option AuthorizationEnd) (past later proved : Bool) → (past ≡ true → later ≡ true) →

@@ -1,31 +1,23 @@
 -- The tables of a longer history, and those of a later moment.
-use Rattle.std.proofs.Common.{◌≡◌, ◌≤◌, ℕ, ◌+◌, List, [], ◌∷◌, ◌++◌, length, map, filter, Option, Some, None, refl, sym, ap, ◌∙◌}
-use Rattle.std.proofs.Common.{true, false, Bool, cond, arith, leb, not, length-append}
+use Rattle.std.proofs.Common.{◌≡◌, ◌≤◌, ℕ, ◌+◌, List, [], ◌∷◌, ◌++◌, length, map, filter, Option, Some, None, refl, sym, ap, ◌∙◌, true, false, Bool, cond}
+use Rattle.std.proofs.Common.{arith, leb, not, length-append}
 use Rattle.std.specs.Prelude.{nat_le, ◌==◌, ◌&&◌, is_none, unwrap_or}
 use Rattle.std.proofs.lemmas.List.{map-append}
 use Rattle.std.proofs.lemmas.Bool.{leb-true, le-leb, and_parts}
-use Rattle.desk_model.specs.Entry.{History}
-use Rattle.desk_model.specs.Terms.{are_terms}
+use Rattle.desk_model.specs.{Entry.History, Terms.are_terms, Order.orders, Kept.EachOf}
 use Rattle.desk_model.specs.History.{clock, terms, latest, earlier, record_all}
 use Rattle.desk_model.specs.Nonce.{nonces, issued_by, is_open, when_spent, spending}
 use Rattle.desk_model.specs.Account.{accounts, opened_by, changing, rekeying, ends as account_ends, status_of as account_status_of}
 use Rattle.desk_model.specs.Authorization.{authorizations, count_challenges}
-use Rattle.desk_model.specs.Order.{orders}
 use Rattle.desk_model.specs.Legal.{EachFollows, is_empty}
 use Rattle.desk_model.specs.Tables.{account_row, authorization_row, order_row, tables_at, picture}
 use Rattle.desk_model.specs.Derived.{restated_authorization, restated_order}
-use Rattle.desk_model.specs.Effect.{noted_account, touches_account, moved_account, moved_authorization, moved_order}
-use Rattle.desk_model.specs.Effect.{fresh_account, fresh_authorization, fresh_order, not_spent, effect, effects, lasts, swept}
-use Rattle.desk_model.specs.Effect.{swept_authorization, swept_order}
-use Rattle.desk_model.specs.Kept.{EachOf}
-use Rattle.desk_model.specs.declared.entry.Dated.{Dated}
-use Rattle.desk_model.specs.declared.entry.Entry.{Entry}
-use Rattle.desk_model.specs.declared.entry.Entry.TheVariants.{Made as made, Issued as issued, Spent as spent}
-use Rattle.desk_model.specs.declared.entry.Entry.TheVariants.{ContactsChanged as contacts_changed, KeyChanged as key_changed, AccountEnded as account_ended}
-use Rattle.desk_model.specs.declared.objects.Account.{Account}
-use Rattle.desk_model.specs.declared.objects.AccountEnd.{AccountEnd}
-use Rattle.desk_model.specs.declared.objects.Nonce.{Nonce}
-use Rattle.desk_model.specs.declared.rows.AccountRow.{AccountRow}
+use Rattle.desk_model.specs.Effect.{noted_account, touches_account, moved_account, moved_authorization, moved_order, fresh_account, fresh_authorization}
+use Rattle.desk_model.specs.Effect.{fresh_order, not_spent, effect, effects, lasts, swept, swept_authorization, swept_order}
+use Rattle.desk_model.specs.declared.{entry.Dated.Dated, entry.Entry.Entry, objects.Account.Account, objects.AccountEnd.AccountEnd, objects.Nonce.Nonce}
+use Rattle.desk_model.specs.declared.{rows.AccountRow.AccountRow}
+use Rattle.desk_model.specs.declared.entry.Entry.TheVariants.{Made as made, Issued as issued, Spent as spent, ContactsChanged as contacts_changed}
+use Rattle.desk_model.specs.declared.entry.Entry.TheVariants.{KeyChanged as key_changed, AccountEnded as account_ended}
 use Rattle.model_laws.proofs.Basics.{earlier-some, none_earlier, each, each_all, map-each, map-moved}
 use Rattle.model_laws.proofs.RowFacts.{authorization_moves, authorization_swept}
 use Rattle.model_laws.proofs.OrderFacts.{listed_found, AreFound, order_moves, order_swept}

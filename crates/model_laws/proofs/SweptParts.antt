@@ -3,17 +3,13 @@ use Rattle.std.proofs.Common.{◌≡◌, ℕ, List, [], ◌∷◌, map, Some, re
 use Rattle.std.specs.Prelude.{◌==◌, ◌||◌}
 use Rattle.desk_model.specs.declared.status.AuthzStatus.TheVariants as authz
 use Rattle.desk_model.specs.declared.status.OrderStatus.TheVariants as order
-use Rattle.desk_model.specs.Lookup.{holds}
-use Rattle.desk_model.specs.Tables.{Tables}
+use Rattle.desk_model.specs.{Lookup.holds, Tables.Tables}
 use Rattle.desk_model.specs.Derived.{numbers_of, authorization_numbered}
 use Rattle.desk_model.specs.Effect.{touches_authorization, touches_order, names_order, lists_one, is_overdue, falls, swept, swept_authorization, swept_order}
 use Rattle.desk_model.specs.Kept.{Kept, EachOf, IsClosed, Covers}
-use Rattle.desk_model.specs.declared.entry.Entry.{Entry}
-use Rattle.desk_model.specs.declared.entry.Entry.TheVariants.{Answered as answered, Reported as reported}
-use Rattle.desk_model.specs.declared.entry.Entry.TheVariants.{AuthorizationEnded as authorization_ended}
+use Rattle.desk_model.specs.declared.{entry.Entry.Entry, rows.AuthorizationRow.AuthorizationRow, rows.OrderRow.OrderRow}
+use Rattle.desk_model.specs.declared.entry.Entry.TheVariants.{Answered as answered, Reported as reported, AuthorizationEnded as authorization_ended}
 use Rattle.desk_model.specs.declared.entry.Entry.TheVariants.{AccountEnded as account_ended}
-use Rattle.desk_model.specs.declared.rows.AuthorizationRow.{AuthorizationRow}
-use Rattle.desk_model.specs.declared.rows.OrderRow.{OrderRow}
 use Rattle.model_laws.proofs.Basics.{each, each-map}
 use Rattle.model_laws.proofs.Local.{swept_number, swept_order_number}
 

@@ -1,23 +1,15 @@
 -- The texts that a history keeps are UTF-8.
 use Rattle.std.proofs.Common.{◌≡◌, ℕ, ◌+◌, [], ◌∷◌, length, IsUtf8, IfSome, true}
 use Rattle.std.specs.Prelude.{◌==◌}
-use Rattle.std.proofs.lemmas.Bool.{and_parts}
-use Rattle.std.proofs.lemmas.Str.{IsUtf8-nil}
+use Rattle.std.proofs.lemmas.{Bool.and_parts, Str.IsUtf8-nil}
 use Rattle.desk_model.specs.Account.{accounts, changing, key_of, opened_by}
-use Rattle.desk_model.specs.Authorization.{authorizations}
-use Rattle.desk_model.specs.Entry.{History}
-use Rattle.desk_model.specs.History.{terms}
-use Rattle.desk_model.specs.Kept.{EachOf}
-use Rattle.desk_model.specs.Keys.{IsKeyText}
+use Rattle.desk_model.specs.{Authorization.authorizations, Entry.History, History.terms, Kept.EachOf, Keys.IsKeyText, Terms.are_terms}
 use Rattle.desk_model.specs.Legal.{EachFollows, IsFormed, is_empty, may_follow}
 use Rattle.desk_model.specs.Order.{failing, failure, orders}
 use Rattle.desk_model.specs.Tables.{account_row, authorization_row, order_row, tables_at}
-use Rattle.desk_model.specs.Terms.{are_terms}
 use Rattle.desk_model.specs.Texts.{AreTexts, IsTextProblem, HoldsTextAccount, HoldTexts}
-use Rattle.desk_model.specs.declared.entry.Entry.{Entry}
+use Rattle.desk_model.specs.declared.{entry.Entry.Entry, objects.Account.Account, rows.DatedProblem.DatedProblem}
 use Rattle.desk_model.specs.declared.entry.Entry.TheVariants.{Made as made, Opened as opened, ContactsChanged as contacts_changed, Failed as failed}
-use Rattle.desk_model.specs.declared.objects.Account.{Account}
-use Rattle.desk_model.specs.declared.rows.DatedProblem.{DatedProblem}
 use Rattle.model_laws.proofs.AsciiTexts.{base_text, base_name_text, key_text}
 use Rattle.model_laws.proofs.Basics.{each, each_all, each_both, each-append, each-map}
 use Rattle.model_laws.proofs.Keeps.{each_formed, keys_now_formed, names_formed}

@@ -1,7 +1,5 @@
 use Rattle.model_laws.proofs.PutsDiffer.{swept_puts_differ, puts_differ, swept_puts_keep_children, puts_keep_children}
-use Rattle.model_laws.proofs.KeptInOrder.{records_keep}
-use Rattle.model_laws.proofs.NewChildren.{records_bring_new_children}
-use Rattle.model_laws.proofs.NewsInOrder.{records_put_news}
+use Rattle.model_laws.proofs.{KeptInOrder.records_keep, NewChildren.records_bring_new_children, NewsInOrder.records_put_news}
 use Rattle.model_laws.proofs.Recorded.{tables_ordered, challenges_ordered, sweep_makes, changes_make, recorded}
 use Rattle.model_laws.proofs.changes_make_pictures.Goals as goal
 

@@ -1,10 +1,7 @@
 use Rattle.model_laws.proofs.Dates.{clock_in_time, no_date_later}
-use Rattle.model_laws.proofs.Keeps.{reported_once, row_keys_differ, counters_fit, numbers_fit_counters, terms_in_limits, all_end}
-use Rattle.model_laws.proofs.Keeps.{row_keys_formed, row_names_formed}
-use Rattle.model_laws.proofs.Numbers.{all_named}
-use Rattle.model_laws.proofs.RowFacts.{proved_by}
-use Rattle.model_laws.proofs.TextFacts.{hold_texts}
-use Rattle.model_laws.proofs.FirstKeys.{rows_under}
+use Rattle.model_laws.proofs.Keeps.{reported_once, row_keys_differ, counters_fit, numbers_fit_counters, terms_in_limits, all_end, row_keys_formed}
+use Rattle.model_laws.proofs.Keeps.{row_names_formed}
+use Rattle.model_laws.proofs.{Numbers.all_named, RowFacts.proved_by, TextFacts.hold_texts, FirstKeys.rows_under}
 use Rattle.model_laws.proofs.legal_histories_keep.Goals as goal
 
 pub returns-clause-named : goal.returns-clause-named
