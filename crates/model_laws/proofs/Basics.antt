@@ -165,3 +165,8 @@ eq_turn a b = by (a == b) refl
     by : (c : Bool) → (a == b) ≡ c → c ≡ (b == a)
     by true e = sym (eq-eqb b a (sym (eqb-true a b e)))
     by false e = sym (ne_eqb b a (apart e))
+
+-- a row that is moved or not keeps what both have
+pub one_kept : {X Y : Type 0} (value : X → Y) (b : Bool) (x y : X) → value x ≡ value y → value (cond b x y) ≡ value y
+one_kept value true x y h = h
+one_kept value false x y h = refl

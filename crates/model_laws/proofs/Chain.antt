@@ -1,10 +1,10 @@
 -- Several entries on a part.
-use Rattle.std.proofs.Common.{◌≡◌, ◌≤◌, ◌<◌, ℕ, ◌+◌, List, [], ◌∷◌, ◌++◌, map, filter, refl, sym, ap, ◌∙◌, true, false, Bool, cond, arith}
+use Rattle.std.proofs.Common.{◌≡◌, ◌≤◌, ◌<◌, ℕ, ◌+◌, List, [], ◌∷◌, ◌++◌, map, filter, refl, sym, ap, ◌∙◌, true, Bool, cond, arith}
 use Rattle.desk_model.specs.{Entry.History, Legal.EachFollows, Nonce.issued_by, Account.opened_by, Order.ordered_by}
 use Rattle.desk_model.specs.History.{clock, record_all}
 use Rattle.desk_model.specs.Tables.{Tables, picture}
 use Rattle.desk_model.specs.Derived.{numbers_of, restated_authorization, restated_order}
-use Rattle.desk_model.specs.Effect.{noted_account, noted_order, touches_account, touches_order, moved_account, moved_authorization, moved_order, fresh_account}
+use Rattle.desk_model.specs.Effect.{noted_order, touches_account, touches_order, moved_account, moved_authorization, moved_order, fresh_account}
 use Rattle.desk_model.specs.Effect.{fresh_authorization, fresh_order, not_spent, new_authorizations, authorizations_after, effect, effects, swept}
 use Rattle.desk_model.specs.Change.{all_changes, recorded_changes, applied}
 use Rattle.desk_model.specs.Kept.{Kept, restricted, EachOf, IsClosed, CoversSweep, HoldersKept}
@@ -12,7 +12,7 @@ use Rattle.desk_model.specs.declared.{entry.Entry.Entry, objects.Nonce.Nonce, ro
 use Rattle.desk_model.specs.declared.{rows.Change.TheVariants.PutMeta, rows.OrderRow.OrderRow}
 use Rattle.model_laws.specs.Ordered.{Ascends}
 use Rattle.model_laws.specs.Parts.{FreshKept, CoversAll}
-use Rattle.model_laws.proofs.Basics.{each, each_all}
+use Rattle.model_laws.proofs.Basics.{each, each_all, one_kept}
 use Rattle.model_laws.proofs.Recorded.{issued_up, opened_up, ordered_up, made_up, recorded}
 use Rattle.model_laws.proofs.Step.{filter-append}
 use Rattle.model_laws.proofs.Local.{all_moved_same, filters_swap, filter_all, moved_part, restated_same, kept_after, moved_number, touches_same, changes_local}
@@ -36,19 +36,11 @@ part_on number kept f g xs fresh fresh' same each_same e all =
 
 -- a moved account keeps its number
 pub account_number : (e : Entry) (m : ℕ) (row : AccountRow) → (moved_account e m row).number ≡ row.number
-account_number e m row = by (touches_account e row)
-  where
-    by : (b : Bool) → (cond b (noted_account e m row) row).number ≡ row.number
-    by true = refl
-    by false = refl
+account_number e m row = one_kept (λ (a : AccountRow). a.number) (touches_account e row) _ row refl
 
 -- a moved order keeps its number
 pub order_number : (e : Entry) (m : ℕ) (before after : List AuthorizationRow) (row : OrderRow) → (moved_order e m before after row).number ≡ row.number
-order_number e m before after row = by (touches_order e before row)
-  where
-    by : (b : Bool) → (cond b (restated_order m after (noted_order e m row)) row).number ≡ row.number
-    by true = refl
-    by false = refl
+order_number e m before after row = one_kept (λ (o : OrderRow). o.number) (touches_order e before row) _ row refl
 
 -- new orders get the same status from the part as from the whole
 fresh_orders : (k : Kept) (T : Tables) (m : ℕ) (e : Entry) (xs : List _) → HoldersKept k T e →

@@ -23,24 +23,18 @@ use Rattle.model_laws.proofs.StatedFacts.{earlier_holds, first_dated, stated}
 -- ---- each fact has the date of its entry
 
 -- how an account ended
-account_end_dated : (n : ℕ) (e : Dated) → IfSome (account_ends n e.entry e.date) (λ x. x.date ≤ e.date)
-account_end_dated n e = by e.entry
-  where
-    by : (entry : Entry) → IfSome (account_ends n entry e.date) (λ x. x.date ≤ e.date)
-    by (account_ended k s) = stated _ (k == n) _ (omega arith)
-    by _ = tt
+account_end_dated : (n : ℕ) (e : Entry) (m : ℕ) → IfSome (account_ends n e m) (λ x. x.date ≤ m)
+account_end_dated n (account_ended k s) m = stated _ (k == n) _ (omega arith)
+account_end_dated n _ m = tt
 
 -- an answer to a challenge, under the key of a later moment or not
-answer_dated : (key : List ℕ) (n : ℕ) (e : Dated) → IfSome (answer_by key (answering n e.entry e.date)) (λ a. a.date ≤ e.date)
-answer_dated key n e = by e.entry
+answer_dated : (key : List ℕ) (n : ℕ) (e : Entry) (m : ℕ) → IfSome (answer_by key (answering n e m)) (λ a. a.date ≤ m)
+answer_dated key n (answered k) m = chosen (k == n)
   where
-    chosen : (b : Bool) → IfSome (answer_by key (cond b (Some e.date) None)) (λ a. a.date ≤ e.date)
+    chosen : (b : Bool) → IfSome (answer_by key (cond b (Some m) None)) (λ a. a.date ≤ m)
     chosen true = omega arith
     chosen false = tt
-
-    by : (entry : Entry) → IfSome (answer_by key (answering n entry e.date)) (λ a. a.date ≤ e.date)
-    by (answered k) = chosen (k == n)
-    by _ = tt
+answer_dated key n _ m = tt
 
 -- the first one
 answers_dated : (account n : ℕ) (F : History) → IfSome (answer account n F) (λ a. a.date ≤ clock F)
@@ -48,30 +42,24 @@ answers_dated account n [] = tt
 answers_dated account n (e ∷ F) =
     earlier_holds _ (answer account n F) (answer_by (account_key account F) (answering n e.entry e.date))
     (IfSome_then (answer account n F) (answers_dated account n F) (λ a h. let le : a.date ≤ clock F = h in omega arith))
-    (IfSome_then (answer_by (account_key account F) (answering n e.entry e.date)) (answer_dated (account_key account F) n e)
+    (IfSome_then (answer_by (account_key account F) (answering n e.entry e.date)) (answer_dated (account_key account F) n e.entry e.date)
     (λ a h. let le : a.date ≤ e.date = h in omega arith))
 
 -- a report on a challenge
-report_dated : (n : ℕ) (e : Dated) → IfSome (reporting n e.entry e.date) (λ x. x.date ≤ e.date)
-report_dated n e = by e.entry
-  where
-    by : (entry : Entry) → IfSome (reporting n entry e.date) (λ x. x.date ≤ e.date)
-    by (reported k o) = stated _ (k == n) _ (omega arith)
-    by _ = tt
+report_dated : (n : ℕ) (e : Entry) (m : ℕ) → IfSome (reporting n e m) (λ x. x.date ≤ m)
+report_dated n (reported k o) m = stated _ (k == n) _ (omega arith)
+report_dated n _ m = tt
 
 -- how an authorization ended
-authorization_end_dated : (a : Authorization) (e : Dated) → IfSome (ends a e.entry e.date) (λ x. x.date ≤ e.date)
-authorization_end_dated a e = by e.entry
+authorization_end_dated : (a : Authorization) (e : Entry) (m : ℕ) → IfSome (ends a e m) (λ x. x.date ≤ m)
+authorization_end_dated a (reported k o) m = unless_good (is_good o) _ (stated _ (has_challenge k a) _ (omega arith))
   where
-    unless_good : (good : Bool) (o : Option AuthorizationEnd) → IfSome o (λ x. x.date ≤ e.date) → IfSome (cond good None o) (λ x. x.date ≤ e.date)
+    unless_good : (good : Bool) (o : Option AuthorizationEnd) → IfSome o (λ x. x.date ≤ m) → IfSome (cond good None o) (λ x. x.date ≤ m)
     unless_good true o h = tt
     unless_good false o h = h
-
-    by : (entry : Entry) → IfSome (ends a entry e.date) (λ x. x.date ≤ e.date)
-    by (reported k o) = unless_good (is_good o) _ (stated _ (has_challenge k a) _ (omega arith))
-    by (authorization_ended k s) = stated _ (k == a.number) _ (omega arith)
-    by (account_ended k s) = stated _ (k == a.account) _ (omega arith)
-    by _ = tt
+authorization_end_dated a (authorization_ended k s) m = stated _ (k == a.number) _ (omega arith)
+authorization_end_dated a (account_ended k s) m = stated _ (k == a.account) _ (omega arith)
+authorization_end_dated a _ m = tt
 
 -- an end that counts is an end
 in_time_holds : (P : AuthorizationEnd → Type 0) (expires : ℕ) (o : Option AuthorizationEnd) → IfSome o P → IfSome (in_time expires o) P
@@ -139,15 +127,18 @@ no_date_later F t =
     record {
       nonces = each-filter _ (is_open F t) (nonces F) (nonces_issued F);
       accounts = each-map _ (account_row F) (accounts F)
-          (each _ _ (accounts F) (λ a made. record { opened = made; ended = first_dated (λ x. x.date) _ (account_end_dated a.number) F }) (accounts_opened F));
+          (each _ _ (accounts F) (λ a made. record {
+            opened = made;
+            ended = first_dated (λ x. x.date) _ (λ e. account_end_dated a.number e.entry e.date) F;
+          }) (accounts_opened F));
       authorizations = each-map _ (authorization_row F t) (authorizations F)
           (each _ _ (authorizations F) (λ a made. record {
             made = made;
-            ended = in_time_holds _ a.expires _ (first_dated (λ x. x.date) _ (authorization_end_dated a) F);
+            ended = in_time_holds _ a.expires _ (first_dated (λ x. x.date) _ (λ e. authorization_end_dated a e.entry e.date) F);
             challenges = each-map (IsChallengeDatedBy (clock F)) (challenge_row F a.account) a.challenges
                 (each_all _ a.challenges (λ c. record {
                   answered = answers_dated a.account c.number F;
-                  reported = first_dated (λ x. x.date) _ (report_dated c.number) F;
+                  reported = first_dated (λ x. x.date) _ (λ e. report_dated c.number e.entry e.date) F;
                 }));
           }) (authorizations_made F));
       orders = each-map _ (order_row F t) (orders F)

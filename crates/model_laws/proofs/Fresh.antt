@@ -46,52 +46,34 @@ order_unnamed (e ∷ F) t m rows o h =
     ap (restated_order m rows) (order_unnoted e.entry e.date (order_row F t o) h.0) ∙ order_unnamed F t m rows o h.1
 
 -- a challenge of a number that was not given has no answer
-new_challenge_answer : (c : Counts) (n : ℕ) → c.challenges < n → (d : Dated) → NamesGiven c d.entry → answering n d.entry d.date ≡ None
-new_challenge_answer c n new d named = by d.entry named
-  where
-    by : (e : Entry) → NamesGiven c e → answering n e d.date ≡ None
-    by (answered k) h = rw (less_differs k n (omega arith)) refl
-    by _ h = refl
+new_challenge_answer : (c : Counts) (n : ℕ) → c.challenges < n → (e : Entry) (m : ℕ) → NamesGiven c e → answering n e m ≡ None
+new_challenge_answer c n new (answered k) m h = rw (less_differs k n (omega arith)) refl
+new_challenge_answer c n new _ m h = refl
 
 -- and no report
-new_challenge_report : (c : Counts) (n : ℕ) → c.challenges < n → (d : Dated) → NamesGiven c d.entry → reporting n d.entry d.date ≡ None
-new_challenge_report c n new d named = by d.entry named
-  where
-    by : (e : Entry) → NamesGiven c e → reporting n e d.date ≡ None
-    by (reported k o) h = rw (less_differs k n (omega arith)) refl
-    by _ h = refl
+new_challenge_report : (c : Counts) (n : ℕ) → c.challenges < n → (e : Entry) (m : ℕ) → NamesGiven c e → reporting n e m ≡ None
+new_challenge_report c n new (reported k o) m h = rw (less_differs k n (omega arith)) refl
+new_challenge_report c n new _ m h = refl
 
 -- an account of a number that was not given has no end
-new_account_end : (c : Counts) (n : ℕ) → c.accounts < n → (d : Dated) → NamesGiven c d.entry → account_ends n d.entry d.date ≡ None
-new_account_end c n new d named = by d.entry named
-  where
-    by : (e : Entry) → NamesGiven c e → account_ends n e d.date ≡ None
-    by (account_ended k s) h = rw (less_differs k n (omega arith)) refl
-    by _ h = refl
+new_account_end : (c : Counts) (n : ℕ) → c.accounts < n → (e : Entry) (m : ℕ) → NamesGiven c e → account_ends n e m ≡ None
+new_account_end c n new (account_ended k s) m h = rw (less_differs k n (omega arith)) refl
+new_account_end c n new _ m h = refl
 
 -- and no new contacts
-new_account_contacts : (c : Counts) (n : ℕ) → c.accounts < n → (d : Dated) → NamesGiven c d.entry → changing n d.entry ≡ None
-new_account_contacts c n new d named = by d.entry named
-  where
-    by : (e : Entry) → NamesGiven c e → changing n e ≡ None
-    by (contacts_changed k cs) h = rw (less_differs k n (omega arith)) refl
-    by _ h = refl
+new_account_contacts : (c : Counts) (n : ℕ) → c.accounts < n → (e : Entry) → NamesGiven c e → changing n e ≡ None
+new_account_contacts c n new (contacts_changed k cs) h = rw (less_differs k n (omega arith)) refl
+new_account_contacts c n new _ h = refl
 
 -- and no other key
-pub new_account_key : (c : Counts) (n : ℕ) → c.accounts < n → (d : Dated) → NamesGiven c d.entry → rekeying n d.entry ≡ None
-new_account_key c n new d named = by d.entry named
-  where
-    by : (e : Entry) → NamesGiven c e → rekeying n e ≡ None
-    by (key_changed k key) h = rw (less_differs k n (omega arith)) refl
-    by _ h = refl
+pub new_account_key : (c : Counts) (n : ℕ) → c.accounts < n → (e : Entry) → NamesGiven c e → rekeying n e ≡ None
+new_account_key c n new (key_changed k key) h = rw (less_differs k n (omega arith)) refl
+new_account_key c n new _ h = refl
 
 -- a nonce of a serial that was not given is not spent
-pub new_nonce_spent : (c : Counts) (n : ℕ) → c.nonces < n → (d : Dated) → NamesGiven c d.entry → spending n d.entry d.date ≡ None
-new_nonce_spent c n new d named = by d.entry named
-  where
-    by : (e : Entry) → NamesGiven c e → spending n e d.date ≡ None
-    by (spent k) h = rw (less_differs k n (omega arith)) refl
-    by _ h = refl
+pub new_nonce_spent : (c : Counts) (n : ℕ) → c.nonces < n → (e : Entry) (m : ℕ) → NamesGiven c e → spending n e m ≡ None
+new_nonce_spent c n new (spent k) m h = rw (less_differs k n (omega arith)) refl
+new_nonce_spent c n new _ m h = refl
 
 -- a new order
 pub orders_fresh : (F : History) (e : Entry) (m : ℕ) → EachFollows (record { date = m; entry = e } ∷ F) →
@@ -122,11 +104,11 @@ accounts_fresh F (opened k cs) m h =
     let new : length (accounts F) < n = omega arith in
     let named = all_named F h.1 in
     let ended_none : first (λ d. account_ends n d.entry d.date) F ≡ None =
-    no_first (λ d. account_ends n d.entry d.date) F (each _ _ F (new_account_end (counts F) n new) named) in
+    no_first (λ d. account_ends n d.entry d.date) F (each _ _ F (λ d. new_account_end (counts F) n new d.entry d.date) named) in
     let changed_none : latest (λ d. changing n d.entry) F ≡ None =
-    no_latest (λ d. changing n d.entry) F (each _ _ F (new_account_contacts (counts F) n new) named) in
+    no_latest (λ d. changing n d.entry) F (each _ _ F (λ d. new_account_contacts (counts F) n new d.entry) named) in
     let rekeyed_none : latest (λ d. rekeying n d.entry) F ≡ None =
-    no_latest (λ d. rekeying n d.entry) F (each _ _ F (new_account_key (counts F) n new) named) in (
+    no_latest (λ d. rekeying n d.entry) F (each _ _ F (λ d. new_account_key (counts F) n new d.entry) named) in (
       (λ i. record {
         number = n;
         key = unwrap_or (earlier None (rekeyed_none i)) k;
@@ -191,11 +173,11 @@ challenges_fresh F account n (c ∷ cs) h lt numbered =
     let start : c.number ≡ n = numbered.0 in
     let new : count_challenges (authorizations F) < c.number = omega arith in
     let named = all_named F h in
-    let never = each _ _ F (new_challenge_answer (counts F) c.number new) named in
+    let never = each _ _ F (λ d. new_challenge_answer (counts F) c.number new d.entry d.date) named in
     let answered_none : answer account c.number F ≡ None = unanswered account c.number F never in
     let when_none : when_answered c.number F ≡ None = no_first (λ d. answering c.number d.entry d.date) F never in
     let reported_none : report c.number F ≡ None =
-    no_first (λ d. reporting c.number d.entry d.date) F (each _ _ F (new_challenge_report (counts F) c.number new) named) in (
+    no_first (λ d. reporting c.number d.entry d.date) F (each _ _ F (λ d. new_challenge_report (counts F) c.number new d.entry d.date) named) in (
       (λ i. record {
         number = c.number;
         kind = c.kind;

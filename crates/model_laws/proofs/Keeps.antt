@@ -143,7 +143,7 @@ keys_differ (e ∷ F) h =
         let n : ℕ = length (accounts F) + 1 in
         let a : Account = record { number = n; key = key; contacts = cs; opened = d.date } in
         let none : latest (λ c. rekeying n c.entry) F ≡ None =
-        no_latest (λ c. rekeying n c.entry) F (each _ _ F (new_account_key (counts F) n (omega arith)) (all_named F h.1)) in
+        no_latest (λ c. rekeying n c.entry) F (each _ _ F (λ d. new_account_key (counts F) n (omega arith) d.entry) (all_named F h.1)) in
         let kept : key_of x (d ∷ F) ≡ key_of x F = key_moves d F x ∙ ap (λ entry. unwrap_or (rekeying x.number entry) (key_of x F)) is in
         let given : key_of a (d ∷ F) ≡ key =
         key_moves d F a ∙ ap (λ entry. unwrap_or (rekeying n entry) (key_of a F)) is ∙ ap (λ o. unwrap_or o key) none in

@@ -19,7 +19,7 @@ use Rattle.desk_model.specs.declared.{entry.Entry.Entry, objects.Nonce.Nonce, ob
 use Rattle.desk_model.specs.declared.{rows.AuthorizationRow.AuthorizationRow, rows.OrderRow.OrderRow}
 use Rattle.desk_model.specs.declared.rows.Change.TheVariants.{PutNonce, RemoveNonce, PutAccount, PutAuthorization, PutOrder}
 use Rattle.model_laws.specs.Parts.{FreshKept}
-use Rattle.model_laws.proofs.Basics.{each, each_all}
+use Rattle.model_laws.proofs.Basics.{each, each_all, one_kept}
 use Rattle.model_laws.proofs.{OrderFacts.restated_alike, RowFacts.authorization_untouched}
 
 -- ---- lists
@@ -96,11 +96,7 @@ kept_before k T ns h = each _ _ ns (λ n yes. find_kept (λ (a : AuthorizationRo
 
 -- a moved authorization keeps its number
 pub moved_number : (e : Entry) (m : ℕ) (accounts : List AccountRow) (row : AuthorizationRow) → (moved_authorization e m accounts row).number ≡ row.number
-moved_number e m accounts row = by (touches_authorization e row)
-  where
-    by : (b : Bool) → (cond b (restated_authorization m (noted_authorization e m accounts row)) row).number ≡ row.number
-    by true = refl
-    by false = refl
+moved_number e m accounts row = one_kept (λ (a : AuthorizationRow). a.number) (touches_authorization e row) _ row refl
 
 -- an account that is kept has its key in the part
 key_kept : (k : Kept) (T : Tables) (n : ℕ) → k.accounts n ≡ true → key_numbered n (restricted k T).accounts ≡ key_numbered n T.accounts
@@ -256,23 +252,17 @@ filters_swap p q (x ∷ xs) = by (p x) refl (q x) refl (filters_swap p q xs)
 
 -- a swept authorization keeps its number
 pub swept_number : (m : ℕ) (row : AuthorizationRow) → (swept_authorization m row).number ≡ row.number
-swept_number m row = by (is_overdue m row)
-  where
-    by : (b : Bool) → (cond b (record row { status = authz.Expired }) row).number ≡ row.number
-    by true = refl
-    by false = refl
+swept_number m row = one_kept (λ (a : AuthorizationRow). a.number) (is_overdue m row) _ row refl
 
 -- a swept order keeps its number
 pub swept_order_number : (m : ℕ) (rows : List AuthorizationRow) (row : OrderRow) → (swept_order m rows row).number ≡ row.number
-swept_order_number m rows row = by (falls m rows row)
-  where
-    by : (b : Bool) → (cond b (record row { status = order.Invalid }) row).number ≡ row.number
-    by true = refl
-    by false = refl
+swept_order_number m rows row = one_kept (λ (o : OrderRow). o.number) (falls m rows row) _ row refl
 
--- the part, swept, is the part of the swept tables
-pub swept_part : (k : Kept) (T : Tables) (m : ℕ) → IsClosed k T → swept m (restricted k T) ≡ restricted k (swept m T)
-swept_part k T m closed =
+-- a part in which the same orders fall, swept, is the part of the swept tables
+pub swept_alike : (k : Kept) (T : Tables) (m : ℕ) →
+    EachOf (λ o. k.orders o.number ≡ true → falls m (restricted k T).authorizations o ≡ falls m T.authorizations o) T.orders →
+    swept m (restricted k T) ≡ restricted k (swept m T)
+swept_alike k T m alike =
     λ i. record {
       meta = (swept m T).meta;
       nonces = filters_swap (lasts T.meta.policy m) (λ n. k.nonces n.serial) T.nonces i;
@@ -283,8 +273,12 @@ swept_part k T m closed =
       orders =
           moved_part (λ (o : OrderRow). k.orders o.number) (swept_order m (restricted k T).authorizations) (swept_order m T.authorizations) T.orders
           (λ o. ap k.orders (swept_order_number m T.authorizations o))
-          (each _ _ T.orders (λ o all yes. ap (λ b. cond b (record o { status = order.Invalid }) o) (falls_same k T m o (all yes))) closed.listed) i;
+          (each _ _ T.orders (λ o same yes. ap (λ b. cond b (record o { status = order.Invalid }) o) (same yes)) alike) i;
     }
+
+-- as in a closed one
+pub swept_part : (k : Kept) (T : Tables) (m : ℕ) → IsClosed k T → swept m (restricted k T) ≡ restricted k (swept m T)
+swept_part k T m closed = swept_alike k T m (each _ _ T.orders (λ o all yes. falls_same k T m o (all yes)) closed.listed)
 
 -- ---- what a decision reads: the first row that passes a test, and all rows that pass one
 

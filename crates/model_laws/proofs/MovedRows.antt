@@ -1,15 +1,10 @@
 -- What an entry leaves of the rows that it moves.
-use Rattle.std.proofs.Common.{◌≡◌, ℕ, List, refl, ap, ◌∙◌, Bool, true, false, cond}
+use Rattle.std.proofs.Common.{◌≡◌, ℕ, List, refl, ap, ◌∙◌}
 use Rattle.std.specs.Prelude.{◌==◌}
 use Rattle.desk_model.specs.Effect.{has_row, key_numbered, moved_authorization, noted_challenge, touches_authorization}
 use Rattle.desk_model.specs.declared.{entry.Entry.Entry, rows.AccountRow.AccountRow, rows.AuthorizationRow.AuthorizationRow, rows.ChallengeRow.ChallengeRow}
 use Rattle.desk_model.specs.declared.entry.Entry.TheVariants.{Answered as answered, Reported as reported}
-use Rattle.model_laws.proofs.Basics.{list_any-map, list_any-same}
-
--- a row that is moved or not keeps what both have
-pub one_kept : {X Y : Type 0} (value : X → Y) (b : Bool) (x y : X) → value x ≡ value y → value (cond b x y) ≡ value y
-one_kept value true x y h = h
-one_kept value false x y h = refl
+use Rattle.model_laws.proofs.Basics.{list_any-map, list_any-same, one_kept}
 
 -- an entry leaves the number of a challenge
 pub challenge_number : (e : Entry) (m : ℕ) (key : List ℕ) (c : ChallengeRow) → (noted_challenge e m key c).number ≡ c.number

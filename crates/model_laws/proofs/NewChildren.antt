@@ -10,7 +10,7 @@ use Rattle.desk_model.specs.History.{clock, record_all}
 use Rattle.desk_model.specs.Tables.{Tables, tables_at, picture}
 use Rattle.desk_model.specs.Change.{put, applied, applied_one, recorded_changes}
 use Rattle.desk_model.specs.declared.{entry.Entry.Entry, rows.AuthorizationRow.AuthorizationRow, rows.Change.Change, rows.ChallengeRow.ChallengeRow}
-use Rattle.desk_model.specs.declared.rows.Change.TheVariants.{PutMeta, PutNonce, RemoveNonce, PutAccount, PutAuthorization, PutOrder}
+use Rattle.desk_model.specs.declared.rows.Change.TheVariants.{PutAuthorization}
 use Rattle.model_laws.specs.Distinct.{Distinct}
 use Rattle.model_laws.specs.News.{AreKept, AreNewChildren, BringsNewChildren, KeepChallenges, KeepsChildren}
 use Rattle.model_laws.proofs.Basics.{each, each_of_map, each_parts, eq_turn}
@@ -136,11 +136,7 @@ one_brings T (PutAuthorization x) kept h =
     each _ _ x.challenges (λ c. no_owner c.number T.authorizations)
     (each_of_map (λ n. EachOf (λ k. n ≢ k) (flat_map challenges_in T.authorizations)) (λ c. c.number) x.challenges (parts.2 none)) in
     (parts.0, (map-distinct (λ c. c.number) x.challenges parts.1, new))
-one_brings T (PutMeta x) kept h = (h, tt)
-one_brings T (PutNonce x) kept h = (h, tt)
-one_brings T (RemoveNonce n) kept h = (h, tt)
-one_brings T (PutAccount x) kept h = (h, tt)
-one_brings T (PutOrder x) kept h = (h, tt)
+one_brings T _ kept h = (h, tt)
 
 -- and so do changes, one after the other
 pub kept_bring_new : (cs : List Change) (T : Tables) → AreKept T cs → ChallengesDiffer (applied cs T) → ChallengesDiffer T × AreNewChildren T cs

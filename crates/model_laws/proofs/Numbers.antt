@@ -13,11 +13,10 @@ use Rattle.desk_model.specs.Order.{orders, ordered_by}
 use Rattle.desk_model.specs.Legal.{EachFollows, may_follow, may_want, is_pending_challenge, is_processing_challenge}
 use Rattle.desk_model.specs.declared.{entry.Dated.Dated, entry.Entry.Entry, entry.Wanted.Wanted, objects.Authorization.Authorization}
 use Rattle.desk_model.specs.declared.{objects.Challenge.Challenge, objects.Kind.Kind, objects.Order.Order}
-use Rattle.desk_model.specs.declared.entry.Entry.TheVariants.{Made as made, Issued as issued, Spent as spent, Opened as opened}
-use Rattle.desk_model.specs.declared.entry.Entry.TheVariants.{ContactsChanged as contacts_changed, KeyChanged as key_changed, AccountEnded as account_ended}
-use Rattle.desk_model.specs.declared.entry.Entry.TheVariants.{Ordered as ordered, Answered as answered, Reported as reported}
-use Rattle.desk_model.specs.declared.entry.Entry.TheVariants.{AuthorizationEnded as authorization_ended, Finalized as finalized, Certified as certified}
-use Rattle.desk_model.specs.declared.entry.Entry.TheVariants.{Failed as failed}
+use Rattle.desk_model.specs.declared.entry.Entry.TheVariants.{Issued as issued, Spent as spent, Opened as opened, ContactsChanged as contacts_changed}
+use Rattle.desk_model.specs.declared.entry.Entry.TheVariants.{KeyChanged as key_changed, AccountEnded as account_ended, Ordered as ordered}
+use Rattle.desk_model.specs.declared.entry.Entry.TheVariants.{Answered as answered, Reported as reported, AuthorizationEnded as authorization_ended}
+use Rattle.desk_model.specs.declared.entry.Entry.TheVariants.{Finalized as finalized, Certified as certified, Failed as failed}
 use Rattle.desk_model.specs.declared.entry.Wanted.TheVariants.{New, Reused}
 use Rattle.model_laws.proofs.Basics.{each, IsNumbered, numbered-append}
 use Rattle.model_laws.specs.Given.{Counts, counts, NamesGiven}
@@ -114,6 +113,11 @@ found_below number n k (x ∷ xs) test h is = by (number x == k) refl is (found_
     by true e p ih = let same : number x ≡ k = eqb-true (number x) k e in let start : number x ≡ n = h.0 in omega arith
     by false e p ih = let below : k < (n + 1) + length xs = ih p in omega arith
 
+-- where they count up from 1, its number is not greater than theirs
+found_given : {X : Type 0} (number : X → ℕ) (k : ℕ) (xs : List X) (test : X → Bool) → IsNumbered number 1 xs →
+    holds test (find (λ x. number x == k) xs) ≡ true → k ≤ length xs
+found_given number k xs test h is = let below : k < 1 + length xs = found_below number 1 k xs test h is in omega arith
+
 -- serials of nonces count up from 1
 pub nonces_numbered : (F : History) → IsNumbered (λ n. n.serial) 1 (nonces F)
 nonces_numbered [] = tt
@@ -202,46 +206,31 @@ challenge_below n k (x ∷ xs) test h is = by (has_challenge k x) refl is (chall
 
 -- an entry that may follow names only numbers that were given
 names_allowed : (F : History) (e : Entry) (m : ℕ) → may_follow F e m ≡ true → NamesGiven (counts F) e
-names_allowed F (made t) m may = tt
-names_allowed F (issued r) m may = tt
-names_allowed F (opened k cs) m may = tt
-names_allowed F (spent n) m may =
-    let below : n < 1 + length (nonces F) = found_below (λ x. x.serial) 1 n (nonces F) _ (nonces_numbered F) may in omega arith
-names_allowed F (contacts_changed n cs) m may =
-    let below : n < 1 + length (accounts F) = found_below (λ x. x.number) 1 n (accounts F) _ (accounts_numbered F) (and_parts _ _ may).0 in
-    omega arith
-names_allowed F (key_changed n key) m may =
-    let below : n < 1 + length (accounts F) = found_below (λ x. x.number) 1 n (accounts F) _ (accounts_numbered F) (and_parts _ _ may).0 in
-    omega arith
-names_allowed F (account_ended n s) m may =
-    let below : n < 1 + length (accounts F) = found_below (λ x. x.number) 1 n (accounts F) _ (accounts_numbered F) may in omega arith
+names_allowed F (spent n) m may = found_given (λ x. x.serial) n (nonces F) _ (nonces_numbered F) may
+names_allowed F (contacts_changed n cs) m may = found_given (λ x. x.number) n (accounts F) _ (accounts_numbered F) (and_parts _ _ may).0
+names_allowed F (key_changed n key) m may = found_given (λ x. x.number) n (accounts F) _ (accounts_numbered F) (and_parts _ _ may).0
+names_allowed F (account_ended n s) m may = found_given (λ x. x.number) n (accounts F) _ (accounts_numbered F) may
 names_allowed F (ordered n ws) m may =
     let tests = may_be_ordered F m n ws may in
-    let below : n < 1 + length (accounts F) = found_below (λ x. x.number) 1 n (accounts F) _ (accounts_numbered F) tests.holder in
-    (omega arith, reused_below ws tests.reused)
+    (found_given (λ x. x.number) n (accounts F) _ (accounts_numbered F) tests.holder, reused_below ws tests.reused)
   where
     reused_below : (xs : List Wanted) → list_all (may_want F m n) xs ≡ true → EachOf (OfReused (λ k. k ≤ length (authorizations F))) xs
     reused_below [] h = tt
     reused_below (New name tokens ∷ xs) h = (tt, reused_below xs h)
     reused_below (Reused name k ∷ xs) h =
         let p = and_parts (may_want F m n (Reused name k)) _ h in
-        let below : k < 1 + length (authorizations F) = found_below (λ x. x.number) 1 k (authorizations F) _ (authorizations_numbered F) p.0 in
-        (omega arith, reused_below xs p.1)
+        (found_given (λ x. x.number) k (authorizations F) _ (authorizations_numbered F) p.0, reused_below xs p.1)
 names_allowed F (answered n) m may =
     let below : n < 1 + count_challenges (authorizations F) = challenge_below 1 n (authorizations F) _ (challenges_count F)
     (and_parts _ (is_pending_challenge (challenge_status n F)) may).0 in omega arith
 names_allowed F (reported n o) m may =
     let below : n < 1 + count_challenges (authorizations F) = challenge_below 1 n (authorizations F) _ (challenges_count F)
     (and_parts _ (is_processing_challenge (challenge_status n F)) may).0 in omega arith
-names_allowed F (authorization_ended n s) m may =
-    let below : n < 1 + length (authorizations F) = found_below (λ x. x.number) 1 n (authorizations F) _ (authorizations_numbered F) may in
-    omega arith
-names_allowed F (finalized n bytes) m may =
-    let below : n < 1 + length (orders F) = found_below (λ x. x.number) 1 n (orders F) _ (orders_numbered F) (and_parts _ _ may).0 in omega arith
-names_allowed F (certified n bytes) m may =
-    let below : n < 1 + length (orders F) = found_below (λ x. x.number) 1 n (orders F) _ (orders_numbered F) (and_parts _ _ may).0 in omega arith
-names_allowed F (failed n f) m may =
-    let below : n < 1 + length (orders F) = found_below (λ x. x.number) 1 n (orders F) _ (orders_numbered F) (and_parts _ _ may).0 in omega arith
+names_allowed F (authorization_ended n s) m may = found_given (λ x. x.number) n (authorizations F) _ (authorizations_numbered F) may
+names_allowed F (finalized n bytes) m may = found_given (λ x. x.number) n (orders F) _ (orders_numbered F) (and_parts _ _ may).0
+names_allowed F (certified n bytes) m may = found_given (λ x. x.number) n (orders F) _ (orders_numbered F) (and_parts _ _ may).0
+names_allowed F (failed n f) m may = found_given (λ x. x.number) n (orders F) _ (orders_numbered F) (and_parts _ _ may).0
+names_allowed F _ m may = tt
 
 -- each entry names only numbers that were given
 pub all_named : (F : History) → EachFollows F → EachOf (λ d. NamesGiven (counts F) d.entry) F

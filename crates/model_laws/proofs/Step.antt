@@ -116,7 +116,7 @@ issued_open F (issued r) m h =
     let n : ℕ = length (nonces F) + 1 in
     let x : Nonce = record { serial = n; random = r; issued = m } in
     let unspent : when_spent n F ≡ None =
-    no_first (λ d. spending n d.entry d.date) F (each _ _ F (new_nonce_spent (counts F) n (omega arith)) (all_named F h.1)) in
+    no_first (λ d. spending n d.entry d.date) F (each _ _ F (λ d. new_nonce_spent (counts F) n (omega arith) d.entry d.date) (all_named F h.1)) in
     let lasting : leb m (m + (terms F).nonce_life) ≡ true = le-leb m (m + (terms F).nonce_life) (omega arith) in
     ap (λ b. cond b (x ∷ []) []) (λ i. is_none (unspent i) && lasting i)
 issued_open F _ m h = refl

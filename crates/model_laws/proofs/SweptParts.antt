@@ -2,15 +2,13 @@
 use Rattle.std.proofs.Common.{◌≡◌, ℕ, List, [], ◌∷◌, map, Some, refl, sym, ap, ◌∙◌, subst, true, false, Bool, cond}
 use Rattle.std.specs.Prelude.{◌==◌, ◌||◌}
 use Rattle.desk_model.specs.declared.status.AuthzStatus.TheVariants as authz
-use Rattle.desk_model.specs.declared.status.OrderStatus.TheVariants as order
 use Rattle.desk_model.specs.{Lookup.holds, Tables.Tables}
 use Rattle.desk_model.specs.Derived.{numbers_of, authorization_numbered}
 use Rattle.desk_model.specs.Effect.{touches_authorization, touches_order, names_order, lists_one, is_overdue, falls, swept, swept_authorization, swept_order}
 use Rattle.desk_model.specs.Kept.{Kept, EachOf, IsClosed, Covers}
 use Rattle.desk_model.specs.declared.{entry.Entry.Entry, rows.AuthorizationRow.AuthorizationRow, rows.OrderRow.OrderRow}
-use Rattle.desk_model.specs.declared.entry.Entry.TheVariants.{Answered as answered, Reported as reported, AuthorizationEnded as authorization_ended}
-use Rattle.desk_model.specs.declared.entry.Entry.TheVariants.{AccountEnded as account_ended}
-use Rattle.model_laws.proofs.Basics.{each, each-map}
+use Rattle.desk_model.specs.declared.entry.Entry.TheVariants.{Answered as answered}
+use Rattle.model_laws.proofs.Basics.{each, each-map, one_kept}
 use Rattle.model_laws.proofs.Local.{swept_number, swept_order_number}
 
 -- ---- an entry after the sweep
@@ -22,9 +20,6 @@ touches_swept e m row = by (is_overdue m row)
     -- only number, account and challenges are looked at
     by_entry : (x : Entry) → touches_authorization x (record row { status = authz.Expired }) ≡ touches_authorization x row
     by_entry (answered n) = refl
-    by_entry (reported n o) = refl
-    by_entry (authorization_ended n s) = refl
-    by_entry (account_ended n s) = refl
     by_entry _ = refl
 
     by : (b : Bool) → touches_authorization e (cond b (record row { status = authz.Expired }) row) ≡ touches_authorization e row
@@ -56,11 +51,7 @@ lists_swept e m rows (n ∷ ns) = λ i. one rows i || lists_swept e m rows ns i
 
 -- a swept order keeps its list
 swept_listed : (m : ℕ) (rows : List AuthorizationRow) (o : OrderRow) → numbers_of (swept_order m rows o).listed ≡ numbers_of o.listed
-swept_listed m rows o = by (falls m rows o)
-  where
-    by : (b : Bool) → numbers_of (cond b (record o { status = order.Invalid }) o).listed ≡ numbers_of o.listed
-    by true = refl
-    by false = refl
+swept_listed m rows o = one_kept (λ (r : OrderRow). numbers_of r.listed) (falls m rows o) _ o refl
 
 -- a closed part stays closed by the passing of time
 pub swept_closed : (k : Kept) (T : Tables) (m : ℕ) → IsClosed k T → IsClosed k (swept m T)
@@ -80,11 +71,7 @@ swept_closed k T m h =
 
 -- a swept authorization keeps its account
 pub swept_account : (m : ℕ) (row : AuthorizationRow) → (swept_authorization m row).account ≡ row.account
-swept_account m row = by (is_overdue m row)
-  where
-    by : (b : Bool) → (cond b (record row { status = authz.Expired }) row).account ≡ row.account
-    by true = refl
-    by false = refl
+swept_account m row = one_kept (λ (a : AuthorizationRow). a.account) (is_overdue m row) _ row refl
 
 -- and covers what it covered
 pub swept_covers : (k : Kept) (T : Tables) (m : ℕ) (e : Entry) → Covers k T e → Covers k (swept m T) e
