@@ -1,70 +1,46 @@
 -- An answer to a challenge changes no order, where each status is the one that its row gives: so the orders that list its authorization may lack.
-use Rattle.std.proofs.Common.{◌≡◌, ◌≤◌, ℕ, List, [], ◌∷◌, ◌++◌, map, Option, Some, None, refl, sym, ap, subst, ◌∙◌, true, false, Bool, cond}
-use Rattle.std.proofs.Common.{Result, Ok, Err}
+use Rattle.std.proofs.Common.{◌≡◌, ◌≤◌, ℕ, List, [], ◌∷◌, ◌++◌, map, Option, Some, None, refl, sym, ap, subst, ◌∙◌, true, false, Bool, cond, Result, Ok, Err}
 use Rattle.std.specs.Prelude.{◌==◌, ◌&&◌, ◌||◌, nat_lt}
 use Rattle.std.specs.List.{list_any}
 use Rattle.std.proofs.lemmas.Bool.{or_left}
-use Rattle.desk_model.specs.Account.{is_valid as is_valid_account}
-use Rattle.desk_model.specs.Authorization.{authorization_status_by, is_good}
+use Rattle.desk_model.specs.{Account.is_valid as is_valid_account, Decide.entries_of, Entry.History, History.clock, Lookup.holds, Payload.challenge_change}
+use Rattle.desk_model.specs.{Order.orders}
+use Rattle.desk_model.specs.Authorization.{authorization_status_by, is_good, authorizations}
 use Rattle.desk_model.specs.Change.{all_changes, changes, order_differs, recorded_changes}
-use Rattle.desk_model.specs.Decide.{entries_of}
-use Rattle.desk_model.specs.Derived.{and_status, authorization_numbered, numbers_of, restated_authorization}
-use Rattle.desk_model.specs.Derived.{restated_order, stored_statuses}
+use Rattle.desk_model.specs.Derived.{and_status, authorization_numbered, numbers_of, restated_authorization, restated_order, stored_statuses}
 use Rattle.desk_model.specs.Effect.{answered_challenge, authorizations_after, effect, effects, has_row, key_numbered, moved_authorization, noted_authorization}
-use Rattle.desk_model.specs.Effect.{noted_challenge}
-use Rattle.desk_model.specs.Effect.{noted_order, swept, swept_authorization, touches_authorization, touches_order}
+use Rattle.desk_model.specs.Effect.{noted_challenge, noted_order, swept, swept_authorization, touches_authorization, touches_order}
 use Rattle.desk_model.specs.Kept.{CoversSweep, EachOf, HoldersKept, IsClosed, Kept, restricted}
 use Rattle.desk_model.specs.Legal.{EachFollows, is_pending_challenge}
-use Rattle.desk_model.specs.Entry.{History}
-use Rattle.desk_model.specs.History.{clock}
-use Rattle.desk_model.specs.Lookup.{holds}
-use Rattle.desk_model.specs.Payload.{challenge_change}
 use Rattle.desk_model.specs.Questions.{account_with_key, owner_on}
 use Rattle.desk_model.specs.Rules.{challenge_verdict, key_verdict, open_nonce, own, signed_verdict, stands_open}
 use Rattle.desk_model.specs.Shown.{moved_reply, reply_of}
 use Rattle.desk_model.specs.Tables.{Tables, authorization_row, order_row, picture}
-use Rattle.desk_model.specs.declared.call.Ask.{Ask}
+use Rattle.desk_model.specs.declared.{call.Ask.Ask, call.BadKey.BadKey, call.Signed.Signed, payload.ChallengeChange.ChallengeChange, rows.AccountRow.AccountRow}
+use Rattle.desk_model.specs.declared.{rows.AuthorizationRow.AuthorizationRow, rows.Change.TheVariants.PutMeta, rows.ChallengeRow.ChallengeRow}
+use Rattle.desk_model.specs.declared.{rows.OrderRow.OrderRow, verdict.Verdict.Verdict, status.AuthzStatus.AuthzStatus, call.Target.Target}
 use Rattle.desk_model.specs.declared.call.Ask.TheVariants as ask
-use Rattle.desk_model.specs.declared.call.BadKey.{BadKey}
-use Rattle.desk_model.specs.declared.call.Signed.{Signed}
 use Rattle.desk_model.specs.declared.call.Target.TheVariants as to
 use Rattle.desk_model.specs.declared.entry.Entry.TheVariants.{Answered as answered, Issued as issued, Spent as spent}
 use Rattle.desk_model.specs.declared.moves.Move.TheVariants as move
-use Rattle.desk_model.specs.declared.payload.ChallengeChange.{ChallengeChange}
 use Rattle.desk_model.specs.declared.payload.ChallengeChange.TheVariants as chall_change
 use Rattle.desk_model.specs.declared.refusal.Refusal.TheVariants as refusal
-use Rattle.desk_model.specs.declared.rows.AccountRow.{AccountRow}
-use Rattle.desk_model.specs.declared.rows.AuthorizationRow.{AuthorizationRow}
-use Rattle.desk_model.specs.declared.rows.Change.TheVariants.{PutMeta}
-use Rattle.desk_model.specs.declared.rows.ChallengeRow.{ChallengeRow}
-use Rattle.desk_model.specs.declared.rows.OrderRow.{OrderRow}
-use Rattle.desk_model.specs.declared.verdict.Verdict.{Verdict}
 use Rattle.desk_model.specs.declared.verdict.Verdict.TheVariants.{Refused as refused, KeyTaken as key_taken, Answers as answers, Moves as moves}
-use Rattle.desk_model.specs.Authorization.{authorizations}
-use Rattle.desk_model.specs.Order.{orders}
 use Rattle.model_laws.proofs.Basics.{each, each_all, each_both, each-map}
 use Rattle.model_laws.proofs.Chain.{effect_part, recorded_local}
-use Rattle.desk_model.specs.declared.status.AuthzStatus.{AuthzStatus}
-use Rattle.model_laws.proofs.Differing.{order_differs_not}
+use Rattle.model_laws.proofs.{Differing.order_differs_not, RowFacts.authorization_stated, Step.sweep}
 use Rattle.model_laws.proofs.Local.{changes_local, kept_after, moved_number, restated_same, sweep_changes_local, swept_part, touches_same}
 use Rattle.model_laws.proofs.OrderFacts.{order_stated, restated_alike}
 use Rattle.model_laws.proofs.Plain.{covers_issued, covers_spent, issued_closed, issued_effect, nonces_covered, spent_closed, spent_effect}
-use Rattle.model_laws.proofs.RowFacts.{authorization_stated}
-use Rattle.model_laws.proofs.Step.{sweep}
 use Rattle.model_laws.proofs.SweptParts.{swept_account, swept_closed, touches_swept}
 use Rattle.model_lives.proofs.Steps.{check_keeps, either_keeps, given_keeps}
 use Rattle.model_lives.specs.AnswersAs.{CarriesOutAs, PassesAs}
 use Rattle.model_lives.specs.Few.{IsStated, IsStatedFor, IsStatedTo}
-use Rattle.desk_model.specs.declared.call.Target.{Target}
-use Rattle.model_lives.proofs.Between.{bare}
-use Rattle.model_lives.proofs.Enough.{carried_by}
+use Rattle.model_lives.proofs.{Between.bare, Enough.carried_by, Lists.filtered_each, Ready.swept_names, Walks.sent}
 use Rattle.model_lives.proofs.Grown.{KeepsNamed, KeepsRestated, keeps_falling, target_answers}
-use Rattle.model_lives.proofs.Lists.{filtered_each}
-use Rattle.model_lives.proofs.Ready.{swept_names}
 use Rattle.model_lives.proofs.Replies.{client_challenge_shown, owner_after}
 use Rattle.model_lives.proofs.Unlisted.{bare_changes, moves_order}
 use Rattle.model_lives.proofs.Verdicts.{nonce_same, signed_same, verdict_by}
-use Rattle.model_lives.proofs.Walks.{sent}
 
 -- ---- statuses stand
 

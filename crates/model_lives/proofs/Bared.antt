@@ -9,26 +9,15 @@ use Rattle.desk_model.specs.Derived.{and_status, authorization_numbered, numbers
 use Rattle.desk_model.specs.Effect.{authorizations_after, effect, effects, falls, fresh_authorization, fresh_order, is_live_order, is_overdue}
 use Rattle.desk_model.specs.Effect.{moved_authorization, moved_order, names_order, new_authorizations, noted_authorization, noted_order, swept}
 use Rattle.desk_model.specs.Effect.{touches_authorization, touches_order}
-use Rattle.desk_model.specs.Kept.{EachOf}
-use Rattle.desk_model.specs.Lookup.{holds}
-use Rattle.desk_model.specs.Order.{ordered_by}
-use Rattle.desk_model.specs.Tables.{Tables}
-use Rattle.desk_model.specs.declared.entry.Entry.{Entry}
-use Rattle.desk_model.specs.declared.entry.Entry.TheVariants.{AccountEnded as account_ended, Answered as answered}
-use Rattle.desk_model.specs.declared.entry.Entry.TheVariants.{AuthorizationEnded as authorization_ended, Reported as reported}
-use Rattle.desk_model.specs.declared.rows.AccountRow.{AccountRow}
-use Rattle.desk_model.specs.declared.rows.AuthorizationRow.{AuthorizationRow}
+use Rattle.desk_model.specs.{Kept.EachOf, Lookup.holds, Order.ordered_by, Tables.Tables, declared.entry.Entry.Entry, declared.rows.AccountRow.AccountRow}
+use Rattle.desk_model.specs.{declared.rows.AuthorizationRow.AuthorizationRow, declared.rows.ChallengeRow.ChallengeRow, declared.rows.OrderRow.OrderRow}
+use Rattle.desk_model.specs.declared.entry.Entry.TheVariants.{AccountEnded as account_ended, AuthorizationEnded as authorization_ended}
 use Rattle.desk_model.specs.declared.rows.Change.TheVariants.{PutAccount, PutAuthorization, PutMeta, PutNonce, PutOrder, RemoveNonce}
-use Rattle.desk_model.specs.declared.rows.ChallengeRow.{ChallengeRow}
-use Rattle.desk_model.specs.declared.rows.OrderRow.{OrderRow}
 use Rattle.desk_model.specs.declared.status.AuthzStatus.TheVariants as authz
 use Rattle.desk_model.specs.declared.status.OrderStatus.TheVariants as order
 use Rattle.model_laws.proofs.Basics.{each, each_all, list_any-same}
-use Rattle.model_laws.proofs.Chain.{up_kept}
-use Rattle.model_laws.proofs.Finds.{each_found}
+use Rattle.model_laws.proofs.{Chain.up_kept, Finds.each_found, OrderFacts.restated_alike, Recorded.made_up}
 use Rattle.model_laws.proofs.Local.{filter_all, moved_number}
-use Rattle.model_laws.proofs.OrderFacts.{restated_alike}
-use Rattle.model_laws.proofs.Recorded.{made_up}
 use Rattle.model_lives.specs.Thinned.{all_listed, thin, with_challenges, without_challenges}
 use Rattle.model_lives.proofs.Lists.{filter_nothing}
 use Rattle.model_lives.proofs.Thin.{all_falling, found_thin, overdue_thin, swept_thin, whole_orders}
@@ -99,8 +88,6 @@ rows_whole w (r ∷ rs) h = λ i. row_whole w r h.0 i ∷ rows_whole w rs h.1 i
 
 -- what touches no row in whole does not touch it without challenges
 touches_less : (e : Entry) (r : AuthorizationRow) → touches_authorization e r ≡ false → touches_authorization e (without_challenges r) ≡ false
-touches_less (answered n) r h = refl
-touches_less (reported n o) r h = refl
 touches_less (authorization_ended n ending) r h = h
 touches_less (account_ended n ending) r h = h
 touches_less _ r h = refl

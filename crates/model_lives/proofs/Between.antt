@@ -4,51 +4,34 @@ use Rattle.std.specs.Prelude.{◌==◌, ◌&&◌, ◌||◌}
 use Rattle.std.specs.List.{list_any}
 use Rattle.std.proofs.lemmas.Bool.{and_from, and_parts, eqb-true, or_left, or_right}
 use Rattle.std.proofs.lemmas.Simd.{map-map}
-use Rattle.desk_model.specs.Decide.{entries_of}
-use Rattle.desk_model.specs.Derived.{restated_order}
-use Rattle.desk_model.specs.Effect.{effect, effects, falls, fresh_order, moved_order, noted_order, swept, swept_order, touches_order}
-use Rattle.desk_model.specs.Order.{ordered_by}
+use Rattle.desk_model.specs.Decide.{entries_of, verdict_reply}
+use Rattle.desk_model.specs.{Derived.restated_order, Order.ordered_by, Tables.Tables, Entry.entry_of, Change.recorded_changes}
+use Rattle.desk_model.specs.Effect.{effect, effects, falls, fresh_order, moved_order, swept, swept_order, touches_order}
 use Rattle.desk_model.specs.Rules.{office_verdict, signed_verdict}
-use Rattle.desk_model.specs.Tables.{Tables}
 use Rattle.desk_model.specs.Kept.{EachOf, HoldersKept, IsClosed, Kept, restricted}
-use Rattle.desk_model.specs.declared.call.Ask.{Ask}
+use Rattle.desk_model.specs.declared.{call.Ask.Ask, call.OfficeAsk.OfficeAsk, call.Call.Call, call.Signed.Signed, entry.Entry.Entry, objects.Nonce.Nonce}
+use Rattle.desk_model.specs.declared.{rows.AccountRow.AccountRow, rows.AuthorizationRow.AuthorizationRow, rows.OrderRow.OrderRow, verdict.Verdict.Verdict}
 use Rattle.desk_model.specs.declared.call.Ask.TheVariants as ask
-use Rattle.desk_model.specs.declared.call.OfficeAsk.{OfficeAsk}
 use Rattle.desk_model.specs.declared.call.OfficeAsk.TheVariants as office
-use Rattle.desk_model.specs.declared.call.Call.{Call}
-use Rattle.desk_model.specs.declared.call.Signed.{Signed}
-use Rattle.desk_model.specs.Entry.{entry_of}
-use Rattle.desk_model.specs.declared.entry.Entry.{Entry}
 use Rattle.desk_model.specs.declared.entry.Entry.TheVariants.{Issued as issued, Opened as opened, Ordered as ordered, Spent as spent}
-use Rattle.desk_model.specs.declared.objects.Nonce.{Nonce}
-use Rattle.desk_model.specs.declared.rows.AccountRow.{AccountRow}
-use Rattle.desk_model.specs.declared.rows.AuthorizationRow.{AuthorizationRow}
-use Rattle.desk_model.specs.declared.rows.OrderRow.{OrderRow}
-use Rattle.desk_model.specs.declared.status.OrderStatus.TheVariants as order
-use Rattle.desk_model.specs.declared.verdict.Verdict.{Verdict}
-use Rattle.desk_model.specs.declared.verdict.Verdict.TheVariants.{Refused as refused, KeyTaken as key_taken, Answers as answers}
 use Rattle.desk_model.specs.declared.verdict.Verdict.TheVariants.{Opens as opens, Orders as orders, Moves as moves}
 use Rattle.model_laws.specs.Ordered.{IsOrdered}
-use Rattle.model_laws.proofs.Basics.{each, each_after, each_all, each_both, each-append, each-map, each_of_map, each_parts}
-use Rattle.model_laws.proofs.Chain.{authorizations_part}
+use Rattle.model_laws.proofs.Basics.{each, each_after, each_all, each_both, each-append, each-map, each_of_map, each_parts, one_kept}
+use Rattle.model_laws.proofs.{Chain.authorizations_part, SweptParts.swept_closed}
 use Rattle.model_laws.proofs.Local.{filter_part, swept_part}
-use Rattle.model_laws.proofs.SweptParts.{swept_closed}
-use Rattle.desk_model.specs.Change.{recorded_changes}
 use Rattle.model_lives.specs.AnswersAs.{AnswersAs, CarriesOutAs, IssuesAs, PassesAs, SettlesAs}
 use Rattle.model_lives.specs.IsPart.{IsPartFor, Keeps}
 use Rattle.model_lives.specs.Thinned.{all_challenges}
 use Rattle.desk_model.specs.Asked.{asks_authorizations, asks_name, asks_orders}
 use Rattle.desk_model.specs.Touched.{is_asked_authorization, is_first_authorization, is_named_account, is_named_authorization, is_named_order}
-use Rattle.desk_model.specs.Touched.{is_own_authorization, is_own_order, is_past_order, is_touched_account}
-use Rattle.desk_model.specs.Touched.{is_touched_authorization, is_touched_nonce, is_touched_order, lists, only_meta, touched_at}
-use Rattle.desk_model.specs.Touched.{touched_rows}
+use Rattle.desk_model.specs.Touched.{is_own_authorization, is_own_order, is_past_order, is_touched_account, is_touched_authorization, is_touched_nonce}
+use Rattle.desk_model.specs.Touched.{is_touched_order, lists, only_meta, touched_at, touched_rows}
 use Rattle.model_lives.proofs.Cut.{kept_by, no_part, no_rows, numbered, same_authorizations, touched_kept, touched_listed}
 use Rattle.model_lives.proofs.Enough.{answers_at, ready_by, restricted_ordered, work_as}
 use Rattle.model_lives.proofs.Ready.{IsAnswered, IsReady}
-use Rattle.model_lives.proofs.Thin.{whole_authorizations}
+use Rattle.model_lives.proofs.{Thin.whole_authorizations, Listed.KeepsListed}
 use Rattle.model_lives.proofs.Walks.{IsNoWork, office_answered, signed_answered}
 use Rattle.model_lives.proofs.Grown.{grown, grown_closed, grown_part}
-use Rattle.model_lives.proofs.Listed.{KeepsListed}
 use Rattle.model_lives.proofs.Lists.{any_gives, each_filtered, filtered_each, or_cases}
 
 -- ---- what a call touches in a part it touches in the whole
@@ -212,13 +195,9 @@ open_wider k T m a holds n h =
 -- where the touched rows answer, a part that holds them has the accounts
 holders_of : (k : Kept) (T : Tables) (m : ℕ) (a : Ask) (v : Verdict) → Keeps k (touched_rows T m a) →
     IsAnswered (grown (kept_by T m a) T) m (swept m T) v → HoldersOf (open_kept k T) (swept m T) v
-holders_of k T m a (refused why ss) holds h = tt
-holders_of k T m a (key_taken account) holds h = tt
-holders_of k T m a (answers what) holds h = tt
-holders_of k T m a (opens key contacts) holds h = tt
-holders_of k T m a (orders account wanted) holds h = tt
 holders_of k T m a (moves move) holds h =
     each _ _ (swept m T).authorizations (λ r f yes. open_wider k T m a holds r.account (f yes)) h.0.holders
+holders_of k T m a _ holds h = tt
 
 touched_ready : (T : Tables) (m : ℕ) (a : Ask) → IsOrdered T → IsReady (grown (kept_by T m a) T) T m a
 touched_ready T m a h = ready_by (kept_by T m a) T m a h (touched_listed T m a h) (touched_kept T m a h)
@@ -241,33 +220,23 @@ entry_stands k T m e h holders =
     ap (λ (E : Tables). (effect m E e).authorizations) (swept_bare k T m h)
     ∙ authorizations_part (open_kept k T) (swept m (bare T)) m e closed.new_authorizations holders
 
-pub authorizations_stand : (k : Kept) (T : Tables) (m : ℕ) (v : Verdict) → IsOrdered T → HoldersOf (open_kept k T) (swept m T) v →
+authorizations_stand : (k : Kept) (T : Tables) (m : ℕ) (v : Verdict) → IsOrdered T → HoldersOf (open_kept k T) (swept m T) v →
     (effects m (swept m (restricted k T)) (entries_of v)).authorizations
     ≡ filter (λ r. (open_kept k T).authorizations r.number) (effects m (swept m T) (entries_of v)).authorizations
-authorizations_stand k T m (refused n ss) h holders = ap (λ (E : Tables). E.authorizations) (swept_bare k T m h)
-authorizations_stand k T m (key_taken account) h holders = ap (λ (E : Tables). E.authorizations) (swept_bare k T m h)
-authorizations_stand k T m (answers what) h holders = ap (λ (E : Tables). E.authorizations) (swept_bare k T m h)
 authorizations_stand k T m (opens key contacts) h holders =
     entry_stands k T m (opened key contacts) h (each_all _ (swept m T).authorizations (λ a yes. cc))
 authorizations_stand k T m (orders account wanted) h holders =
     entry_stands k T m (ordered account wanted) h (each_all _ (swept m T).authorizations (λ a yes. cc))
 authorizations_stand k T m (moves move) h holders = entry_stands k T m (entry_of move) h holders
+authorizations_stand k T m _ h holders = ap (λ (E : Tables). E.authorizations) (swept_bare k T m h)
 
 -- the ends of orders
 
 swept_end : (m : ℕ) (rows : List AuthorizationRow) (o : OrderRow) → (swept_order m rows o).expires ≡ o.expires
-swept_end m rows o = by (falls m rows o)
-  where
-    by : (b : Bool) → (cond b (record o { status = order.Invalid }) o).expires ≡ o.expires
-    by true = refl
-    by false = refl
+swept_end m rows o = one_kept (λ (r : OrderRow). r.expires) (falls m rows o) _ o refl
 
 moved_end : (e : Entry) (m : ℕ) (before after : List AuthorizationRow) (o : OrderRow) → (moved_order e m before after o).expires ≡ o.expires
-moved_end e m before after o = by (touches_order e before o)
-  where
-    by : (b : Bool) → (cond b (restated_order m after (noted_order e m o)) o).expires ≡ o.expires
-    by true = refl
-    by false = refl
+moved_end e m before after o = one_kept (λ (r : OrderRow). r.expires) (touches_order e before o) _ o refl
 
 abbrev EndBy : ℕ → OrderRow → Type 0
 EndBy n o = o.expires ≤ n
@@ -307,34 +276,33 @@ entry_ends k T m e n h =
     (ordered_by e m S.meta.policy (S.meta.counters.authorizations + 1) (S.meta.counters.orders + 1))
     (each_after (EndBy n) (map (moved_order e m S.authorizations (effect m S e).authorizations) S.orders) _ h))
 
-pub orders_end : (k : Kept) (T : Tables) (m : ℕ) (v : Verdict) (n : ℕ) → EachOf (EndBy n) (effects m (swept m T) (entries_of v)).orders →
+orders_end : (k : Kept) (T : Tables) (m : ℕ) (v : Verdict) (n : ℕ) → EachOf (EndBy n) (effects m (swept m T) (entries_of v)).orders →
     EachOf (EndBy n) (effects m (swept m (restricted k T)) (entries_of v)).orders
-orders_end k T m (refused j ss) n h =
-    ends_kept n (swept_order m T.authorizations) (swept_order m (restricted k T).authorizations)
-    (λ o. k.orders o.number) T.orders (swept_end m T.authorizations) (swept_end m (restricted k T).authorizations) h
-orders_end k T m (key_taken account) n h =
-    ends_kept n (swept_order m T.authorizations) (swept_order m (restricted k T).authorizations)
-    (λ o. k.orders o.number) T.orders (swept_end m T.authorizations) (swept_end m (restricted k T).authorizations) h
-orders_end k T m (answers what) n h =
-    ends_kept n (swept_order m T.authorizations) (swept_order m (restricted k T).authorizations)
-    (λ o. k.orders o.number) T.orders (swept_end m T.authorizations) (swept_end m (restricted k T).authorizations) h
 orders_end k T m (opens key contacts) n h = entry_ends k T m (opened key contacts) n h
 orders_end k T m (orders account wanted) n h = entry_ends k T m (ordered account wanted) n h
 orders_end k T m (moves move) n h = entry_ends k T m (entry_of move) n h
+orders_end k T m _ n h =
+    ends_kept n (swept_order m T.authorizations) (swept_order m (restricted k T).authorizations)
+    (λ o. k.orders o.number) T.orders (swept_end m T.authorizations) (swept_end m (restricted k T).authorizations) h
 
 -- ---- from the touched rows to the part
 
-carries_between : (k : Kept) (T Q : Tables) (m : ℕ) (v : Verdict) → IsOrdered T → HoldersOf (open_kept k T) (swept m T) v → CarriesOutAs m T Q v
-    → CarriesOutAs m (restricted k T) Q v
-    → CarriesOutAs m T (restricted k T) v
-carries_between k T Q m v h holders low high =
+-- a part that has the accounts and shows the same carries out as the whole
+pub carries_by : (k : Kept) (T : Tables) (m : ℕ) (v : Verdict) → IsOrdered T → HoldersOf (open_kept k T) (swept m T) v →
+    ((index : Bool) → verdict_reply index (effects m (swept m (restricted k T)) (entries_of v)) v
+    ≡ verdict_reply index (effects m (swept m T) (entries_of v)) v) → CarriesOutAs m T (restricted k T) v
+carries_by k T m v h holders same =
     record {
       standing = λ r. (open_kept k T).authorizations r.number;
       challenges = all_challenges;
       authorizations = authorizations_stand k T m v h holders ∙ sym (whole_authorizations _);
       ends = orders_end k T m v;
-      shows = λ index. sym (high.shows index) ∙ low.shows index;
+      shows = same;
     }
+
+carries_between : (k : Kept) (T Q : Tables) (m : ℕ) (v : Verdict) → IsOrdered T → HoldersOf (open_kept k T) (swept m T) v → CarriesOutAs m T Q v
+    → CarriesOutAs m (restricted k T) Q v → CarriesOutAs m T (restricted k T) v
+carries_between k T Q m v h holders low high = carries_by k T m v h holders (λ index. sym (high.shows index) ∙ low.shows index)
 
 issues_between : (k : Kept) (T Q : Tables) (m : ℕ) → IssuesAs m T Q → IssuesAs m (restricted k T) Q → IssuesAs m T (restricted k T)
 issues_between k T Q m low high = record { records = λ r. sym (high.records r) ∙ low.records r }

@@ -4,24 +4,17 @@ use Rattle.std.specs.Prelude.{◌==◌, ◌&&◌, ◌||◌}
 use Rattle.std.specs.List.{list_any}
 use Rattle.std.proofs.lemmas.Bool.{and_from, or_left, or_right}
 use Rattle.std.proofs.Math.Bool.{or-false}
-use Rattle.desk_model.specs.Derived.{numbers_of}
-use Rattle.desk_model.specs.Tables.{Tables}
+use Rattle.desk_model.specs.{Derived.numbers_of, Tables.Tables, declared.call.Ask.Ask, declared.call.Call.Call, declared.objects.Nonce.Nonce}
+use Rattle.desk_model.specs.{declared.rows.AccountRow.AccountRow, declared.rows.AuthorizationRow.AuthorizationRow, declared.rows.OrderRow.OrderRow}
 use Rattle.desk_model.specs.Kept.{EachOf, Kept, restricted}
-use Rattle.desk_model.specs.declared.call.Ask.{Ask}
 use Rattle.desk_model.specs.declared.call.Ask.TheVariants as ask
 use Rattle.desk_model.specs.declared.call.OfficeAsk.TheVariants as office
-use Rattle.desk_model.specs.declared.call.Call.{Call}
-use Rattle.desk_model.specs.declared.objects.Nonce.{Nonce}
-use Rattle.desk_model.specs.declared.rows.AccountRow.{AccountRow}
-use Rattle.desk_model.specs.declared.rows.AuthorizationRow.{AuthorizationRow}
-use Rattle.desk_model.specs.declared.rows.OrderRow.{OrderRow}
 use Rattle.model_laws.specs.Ordered.{Ascends, IsOrdered}
 use Rattle.model_laws.proofs.Basics.{each, each_both, less_differs, more_differs}
 use Rattle.model_lives.specs.IsPart.{IsPartFor, Keeps}
-use Rattle.model_lives.proofs.Listed.{KeepsListed}
+use Rattle.model_lives.proofs.{Listed.KeepsListed, Enough.whole_part}
 use Rattle.desk_model.specs.Touched.{is_asked_authorization, is_first_authorization, is_touched_account, is_touched_authorization, is_touched_nonce}
 use Rattle.desk_model.specs.Touched.{is_touched_order, lists, only_meta, touched, touched_at, touched_rows}
-use Rattle.model_lives.proofs.Enough.{whole_part}
 use Rattle.model_lives.proofs.Lists.{each_member, filter_nothing, filter_same, filtered_each, same_number}
 
 -- ---- a test on rows, and on their numbers
@@ -152,11 +145,4 @@ touched_part T call h = by call.ask refl
         }
     by (ask.Office office.ChallengeWork) is = subst (IsPartFor call T) (sym (ap (touched_at T (max call.at T.meta.counters.clock)) is)) (whole_part T call)
     by (ask.Office office.OrderWork) is = subst (IsPartFor call T) (sym (ap (touched_at T (max call.at T.meta.counters.clock)) is)) (whole_part T call)
-    by (ask.NewNonce head) is = rows (ask.NewNonce head) refl is
-    by (ask.Signed s) is = rows (ask.Signed s) refl is
-    by (ask.Office (office.Report n finding)) is = rows (ask.Office (office.Report n finding)) refl is
-    by (ask.Office (office.Certify n bytes)) is = rows (ask.Office (office.Certify n bytes)) refl is
-    by (ask.Office (office.FailOrder n problem)) is = rows (ask.Office (office.FailOrder n problem)) refl is
-    by (ask.Office (office.RevokeAuthz n)) is = rows (ask.Office (office.RevokeAuthz n)) refl is
-    by (ask.Office (office.RevokeAccount n)) is = rows (ask.Office (office.RevokeAccount n)) refl is
-    by (ask.Office (office.KeyOf n)) is = rows (ask.Office (office.KeyOf n)) refl is
+    by a is = rows a refl is

@@ -1,39 +1,25 @@
 -- What has ended keeps its row: through an entry, through the passing of time, and so for ever.
 use Rattle.std.proofs.Common.{◌≡◌, ◌≤◌, ℕ, List, [], ◌∷◌, ◌++◌, map, Option, Some, None, refl, sym, ap, ◌∙◌, subst, Bool, true, false, cond, arith, max}
 use Rattle.std.specs.Prelude.{IsTrue, find, ◌&&◌, ◌||◌, ◌==◌, nat_lt}
-use Rattle.desk_model.specs.Entry.{History}
-use Rattle.desk_model.specs.declared.entry.Entry.{Entry}
-use Rattle.desk_model.specs.declared.entry.Dated.{Dated}
-use Rattle.desk_model.specs.declared.entry.Entry.TheVariants.{Made as made}
-use Rattle.desk_model.specs.History.{clock}
+use Rattle.desk_model.specs.{Entry.History, History.clock, Order.orders, Allowed.may_on}
+use Rattle.desk_model.specs.declared.{entry.Entry.Entry, entry.Dated.Dated, entry.Entry.TheVariants.Made as made, rows.AccountRow.AccountRow}
+use Rattle.desk_model.specs.declared.{rows.ChallengeRow.ChallengeRow, rows.AuthorizationRow.AuthorizationRow, rows.OrderRow.OrderRow}
+use Rattle.desk_model.specs.declared.{status.AuthzStatus.AuthzStatus, status.OrderStatus.OrderStatus}
 use Rattle.desk_model.specs.Authorization.{authorizations, is_over, is_live}
-use Rattle.desk_model.specs.Order.{orders}
 use Rattle.desk_model.specs.Legal.{EachFollows, Legal}
-use Rattle.desk_model.specs.Allowed.{may_on}
 use Rattle.desk_model.specs.Questions.{account_on, order_on, authorization_on, owner_on, challenge_of}
 use Rattle.desk_model.specs.Tables.{Tables, authorization_row, order_row, tables_at, picture}
-use Rattle.desk_model.specs.declared.rows.AccountRow.{AccountRow}
-use Rattle.desk_model.specs.declared.rows.ChallengeRow.{ChallengeRow}
-use Rattle.desk_model.specs.declared.rows.AuthorizationRow.{AuthorizationRow}
-use Rattle.desk_model.specs.declared.rows.OrderRow.{OrderRow}
 use Rattle.desk_model.specs.Derived.{restated_authorization, restated_order, numbers_of}
-use Rattle.desk_model.specs.Effect.{authorizations_after, effect, falls, has_row, is_live_order, is_overdue, key_numbered, lists_one}
-use Rattle.desk_model.specs.Effect.{moved_account, moved_authorization, moved_order, noted_account, noted_authorization}
-use Rattle.desk_model.specs.Effect.{noted_challenge, noted_order, swept, swept_authorization, swept_order, touches_account}
-use Rattle.desk_model.specs.Effect.{touches_authorization, touches_order}
+use Rattle.desk_model.specs.Effect.{authorizations_after, effect, falls, has_row, is_live_order, is_overdue, key_numbered, lists_one, moved_account}
+use Rattle.desk_model.specs.Effect.{moved_authorization, moved_order, noted_account, noted_authorization, noted_challenge, noted_order, swept}
+use Rattle.desk_model.specs.Effect.{swept_authorization, swept_order, touches_account, touches_authorization, touches_order}
 use Rattle.desk_model.specs.Life.{history, is_final_account, is_final_challenge, is_final_order, challenge_in_rows, challenge_on, EndedRowsStay, EndedStays}
-use Rattle.desk_model.specs.declared.status.AuthzStatus.{AuthzStatus}
 use Rattle.desk_model.specs.declared.status.AuthzStatus.TheVariants as authz
-use Rattle.desk_model.specs.declared.status.OrderStatus.{OrderStatus}
 use Rattle.desk_model.specs.declared.status.OrderStatus.TheVariants as order
-use Rattle.model_laws.proofs.AllowedFacts.{allowed}
-use Rattle.model_laws.proofs.Basics.{each_all, each-map, find-append}
-use Rattle.model_laws.proofs.MovedRows.{challenge_number, has_row-moved, one_kept}
-use Rattle.model_laws.proofs.OrderFacts.{order_stated}
-use Rattle.model_laws.proofs.Recorded.{challenges_ordered}
-use Rattle.model_laws.proofs.RowFacts.{authorization_stated}
+use Rattle.model_laws.proofs.{AllowedFacts.allowed, OrderFacts.order_stated, Recorded.challenges_ordered, RowFacts.authorization_stated, Finds.found_moved}
+use Rattle.model_laws.proofs.Basics.{each_all, each-map, find-append, one_kept}
+use Rattle.model_laws.proofs.MovedRows.{challenge_number, has_row-moved}
 use Rattle.model_laws.proofs.Step.{step, sweep}
-use Rattle.model_laws.proofs.Finds.{found_moved}
 use Rattle.model_lives.proofs.EndedRows.{IsStated, account_stays, authorization_stays, challenge_stays}
 use Rattle.model_lives.proofs.EndedOrders.{order_stays}
 use Rattle.model_lives.proofs.Extends.{extends_earlier, histories_are_legal}
@@ -119,18 +105,14 @@ entry_stays T e m stated may = record { accounts = accounts_stay; orders = order
 over_lasts : (s : AuthzStatus) (past : Bool) → is_over s ≡ true → (is_live s && past) ≡ false
 over_lasts authz.Pending past h = cc
 over_lasts authz.Valid past h = cc
-over_lasts authz.Invalid past h = refl
-over_lasts authz.Deactivated past h = refl
-over_lasts authz.Expired past h = refl
-over_lasts authz.Revoked past h = refl
+over_lasts _ past h = refl
 
 -- an order that has ended does not fall
 final_lasts : (s : OrderStatus) (test : Bool) → is_final_order s ≡ true → (is_live_order s && test) ≡ false
 final_lasts order.Pending test h = cc
 final_lasts order.Ready test h = cc
 final_lasts order.Processing test h = cc
-final_lasts order.Valid test h = refl
-final_lasts order.Invalid test h = refl
+final_lasts _ test h = refl
 
 -- the passing of time leaves the rows that have ended
 time_stays : (T : Tables) (m : ℕ) → EndedRowsStay T (swept m T)

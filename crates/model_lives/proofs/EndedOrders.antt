@@ -3,67 +3,42 @@ use Rattle.std.proofs.Common.{◌≡◌, ℕ, List, [], ◌∷◌, Option, Some,
 use Rattle.std.specs.Prelude.{◌||◌, ◌==◌, nat_lt}
 use Rattle.std.specs.List.{list_any, list_all}
 use Rattle.std.proofs.lemmas.Bool.{and_parts}
-use Rattle.desk_model.specs.declared.entry.Entry.{Entry}
+use Rattle.desk_model.specs.declared.{entry.Entry.Entry, rows.AuthorizationRow.AuthorizationRow, rows.OrderRow.OrderRow, status.OrderStatus.OrderStatus}
 use Rattle.desk_model.specs.declared.entry.Entry.TheVariants.{Finalized as finalized, Certified as certified, Failed as failed}
 use Rattle.desk_model.specs.Authorization.{is_over, is_valid}
 use Rattle.desk_model.specs.Order.{is_ready, is_processing, order_status_by}
-use Rattle.desk_model.specs.Allowed.{may_on}
-use Rattle.desk_model.specs.Questions.{order_on}
-use Rattle.desk_model.specs.Tables.{Tables}
-use Rattle.desk_model.specs.declared.rows.AuthorizationRow.{AuthorizationRow}
-use Rattle.desk_model.specs.declared.rows.OrderRow.{OrderRow}
+use Rattle.desk_model.specs.{Allowed.may_on, Questions.order_on, Tables.Tables, Life.is_final_order, Lookup.holds}
 use Rattle.desk_model.specs.Derived.{and_status, authorization_numbered, derived_order, numbers_of, restated_order, stored_statuses}
 use Rattle.desk_model.specs.Effect.{moved_order, names_order, noted_order, touches_order}
-use Rattle.desk_model.specs.Life.{is_final_order}
-use Rattle.desk_model.specs.declared.status.OrderStatus.{OrderStatus}
 use Rattle.desk_model.specs.declared.status.OrderStatus.TheVariants as order
-use Rattle.model_laws.proofs.OrderDates.{order_unnoted}
-use Rattle.model_laws.proofs.Finds.{each_found}
+use Rattle.model_laws.proofs.{OrderDates.order_unnoted, Finds.each_found}
 use Rattle.model_lives.proofs.EndedRows.{IsStated, shut}
 
 -- an order that is ready has not ended
 ready_lasts : (s : OrderStatus) → is_ready s ≡ true → is_final_order s ≡ true → ⊥
 ready_lasts order.Pending r f = cc
-ready_lasts order.Ready r f = cc
-ready_lasts order.Processing r f = cc
-ready_lasts order.Valid r f = cc
-ready_lasts order.Invalid r f = cc
+ready_lasts _ r f = cc
 
 -- nor has one that is processing
 processing_lasts : (s : OrderStatus) → is_processing s ≡ true → is_final_order s ≡ true → ⊥
 processing_lasts order.Pending r f = cc
-processing_lasts order.Ready r f = cc
-processing_lasts order.Processing r f = cc
-processing_lasts order.Valid r f = cc
-processing_lasts order.Invalid r f = cc
+processing_lasts _ r f = cc
+
+-- what names an order that is processing names none that has ended
+unnamed_processing : (T : Tables) (k n : ℕ) (row : OrderRow) → order_on T n ≡ Some row → is_final_order row.status ≡ true →
+    holds (λ o. is_processing o.status) (order_on T k) ≡ true → (k == row.number) ≡ false
+unnamed_processing T k n row found ended may =
+    shut (λ (o : OrderRow). o.number) (λ o. is_processing o.status) (λ o. is_final_order o.status) (λ o. processing_lasts o.status)
+    T.orders k n row found ended may
 
 -- an entry that may follow names no order that has ended
 unnamed : (T : Tables) (e : Entry) (n : ℕ) (row : OrderRow) → may_on T e ≡ true → order_on T n ≡ Some row → is_final_order row.status ≡ true →
     names_order e row.number ≡ false
-unnamed T (finalized k csr) n row may found ended = by (k == row.number) refl
-  where
-    by : (b : Bool) → (k == row.number) ≡ b → b ≡ false
-    by true e =
-        absurd (shut (λ (o : OrderRow). o.number) (λ o. is_ready o.status) (λ o. is_final_order o.status)
-        (λ o. ready_lasts o.status) T.orders k n row found ended
-        e (and_parts _ _ may).0)
-    by false e = refl
-unnamed T (certified k bytes) n row may found ended = by (k == row.number) refl
-  where
-    by : (b : Bool) → (k == row.number) ≡ b → b ≡ false
-    by true e =
-        absurd (shut (λ (o : OrderRow). o.number) (λ o. is_processing o.status) (λ o. is_final_order o.status)
-        (λ o. processing_lasts o.status) T.orders k n row found
-        ended e (and_parts _ _ may).0)
-    by false e = refl
-unnamed T (failed k problem) n row may found ended = by (k == row.number) refl
-  where
-    by : (b : Bool) → (k == row.number) ≡ b → b ≡ false
-    by true e =
-        absurd (shut (λ (o : OrderRow). o.number) (λ o. is_processing o.status) (λ o. is_final_order o.status)
-        (λ o. processing_lasts o.status) T.orders k n row found
-        ended e (and_parts _ _ may).0)
-    by false e = refl
+unnamed T (finalized k csr) n row may found ended =
+    shut (λ (o : OrderRow). o.number) (λ o. is_ready o.status) (λ o. is_final_order o.status) (λ o. ready_lasts o.status)
+    T.orders k n row found ended (and_parts _ _ may).0
+unnamed T (certified k bytes) n row may found ended = unnamed_processing T k n row found ended (and_parts _ _ may).0
+unnamed T (failed k problem) n row may found ended = unnamed_processing T k n row found ended (and_parts _ _ may).0
 unnamed T _ n row may found ended = refl
 
 -- ---- statuses

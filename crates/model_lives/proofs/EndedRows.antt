@@ -3,33 +3,21 @@ use Rattle.std.proofs.Common.{◌≡◌, ◌≤◌, ◌<◌, ℕ, List, Option, 
 use Rattle.std.specs.Prelude.{find, ◌&&◌, ◌||◌, ◌==◌, nat_lt, nat_le}
 use Rattle.std.specs.List.{flat_map}
 use Rattle.std.proofs.lemmas.Bool.{eqb-true, and_parts, leb-true, ltb-true}
-use Rattle.desk_model.specs.Lookup.{holds}
-use Rattle.desk_model.specs.declared.entry.Entry.{Entry}
-use Rattle.desk_model.specs.declared.entry.Ending.{Ending}
+use Rattle.desk_model.specs.{Lookup.holds, History.earlier, Account.is_valid as is_valid_account, Tables.Tables, Kept.EachOf}
+use Rattle.desk_model.specs.declared.{entry.Entry.Entry, entry.Ending.Ending, objects.AuthorizationEnd.AuthorizationEnd, rows.AccountRow.AccountRow}
+use Rattle.desk_model.specs.declared.{rows.ChallengeRow.ChallengeRow, rows.AuthorizationRow.AuthorizationRow, status.AccountStatus.AccountStatus}
+use Rattle.desk_model.specs.declared.{status.AuthzStatus.AuthzStatus, status.ChallengeStatus.ChallengeStatus}
 use Rattle.desk_model.specs.declared.entry.Entry.TheVariants.{ContactsChanged as contacts_changed, KeyChanged as key_changed, AccountEnded as account_ended}
-use Rattle.desk_model.specs.declared.entry.Entry.TheVariants.{Answered as answered, Reported as reported}
-use Rattle.desk_model.specs.declared.entry.Entry.TheVariants.{AuthorizationEnded as authorization_ended}
-use Rattle.desk_model.specs.History.{earlier}
-use Rattle.desk_model.specs.Account.{is_valid as is_valid_account}
+use Rattle.desk_model.specs.declared.entry.Entry.TheVariants.{Answered as answered, Reported as reported, AuthorizationEnded as authorization_ended}
 use Rattle.desk_model.specs.Authorization.{authorization_status_by, in_time, is_over, is_pending, is_valid, kind_of}
-use Rattle.desk_model.specs.declared.objects.AuthorizationEnd.{AuthorizationEnd}
 use Rattle.desk_model.specs.Legal.{is_pending_challenge, is_processing_challenge}
 use Rattle.desk_model.specs.Allowed.{challenge_passes, may_on}
 use Rattle.desk_model.specs.Questions.{account_on, authorization_on, owner_on, challenge_of}
-use Rattle.desk_model.specs.Tables.{Tables}
-use Rattle.desk_model.specs.declared.rows.AccountRow.{AccountRow}
-use Rattle.desk_model.specs.declared.rows.ChallengeRow.{ChallengeRow}
-use Rattle.desk_model.specs.declared.rows.AuthorizationRow.{AuthorizationRow}
 use Rattle.desk_model.specs.Derived.{derived_authorization, derived_order, is_proved, restated_authorization}
-use Rattle.desk_model.specs.Effect.{answered_challenge, has_row, key_numbered, moved_account, moved_authorization, noted_account}
-use Rattle.desk_model.specs.Effect.{noted_authorization, noted_challenge, reported_challenge, row_ends}
+use Rattle.desk_model.specs.Effect.{has_row, key_numbered, moved_account, moved_authorization, noted_authorization, noted_challenge, row_ends}
 use Rattle.desk_model.specs.Life.{is_final_account, is_final_challenge}
-use Rattle.desk_model.specs.Kept.{EachOf}
-use Rattle.desk_model.specs.declared.status.AccountStatus.{AccountStatus}
 use Rattle.desk_model.specs.declared.status.AccountStatus.TheVariants as account
-use Rattle.desk_model.specs.declared.status.AuthzStatus.{AuthzStatus}
 use Rattle.desk_model.specs.declared.status.AuthzStatus.TheVariants as authz
-use Rattle.desk_model.specs.declared.status.ChallengeStatus.{ChallengeStatus}
 use Rattle.desk_model.specs.declared.status.ChallengeStatus.TheVariants as chall
 use Rattle.model_laws.specs.Ordered.{Ascends}
 use Rattle.model_laws.proofs.Basics.{each_all, earlier-some}
@@ -43,51 +31,43 @@ pub record IsStated (m : ℕ) (T : Tables) : Type 0 where
   pub orders : EachOf (λ o. o.status ≡ derived_order m T.authorizations o) T.orders
   pub challenges : Ascends (λ c. c.number) 1 (flat_map (λ (a : AuthorizationRow). a.challenges) T.authorizations)
 
+-- a test that never passes
+pub never : (b : Bool) → (b ≡ true → ⊥) → b ≡ false
+never true fails = absurd (fails refl)
+never false fails = refl
+
 -- what passes a test that a row of this number has failed is another row
 pub shut : {X : Type 0} (number : X → ℕ) (test final : X → Bool) → ((x : X) → test x ≡ true → final x ≡ true → ⊥) → (rows : List X) (k n : ℕ) (row : X) →
-    find (λ x. number x == n) rows ≡ Some row → final row ≡ true → (k == number row) ≡ true → holds test (find (λ x. number x == k) rows) ≡ true →
-    ⊥
-shut number test final never rows k n row found ended named may =
+    find (λ x. number x == n) rows ≡ Some row → final row ≡ true → holds test (find (λ x. number x == k) rows) ≡ true →
+    (k == number row) ≡ false
+shut number test final differ rows k n row found ended may =
+    never (k == number row) (λ named.
     let own : number row ≡ n = eqb-true (number row) n (found_passes (λ x. number x == n) rows row found) in
     let same : k ≡ n = eqb-true k (number row) named ∙ own in
-    never row (sym (ap (holds test) (ap (λ j. find (λ x. number x == j) rows) same ∙ found)) ∙ may) ended
+    differ row (sym (ap (holds test) (ap (λ j. find (λ x. number x == j) rows) same ∙ found)) ∙ may) ended)
 
 -- ---- accounts
 
 -- an account that is valid has not ended
 valid_lasts : (s : AccountStatus) → is_valid_account s ≡ true → is_final_account s ≡ true → ⊥
 valid_lasts account.Valid v f = cc
-valid_lasts account.Deactivated v f = cc
-valid_lasts account.Revoked v f = cc
+valid_lasts _ v f = cc
+
+-- what names a valid account leaves one that has ended
+account_shut : (T : Tables) (k n : ℕ) (row changed : AccountRow) → account_on T n ≡ Some row → is_final_account row.status ≡ true →
+    holds (λ a. is_valid_account a.status) (account_on T k) ≡ true → cond (k == row.number) changed row ≡ row
+account_shut T k n row changed found ended may =
+    ap (λ b. cond b changed row)
+    (shut (λ (a : AccountRow). a.number) (λ a. is_valid_account a.status) (λ a. is_final_account a.status) (λ a. valid_lasts a.status)
+    T.accounts k n row found ended may)
 
 -- an account that has ended keeps its row
 pub account_stays : (T : Tables) (e : Entry) (m n : ℕ) (row : AccountRow) → may_on T e ≡ true → account_on T n ≡ Some row →
     is_final_account row.status ≡ true →
     moved_account e m row ≡ row
-account_stays T (contacts_changed k cs) m n row may found ended = by (k == row.number) refl
-  where
-    by : (b : Bool) → (k == row.number) ≡ b → cond b (noted_account (contacts_changed k cs) m row) row ≡ row
-    by true e =
-        absurd (shut (λ (a : AccountRow). a.number) (λ a. is_valid_account a.status) (λ a. is_final_account a.status)
-        (λ a. valid_lasts a.status) T.accounts k n row found
-        ended e (and_parts _ _ may).0)
-    by false e = refl
-account_stays T (key_changed k key) m n row may found ended = by (k == row.number) refl
-  where
-    by : (b : Bool) → (k == row.number) ≡ b → cond b (noted_account (key_changed k key) m row) row ≡ row
-    by true e =
-        absurd (shut (λ (a : AccountRow). a.number) (λ a. is_valid_account a.status) (λ a. is_final_account a.status)
-        (λ a. valid_lasts a.status) T.accounts k n row found
-        ended e (and_parts _ _ may).0)
-    by false e = refl
-account_stays T (account_ended k s) m n row may found ended = by (k == row.number) refl
-  where
-    by : (b : Bool) → (k == row.number) ≡ b → cond b (noted_account (account_ended k s) m row) row ≡ row
-    by true e =
-        absurd (shut (λ (a : AccountRow). a.number) (λ a. is_valid_account a.status) (λ a. is_final_account a.status)
-        (λ a. valid_lasts a.status) T.accounts k n row found
-        ended e may)
-    by false e = refl
+account_stays T (contacts_changed k cs) m n row may found ended = account_shut T k n row _ found ended (and_parts _ _ may).0
+account_stays T (key_changed k key) m n row may found ended = account_shut T k n row _ found ended (and_parts _ _ may).0
+account_stays T (account_ended k s) m n row may found ended = account_shut T k n row _ found ended may
 account_stays T _ m n row may found ended = refl
 
 -- ---- authorizations
@@ -95,11 +75,7 @@ account_stays T _ m n row may found ended = refl
 -- one that is pending or valid is not over
 live_lasts : (s : AuthzStatus) → (is_pending s || is_valid s) ≡ true → is_over s ≡ true → ⊥
 live_lasts authz.Pending l o = cc
-live_lasts authz.Valid l o = cc
-live_lasts authz.Invalid l o = cc
-live_lasts authz.Deactivated l o = cc
-live_lasts authz.Expired l o = cc
-live_lasts authz.Revoked l o = cc
+live_lasts _ l o = cc
 
 -- one that is pending is not over
 pending_lasts : (s : AuthzStatus) → is_pending s ≡ true → is_over s ≡ true → ⊥
@@ -110,14 +86,14 @@ pending_lasts s p o = live_lasts s (either (is_pending s) p) o
     either false e = cc
 
 -- a challenge that may change stands in an authorization that is not over
-unpassed : (T : Tables) (test : ChallengeStatus → Bool) (k n : ℕ) (row : AuthorizationRow) (m : ℕ) → IsStated m T → authorization_on T n ≡ Some row →
-    is_over row.status ≡ true → has_row k row ≡ true → challenge_passes test T k ≡ true →
-    ⊥
-unpassed T test k n row m stated found ended named may =
+unpassed : (T : Tables) (test : ChallengeStatus → Bool) (k n : ℕ) (row changed : AuthorizationRow) (m : ℕ) → IsStated m T → authorization_on T n ≡ Some row →
+    is_over row.status ≡ true → challenge_passes test T k ≡ true → cond (has_row k row) changed row ≡ row
+unpassed T test k n row changed m stated found ended may =
+    ap (λ b. cond b changed row) (never (has_row k row) (λ named.
     let owner : owner_on T k ≡ Some row = owner_found (λ a. a.number == n) k 1 T.authorizations row stated.challenges found named in
     let passes : (is_pending row.status && holds (λ c. test c.status) (challenge_of k row)) ≡ true =
     sym (ap (holds (λ a. is_pending a.status && holds (λ c. test c.status) (challenge_of k a))) owner) ∙ may in
-    pending_lasts row.status (and_parts _ _ passes).0 ended
+    pending_lasts row.status (and_parts _ _ passes).0 ended))
 
 -- an end after `expires` does not count
 late : (expires m : ℕ) (b : Bool) (s : Ending) → nat_lt expires m ≡ true →
@@ -151,24 +127,12 @@ end_stays k s m row stated ended = by row.ended refl
 pub authorization_stays : (T : Tables) (e : Entry) (m n : ℕ) (row : AuthorizationRow) → IsStated m T → may_on T e ≡ true → authorization_on T n ≡ Some row →
     is_over row.status ≡ true →
     moved_authorization e m T.accounts row ≡ row
-authorization_stays T (answered k) m n row stated may found ended = by (has_row k row) refl
-  where
-    by : (b : Bool) → has_row k row ≡ b → cond b (restated_authorization m (noted_authorization (answered k) m T.accounts row)) row ≡ row
-    by true e = absurd (unpassed T is_pending_challenge k n row m stated found ended e may)
-    by false e = refl
-authorization_stays T (reported k o) m n row stated may found ended = by (has_row k row) refl
-  where
-    by : (b : Bool) → has_row k row ≡ b → cond b (restated_authorization m (noted_authorization (reported k o) m T.accounts row)) row ≡ row
-    by true e = absurd (unpassed T is_processing_challenge k n row m stated found ended e may)
-    by false e = refl
-authorization_stays T (authorization_ended k s) m n row stated may found ended = by (k == row.number) refl
-  where
-    by : (b : Bool) → (k == row.number) ≡ b → cond b (restated_authorization m (noted_authorization (authorization_ended k s) m T.accounts row)) row ≡ row
-    by true e =
-        absurd (shut (λ (a : AuthorizationRow). a.number) (λ a. is_pending a.status || is_valid a.status) (λ a. is_over a.status)
-        (λ a. live_lasts a.status) T.authorizations
-        k n row found ended e may)
-    by false e = refl
+authorization_stays T (answered k) m n row stated may found ended = unpassed T is_pending_challenge k n row _ m stated found ended may
+authorization_stays T (reported k o) m n row stated may found ended = unpassed T is_processing_challenge k n row _ m stated found ended may
+authorization_stays T (authorization_ended k s) m n row stated may found ended =
+    ap (λ b. cond b (restated_authorization m (noted_authorization (authorization_ended k s) m T.accounts row)) row)
+    (shut (λ (a : AuthorizationRow). a.number) (λ a. is_pending a.status || is_valid a.status) (λ a. is_over a.status) (λ a. live_lasts a.status)
+    T.authorizations k n row found ended may)
 authorization_stays T (account_ended k s) m n row stated may found ended = by (k == row.account)
   where
     own : row.status ≡ derived_authorization m row
@@ -191,42 +155,32 @@ authorization_stays T _ m n row stated may found ended = refl
 -- a challenge that is pending has not ended
 pending_challenge_lasts : (s : ChallengeStatus) → is_pending_challenge s ≡ true → is_final_challenge s ≡ true → ⊥
 pending_challenge_lasts chall.Pending p f = cc
-pending_challenge_lasts chall.Processing p f = cc
-pending_challenge_lasts chall.Valid p f = cc
-pending_challenge_lasts chall.Invalid p f = cc
+pending_challenge_lasts _ p f = cc
 
 -- nor has one that is processing
 processing_challenge_lasts : (s : ChallengeStatus) → is_processing_challenge s ≡ true → is_final_challenge s ≡ true → ⊥
 processing_challenge_lasts chall.Pending p f = cc
-processing_challenge_lasts chall.Processing p f = cc
-processing_challenge_lasts chall.Valid p f = cc
-processing_challenge_lasts chall.Invalid p f = cc
+processing_challenge_lasts _ p f = cc
 
--- an entry that may change a challenge names none that has ended
+-- an entry that may change a challenge leaves one that has ended
 challenge_shut : (T : Tables) (test : ChallengeStatus → Bool) → ((s : ChallengeStatus) → test s ≡ true → is_final_challenge s ≡ true → ⊥) → (k n : ℕ)
-    (a : AuthorizationRow) (c : ChallengeRow) → owner_on T n ≡ Some a → challenge_of n a ≡ Some c → is_final_challenge c.status ≡ true →
-    (k == c.number) ≡ true → challenge_passes test T k ≡ true →
-    ⊥
-challenge_shut T test never k n a c owner found ended named may =
+    (a : AuthorizationRow) (c changed : ChallengeRow) → owner_on T n ≡ Some a → challenge_of n a ≡ Some c → is_final_challenge c.status ≡ true →
+    challenge_passes test T k ≡ true → cond (k == c.number) changed c ≡ c
+challenge_shut T test differ k n a c changed owner found ended may =
+    ap (λ b. cond b changed c) (never (k == c.number) (λ named.
     let own : n ≡ c.number = eqb-true n c.number (found_passes (λ d. n == d.number) a.challenges c found) in
     let same : k ≡ n = eqb-true k c.number named ∙ sym own in
     let passes : (is_pending a.status && holds (λ d. test d.status) (challenge_of n a)) ≡ true =
     sym (ap (holds (λ b. is_pending b.status && holds (λ d. test d.status) (challenge_of n b))) owner)
     ∙ sym (ap (challenge_passes test T) same) ∙ may in
-    never c.status (sym (ap (holds (λ d. test d.status)) found) ∙ (and_parts _ _ passes).1) ended
+    differ c.status (sym (ap (holds (λ d. test d.status)) found) ∙ (and_parts _ _ passes).1) ended))
 
 -- a challenge that has ended keeps its row
 pub challenge_stays : (T : Tables) (e : Entry) (m n : ℕ) (key : List ℕ) (a : AuthorizationRow) (c : ChallengeRow) → may_on T e ≡ true → owner_on T n ≡ Some a →
     challenge_of n a ≡ Some c → is_final_challenge c.status ≡ true →
     noted_challenge e m key c ≡ c
-challenge_stays T (answered k) m n key a c may owner found ended = by (k == c.number) refl
-  where
-    by : (b : Bool) → (k == c.number) ≡ b → cond b (answered_challenge m key c) c ≡ c
-    by true e = absurd (challenge_shut T is_pending_challenge pending_challenge_lasts k n a c owner found ended e may)
-    by false e = refl
-challenge_stays T (reported k o) m n key a c may owner found ended = by (k == c.number) refl
-  where
-    by : (b : Bool) → (k == c.number) ≡ b → cond b (reported_challenge o m c) c ≡ c
-    by true e = absurd (challenge_shut T is_processing_challenge processing_challenge_lasts k n a c owner found ended e may)
-    by false e = refl
+challenge_stays T (answered k) m n key a c may owner found ended =
+    challenge_shut T is_pending_challenge pending_challenge_lasts k n a c _ owner found ended may
+challenge_stays T (reported k o) m n key a c may owner found ended =
+    challenge_shut T is_processing_challenge processing_challenge_lasts k n a c _ owner found ended may
 challenge_stays T _ m n key a c may owner found ended = refl

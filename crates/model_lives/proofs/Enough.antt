@@ -3,45 +3,32 @@ use Rattle.std.proofs.Common.{◌≡◌, ◌≤◌, ◌+◌, ℕ, List, [], ◌�
 use Rattle.desk_model.specs.Decide.{entries_of, verdict_reply}
 use Rattle.desk_model.specs.Effect.{effect, effects, swept}
 use Rattle.desk_model.specs.Rules.{office_verdict, open_nonce, signed_verdict}
-use Rattle.desk_model.specs.Tables.{Tables}
+use Rattle.desk_model.specs.{Tables.Tables, Entry.entry_of}
 use Rattle.desk_model.specs.Kept.{Covers, EachOf, IsClosed, Kept, restricted}
-use Rattle.desk_model.specs.declared.call.Ask.{Ask}
+use Rattle.desk_model.specs.declared.{call.Ask.Ask, call.OfficeAsk.OfficeAsk, call.Call.Call, call.Signed.Signed, entry.Entry.Entry, objects.Nonce.Nonce}
+use Rattle.desk_model.specs.declared.{rows.AccountRow.AccountRow, rows.AuthorizationRow.AuthorizationRow, rows.OrderRow.OrderRow, verdict.Verdict.Verdict}
+use Rattle.desk_model.specs.declared.{moves.Move.Move}
 use Rattle.desk_model.specs.declared.call.Ask.TheVariants as ask
-use Rattle.desk_model.specs.declared.call.OfficeAsk.{OfficeAsk}
 use Rattle.desk_model.specs.declared.call.OfficeAsk.TheVariants as office
-use Rattle.desk_model.specs.declared.call.Call.{Call}
-use Rattle.desk_model.specs.declared.call.Signed.{Signed}
-use Rattle.desk_model.specs.Entry.{entry_of}
-use Rattle.desk_model.specs.declared.entry.Entry.{Entry}
 use Rattle.desk_model.specs.declared.entry.Entry.TheVariants.{Issued as issued, Opened as opened, Ordered as ordering, Spent as spent}
-use Rattle.desk_model.specs.declared.objects.Nonce.{Nonce}
-use Rattle.desk_model.specs.declared.rows.AccountRow.{AccountRow}
-use Rattle.desk_model.specs.declared.rows.AuthorizationRow.{AuthorizationRow}
-use Rattle.desk_model.specs.declared.rows.OrderRow.{OrderRow}
-use Rattle.desk_model.specs.declared.verdict.Verdict.{Verdict}
-use Rattle.desk_model.specs.declared.verdict.Verdict.TheVariants.{Refused as refused, KeyTaken as key_taken, Answers as answers}
-use Rattle.desk_model.specs.declared.verdict.Verdict.TheVariants.{Opens as opens, Orders as orders, Moves as moves}
+use Rattle.desk_model.specs.declared.verdict.Verdict.TheVariants.{Refused as refused, KeyTaken as key_taken, Answers as answers, Opens as opens}
+use Rattle.desk_model.specs.declared.verdict.Verdict.TheVariants.{Orders as orders, Moves as moves}
 use Rattle.model_laws.specs.Ordered.{IsOrdered, IsTable}
 use Rattle.model_laws.specs.Parts.{CoversAll, ReusedKept}
-use Rattle.desk_model.specs.declared.moves.Move.{Move}
 use Rattle.desk_model.specs.declared.moves.Move.TheVariants as move
 use Rattle.model_laws.proofs.Basics.{each, each_all}
 use Rattle.model_laws.proofs.Chain.{effects_part, recorded_local}
 use Rattle.model_laws.proofs.Local.{filter_all, swept_part}
-use Rattle.model_laws.proofs.Recorded.{below_filter}
-use Rattle.model_laws.proofs.RowLists.{ascends_filter}
-use Rattle.model_laws.proofs.SweptParts.{swept_closed}
+use Rattle.model_laws.proofs.{Recorded.below_filter, RowLists.ascends_filter, SweptParts.swept_closed}
 use Rattle.model_lives.specs.AnswersAs.{AnswersAs, CarriesOutAs, IssuesAs, PassesAs, SettlesAs}
 use Rattle.model_lives.specs.IsPart.{IsPartFor, Keeps}
 use Rattle.model_lives.specs.Thinned.{all_challenges}
-use Rattle.model_lives.proofs.Listed.{KeepsListed}
+use Rattle.model_lives.proofs.{Listed.KeepsListed, Lists.filtered_each, Thin.whole_authorizations}
 use Rattle.desk_model.specs.Touched.{touched, touched_at, touched_rows}
-use Rattle.model_lives.proofs.Grown.{KeepsTouched, grown, grown_closed, grown_part, keeps_falling, keeps_named, keeps_restated}
-use Rattle.model_lives.proofs.Grown.{keeps_rows, keeps_touched, may_restate}
-use Rattle.model_lives.proofs.Lists.{filtered_each}
+use Rattle.model_lives.proofs.Grown.{KeepsTouched, grown, grown_closed, grown_part, keeps_falling, keeps_named, keeps_restated, keeps_rows, keeps_touched}
+use Rattle.model_lives.proofs.Grown.{may_restate}
 use Rattle.model_laws.proofs.Plain.{covers_issued, fresh_kept, issued_closed, issued_covers, nonces_covered, spent_closed, spent_covers}
 use Rattle.model_lives.proofs.Ready.{IsAnswered, IsReady, swept_names}
-use Rattle.model_lives.proofs.Thin.{whole_authorizations}
 use Rattle.model_lives.proofs.Verdicts.{nonce_same, office_same, signed_same}
 use Rattle.model_lives.proofs.Walks.{IsNoWork, office_answered, signed_answered}
 
@@ -71,23 +58,14 @@ entry_covered k m S e closed again covers = (closed, covers, fresh_kept k S m e 
 -- a move uses nothing again
 move_reuses : (k : Kept) (v : Move) → ReusedKept k (entry_of v)
 move_reuses k (move.ContactsChanged n contacts) = tt
-move_reuses k (move.KeyChanged n key) = tt
-move_reuses k (move.AccountEnded n ending) = tt
-move_reuses k (move.Answered n) = tt
-move_reuses k (move.Reported n outcome) = tt
-move_reuses k (move.AuthorizationEnded n ending) = tt
-move_reuses k (move.Finalized n csr) = tt
-move_reuses k (move.Certified n certificate) = tt
-move_reuses k (move.Failed n problem) = tt
+move_reuses k _ = tt
 
 -- what the verdict's entry touches is kept
 verdict_covered : (k : Kept) (m : ℕ) (S : Tables) (v : Verdict) → IsClosed k S → IsAnswered k m S v → CoversAll k m S (entries_of v)
-verdict_covered k m S (refused n ss) closed h = tt
-verdict_covered k m S (key_taken account) closed h = tt
-verdict_covered k m S (answers what) closed h = tt
 verdict_covered k m S (opens key contacts) closed h = entry_covered k m S (opened key contacts) closed tt h.0
 verdict_covered k m S (orders account wanted) closed h = entry_covered k m S (ordering account wanted) closed h.0 h.1.0
 verdict_covered k m S (moves v) closed h = entry_covered k m S (entry_of v) closed (move_reuses k v) h.0
+verdict_covered k m S _ closed h = tt
 
 -- also after a nonce was spent and one issued
 later_covered : (k : Kept) (m : ℕ) (S : Tables) (n : ℕ) (r : List ℕ) (e : Entry) → IsClosed k S → ReusedKept k e → Covers k S e →
@@ -100,12 +78,10 @@ later_covered k m S n r e closed again covers =
 
 nonce_covered : (k : Kept) (m : ℕ) (S : Tables) (n : ℕ) (r : List ℕ) (v : Verdict) → IsClosed k S → IsAnswered k m S v →
     CoversAll k m S (spent n ∷ issued r ∷ entries_of v)
-nonce_covered k m S n r (refused j ss) closed h = nonces_covered k m S n r [] closed tt
-nonce_covered k m S n r (key_taken account) closed h = nonces_covered k m S n r [] closed tt
-nonce_covered k m S n r (answers what) closed h = nonces_covered k m S n r [] closed tt
 nonce_covered k m S n r (opens key contacts) closed h = later_covered k m S n r (opened key contacts) closed tt h.0
 nonce_covered k m S n r (orders account wanted) closed h = later_covered k m S n r (ordering account wanted) closed h.0 h.1.0
 nonce_covered k m S n r (moves v) closed h = later_covered k m S n r (entry_of v) closed (move_reuses k v) h.0
+nonce_covered k m S n r _ closed h = nonces_covered k m S n r [] closed tt
 
 -- the reply is the same
 reply_same : (k : Kept) (m : ℕ) (S : Tables) (v : Verdict) (index : Bool) → IsAnswered k m S v →

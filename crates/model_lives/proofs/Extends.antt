@@ -1,13 +1,10 @@
 -- A history after a call is a longer one, and what is acknowledged stays in it.
 use Rattle.std.proofs.Common.{◌≡◌, ℕ, List, [], ◌∷◌, ◌++◌, Option, Some, refl, sym, ap, ◌∙◌, append_assoc, true, false}
-use Rattle.desk_model.specs.Entry.{History}
-use Rattle.desk_model.specs.declared.entry.Entry.{Entry}
-use Rattle.desk_model.specs.declared.entry.Dated.{Dated}
+use Rattle.desk_model.specs.{Entry.History, declared.entry.Entry.Entry, declared.entry.Dated.Dated, declared.call.Call.Call}
 use Rattle.desk_model.specs.History.{record_all, moment_of, first, earlier}
 use Rattle.desk_model.specs.Decide.{decide, after}
-use Rattle.desk_model.specs.Life.{Event, Replied, Faulted, Stopped, Reopened, history, kept_calls, made_by, IsLife}
-use Rattle.desk_model.specs.Life.{HistoriesAreLegal, HistoriesAreOfCalls, AcknowledgedStays, RepliesAreDecided}
-use Rattle.desk_model.specs.declared.call.Call.{Call}
+use Rattle.desk_model.specs.Life.{Event, Replied, Faulted, Stopped, Reopened, history, kept_calls, made_by, IsLife, HistoriesAreLegal, HistoriesAreOfCalls}
+use Rattle.desk_model.specs.Life.{AcknowledgedStays, RepliesAreDecided}
 use Rattle.model_laws.proofs.Basics.{earlier-some}
 use Rattle.model_lives.proofs.SoundCalls.{legal_after}
 
@@ -39,8 +36,7 @@ extends_event : (start : History) (e : Event) (es : List Event) → Extends (his
 extends_event start (Replied c r) es = extends_after (history start es) c
 extends_event start (Faulted c) es = extends_refl (history start es)
 extends_event start (Stopped c true) es = extends_after (history start es) c
-extends_event start (Stopped c false) es = extends_refl (history start es)
-extends_event start Reopened es = extends_refl (history start es)
+extends_event start _ es = extends_refl (history start es)
 
 -- a history extends those before it
 pub extends_earlier : (start : History) (later earlier : List Event) → Extends (history start earlier) (history start (later ++ earlier))

@@ -1,30 +1,23 @@
 -- What the look-ups of the few rows find is what is enough, rule by rule.
 use Rattle.std.proofs.Common.{◌≡◌, ℕ, List, [], ◌++◌, refl, ap, ◌∙◌, true, false, Bool, not}
-use Rattle.std.proofs.Common.{Option, None, Some}
 use Rattle.std.specs.Prelude.{◌==◌, ◌&&◌, ◌||◌, if◌then◌else◌}
-use Rattle.std.specs.List.{flat_map, list_any}
+use Rattle.std.specs.List.{list_any}
 use Rattle.desk_model.specs.Asked.{asked_names, asks_authorizations, asks_orders}
-use Rattle.desk_model.specs.Lookup.{holds}
-use Rattle.desk_model.specs.Name.{Name, same_name}
-use Rattle.desk_model.specs.Tables.{Tables}
+use Rattle.desk_model.specs.{Tables.Tables}
 use Rattle.desk_model.specs.Touched.{is_named_account, is_named_order, is_past_order, is_touched_nonce, lists}
-use Rattle.desk_model.specs.declared.call.Ask.{Ask}
-use Rattle.desk_model.specs.declared.rows.AccountRow.{AccountRow}
-use Rattle.desk_model.specs.declared.rows.AuthorizationRow.{AuthorizationRow}
+use Rattle.desk_model.specs.declared.{call.Ask.Ask, rows.AccountRow.AccountRow, rows.AuthorizationRow.AuthorizationRow}
 use Rattle.model_laws.specs.Ordered.{IsOrdered}
 use Rattle.model_laws.proofs.Basics.{each_all, eq_turn, list_any-same}
 use Rattle.model_lives.specs.Few.{few_rows, is_few_account, is_few_authorization, is_few_order, is_moved_authorization, is_opened_order}
-use Rattle.model_lives.specs.Few.{is_restated_authorization, is_wanted_authorization, is_whole_authorization, is_whole_order, needs_holders}
-use Rattle.model_lives.specs.Few.{needs_listed, restates}
+use Rattle.model_lives.specs.Few.{is_restated_authorization, is_wanted_authorization, is_whole_authorization, is_whole_order, needs_holders, needs_listed}
+use Rattle.model_lives.specs.Few.{restates}
 use Rattle.model_lives.specs.FewLoaded.{few_accounts, few_authorizations, few_loaded, few_orders, holders_of, listed_orders, moved_authorizations}
 use Rattle.model_lives.specs.FewLoaded.{opened_orders, restated_authorizations, whole_authorizations}
-use Rattle.model_lives.specs.Loaded.{accounts_once, authorizations_asked_of, authorizations_for, authorizations_once, found_nonces}
-use Rattle.model_lives.specs.Loaded.{named_accounts, named_orders, orders_once}
+use Rattle.model_lives.specs.Loaded.{accounts_once, authorizations_asked_of, authorizations_once, found_nonces, named_accounts, named_orders, orders_once}
 use Rattle.model_lives.specs.LookUps.{accounts_numbered, authorizations_of, orders_of}
-use Rattle.model_lives.proofs.Found.{IsFound, found_both, found_by, found_filter, found_if, found_none, found_once, found_same, found_table}
-use Rattle.model_lives.proofs.Loading.{accounts_named, accounts_once_named, any_under, authorizations_by_names, authorizations_listed, authorizations_named}
-use Rattle.model_lives.proofs.Loading.{authorizations_over, nonces_found, of_account, of_authorization, of_nonce, of_order, orders_listed, orders_named}
-use Rattle.model_lives.proofs.Loading.{orders_over}
+use Rattle.model_lives.proofs.Found.{IsFound, found_both, found_by, found_filter, found_if, found_once, found_same, found_table}
+use Rattle.model_lives.proofs.Loading.{asked_found, accounts_named, accounts_once_named, authorizations_listed, authorizations_named, authorizations_over}
+use Rattle.model_lives.proofs.Loading.{nonces_found, of_account, of_authorization, of_nonce, of_order, orders_listed, orders_named, orders_over}
 
 moved_found : (T : Tables) (a : Ask) → IsOrdered T → IsFound of_authorization (is_moved_authorization T a) T.authorizations (moved_authorizations T a)
 moved_found T a h =
@@ -124,19 +117,7 @@ whole_found T m a h =
 
 wanted_found : (T : Tables) (a : Ask) → IsOrdered T → IsFound of_authorization (is_wanted_authorization T a) T.authorizations
     (authorizations_asked_of T (asked_names a) (accounts_once (few_accounts T a)))
-wanted_found T a h = by (asked_names a)
-  where
-    by : (names : Option (List Name)) → IsFound of_authorization
-        (λ r. holds (list_any (same_name r.name)) names && list_any (λ x. is_few_account T a x && (r.account == x.number)) T.accounts)
-        T.authorizations (authorizations_asked_of T names (accounts_once (few_accounts T a)))
-    by None = found_none of_authorization T.authorizations
-    by (Some names) =
-        found_same of_authorization _ _ T.authorizations _
-        (each_all _ T.authorizations (λ r. any_under (list_any (same_name r.name) names) (λ x. r.account == x.number) (accounts_once (few_accounts T a))
-        ∙ ap (λ b. list_any (same_name r.name) names && b) ((accounts_few_once T a h).tests (λ x. r.account == x.number))))
-        (found_by of_authorization (λ (x : AccountRow) r. list_any (same_name r.name) names && (r.account == x.number))
-        (λ x. flat_map (authorizations_for T x.number) names) T.authorizations
-        (λ x. authorizations_by_names T x.number h names) (accounts_once (few_accounts T a)))
+wanted_found T a h = asked_found T (is_few_account T a) (accounts_once (few_accounts T a)) h (accounts_few_once T a h) (asked_names a)
 
 -- the authorizations that are needed with their challenges
 pub whole_authorizations_found : (T : Tables) (m : ℕ) (a : Ask) → IsOrdered T →

@@ -5,39 +5,27 @@ use Rattle.std.specs.List.{list_any}
 use Rattle.std.proofs.lemmas.Bool.{and_from, and_parts, or_left, or_right}
 use Rattle.std.proofs.Math.Bool.{or-false}
 use Rattle.desk_model.specs.Asked.{asks_name, asks_orders, target_orders}
-use Rattle.desk_model.specs.Derived.{numbers_of}
+use Rattle.desk_model.specs.{Derived.numbers_of, Tables.Tables}
 use Rattle.desk_model.specs.Kept.{EachOf, Kept, restricted}
-use Rattle.desk_model.specs.Tables.{Tables}
 use Rattle.desk_model.specs.Touched.{is_named_account, is_named_order, is_touched_nonce, lists}
-use Rattle.desk_model.specs.declared.call.Ask.{Ask}
+use Rattle.desk_model.specs.declared.{call.Ask.Ask, call.OfficeAsk.OfficeAsk, call.Signed.Signed, call.Target.Target, objects.Nonce.Nonce}
+use Rattle.desk_model.specs.declared.{rows.AccountRow.AccountRow, rows.AuthorizationRow.AuthorizationRow, rows.OrderRow.OrderRow}
 use Rattle.desk_model.specs.declared.call.Ask.TheVariants as ask
-use Rattle.desk_model.specs.declared.call.OfficeAsk.{OfficeAsk}
 use Rattle.desk_model.specs.declared.call.OfficeAsk.TheVariants as office
-use Rattle.desk_model.specs.declared.call.Signed.{Signed}
-use Rattle.desk_model.specs.declared.call.Target.{Target}
 use Rattle.desk_model.specs.declared.call.Target.TheVariants as to
-use Rattle.desk_model.specs.declared.objects.Nonce.{Nonce}
-use Rattle.desk_model.specs.declared.rows.AccountRow.{AccountRow}
-use Rattle.desk_model.specs.declared.rows.AuthorizationRow.{AuthorizationRow}
-use Rattle.desk_model.specs.declared.rows.OrderRow.{OrderRow}
 use Rattle.model_laws.specs.Ordered.{IsOrdered}
 use Rattle.model_laws.proofs.Basics.{each, each_all, each_both}
 use Rattle.model_lives.specs.AnswersAs.{IssuesAs, PassesAs, SettlesAs}
-use Rattle.model_lives.specs.Few.{few_rows, is_few_account, is_few_authorization, is_few_order, is_moved_authorization, is_opened_order}
-use Rattle.model_lives.specs.Few.{IsStatedFor, is_restated_authorization, is_wanted_authorization, needs_holders, needs_listed, restates}
-use Rattle.model_lives.specs.Few.{target_needs_listed}
-use Rattle.model_lives.proofs.Answering.{passes_answer}
+use Rattle.model_lives.specs.Few.{few_rows, is_few_account, is_few_authorization, is_few_order, is_moved_authorization, is_opened_order, IsStatedFor}
+use Rattle.model_lives.specs.Few.{is_restated_authorization, is_wanted_authorization, needs_holders, needs_listed, restates, target_needs_listed}
+use Rattle.model_lives.proofs.{Answering.passes_answer, Listed.KeepsListed, Ready.IsReady, Unlisted.passes_open, Walks.IsNoWork}
 use Rattle.model_lives.specs.IsPart.{Keeps}
 use Rattle.model_lives.proofs.Cut.{at_number, numbered}
 use Rattle.model_lives.proofs.Enough.{issues_as, passes_as, settles_as}
-use Rattle.model_lives.proofs.Grown.{KeepsNamed, KeepsRestated, KeepsRows, answers_challenge, grown, grown_closed, grown_part, kept_number}
-use Rattle.model_lives.proofs.Grown.{keeps_falling, keeps_named, target_answers}
-use Rattle.model_lives.proofs.Listed.{KeepsListed}
+use Rattle.model_lives.proofs.Grown.{KeepsNamed, KeepsRestated, KeepsRows, answers_challenge, grown, grown_closed, grown_part, kept_number, keeps_falling}
+use Rattle.model_lives.proofs.Grown.{keeps_named, target_answers}
 use Rattle.model_lives.proofs.Lists.{any_wider, each_filtered, each_member, filter_nothing, filter_same, filtered_each, or_cases, same_number}
-use Rattle.model_lives.proofs.Ready.{IsReady}
 use Rattle.model_lives.proofs.Unheld.{IsOfAuthorization, settles_unheld, unheld}
-use Rattle.model_lives.proofs.Unlisted.{passes_open}
-use Rattle.model_lives.proofs.Walks.{IsNoWork}
 
 -- ---- by their numbers
 
@@ -94,8 +82,7 @@ no_list (ask.Signed s) h = by s.target h
     by : (t : Target) → target_needs_listed t ≡ true → target_orders t ≡ false
     by (to.Orders k) e = cc
     by _ e = refl
-no_list (ask.NewNonce head) h = refl
-no_list (ask.Office a) h = refl
+no_list _ h = refl
 
 -- and each order is opened
 all_opened : (T : Tables) (m : ℕ) (a : Ask) (o : OrderRow) → needs_listed a ≡ true → is_few_order T m a o ≡ true → is_opened_order T m a o ≡ true
@@ -244,13 +231,9 @@ few_held T m a none h needed =
 pub few_settle : (T : Tables) (m : ℕ) (a : OfficeAsk) → IsNoWork a → IsOrdered T → SettlesAs m a T (restricted (few_kept T m (ask.Office a)) T)
 few_settle T m (office.Report n finding) none h = few_unheld T m (office.Report n finding) none h tt (λ x. refl)
 few_settle T m (office.RevokeAuthz n) none h = few_unheld T m (office.RevokeAuthz n) none h tt (λ x. refl)
-few_settle T m office.Directory none h = few_held T m office.Directory none h refl
-few_settle T m (office.Certify n bytes) none h = few_held T m (office.Certify n bytes) none h refl
-few_settle T m (office.FailOrder n problem) none h = few_held T m (office.FailOrder n problem) none h refl
-few_settle T m (office.RevokeAccount n) none h = few_held T m (office.RevokeAccount n) none h refl
 few_settle T m office.ChallengeWork none h = absurd none
 few_settle T m office.OrderWork none h = absurd none
-few_settle T m (office.KeyOf n) none h = few_held T m (office.KeyOf n) none h refl
+few_settle T m a none h = few_held T m a none h refl
 
 pub few_pass : (T : Tables) (m : ℕ) (s : Signed) → IsOrdered T → IsStatedFor (ask.Signed s) m T → PassesAs m s T (restricted (few_kept T m (ask.Signed s)) T)
 few_pass T m s h stated =

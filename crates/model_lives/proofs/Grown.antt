@@ -3,33 +3,25 @@ use Rattle.std.proofs.Common.{◌≡◌, ℕ, ◌+◌, ◌<◌, List, [], ◌∷
 use Rattle.std.specs.Prelude.{◌==◌, ◌&&◌, ◌||◌}
 use Rattle.std.specs.List.{list_any}
 use Rattle.std.proofs.lemmas.Bool.{eqb-true, eq-eqb, and_parts, and_from, or_left, or_right}
-use Rattle.desk_model.specs.Lookup.{holds}
+use Rattle.desk_model.specs.{Lookup.holds, Tables.Tables, Rules.nothing}
 use Rattle.desk_model.specs.Derived.{numbers_of, authorization_numbered}
 use Rattle.desk_model.specs.Effect.{lists_one, falls, is_live_order, is_overdue, touches_account, touches_authorization, names_order as entry_names_order}
-use Rattle.desk_model.specs.Tables.{Tables}
 use Rattle.desk_model.specs.Kept.{EachOf, Kept, restricted, IsClosed, Covers, CoversSweep}
-use Rattle.desk_model.specs.declared.call.Ask.{Ask}
-use Rattle.desk_model.specs.declared.entry.Entry.{Entry}
-use Rattle.desk_model.specs.declared.objects.Nonce.{Nonce}
-use Rattle.desk_model.specs.declared.rows.AccountRow.{AccountRow}
-use Rattle.desk_model.specs.declared.rows.AuthorizationRow.{AuthorizationRow}
-use Rattle.desk_model.specs.declared.rows.OrderRow.{OrderRow}
+use Rattle.desk_model.specs.declared.{call.Ask.Ask, entry.Entry.Entry, objects.Nonce.Nonce, rows.AccountRow.AccountRow, rows.AuthorizationRow.AuthorizationRow}
+use Rattle.desk_model.specs.declared.{rows.OrderRow.OrderRow, call.Target.Target}
 use Rattle.model_laws.specs.Ordered.{Below, IsOrdered}
 use Rattle.model_laws.proofs.Basics.{each, each_both, less_differs}
 use Rattle.model_laws.proofs.Finds.{each_found, found_passes}
 use Rattle.desk_model.specs.Asked.{carries, has_key, has_new_key, names_account, names_order, names_authorization, names_owner, asks_orders, asked_names}
-use Rattle.desk_model.specs.Touched.{is_touched_nonce, is_touched_account, is_touched_authorization, is_touched_order}
-use Rattle.desk_model.specs.Touched.{is_named_account, is_named_order, is_named_authorization, is_own_order, is_own_authorization}
-use Rattle.desk_model.specs.Touched.{is_asked_authorization, is_first_authorization, is_past_order, lists, touched_rows}
+use Rattle.desk_model.specs.Touched.{is_touched_nonce, is_touched_account, is_touched_authorization, is_touched_order, is_named_account, is_named_order}
+use Rattle.desk_model.specs.Touched.{is_named_authorization, is_own_order, is_own_authorization, is_asked_authorization, is_first_authorization, is_past_order}
+use Rattle.desk_model.specs.Touched.{lists, touched_rows}
 use Rattle.model_lives.specs.Few.{is_moved_authorization, needs_listed, restates}
-use Rattle.desk_model.specs.Rules.{nothing}
 use Rattle.desk_model.specs.declared.call.Ask.TheVariants as ask
-use Rattle.desk_model.specs.declared.call.Target.{Target}
 use Rattle.desk_model.specs.declared.call.Target.TheVariants as to
 use Rattle.model_lives.specs.IsPart.{Keeps}
-use Rattle.model_lives.proofs.Listed.{KeepsListed}
+use Rattle.model_lives.proofs.{Listed.KeepsListed, Reusing.KeepsAsked}
 use Rattle.model_lives.proofs.Lists.{any_gives, any_wider, each_filtered, each_member, filter_same, or_cases, same_number}
-use Rattle.model_lives.proofs.Reusing.{KeepsAsked}
 
 -- a row has the number
 abbrev pub stands : {X : Type 0} → (X → ℕ) → List X → ℕ → Bool

@@ -1,14 +1,14 @@
 -- What a string of a UTF-8 text stands for is UTF-8 (RFC 8259, 7).
-use Rattle.std.proofs.Common.{◌≡◌, ℕ, zero, suc, ◌+◌, ◌*◌, ◌<◌, ◌≤◌, List, [], ◌∷◌, ◌++◌, length, Option, Some, None, IsUtf8}
-use Rattle.std.proofs.Common.{IfSome, refl, sym, subst, Bool, true, false, cond, arith, append-nil, append_assoc, encode_utf8}
+use Rattle.std.proofs.Common.{◌≡◌, ℕ, zero, suc, ◌+◌, ◌*◌, ◌<◌, ◌≤◌, List, [], ◌∷◌, ◌++◌, length, Option, Some, None, IsUtf8, IfSome, refl, sym, subst, Bool}
+use Rattle.std.proofs.Common.{true, false, cond, arith, append-nil, append_assoc, encode_utf8}
 use Rattle.std.specs.Prelude.{◌==◌, ◌&&◌, ◌||◌, nat_lt, option_and_then}
 use Rattle.std.specs.Char.{IsScalar, digit_value, is_digit}
 use Rattle.std.proofs.lemmas.Bool.Decides.{nat_tests}
 use Rattle.std.proofs.lemmas.Bool.{and_parts, eqb-true, ltb-true, lt-ltb}
 use Rattle.std.proofs.lemmas.Str.{IsUtf8-append, IsUtf8-encode}
 use Rattle.model_laws.proofs.AsciiTexts.{ascii_text, parted}
-use Rattle.json.specs.Text.{content, plain, after_backslash, after_u, after_high, code_unit, short_escape, is_high_surrogate}
-use Rattle.json.specs.Text.{is_low_surrogate, surrogate_pair, prepend}
+use Rattle.json.specs.Text.{content, plain, after_backslash, after_u, after_high, code_unit, short_escape, is_high_surrogate, is_low_surrogate, surrogate_pair}
+use Rattle.json.specs.Text.{prepend}
 
 -- what follows an ASCII byte is a text
 after_ascii : (b : ℕ) (rest : List ℕ) → IsUtf8 (b ∷ rest) → b < 128 → IsUtf8 rest
@@ -115,12 +115,6 @@ character_then c o scalar h = prepended [] (encode_utf8 c) o (behind (encode_utf
 low_half : (n : ℕ) → GivesTexts n → (h : ℕ) → is_high_surrogate h ≡ true → (rest : List ℕ) → length rest ≤ n → IsUtf8 rest →
     IsTextBehind [] (content (after_high h) rest)
 unfolding content
-low_half n more h high [] fits text = tt
-low_half n more h high (s ∷ []) fits text = tt
-low_half n more h high (s ∷ u ∷ []) fits text = tt
-low_half n more h high (s ∷ u ∷ a ∷ []) fits text = tt
-low_half n more h high (s ∷ u ∷ a ∷ b ∷ []) fits text = tt
-low_half n more h high (s ∷ u ∷ a ∷ b ∷ c ∷ []) fits text = tt
 low_half n more h high (s ∷ u ∷ a ∷ b ∷ c ∷ d ∷ rest) fits text = by ((s == 92) && (u == 117)) refl
   where
     pair : (l : ℕ) → IsUnit a b c d l → IsUtf8 (a ∷ b ∷ c ∷ d ∷ rest) → (t : Bool) → is_low_surrogate l ≡ t →
@@ -147,14 +141,11 @@ low_half n more h high (s ∷ u ∷ a ∷ b ∷ c ∷ d ∷ rest) fits text = by
         let letter : u ≡ 117 = eqb-true u 117 parts.1 in
         spelled (code_unit a b c d) (unit_of a b c d)
         (after_ascii u _ (after_ascii s _ text (omega arith)) (omega arith))
+low_half n more h high _ fits text = tt
 
 -- what stands behind `\u`
 unit_then : (n : ℕ) → GivesTexts n → (rest : List ℕ) → length rest ≤ n → IsUtf8 rest → IsTextBehind [] (content after_u rest)
 unfolding content
-unit_then n more [] fits text = tt
-unit_then n more (a ∷ []) fits text = tt
-unit_then n more (a ∷ b ∷ []) fits text = tt
-unit_then n more (a ∷ b ∷ c ∷ []) fits text = tt
 unit_then n more (a ∷ b ∷ c ∷ d ∷ rest) fits text = spelled (code_unit a b c d) (unit_of a b c d)
   where
     by : (u : ℕ) → IsUnit a b c d u → (high : Bool) → is_high_surrogate u ≡ high → (low : Bool) → is_low_surrogate u ≡ low →
@@ -170,6 +161,7 @@ unit_then n more (a ∷ b ∷ c ∷ d ∷ rest) fits text = spelled (code_unit a
         (cond (is_low_surrogate u) None (prepend (encode_utf8 u) (content plain rest)))) o)
     spelled None unit = tt
     spelled (Some u) unit = by u unit (is_high_surrogate u) refl (is_low_surrogate u) refl
+unit_then n more _ fits text = tt
 
 -- what stands behind a backslash
 escape_then : (n : ℕ) → GivesTexts n → (rest : List ℕ) → length rest ≤ n → IsUtf8 rest → IsTextBehind [] (content after_backslash rest)

@@ -1,10 +1,9 @@
 -- The strings of a value that is read in a UTF-8 text are UTF-8.
-use Rattle.std.proofs.Common.{ℕ, zero, suc, List, [], ◌∷◌, length, Option, Some, None, option_map, option_and_then, IsUtf8}
-use Rattle.std.proofs.Common.{IfSome, Ordering, Less, Equal, Greater}
+use Rattle.std.proofs.Common.{ℕ, zero, suc, List, [], ◌∷◌, length, Option, Some, None, option_map, option_and_then, IsUtf8, IfSome, Ordering, Less, Equal}
+use Rattle.std.proofs.Common.{Greater}
 use Rattle.std.specs.Ordering.{match_ordering}
 use Rattle.desk_model.specs.Kept.{EachOf}
-use Rattle.json.specs.Token.{Token}
-use Rattle.json.specs.Lex.{tokens}
+use Rattle.json.specs.{Token.Token, Lex.tokens}
 use Rattle.json.specs.Json as json
 use Rattle.json.specs.Json.{Parse, parse_map, after_end_array, read_key, items_step, members_step, value_with}
 use Rattle.serde_json.specs.Data.{Data, null, boolean, number, string, array, object, Items, no_items, item, Members, no_members, member, put}
@@ -35,12 +34,10 @@ any (Some a) = tt
 -- each string of a tree is a text
 abbrev mutual
   IsTextTree : json.Json → Type 0
-  IsTextTree json.null = Unit {0}
-  IsTextTree (json.boolean b) = Unit {0}
-  IsTextTree (json.number s) = Unit {0}
   IsTextTree (json.string s) = IsUtf8 s
   IsTextTree (json.array js) = AreTextTrees js
   IsTextTree (json.object ms) = HoldTextTrees ms
+  IsTextTree _ = Unit {0}
 
   AreTextTrees : json.Items → Type 0
   AreTextTrees json.no_items = Unit {0}
@@ -72,31 +69,14 @@ and_more Q f both more parses (Some q) h = mapped Q Q (f q.0) (λ b k. both q.0 
 
 -- the tokens behind an array
 array_end : (ts : List Token) → EachOf IsTextToken ts → IfSome (after_end_array ts) (EachOf IsTextToken)
-array_end [] h = tt
-array_end (Token.begin_object ∷ ts) h = tt
-array_end (Token.end_object ∷ ts) h = tt
-array_end (Token.begin_array ∷ ts) h = tt
 array_end (Token.end_array ∷ ts) h = h.1
-array_end (Token.key s ∷ ts) h = tt
-array_end (Token.string s ∷ ts) h = tt
-array_end (Token.number s ∷ ts) h = tt
-array_end (Token.boolean b ∷ ts) h = tt
-array_end (Token.null ∷ ts) h = tt
-array_end (Token.bad ∷ ts) h = tt
+array_end _ h = tt
 
 -- a key, if there is one more
 key_texts : Parses (λ k. IfSome k IsUtf8) read_key
-key_texts [] h = tt
-key_texts (Token.begin_object ∷ ts) h = tt
 key_texts (Token.end_object ∷ ts) h = (tt, h.1)
-key_texts (Token.begin_array ∷ ts) h = tt
-key_texts (Token.end_array ∷ ts) h = tt
 key_texts (Token.key s ∷ ts) h = h
-key_texts (Token.string s ∷ ts) h = tt
-key_texts (Token.number s ∷ ts) h = tt
-key_texts (Token.boolean b ∷ ts) h = tt
-key_texts (Token.null ∷ ts) h = tt
-key_texts (Token.bad ∷ ts) h = tt
+key_texts _ h = tt
 
 module _ (parse : Parse json.Json) (parses : Parses IsTextTree parse) where
   -- an item of an array
@@ -127,17 +107,13 @@ module _ (parse : Parse json.Json) (parses : Parses IsTextTree parse) where
 
 -- one level of a tree
 level_texts : (a : Parse json.Items) (o : Parse json.Members) → Parses AreTextTrees a → Parses HoldTextTrees o → Parses IsTextTree (value_with a o)
-level_texts a o p q [] h = tt
 level_texts a o p q (Token.begin_object ∷ ts) h = mapped HoldTextTrees IsTextTree json.object (λ ms k. k) (o ts) (q ts h.1)
-level_texts a o p q (Token.end_object ∷ ts) h = tt
 level_texts a o p q (Token.begin_array ∷ ts) h = mapped AreTextTrees IsTextTree json.array (λ js k. k) (a ts) (p ts h.1)
-level_texts a o p q (Token.end_array ∷ ts) h = tt
-level_texts a o p q (Token.key s ∷ ts) h = tt
 level_texts a o p q (Token.string s ∷ ts) h = h
 level_texts a o p q (Token.number s ∷ ts) h = h
 level_texts a o p q (Token.boolean b ∷ ts) h = h
 level_texts a o p q (Token.null ∷ ts) h = h
-level_texts a o p q (Token.bad ∷ ts) h = tt
+level_texts a o p q _ h = tt
 
 -- the tree of some tokens
 tree_texts : (depth : ℕ) → Parses IsTextTree (json.value depth)
@@ -152,12 +128,10 @@ tree_texts (suc depth) =
 -- each string of a value is a text
 abbrev mutual
   pub HoldsStrings : Data → Type 0
-  HoldsStrings null = Unit {0}
-  HoldsStrings (boolean b) = Unit {0}
-  HoldsStrings (number n) = Unit {0}
   HoldsStrings (string s) = IsUtf8 s
   HoldsStrings (array ds) = HoldItemStrings ds
   HoldsStrings (object ms) = HoldMemberStrings ms
+  HoldsStrings _ = Unit {0}
 
   pub HoldItemStrings : Items → Type 0
   HoldItemStrings no_items = Unit {0}

@@ -1,6 +1,6 @@
 -- The strings and keys among the tokens of a UTF-8 text are UTF-8.
-use Rattle.std.proofs.Common.{◌≡◌, ◌<◌, ℕ, List, [], ◌∷◌, ◌++◌, Option, Some, None, IsUtf8, IfSome, refl, sym, subst, Bool, true}
-use Rattle.std.proofs.Common.{false, cond, arith, append_assoc}
+use Rattle.std.proofs.Common.{◌≡◌, ◌<◌, ℕ, List, [], ◌∷◌, ◌++◌, Option, Some, None, IsUtf8, IfSome, refl, sym, subst, Bool, true, false, cond, arith}
+use Rattle.std.proofs.Common.{append_assoc}
 use Rattle.std.specs.Prelude.{◌==◌}
 use Rattle.std.proofs.lemmas.Bool.{eqb-true}
 use Rattle.desk_model.specs.Kept.{EachOf}
@@ -8,10 +8,9 @@ use Rattle.model_laws.proofs.AsciiTexts.{parted}
 use Rattle.json.specs.Text.{content, plain}
 use Rattle.json.specs.Token.{Token, begin_object, end_object, begin_array, end_array, key, string, number, boolean, null, bad}
 use Rattle.json.specs.Word.{after_number, ends_word, head, is_operator, is_space, number_before, word}
-use Rattle.json.specs.Lex.{Class, Lexeme, Mode, Place, token, comma, colon, quote, backslash, operator, space, other, class}
-use Rattle.json.specs.Lex.{operator_lexeme, string_token, between, in_word, in_string, in_escape, lex_byte, lex, fresh}
-use Rattle.json.specs.Lex.{after_value, after_comma, after_key, begins_colon, may_begin, may_close, if_allowed, place_token}
-use Rattle.json.specs.Lex.{punctuate, tokens}
+use Rattle.json.specs.Lex.{Class, Lexeme, Mode, Place, token, comma, colon, quote, backslash, operator, space, other, class, operator_lexeme, string_token}
+use Rattle.json.specs.Lex.{between, in_word, in_string, in_escape, lex_byte, lex, fresh, after_value, after_comma, after_key, begins_colon, may_begin}
+use Rattle.json.specs.Lex.{may_close, if_allowed, place_token, punctuate, tokens}
 use Rattle.model_lives.proofs.JsonContent.{string_text}
 
 -- a string and a key are texts

@@ -1,7 +1,6 @@
 -- With an order the authorizations that it lists.
 use Rattle.std.proofs.Common.{◌≡◌, true}
-use Rattle.desk_model.specs.Derived.{numbers_of}
-use Rattle.desk_model.specs.Tables.{Tables}
+use Rattle.desk_model.specs.{Derived.numbers_of, Tables.Tables}
 use Rattle.desk_model.specs.Kept.{EachOf, Kept}
 
 abbrev pub KeepsListed : Kept → Tables → Type 0

@@ -3,51 +3,39 @@ use Rattle.std.proofs.Common.{◌≡◌, ℕ, List, [], ◌∷◌, ◌++◌, map
 use Rattle.std.specs.Prelude.{◌==◌, codes, if◌then◌else◌}
 use Rattle.std.proofs.lemmas.Bool.{and_parts, or_left, or_right}
 use Rattle.serde_json.specs.Data.{string}
-use Rattle.desk_model.specs.Account.{is_valid as is_valid_account}
+use Rattle.desk_model.specs.{Account.is_valid as is_valid_account, Decide.entries_of, Questions.account_with_key, Tables.Tables, Touched.is_named_order}
 use Rattle.desk_model.specs.Asked.{asks_orders, target_orders}
 use Rattle.desk_model.specs.Change.{all_changes, nonces_gone, recorded_changes, sweep_changes}
-use Rattle.desk_model.specs.Decide.{entries_of}
 use Rattle.desk_model.specs.Document.{is_listed, order_url}
 use Rattle.desk_model.specs.Effect.{effects, falls, is_overdue, swept, swept_authorization}
 use Rattle.desk_model.specs.Json.{document, list}
 use Rattle.desk_model.specs.Kept.{EachOf, Kept, restricted}
-use Rattle.desk_model.specs.Questions.{account_with_key}
 use Rattle.desk_model.specs.Rules.{key_verdict, nothing, open_nonce, signed_verdict}
 use Rattle.desk_model.specs.Shown.{ok, reply_of}
-use Rattle.desk_model.specs.Tables.{Tables}
-use Rattle.desk_model.specs.Touched.{is_named_order}
-use Rattle.desk_model.specs.declared.call.Ask.{Ask}
+use Rattle.desk_model.specs.declared.{call.Ask.Ask, call.BadKey.BadKey, call.Signed.Signed, call.Target.Target, rows.AccountRow.AccountRow}
+use Rattle.desk_model.specs.declared.{rows.AuthorizationRow.AuthorizationRow, rows.OrderRow.OrderRow, verdict.Verdict.Verdict}
 use Rattle.desk_model.specs.declared.call.Ask.TheVariants as ask
-use Rattle.desk_model.specs.declared.call.BadKey.{BadKey}
-use Rattle.desk_model.specs.declared.call.Signed.{Signed}
-use Rattle.desk_model.specs.declared.call.Target.{Target}
 use Rattle.desk_model.specs.declared.call.Target.TheVariants as to
 use Rattle.desk_model.specs.declared.entry.Entry.TheVariants.{Issued as issued, Spent as spent}
 use Rattle.desk_model.specs.declared.refusal.Refusal.TheVariants as refusal
-use Rattle.desk_model.specs.declared.rows.AccountRow.{AccountRow}
-use Rattle.desk_model.specs.declared.rows.AuthorizationRow.{AuthorizationRow}
 use Rattle.desk_model.specs.declared.rows.Change.TheVariants.{PutAuthorization, PutMeta, PutOrder, RemoveNonce}
-use Rattle.desk_model.specs.declared.rows.OrderRow.{OrderRow}
 use Rattle.desk_model.specs.declared.status.AuthzStatus.TheVariants as authz
 use Rattle.desk_model.specs.declared.status.OrderStatus.TheVariants as order
 use Rattle.desk_model.specs.declared.verdict.Listing.TheVariants as listing
 use Rattle.desk_model.specs.declared.verdict.Shows.TheVariants as show
-use Rattle.desk_model.specs.declared.verdict.Verdict.{Verdict}
 use Rattle.desk_model.specs.declared.verdict.Verdict.TheVariants.{Refused as refused, KeyTaken as key_taken, Answers as answers}
 use Rattle.model_laws.specs.Ordered.{IsOrdered}
 use Rattle.model_laws.proofs.Basics.{each, each_both}
 use Rattle.model_lives.specs.AnswersAs.{CarriesOutAs, PassesAs}
 use Rattle.model_lives.specs.Few.{is_few_order, is_opened_order, is_whole_order, needs_holders, restates}
 use Rattle.model_lives.specs.Thinned.{Thinning, all_challenges, thin, thinned, with_listed}
-use Rattle.model_lives.proofs.Between.{bare}
+use Rattle.model_lives.proofs.{Between.bare, Steps.check_keeps, Verdicts.verdict_by}
 use Rattle.model_lives.proofs.Cut.{at_number, numbered}
 use Rattle.model_lives.proofs.Fewer.{few_hold, few_holders, few_kept, few_restated}
 use Rattle.model_lives.proofs.Grown.{KeepsRestated, grown, grown_part, keeps_falling}
 use Rattle.model_lives.proofs.Lists.{filtered_each, or_cases}
-use Rattle.model_lives.proofs.Steps.{check_keeps}
 use Rattle.model_lives.proofs.Thin.{ListsFalling, carries_thin, falls_thin, swept_thin, whole_authorizations}
 use Rattle.model_lives.proofs.Unlisted.{falls_open, issued_bare, nonces_bare}
-use Rattle.model_lives.proofs.Verdicts.{verdict_by}
 
 -- ---- what it records
 
@@ -276,12 +264,4 @@ needed_pass T m s h passes = by s.target (falling_needed T m (ask.Signed s) h re
     by : (t : Target) → ListsFalling l m P → PassesAs m (record s { target = t }) T P → (target_orders t ≡ false → thin all_challenges l P ≡ P) →
         PassesAs m (record s { target = t }) T (thin all_challenges l P)
     by (to.Orders j) kept answered all = passes_alone T P m s j l kept answered
-    by to.NewAccount kept answered all = subst (PassesAs m (record s { target = to.NewAccount }) T) (sym (all refl)) answered
-    by to.KeyChange kept answered all = subst (PassesAs m (record s { target = to.KeyChange }) T) (sym (all refl)) answered
-    by to.NewOrder kept answered all = subst (PassesAs m (record s { target = to.NewOrder }) T) (sym (all refl)) answered
-    by (to.Account j) kept answered all = subst (PassesAs m (record s { target = to.Account j }) T) (sym (all refl)) answered
-    by (to.Order j) kept answered all = subst (PassesAs m (record s { target = to.Order j }) T) (sym (all refl)) answered
-    by (to.Finalize j) kept answered all = subst (PassesAs m (record s { target = to.Finalize j }) T) (sym (all refl)) answered
-    by (to.Cert j) kept answered all = subst (PassesAs m (record s { target = to.Cert j }) T) (sym (all refl)) answered
-    by (to.Authz j) kept answered all = subst (PassesAs m (record s { target = to.Authz j }) T) (sym (all refl)) answered
-    by (to.Chall j) kept answered all = subst (PassesAs m (record s { target = to.Chall j }) T) (sym (all refl)) answered
+    by t kept answered all = subst (PassesAs m (record s { target = t }) T) (sym (all refl)) answered

@@ -1,58 +1,40 @@
 -- What the look-ups find is what the call touches, rule by rule.
-use Rattle.std.proofs.Common.{◌≡◌, ℕ, ◌+◌, ◌-◌, max, List, [], ◌∷◌, map, filter, Option, Some, None, refl, ap, ◌∙◌, true}
-use Rattle.std.proofs.Common.{false, Bool, not, arith, Result, Ok, Err}
+use Rattle.std.proofs.Common.{◌≡◌, ℕ, ◌+◌, ◌-◌, max, List, [], ◌∷◌, map, filter, Option, Some, None, refl, ap, ◌∙◌, true, false, Bool, not, arith, Result, Ok}
+use Rattle.std.proofs.Common.{Err}
 use Rattle.std.specs.Prelude.{◌==◌, ◌&&◌, ◌||◌, nat_lt, nat_le, bytes_eq, option_and_then}
 use Rattle.std.specs.List.{list_any, flat_map}
-use Rattle.std.proofs.lemmas.Bool.Decides.{nat_tests}
-use Rattle.std.proofs.lemmas.List.Folds.{list_any-append}
-use Rattle.std.proofs.Math.Bool.{or-false}
+use Rattle.std.proofs.{lemmas.Bool.Decides.nat_tests, lemmas.List.Folds.list_any-append, Math.Bool.or-false}
 use Rattle.desk_model.specs.Derived.{authz_code, numbers_of, order_code}
-use Rattle.desk_model.specs.Authorization.{is_live}
+use Rattle.desk_model.specs.{Authorization.is_live, Lookup.holds, Tables.Tables, Kept.EachOf, Payload.key_change}
 use Rattle.desk_model.specs.Effect.{has_row, is_live_order, is_overdue}
-use Rattle.desk_model.specs.Lookup.{holds}
 use Rattle.desk_model.specs.Name.{Name, same_bool, same_name}
-use Rattle.desk_model.specs.Tables.{Tables}
 use Rattle.desk_model.specs.Tokens.{NonceText, nonce_in}
-use Rattle.desk_model.specs.Kept.{EachOf}
-use Rattle.desk_model.specs.declared.call.Ask.{Ask}
+use Rattle.desk_model.specs.declared.{call.Ask.Ask, call.BadKey.BadKey, call.Call.Call, call.Target.Target, objects.Nonce.Nonce, rows.AccountRow.AccountRow}
+use Rattle.desk_model.specs.declared.{rows.AuthorizationRow.AuthorizationRow, rows.OrderRow.OrderRow, status.AuthzStatus.AuthzStatus}
+use Rattle.desk_model.specs.declared.{status.OrderStatus.OrderStatus}
 use Rattle.desk_model.specs.declared.call.Ask.TheVariants as ask
 use Rattle.desk_model.specs.declared.call.OfficeAsk.TheVariants as office
-use Rattle.desk_model.specs.declared.call.BadKey.{BadKey}
-use Rattle.desk_model.specs.declared.call.Call.{Call}
-use Rattle.desk_model.specs.declared.call.Target.{Target}
 use Rattle.desk_model.specs.declared.call.Target.TheVariants as to
-use Rattle.desk_model.specs.declared.objects.Nonce.{Nonce}
-use Rattle.desk_model.specs.declared.rows.AccountRow.{AccountRow}
-use Rattle.desk_model.specs.declared.rows.AuthorizationRow.{AuthorizationRow}
-use Rattle.desk_model.specs.declared.rows.OrderRow.{OrderRow}
-use Rattle.desk_model.specs.declared.status.AuthzStatus.{AuthzStatus}
 use Rattle.desk_model.specs.declared.status.AuthzStatus.TheVariants as authz
-use Rattle.desk_model.specs.declared.status.OrderStatus.{OrderStatus}
 use Rattle.desk_model.specs.declared.status.OrderStatus.TheVariants as order
 use Rattle.model_laws.specs.Ordered.{IsOrdered}
 use Rattle.model_laws.proofs.Basics.{each, each_all, eq_turn, list_any-map, list_any-same}
-use Rattle.model_lives.specs.Loaded.{accounts_once, authorizations_once, orders_once, account_numbers, authorization_numbers}
-use Rattle.model_lives.specs.Loaded.{challenge_numbers, first_authorizations, found_accounts, found_authorizations, found_nonces}
-use Rattle.model_lives.specs.Loaded.{new_keys, of_key, target_new_keys}
-use Rattle.model_lives.specs.Loaded.{found_orders, keys, listed_authorizations, listing_orders, loaded, loaded_at, loaded_rows}
-use Rattle.model_lives.specs.Loaded.{named_accounts, named_authorizations, named_orders, of_text, order_numbers}
-use Rattle.model_lives.specs.Loaded.{asked_authorizations, authorizations_asked_of, authorizations_for, own_authorizations, own_orders}
-use Rattle.model_lives.specs.Loaded.{past_authorizations, past_orders, serials, target_accounts}
-use Rattle.model_lives.specs.Loaded.{target_authorization_numbers, target_challenge_numbers, target_order_numbers}
-use Rattle.model_lives.specs.LookUps.{accounts_numbered, accounts_with_key, authorizations_numbered, authorizations_of, challenges}
-use Rattle.model_lives.specs.LookUps.{nonces_numbered, orders_listing, orders_numbered, orders_of, orders_past}
-use Rattle.model_lives.specs.LookUps.{owners_of, places}
-use Rattle.desk_model.specs.Payload.{key_change}
-use Rattle.desk_model.specs.Asked.{has_new_key, target_new_key}
-use Rattle.desk_model.specs.Asked.{asks_authorizations, asks_orders, carries, has_key, names_account, names_authorization, asked_names}
-use Rattle.desk_model.specs.Asked.{names_order, names_owner, target_account, target_authorization, target_order, target_owner}
+use Rattle.model_lives.specs.Loaded.{accounts_once, authorizations_once, orders_once, account_numbers, authorization_numbers, challenge_numbers}
+use Rattle.model_lives.specs.Loaded.{first_authorizations, found_accounts, found_authorizations, found_nonces, new_keys, of_key, target_new_keys, found_orders}
+use Rattle.model_lives.specs.Loaded.{keys, listed_authorizations, listing_orders, loaded, loaded_at, loaded_rows, named_accounts, named_authorizations}
+use Rattle.model_lives.specs.Loaded.{named_orders, of_text, order_numbers, asked_authorizations, authorizations_asked_of, authorizations_for}
+use Rattle.model_lives.specs.Loaded.{own_authorizations, own_orders, past_authorizations, past_orders, serials, target_accounts, target_authorization_numbers}
+use Rattle.model_lives.specs.Loaded.{target_challenge_numbers, target_order_numbers}
+use Rattle.model_lives.specs.LookUps.{accounts_numbered, accounts_with_key, authorizations_numbered, authorizations_of, challenges, nonces_numbered}
+use Rattle.model_lives.specs.LookUps.{orders_listing, orders_numbered, orders_of, orders_past, owners_of, places}
+use Rattle.desk_model.specs.Asked.{has_new_key, target_new_key, asks_authorizations, asks_orders, carries, has_key, names_account, names_authorization}
+use Rattle.desk_model.specs.Asked.{asked_names, names_order, names_owner, target_account, target_authorization, target_order, target_owner}
 use Rattle.desk_model.specs.Touched.{is_asked_authorization, is_first_authorization, is_named_account, is_named_authorization, is_named_order}
-use Rattle.desk_model.specs.Touched.{is_own_authorization, is_own_order, is_past_order, is_touched_account}
-use Rattle.desk_model.specs.Touched.{is_touched_authorization, is_touched_nonce, is_touched_order, lists, touched, touched_at}
-use Rattle.desk_model.specs.Touched.{touched_rows}
+use Rattle.desk_model.specs.Touched.{is_own_authorization, is_own_order, is_past_order, is_touched_account, is_touched_authorization, is_touched_nonce}
+use Rattle.desk_model.specs.Touched.{is_touched_order, lists, touched, touched_at, touched_rows}
 use Rattle.model_lives.proofs.Cut.{numbered}
-use Rattle.model_lives.proofs.Found.{IsFound, any_filter, found_both, found_by, found_filter, found_filtered}
-use Rattle.model_lives.proofs.Found.{found_if, found_none, found_once, found_same, found_table}
+use Rattle.model_lives.proofs.Found.{IsFound, any_filter, found_both, found_by, found_filter, found_filtered, found_if, found_none, found_once, found_same}
+use Rattle.model_lives.proofs.Found.{found_table}
 
 -- ---- tests on lists
 
@@ -82,8 +64,7 @@ carried (ask.Signed s) n = by (option_and_then nonce_in s.nonce)
     by : (t : Option NonceText) → list_any (λ k. n == k) (of_text t) ≡ holds (λ (x : NonceText). n == x.serial) t
     by None = refl
     by (Some t) = or-false (n == t.serial)
-carried (ask.NewNonce head) n = refl
-carried (ask.Office a) n = refl
+carried _ n = refl
 
 abbrev key_list : Result (List ℕ) BadKey → List (List ℕ)
 key_list key = elim key [ Err e ↦ [] | Ok mine ↦ mine ∷ [] ]
@@ -97,8 +78,7 @@ keyed (ask.Signed s) text = by s.key
     by : (key : Result (List ℕ) BadKey) → list_any (λ k. bytes_eq text k) (key_list key) ≡ has_this key text
     by (Err e) = refl
     by (Ok key) = or-false (bytes_eq text key)
-keyed (ask.NewNonce head) text = refl
-keyed (ask.Office a) text = refl
+keyed _ text = refl
 
 new_keyed : (a : Ask) (text : List ℕ) → list_any (λ k. bytes_eq text k) (new_keys a) ≡ has_new_key a text
 new_keyed (ask.Signed s) text = by s.target
@@ -275,7 +255,7 @@ authorizations_own T a h =
     (λ x. found_filter of_authorization (λ r. r.account == x.number) 1 T.authorizations h.authorizations.0) (accounts_once (named_accounts T a))))
 
 -- a test that knows nothing of the items stands before the others
-pub any_under : {X : Type 0} (b : Bool) (p : X → Bool) (xs : List X) → list_any (λ x. b && p x) xs ≡ (b && list_any p xs)
+any_under : {X : Type 0} (b : Bool) (p : X → Bool) (xs : List X) → list_any (λ x. b && p x) xs ≡ (b && list_any p xs)
 any_under true p xs = refl
 any_under false p [] = refl
 any_under false p (x ∷ xs) = any_under false p xs
@@ -301,7 +281,7 @@ same_bases one other b = by (bytes_eq one.base other.base) (same_bool one.wildca
     by false d e = refl
 
 -- the authorizations of an account for some names
-pub authorizations_by_names : (T : Tables) (n : ℕ) → IsOrdered T → (names : List Name)
+authorizations_by_names : (T : Tables) (n : ℕ) → IsOrdered T → (names : List Name)
     → IsFound of_authorization (λ r. list_any (same_name r.name) names && (r.account == n)) T.authorizations (flat_map (authorizations_for T n) names)
 authorizations_by_names T n h names =
     found_same of_authorization _ _ T.authorizations _
@@ -312,20 +292,22 @@ authorizations_by_names T n h names =
     (λ name. found_filtered of_authorization (λ r. same_name r.name name) _ T.authorizations _
     (found_filter of_authorization (λ r. (r.account == n) && bytes_eq r.name.base name.base) 1 T.authorizations h.authorizations.0)) names)
 
+-- the authorizations for some names of the accounts that are found
+pub asked_found : (T : Tables) (test : AccountRow → Bool) (rows : List AccountRow) → IsOrdered T → IsFound of_account test T.accounts rows →
+    (names : Option (List Name)) → IsFound of_authorization
+    (λ r. holds (list_any (same_name r.name)) names && list_any (λ x. test x && (r.account == x.number)) T.accounts)
+    T.authorizations (authorizations_asked_of T names rows)
+asked_found T test rows h is None = found_none of_authorization T.authorizations
+asked_found T test rows h is (Some names) =
+    found_same of_authorization _ _ T.authorizations _
+    (each_all _ T.authorizations (λ r. any_under (list_any (same_name r.name) names) (λ x. r.account == x.number) rows
+    ∙ ap (λ b. list_any (same_name r.name) names && b) (is.tests (λ x. r.account == x.number))))
+    (found_by of_authorization (λ (x : AccountRow) r. list_any (same_name r.name) names && (r.account == x.number))
+    (λ x. flat_map (authorizations_for T x.number) names) T.authorizations
+    (λ x. authorizations_by_names T x.number h names) rows)
+
 authorizations_asked : (T : Tables) (a : Ask) → IsOrdered T → IsFound of_authorization (is_asked_authorization T a) T.authorizations (asked_authorizations T a)
-authorizations_asked T a h = by (asked_names a)
-  where
-    by : (names : Option (List Name)) → IsFound of_authorization
-        (λ r. holds (list_any (same_name r.name)) names && list_any (λ x. is_named_account a x && (r.account == x.number)) T.accounts)
-        T.authorizations (authorizations_asked_of T names (accounts_once (named_accounts T a)))
-    by None = found_none of_authorization T.authorizations
-    by (Some names) =
-        found_same of_authorization _ _ T.authorizations _
-        (each_all _ T.authorizations (λ r. any_under (list_any (same_name r.name) names) (λ x. r.account == x.number) (accounts_once (named_accounts T a))
-        ∙ ap (λ b. list_any (same_name r.name) names && b) ((accounts_once_named T a h).tests (λ x. r.account == x.number))))
-        (found_by of_authorization (λ (x : AccountRow) r. list_any (same_name r.name) names && (r.account == x.number))
-        (λ x. flat_map (authorizations_for T x.number) names) T.authorizations
-        (λ x. authorizations_by_names T x.number h names) (accounts_once (named_accounts T a)))
+authorizations_asked T a h = asked_found T (is_named_account a) (accounts_once (named_accounts T a)) h (accounts_once_named T a h) (asked_names a)
 
 pub orders_over : (T : Tables) (m : ℕ) → IsOrdered T → IsFound of_order (is_past_order m) T.orders (past_orders T m)
 orders_over T m h =
@@ -345,9 +327,7 @@ orders_over T m h =
         ≡ (is_live_order s && b)
     by order.Pending b = or-false b
     by order.Ready b = or-false b
-    by order.Processing b = refl
-    by order.Valid b = refl
-    by order.Invalid b = refl
+    by _ b = refl
 
 pub authorizations_over : (T : Tables) (m : ℕ) → IsOrdered T → IsFound of_authorization (is_overdue m) T.authorizations (past_authorizations T m)
 authorizations_over T m h =
@@ -361,11 +341,7 @@ authorizations_over T m h =
     by : (s : AuthzStatus) (b : Bool) → (((authz_code s == authz_code authz.Pending) && b)
         || ((authz_code s == authz_code authz.Valid) && b)) ≡ (is_live s && b)
     by authz.Pending b = or-false b
-    by authz.Valid b = refl
-    by authz.Invalid b = refl
-    by authz.Deactivated b = refl
-    by authz.Expired b = refl
-    by authz.Revoked b = refl
+    by _ b = refl
 
 authorizations_first : (T : Tables) (m : ℕ) (a : Ask) → IsOrdered T
     → IsFound of_authorization (is_first_authorization T m a) T.authorizations (first_authorizations T m a)
@@ -457,11 +433,4 @@ loaded_touched T call h = by call.ask
     by (ask.Office office.Directory) = refl
     by (ask.Office office.ChallengeWork) = refl
     by (ask.Office office.OrderWork) = refl
-    by (ask.NewNonce head) = rows_loaded T (max call.at T.meta.counters.clock) (ask.NewNonce head) h
-    by (ask.Signed s) = rows_loaded T (max call.at T.meta.counters.clock) (ask.Signed s) h
-    by (ask.Office (office.Report n finding)) = rows_loaded T (max call.at T.meta.counters.clock) (ask.Office (office.Report n finding)) h
-    by (ask.Office (office.Certify n bytes)) = rows_loaded T (max call.at T.meta.counters.clock) (ask.Office (office.Certify n bytes)) h
-    by (ask.Office (office.FailOrder n problem)) = rows_loaded T (max call.at T.meta.counters.clock) (ask.Office (office.FailOrder n problem)) h
-    by (ask.Office (office.RevokeAuthz n)) = rows_loaded T (max call.at T.meta.counters.clock) (ask.Office (office.RevokeAuthz n)) h
-    by (ask.Office (office.RevokeAccount n)) = rows_loaded T (max call.at T.meta.counters.clock) (ask.Office (office.RevokeAccount n)) h
-    by (ask.Office (office.KeyOf n)) = rows_loaded T (max call.at T.meta.counters.clock) (ask.Office (office.KeyOf n)) h
+    by a = rows_loaded T (max call.at T.meta.counters.clock) a h

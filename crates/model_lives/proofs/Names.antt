@@ -1,29 +1,19 @@
 -- The names and tokens of a new order.
-use Rattle.std.proofs.Common.{◌≡◌, ◌≤◌, ◌*◌, ℕ, suc, zero, List, [], ◌∷◌, length, take, drop, map, Option, Some, None, refl, sym}
-use Rattle.std.proofs.Common.{ap, ◌∙◌, Bool, true, false, cond, not, arith, length-take, length-drop}
+use Rattle.std.proofs.Common.{◌≡◌, ◌≤◌, ◌*◌, ℕ, suc, zero, List, [], ◌∷◌, length, take, drop, map, Option, Some, None, refl, sym, ap, ◌∙◌, Bool, true, false}
+use Rattle.std.proofs.Common.{cond, not, arith, length-take, length-drop}
 use Rattle.std.specs.Prelude.{◌&&◌, ◌||◌, ◌==◌, nat_eq, is_none, codes, option_and_then, if◌then◌else◌}
 use Rattle.std.specs.List.{filter, list_any, list_all, starts_with}
 use Rattle.std.proofs.lemmas.Bool.{eq-eqb, and_from, and_parts, leb-true, le-leb}
-use Rattle.desk_model.specs.declared.refusal.Refusal.{Refusal}
+use Rattle.desk_model.specs.declared.{refusal.Refusal.Refusal, payload.Identifier.Identifier, entry.Wanted.Wanted, rows.AuthorizationRow.AuthorizationRow}
 use Rattle.desk_model.specs.declared.refusal.Refusal.TheVariants as refusal
-use Rattle.desk_model.specs.BaseName.{is_base_name}
-use Rattle.desk_model.specs.Limits.{most_names}
+use Rattle.desk_model.specs.{BaseName.is_base_name, Limits.most_names, Authorization.kinds_of, Allowed.may_want_on, Questions.serving_on, Tables.Tables}
+use Rattle.desk_model.specs.{Run.count_tokens, Kept.EachOf}
 use Rattle.desk_model.specs.Name.{Name, same_name}
 use Rattle.desk_model.specs.Names.{ascii_form, name_of, name_with}
-use Rattle.desk_model.specs.Authorization.{kinds_of}
 use Rattle.desk_model.specs.Legal.{all_different, has_length, is_wanted, wanted_name}
-use Rattle.desk_model.specs.declared.payload.Identifier.{Identifier}
 use Rattle.desk_model.specs.Rules.{and_name, and_subproblem, fault_of, is_dns, kept, left_by, names_in, pieces, subproblems, wanted, wanted_by}
-use Rattle.desk_model.specs.Allowed.{may_want_on}
-use Rattle.desk_model.specs.Questions.{serving_on}
-use Rattle.desk_model.specs.Tables.{Tables}
-use Rattle.desk_model.specs.declared.entry.Wanted.{Wanted}
-use Rattle.desk_model.specs.declared.rows.AuthorizationRow.{AuthorizationRow}
-use Rattle.desk_model.specs.Run.{count_tokens}
-use Rattle.desk_model.specs.Kept.{EachOf}
-use Rattle.model_laws.proofs.Keeps.{each-filter}
+use Rattle.model_laws.proofs.{Keeps.each-filter, Serving.all_may_be_wanted}
 use Rattle.model_laws.proofs.Drawn.{length-pieces, length-wanted}
-use Rattle.model_laws.proofs.Serving.{all_may_be_wanted}
 use Rattle.model_laws.specs.Ordered.{IsOrdered}
 
 -- ---- names

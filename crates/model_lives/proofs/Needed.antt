@@ -3,14 +3,9 @@ use Rattle.std.proofs.Common.{◌≡◌, ℕ, [], map, filter, refl, sym, ap, su
 use Rattle.std.specs.Prelude.{◌==◌, ◌&&◌, if◌then◌else◌}
 use Rattle.std.proofs.lemmas.Bool.{and_from, or_left, or_right}
 use Rattle.desk_model.specs.Asked.{asks_authorizations, names_authorization, names_owner}
-use Rattle.desk_model.specs.Effect.{is_overdue}
+use Rattle.desk_model.specs.{Effect.is_overdue, Tables.Tables, Touched.is_named_account}
 use Rattle.desk_model.specs.Kept.{EachOf, restricted}
-use Rattle.desk_model.specs.Tables.{Tables}
-use Rattle.desk_model.specs.Touched.{is_named_account}
-use Rattle.desk_model.specs.declared.call.Ask.{Ask}
-use Rattle.desk_model.specs.declared.rows.AccountRow.{AccountRow}
-use Rattle.desk_model.specs.declared.rows.AuthorizationRow.{AuthorizationRow}
-use Rattle.desk_model.specs.declared.rows.ChallengeRow.{ChallengeRow}
+use Rattle.desk_model.specs.declared.{call.Ask.Ask, rows.AccountRow.AccountRow, rows.AuthorizationRow.AuthorizationRow, rows.ChallengeRow.ChallengeRow}
 use Rattle.model_laws.specs.Ordered.{IsOrdered}
 use Rattle.model_laws.proofs.Basics.{each, each_all, each_both, map-each}
 use Rattle.model_laws.proofs.Local.{filter_all}

@@ -2,24 +2,16 @@
 use Rattle.std.proofs.Common.{◌≡◌, ℕ, List, ◌∷◌, ◌++◌, Option, Some, None, refl, sym, ap, ◌∙◌, subst, true, false, Bool, cond, drop}
 use Rattle.std.specs.Prelude.{◌==◌, is_none, is_some, bytes_eq, nat_le, ◌+◌}
 use Rattle.std.proofs.lemmas.Bool.{eqb-true, eq-eqb, and_parts}
-use Rattle.desk_model.specs.Entry.{History}
-use Rattle.desk_model.specs.declared.entry.Entry.TheVariants.{Spent as spent}
+use Rattle.desk_model.specs.{Entry.History, declared.entry.Entry.TheVariants.Spent as spent, Lookup.holds, declared.objects.Nonce.Nonce, Questions.nonce_on}
+use Rattle.desk_model.specs.{declared.verdict.Verdict.Verdict, declared.call.Call.Call, declared.call.Ask.Ask, declared.call.Signed.Signed}
 use Rattle.desk_model.specs.History.{record_all, moment_of, first, terms}
-use Rattle.desk_model.specs.Lookup.{holds}
 use Rattle.desk_model.specs.Nonce.{nonce, nonces, when_spent, spending, is_open}
-use Rattle.desk_model.specs.declared.objects.Nonce.{Nonce}
 use Rattle.desk_model.specs.Tables.{Tables, tables_at}
 use Rattle.desk_model.specs.Tokens.{NonceText, nonce_in}
-use Rattle.desk_model.specs.Questions.{nonce_on}
 use Rattle.desk_model.specs.Rules.{if_spelled, open_nonce, open_nonce_in, signed_verdict}
-use Rattle.desk_model.specs.declared.verdict.Verdict.{Verdict}
 use Rattle.desk_model.specs.Decide.{decide_at, after, entries_of, nonce_entries, passed_decision, signed_decision, tables_after}
 use Rattle.desk_model.specs.Life.{Replied, history, Passed, NoncesServeOnce}
-use Rattle.desk_model.specs.declared.call.Call.{Call}
-use Rattle.desk_model.specs.declared.call.Ask.{Ask}
-use Rattle.desk_model.specs.declared.call.Signed.{Signed}
-use Rattle.model_laws.proofs.AllowedFacts.{allowed}
-use Rattle.model_laws.proofs.Finds.{found_passes}
+use Rattle.model_laws.proofs.{AllowedFacts.allowed, Finds.found_passes}
 use Rattle.model_lives.proofs.Sound.{open_serial}
 use Rattle.model_lives.proofs.Extends.{Extends, extends_record_all, extends_earlier, first-extends}
 

@@ -2,15 +2,13 @@
 use Rattle.std.proofs.Common.{ℕ, List, [], ◌∷◌, Option, Some, None, IsUtf8, IfSome, Ordering, Less, Equal, Greater, Bool, true, false, cond}
 use Rattle.std.specs.Prelude.{codes, option_map, unwrap_or}
 use Rattle.std.specs.Ordering.{match_ordering}
-use Rattle.serde_json.specs.Data.{Data, null, boolean, number, string, array, object, Items, no_items, item, Members, no_members, member}
+use Rattle.serde_json.specs.Data.{Data, string, array, object, Items, no_items, item, Members, no_members, member}
 use Rattle.serde_json.specs.Find.{as_array, as_bool, as_str, get, get_member}
 use Rattle.serde_json.specs.Read.{read}
-use Rattle.desk_model.specs.Texts.{AreTexts}
-use Rattle.desk_model.specs.Payload.{account_change, account_change_in, and_each, each_in, if_object, is_object, new_account}
-use Rattle.desk_model.specs.Payload.{new_account_by, new_account_in, object_in, optional, says_deactivated, texts_in}
-use Rattle.desk_model.specs.declared.payload.AccountChange.{AccountChange}
+use Rattle.desk_model.specs.{Texts.AreTexts, declared.payload.AccountChange.AccountChange, declared.payload.NewAccount.NewAccount}
+use Rattle.desk_model.specs.Payload.{account_change, account_change_in, and_each, each_in, if_object, is_object, new_account, new_account_by, new_account_in}
+use Rattle.desk_model.specs.Payload.{object_in, optional, says_deactivated, texts_in}
 use Rattle.desk_model.specs.declared.payload.AccountChange.TheVariants as change
-use Rattle.desk_model.specs.declared.payload.NewAccount.{NewAccount}
 use Rattle.model_lives.proofs.JsonTexts.{HoldsStrings, HoldItemStrings, HoldMemberStrings, map_holds, read_strings, then_holds}
 
 -- ---- values
@@ -36,30 +34,18 @@ member_strings k (member l d ms) h = by _ (member_strings k ms h.2)
 
 -- a member of a value
 get_strings : (k : List ℕ) (d : Data) → HoldsStrings d → IfSome (get k d) HoldsStrings
-get_strings k null h = tt
-get_strings k (boolean b) h = tt
-get_strings k (number n) h = tt
-get_strings k (string s) h = tt
-get_strings k (array ds) h = tt
 get_strings k (object ms) h = member_strings k ms h
+get_strings k _ h = tt
 
 -- the string that a value is
 string_strings : (d : Data) → HoldsStrings d → IfSome (as_str d) IsUtf8
-string_strings null h = tt
-string_strings (boolean b) h = tt
-string_strings (number n) h = tt
 string_strings (string s) h = h
-string_strings (array ds) h = tt
-string_strings (object ms) h = tt
+string_strings _ h = tt
 
 -- the items of the array that a value is
 array_strings : (d : Data) → HoldsStrings d → IfSome (as_array d) HoldItemStrings
-array_strings null h = tt
-array_strings (boolean b) h = tt
-array_strings (number n) h = tt
-array_strings (string s) h = tt
 array_strings (array ds) h = h
-array_strings (object ms) h = tt
+array_strings _ h = tt
 
 -- items that are strings
 items_are_texts : (ds : Items) → HoldItemStrings ds → IfSome (each_in as_str ds) AreTexts

@@ -3,26 +3,18 @@ use Rattle.std.proofs.Common.{◌≡◌, ℕ, List, refl, sym, ap, ◌∙◌, tr
 use Rattle.std.specs.Prelude.{◌==◌}
 use Rattle.desk_model.specs.Effect.{effect, falls, is_overdue, swept, swept_authorization, swept_order}
 use Rattle.desk_model.specs.Shown.{reply_of, made_account, made_order, moved_reply}
-use Rattle.desk_model.specs.declared.reply.Reply.{Reply}
-use Rattle.desk_model.specs.Tables.{Tables}
+use Rattle.desk_model.specs.declared.{reply.Reply.Reply, call.Ask.Ask, call.Signed.Signed, call.Target.Target, entry.Entry.Entry}
+use Rattle.desk_model.specs.declared.{rows.AuthorizationRow.AuthorizationRow, rows.OrderRow.OrderRow, verdict.Verdict.Verdict}
+use Rattle.desk_model.specs.{Tables.Tables, Entry.entry_of}
 use Rattle.desk_model.specs.Kept.{Covers, IsClosed, Kept, restricted}
-use Rattle.desk_model.specs.declared.call.Ask.{Ask}
 use Rattle.desk_model.specs.declared.call.Ask.TheVariants as ask
 use Rattle.desk_model.specs.declared.call.OfficeAsk.TheVariants as office
-use Rattle.desk_model.specs.declared.call.Signed.{Signed}
-use Rattle.desk_model.specs.declared.call.Target.{Target}
 use Rattle.desk_model.specs.declared.call.Target.TheVariants as to
-use Rattle.desk_model.specs.Entry.{entry_of}
-use Rattle.desk_model.specs.declared.entry.Entry.{Entry}
 use Rattle.desk_model.specs.declared.entry.Entry.TheVariants.{Opened as opened, Ordered as ordered}
-use Rattle.desk_model.specs.declared.rows.AuthorizationRow.{AuthorizationRow}
-use Rattle.desk_model.specs.declared.rows.OrderRow.{OrderRow}
 use Rattle.desk_model.specs.declared.status.AuthzStatus.TheVariants as authz
-use Rattle.desk_model.specs.declared.status.OrderStatus.TheVariants as order
-use Rattle.desk_model.specs.declared.verdict.Verdict.{Verdict}
-use Rattle.desk_model.specs.declared.verdict.Verdict.TheVariants.{Refused as refused, KeyTaken as key_taken, Answers as answers}
-use Rattle.desk_model.specs.declared.verdict.Verdict.TheVariants.{Opens as opens, Orders as orders, Moves as moves}
-use Rattle.model_laws.proofs.Basics.{each, each-map}
+use Rattle.desk_model.specs.declared.verdict.Verdict.TheVariants.{Refused as refused, KeyTaken as key_taken, Answers as answers, Opens as opens}
+use Rattle.desk_model.specs.declared.verdict.Verdict.TheVariants.{Orders as orders, Moves as moves}
+use Rattle.model_laws.proofs.Basics.{each, each-map, one_kept}
 use Rattle.model_laws.proofs.Local.{swept_number, swept_order_number}
 use Rattle.model_laws.proofs.SweptParts.{swept_account, swept_covers}
 use Rattle.model_laws.specs.Parts.{ReusedKept}
@@ -54,18 +46,10 @@ swept_named a m r = by (is_overdue m r)
     by false = refl
 
 swept_name : (m : ℕ) (r : AuthorizationRow) → (swept_authorization m r).name ≡ r.name
-swept_name m r = by (is_overdue m r)
-  where
-    by : (b : Bool) → (cond b (record r { status = authz.Expired }) r).name ≡ r.name
-    by true = refl
-    by false = refl
+swept_name m r = one_kept (λ (a : AuthorizationRow). a.name) (is_overdue m r) _ r refl
 
 swept_order_account : (m : ℕ) (rows : List AuthorizationRow) (o : OrderRow) → (swept_order m rows o).account ≡ o.account
-swept_order_account m rows o = by (falls m rows o)
-  where
-    by : (b : Bool) → (cond b (record o { status = order.Invalid }) o).account ≡ o.account
-    by true = refl
-    by false = refl
+swept_order_account m rows o = one_kept (λ (r : OrderRow). r.account) (falls m rows o) _ o refl
 
 -- what is kept of the swept tables
 pub swept_names : (k : Kept) (T : Tables) (m : ℕ) (a : Ask) → KeepsNamed k T a → KeepsNamed k (swept m T) a

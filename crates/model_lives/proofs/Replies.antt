@@ -1,33 +1,25 @@
 -- A part that keeps what is shown gives the same reply.
-use Rattle.std.proofs.Common.{◌≡◌, ℕ, ◌+◌, List, [], ◌∷◌, map, filter, Option, Some, None, refl, sym, ap, subst, ◌∙◌, true, false, Bool, cond, arith}
+use Rattle.std.proofs.Common.{◌≡◌, ℕ, ◌+◌, ◌<◌, List, [], ◌∷◌, map, filter, Option, Some, None, refl, sym, ap, subst, ◌∙◌, true, Bool, arith}
 use Rattle.std.specs.Prelude.{◌==◌, codes}
 use Rattle.std.proofs.lemmas.Bool.{and_parts, eqb-true}
 use Rattle.serde_json.specs.Data.{Data, string}
 use Rattle.desk_model.specs.Json.{document, list}
 use Rattle.desk_model.specs.Derived.{numbers_of, restated_authorization, restated_order}
 use Rattle.desk_model.specs.Document.{and_row, is_listed, key_document, order_document, order_url, order_with_names, rows_of}
-use Rattle.desk_model.specs.Effect.{effect, fresh_authorization, fresh_order, has_row, moved_authorization, moved_order}
-use Rattle.desk_model.specs.Effect.{new_authorizations, noted_order, touches_order}
-use Rattle.desk_model.specs.Order.{ordered_by}
-use Rattle.desk_model.specs.Questions.{order_on}
-use Rattle.desk_model.specs.Shown.{at, account_reply, authorization_reply, certificate_reply, challenge_in, client_challenge_in}
-use Rattle.desk_model.specs.Shown.{located_account, made_account, made_order, moved_reply, ok, reply_of, shown}
-use Rattle.desk_model.specs.Tables.{Tables}
+use Rattle.desk_model.specs.Effect.{effect, fresh_authorization, fresh_order, has_row, moved_authorization, moved_order, new_authorizations, touches_order}
+use Rattle.desk_model.specs.{Order.ordered_by, Questions.order_on, Tables.Tables, declared.entry.Entry.Entry, declared.reply.Reply.Reply}
+use Rattle.desk_model.specs.{declared.rows.AccountRow.AccountRow, declared.rows.AuthorizationRow.AuthorizationRow, declared.rows.OrderRow.OrderRow}
+use Rattle.desk_model.specs.Shown.{at, account_reply, authorization_reply, certificate_reply, challenge_in, client_challenge_in, located_account, made_account}
+use Rattle.desk_model.specs.Shown.{made_order, moved_reply, ok, reply_of, shown}
 use Rattle.desk_model.specs.Kept.{EachOf, IsClosed, Kept, restricted}
-use Rattle.desk_model.specs.declared.entry.Entry.{Entry}
-use Rattle.desk_model.specs.declared.reply.Reply.{Reply}
-use Rattle.desk_model.specs.declared.rows.AccountRow.{AccountRow}
-use Rattle.desk_model.specs.declared.rows.AuthorizationRow.{AuthorizationRow}
-use Rattle.desk_model.specs.declared.rows.OrderRow.{OrderRow}
 use Rattle.desk_model.specs.declared.verdict.Shows.TheVariants as show
 use Rattle.desk_model.specs.declared.verdict.Listing.TheVariants as listing
 use Rattle.desk_model.specs.declared.moves.Move.TheVariants as move
 use Rattle.model_laws.specs.Parts.{FreshKept}
-use Rattle.model_laws.proofs.Basics.{each, each-append, each-map}
+use Rattle.model_laws.proofs.Basics.{each, each-append, each-map, one_kept}
 use Rattle.model_laws.proofs.Chain.{order_number, up_kept}
 use Rattle.model_laws.proofs.Local.{filter_part, find_kept, moved_number}
-use Rattle.model_laws.proofs.Recorded.{made_up}
-use Rattle.model_laws.proofs.MovedRows.{has_row-moved}
+use Rattle.model_laws.proofs.{Recorded.made_up, MovedRows.has_row-moved}
 use Rattle.model_laws.proofs.Finds.{each_found, found_passes}
 use Rattle.model_lives.proofs.Listed.{KeepsListed}
 use Rattle.model_lives.proofs.Verdicts.{account_same, authorization_same, order_same, owner_same}
@@ -37,11 +29,7 @@ use Rattle.model_lives.proofs.Verdicts.{account_same, authorization_same, order_
 -- a moved order lists what it listed
 moved_listed : (e : Entry) (m : ℕ) (before after : List AuthorizationRow) (row : OrderRow)
     → numbers_of (moved_order e m before after row).listed ≡ numbers_of row.listed
-moved_listed e m before after row = by (touches_order e before row)
-  where
-    by : (b : Bool) → numbers_of (cond b (restated_order m after (noted_order e m row)) row).listed ≡ numbers_of row.listed
-    by true = refl
-    by false = refl
+moved_listed e m before after row = one_kept (λ (o : OrderRow). numbers_of o.listed) (touches_order e before row) _ row refl
 
 -- with an order what it lists
 pub listed_after : (k : Kept) (S : Tables) (m : ℕ) (e : Entry) → IsClosed k S → FreshKept k S m e → KeepsListed k (effect m S e)
@@ -55,18 +43,23 @@ listed_after k S m e closed fresh =
     (ordered_by e m S.meta.policy (S.meta.counters.authorizations + 1) (S.meta.counters.orders + 1))
     (each _ _ (ordered_by e m S.meta.policy (S.meta.counters.authorizations + 1) (S.meta.counters.orders + 1)) (λ o f kept. f) fresh))
 
--- the authorization of a challenge
+-- the authorization of a challenge, among numbers that have all new ones
+pub owner_then : (w : ℕ → Bool) (S : Tables) (m : ℕ) (e : Entry) (n : ℕ) → ((j : ℕ) → S.meta.counters.authorizations < j → w j ≡ true) →
+    EachOf (λ r. has_row n r ≡ true → w r.number ≡ true) S.authorizations →
+    EachOf (λ r. has_row n r ≡ true → w r.number ≡ true) (effect m S e).authorizations
+owner_then w S m e n new h =
+    each-append _ (map (moved_authorization e m S.accounts) S.authorizations) _
+    (each-map _ (moved_authorization e m S.accounts) S.authorizations
+    (each _ _ S.authorizations (λ r f has. ap w (moved_number e m S.accounts r) ∙ f (sym (has_row-moved n e m S.accounts r) ∙ has)) h))
+    (each _ _ (map (λ a. restated_authorization m (fresh_authorization a)) (new_authorizations S e m)) (λ r f has. f)
+    (up_kept (λ (a : AuthorizationRow). a.number) w S.meta.counters.authorizations new (S.meta.counters.authorizations + 1) (omega arith) _
+    (made_up e m S.meta.policy.authz_life (S.meta.counters.authorizations + 1) (S.meta.counters.challenges + 1))))
+
+-- so in a closed part
 pub owner_after : (k : Kept) (S : Tables) (m : ℕ) (e : Entry) (n : ℕ) → IsClosed k S
     → EachOf (λ r. has_row n r ≡ true → k.authorizations r.number ≡ true) S.authorizations →
     EachOf (λ r. has_row n r ≡ true → k.authorizations r.number ≡ true) (effect m S e).authorizations
-owner_after k S m e n closed h =
-    each-append _ (map (moved_authorization e m S.accounts) S.authorizations) _
-    (each-map _ (moved_authorization e m S.accounts) S.authorizations
-    (each _ _ S.authorizations (λ r f has. ap k.authorizations (moved_number e m S.accounts r) ∙ f (sym (has_row-moved n e m S.accounts r) ∙ has)) h))
-    (each _ _ (map (λ a. restated_authorization m (fresh_authorization a)) (new_authorizations S e m)) (λ r f has. f)
-    (up_kept (λ (a : AuthorizationRow). a.number) k.authorizations S.meta.counters.authorizations closed.new_authorizations
-    (S.meta.counters.authorizations + 1) (omega arith) _
-    (made_up e m S.meta.policy.authz_life (S.meta.counters.authorizations + 1) (S.meta.counters.challenges + 1))))
+owner_after k S m e n closed h = owner_then k.authorizations S m e n closed.new_authorizations h
 
 -- ---- what is shown
 

@@ -1,27 +1,17 @@
 -- A part that keeps the authorizations which a new order may use again lets it use the same.
 use Rattle.std.proofs.Common.{◌≡◌, ℕ, List, [], ◌∷◌, Option, Some, None, refl, ap, ◌∙◌, true, false, Bool, cond}
-use Rattle.std.specs.Prelude.{◌==◌}
-use Rattle.std.specs.List.{list_any}
+use Rattle.std.specs.{Prelude.◌==◌, List.list_any}
 use Rattle.std.proofs.lemmas.Bool.{and_parts}
-use Rattle.desk_model.specs.Authorization.{is_valid}
+use Rattle.desk_model.specs.{Authorization.is_valid, Legal.has_length, Limits.most_names, Lookup.holds, Tables.Tables, Verdict.check}
 use Rattle.desk_model.specs.Kept.{EachOf, Kept, restricted}
-use Rattle.desk_model.specs.Legal.{has_length}
-use Rattle.desk_model.specs.Limits.{most_names}
-use Rattle.desk_model.specs.Lookup.{holds}
 use Rattle.desk_model.specs.Name.{Name, same_name}
 use Rattle.desk_model.specs.Questions.{order_end, serves, serving_on}
 use Rattle.desk_model.specs.Rules.{kept, left_by, names_asked, names_in, names_of, new_order_verdict, order_of, subproblems, wanted, wanted_by}
-use Rattle.desk_model.specs.Tables.{Tables}
-use Rattle.desk_model.specs.Verdict.{check}
-use Rattle.desk_model.specs.declared.payload.Identifier.{Identifier}
+use Rattle.desk_model.specs.declared.{payload.Identifier.Identifier, reply.Subproblem.Subproblem, rows.AuthorizationRow.AuthorizationRow}
+use Rattle.desk_model.specs.declared.{verdict.Verdict.TheVariants.Orders as orders, entry.Entry.TheVariants.Ordered as ordered}
 use Rattle.desk_model.specs.declared.refusal.Refusal.TheVariants as refusal
-use Rattle.desk_model.specs.declared.reply.Subproblem.{Subproblem}
-use Rattle.desk_model.specs.declared.rows.AuthorizationRow.{AuthorizationRow}
-use Rattle.desk_model.specs.declared.verdict.Verdict.TheVariants.{Orders as orders}
-use Rattle.desk_model.specs.declared.entry.Entry.TheVariants.{Ordered as ordered}
-use Rattle.model_laws.proofs.Basics.{each}
+use Rattle.model_laws.proofs.{Basics.each, Local.find_part}
 use Rattle.model_laws.proofs.Finds.{each_found, found_passes}
-use Rattle.model_laws.proofs.Local.{find_part}
 use Rattle.model_laws.specs.Parts.{ReusedKept}
 use Rattle.model_lives.proofs.Lists.{each_member}
 

@@ -3,63 +3,35 @@ use Rattle.std.proofs.Common.{◌≡◌, ◌≤◌, ◌*◌, ℕ, List, [], ◌�
 use Rattle.std.specs.Prelude.{IsTrue, nat_le, ◌&&◌, ◌==◌, is_some, bytes_eq, option_and_then, Result}
 use Rattle.std.proofs.lemmas.Bool.{and_from}
 use Rattle.desk_model.specs.Authorization.{is_live, is_pending}
-use Rattle.desk_model.specs.declared.refusal.Refusal.{Refusal}
+use Rattle.desk_model.specs.declared.{refusal.Refusal.Refusal, entry.Entry.Entry, moves.Move.Move, entry.Outcome.Outcome, call.OrderProblem.OrderProblem}
+use Rattle.desk_model.specs.declared.{objects.Nonce.Nonce, rows.AccountRow.AccountRow, rows.ChallengeRow.ChallengeRow, rows.AuthorizationRow.AuthorizationRow}
+use Rattle.desk_model.specs.declared.{rows.OrderRow.OrderRow, payload.NewAccount.NewAccount, payload.AccountChange.AccountChange, payload.KeyChange.KeyChange}
+use Rattle.desk_model.specs.declared.{payload.AuthorizationChange.AuthorizationChange, payload.ChallengeChange.ChallengeChange, payload.Identifier.Identifier}
+use Rattle.desk_model.specs.declared.{verdict.Verdict.Verdict, verdict.Shows.Shows, reply.Subproblem.Subproblem, call.OfficeAsk.OfficeAsk, call.BadKey.BadKey}
+use Rattle.desk_model.specs.declared.{call.Finding.Finding, call.Signed.Signed, call.Target.Target}
 use Rattle.desk_model.specs.declared.refusal.Refusal.TheVariants as refusal
-use Rattle.desk_model.specs.Keys.{IsKeyText}
-use Rattle.desk_model.specs.Entry.{entry_of}
-use Rattle.desk_model.specs.declared.entry.Entry.{Entry}
-use Rattle.desk_model.specs.declared.moves.Move.{Move}
+use Rattle.desk_model.specs.{Keys.IsKeyText, Entry.entry_of, Account.is_valid as is_valid_account, Contact.contacts_fault, Tables.Tables, Allowed.may_on}
+use Rattle.desk_model.specs.{Texts.IsTextProblem}
 use Rattle.desk_model.specs.declared.entry.Entry.TheVariants.{Opened as opened, Ordered as ordered}
-use Rattle.desk_model.specs.declared.entry.Outcome.{Outcome}
-use Rattle.desk_model.specs.declared.call.OrderProblem.{OrderProblem}
-use Rattle.desk_model.specs.declared.objects.Nonce.{Nonce}
-use Rattle.desk_model.specs.Account.{is_valid as is_valid_account}
 use Rattle.desk_model.specs.Limits.{longest_certificate, longest_csr, most_names}
 use Rattle.desk_model.specs.Order.{is_ready, is_processing}
-use Rattle.desk_model.specs.Contact.{contacts_fault}
 use Rattle.desk_model.specs.Tokens.{NonceText, from_base64url, nonce_in}
 use Rattle.desk_model.specs.Legal.{IsFormed, has_length, is_pending_challenge, is_problem, is_processing_challenge}
-use Rattle.desk_model.specs.Tables.{Tables}
-use Rattle.desk_model.specs.declared.rows.AccountRow.{AccountRow}
-use Rattle.desk_model.specs.declared.rows.ChallengeRow.{ChallengeRow}
-use Rattle.desk_model.specs.declared.rows.AuthorizationRow.{AuthorizationRow}
-use Rattle.desk_model.specs.declared.rows.OrderRow.{OrderRow}
 use Rattle.desk_model.specs.Questions.{account_on, account_with_key, challenge_of, order_on, authorization_on, owner_on, nonce_on}
-use Rattle.desk_model.specs.Allowed.{may_on}
-use Rattle.desk_model.specs.declared.payload.NewAccount.{NewAccount}
-use Rattle.desk_model.specs.declared.payload.AccountChange.{AccountChange}
-use Rattle.desk_model.specs.declared.payload.KeyChange.{KeyChange}
-use Rattle.desk_model.specs.declared.payload.AuthorizationChange.{AuthorizationChange}
-use Rattle.desk_model.specs.declared.payload.ChallengeChange.{ChallengeChange}
-use Rattle.desk_model.specs.declared.payload.Identifier.{Identifier}
 use Rattle.desk_model.specs.declared.payload.AccountChange.TheVariants as change
 use Rattle.desk_model.specs.declared.payload.AuthorizationChange.TheVariants as authz_change
 use Rattle.desk_model.specs.declared.payload.ChallengeChange.TheVariants as chall_change
 use Rattle.desk_model.specs.Run.{pieces_of, IsFormedKey, IsFormedOfficeAsk, IsFormedSigned}
-use Rattle.desk_model.specs.Texts.{IsTextProblem}
 use Rattle.desk_model.specs.Verdict.{check, given, unless_fault, choose}
-use Rattle.desk_model.specs.declared.verdict.Verdict.TheVariants.{KeyTaken as key_taken, Answers as answers, Opens as opens}
-use Rattle.desk_model.specs.declared.verdict.Verdict.TheVariants.{Orders as orders, Moves as moves, Refused as refused}
-use Rattle.desk_model.specs.declared.verdict.Verdict.{Verdict}
-use Rattle.desk_model.specs.declared.verdict.Shows.{Shows}
-use Rattle.desk_model.specs.Rules.{open_account, unknown_key_verdict, account_verdict, key_change_verdict}
-use Rattle.desk_model.specs.Rules.{rekey_verdict, order_of, new_order_verdict, subproblems}
-use Rattle.desk_model.specs.Rules.{if_fits, csr_in, finalize_verdict, authorization_verdict, stands_open, challenge_verdict, own}
-use Rattle.desk_model.specs.Rules.{target_verdict, holder_verdict, key_verdict, signed_verdict, if_spelled, open_nonce_in}
-use Rattle.desk_model.specs.Rules.{open_nonce, outcome_verdict, report_verdict, certify_verdict, fail_verdict}
-use Rattle.desk_model.specs.Rules.{revoke_authorization, revoke_account, office_verdict}
-use Rattle.desk_model.specs.declared.reply.Subproblem.{Subproblem}
-use Rattle.desk_model.specs.declared.call.OfficeAsk.{OfficeAsk}
+use Rattle.desk_model.specs.declared.verdict.Verdict.TheVariants.{Answers as answers, Opens as opens, Orders as orders, Moves as moves, Refused as refused}
+use Rattle.desk_model.specs.Rules.{open_account, unknown_key_verdict, account_verdict, key_change_verdict, rekey_verdict, order_of, new_order_verdict}
+use Rattle.desk_model.specs.Rules.{subproblems, if_fits, csr_in, finalize_verdict, authorization_verdict, stands_open, challenge_verdict, own, target_verdict}
+use Rattle.desk_model.specs.Rules.{holder_verdict, key_verdict, signed_verdict, if_spelled, open_nonce_in, open_nonce, outcome_verdict, report_verdict}
+use Rattle.desk_model.specs.Rules.{certify_verdict, fail_verdict, revoke_authorization, revoke_account, office_verdict}
 use Rattle.desk_model.specs.declared.call.OfficeAsk.TheVariants as office
-use Rattle.desk_model.specs.declared.call.BadKey.{BadKey}
-use Rattle.desk_model.specs.declared.call.Finding.{Finding}
-use Rattle.desk_model.specs.declared.call.Signed.{Signed}
-use Rattle.desk_model.specs.declared.call.Target.{Target}
 use Rattle.desk_model.specs.declared.call.Target.TheVariants as to
-use Rattle.model_laws.specs.Later.{IsLater}
-use Rattle.model_laws.specs.Ordered.{IsOrdered}
-use Rattle.model_laws.proofs.RowLists.{ascends_found}
-use Rattle.model_laws.proofs.Finds.{each_found}
+use Rattle.model_laws.specs.{Later.IsLater, Ordered.IsOrdered}
+use Rattle.model_laws.proofs.{RowLists.ascends_found, Finds.each_found}
 use Rattle.model_lives.proofs.KeyPayloads.{ChangesToKey, key_change_formed}
 use Rattle.model_lives.proofs.Names.{wanted_fits}
 use Rattle.model_lives.proofs.Steps.{check_keeps, choose_keeps, fault_keeps, given_keeps}
@@ -73,12 +45,10 @@ pub record MayRecord (T : Tables) (e : Entry) : Type 0 where
 
 -- the entry of the verdict, if it has one, may be recorded
 abbrev pub Records : List ℕ → Tables → Verdict → Type 0
-Records r T (refused why subproblems) = Unit {0}
-Records r T (key_taken account) = Unit {0}
-Records r T (answers what) = Unit {0}
 Records r T (opens key contacts) = MayRecord T (opened key contacts)
 Records r T (orders account wanted) = 16 * pieces_of (ordered account wanted) ≤ length r → MayRecord T (ordered account wanted)
 Records r T (moves move) = MayRecord T (entry_of move)
+Records r T _ = Unit {0}
 
 -- what the verdict records may be recorded, where there are random bytes enough for it
 pub record IsSound (r : List ℕ) (T : Tables) (v : Verdict) : Type 0 where
@@ -322,15 +292,13 @@ revoke_account_sound r T n a found =
 
 -- what carries no nonce
 pub office_sound : (r : List ℕ) (T : Tables) (a : OfficeAsk) → IsFormedOfficeAsk a → IsSound r T (office_verdict T a)
-office_sound r T office.Directory formed = none_sound _
 office_sound r T (office.Report n finding) formed = report_sound r T n finding
 office_sound r T (office.Certify n bytes) formed = given_sound r T _ refusal.NotFound _ (λ o is. certify_sound r T n bytes o is)
 office_sound r T (office.FailOrder n problem) formed = given_sound r T _ refusal.NotFound _ (λ o is. fail_sound r T n problem o formed is)
 office_sound r T (office.RevokeAuthz n) formed = given_sound r T _ refusal.NotFound _ (λ a is. revoke_authorization_sound r T n a is)
 office_sound r T (office.RevokeAccount n) formed = given_sound r T _ refusal.NotFound _ (λ a is. revoke_account_sound r T n a is)
-office_sound r T office.ChallengeWork formed = none_sound _
-office_sound r T office.OrderWork formed = none_sound _
 office_sound r T (office.KeyOf n) formed = given_sound r T _ refusal.NotFound _ (λ _ _. none_sound _)
+office_sound r T _ formed = none_sound _
 
 -- ---- nonces
 

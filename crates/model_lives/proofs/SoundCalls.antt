@@ -1,31 +1,21 @@
 -- What a call records may follow the history, and keeps it legal.
-use Rattle.std.proofs.Common.{◌≡◌, ◌≤◌, ◌*◌, ℕ, List, [], ◌∷◌, length, take, drop, Option, Some, None, refl, Bool, true, false}
-use Rattle.std.proofs.Common.{cond, not, arith, length-take, length-drop}
+use Rattle.std.proofs.Common.{◌≡◌, ◌≤◌, ◌*◌, ℕ, List, [], ◌∷◌, length, take, drop, Option, Some, None, refl, Bool, true, false, cond, not, arith, length-take}
+use Rattle.std.proofs.Common.{length-drop}
 use Rattle.std.specs.Prelude.{IsTrue, nat_lt}
 use Rattle.std.proofs.lemmas.Bool.{eq-eqb, ltb-false}
 use Rattle.desk_model.specs.Entry.{History, entry_of}
-use Rattle.desk_model.specs.declared.entry.Entry.{Entry}
+use Rattle.desk_model.specs.declared.{entry.Entry.Entry, verdict.Verdict.Verdict, call.Call.Call, call.Ask.Ask, call.OfficeAsk.OfficeAsk, call.Signed.Signed}
 use Rattle.desk_model.specs.declared.entry.Entry.TheVariants.{Issued as issued, Spent as spent, Opened as opened, Ordered as ordered}
 use Rattle.desk_model.specs.History.{clock, moment_of, record_all}
-use Rattle.desk_model.specs.Tables.{tables_at}
+use Rattle.desk_model.specs.{Tables.tables_at, Limits.last_moment}
 use Rattle.desk_model.specs.Legal.{numbers_fit, EachFollows, BeginsMade, Legal}
-use Rattle.desk_model.specs.Limits.{last_moment}
-use Rattle.desk_model.specs.declared.verdict.Verdict.{Verdict}
-use Rattle.desk_model.specs.declared.verdict.Verdict.TheVariants.{Refused as refused, KeyTaken as key_taken, Answers as answers}
 use Rattle.desk_model.specs.declared.verdict.Verdict.TheVariants.{Opens as opens, Orders as orders, Moves as moves}
 use Rattle.desk_model.specs.Rules.{office_verdict, open_nonce}
-use Rattle.desk_model.specs.Decide.{Decision, entries_of, nonce_entries, signed_decision, office_decision, passed_decision}
-use Rattle.desk_model.specs.Decide.{tables_after, decide, decide_at, after}
+use Rattle.desk_model.specs.Decide.{Decision, entries_of, nonce_entries, signed_decision, office_decision, passed_decision, tables_after, decide, decide_at}
+use Rattle.desk_model.specs.Decide.{after}
 use Rattle.desk_model.specs.Run.{fault, count_pieces, IsFormedAsk, IsFormedOfficeAsk, IsFormedCall, IsFormedSigned}
-use Rattle.desk_model.specs.declared.call.Call.{Call}
-use Rattle.desk_model.specs.declared.call.Ask.{Ask}
 use Rattle.desk_model.specs.declared.call.Ask.TheVariants as ask
-use Rattle.desk_model.specs.declared.call.OfficeAsk.{OfficeAsk}
-use Rattle.desk_model.specs.declared.call.Signed.{Signed}
-use Rattle.model_laws.proofs.AllowedFacts.{legal_grows}
-use Rattle.model_laws.proofs.Beginnings.{begun}
-use Rattle.model_laws.proofs.Dates.{clock_in_time}
-use Rattle.model_laws.proofs.Recorded.{tables_ordered}
+use Rattle.model_laws.proofs.{AllowedFacts.legal_grows, Beginnings.begun, Dates.clock_in_time, Recorded.tables_ordered}
 use Rattle.model_lives.proofs.Sound.{IsSound, MayRecord, signed_sound, office_sound, open_serial}
 
 -- ---- moments
@@ -54,12 +44,10 @@ may_follow F m e now may = legal_grows F e m now.each now.later now.in_time may.
 verdict_follows : (F : History) (m : ℕ) (r : List ℕ) (v : Verdict) → IsMoment F m → IsSound r (tables_at F m) v →
     16 * count_pieces (entries_of v) ≤ length r →
     EachFollows (record_all m (entries_of v) F)
-verdict_follows F m r (refused n ss) now sound enough = now.each
-verdict_follows F m r (key_taken account) now sound enough = now.each
-verdict_follows F m r (answers what) now sound enough = now.each
 verdict_follows F m r (opens key contacts) now sound enough = may_follow F m (opened key contacts) now sound.records
 verdict_follows F m r (orders account wanted) now sound enough = may_follow F m (ordered account wanted) now (sound.records (omega arith))
 verdict_follows F m r (moves move) now sound enough = may_follow F m (entry_of move) now sound.records
+verdict_follows F m r _ now sound enough = now.each
 
 -- a fresh nonce of full length is issued
 issued_follows : (F : History) (m : ℕ) (r : List ℕ) → IsMoment F m → 16 ≤ length r → EachFollows (record { date = m; entry = issued (take 16 r) } ∷ F)

@@ -1,9 +1,7 @@
 -- Steps of verdicts: what holds of a refusal, and of what comes after a test that passed, holds of the verdict.
 use Rattle.std.proofs.Common.{◌≡◌, Bool, true, false, Option, Some, None, [], refl}
 use Rattle.desk_model.specs.Verdict.{check, choose, given, unless_fault}
-use Rattle.desk_model.specs.declared.refusal.Refusal.{Refusal}
-use Rattle.desk_model.specs.declared.verdict.Verdict.{Verdict}
-use Rattle.desk_model.specs.declared.verdict.Verdict.TheVariants.{Refused as refused}
+use Rattle.desk_model.specs.declared.{refusal.Refusal.Refusal, verdict.Verdict.Verdict, verdict.Verdict.TheVariants.Refused as refused}
 
 -- a test
 pub check_keeps : (P : Verdict → Type 0) (b : Bool) (n : Refusal) (v : Verdict) → P (refused n []) → (b ≡ true → P v) → P (check b n v)

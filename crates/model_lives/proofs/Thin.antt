@@ -6,18 +6,13 @@ use Rattle.desk_model.specs.Derived.{authorization_numbered, numbers_of}
 use Rattle.desk_model.specs.Document.{and_row, rows_of}
 use Rattle.desk_model.specs.Effect.{effects, falls, is_live_order, is_overdue, lists_one, swept, swept_authorization, swept_order}
 use Rattle.desk_model.specs.Kept.{EachOf, Kept, restricted}
-use Rattle.desk_model.specs.Lookup.{holds}
-use Rattle.desk_model.specs.Tables.{Tables}
-use Rattle.desk_model.specs.declared.rows.AuthorizationRow.{AuthorizationRow}
-use Rattle.desk_model.specs.declared.rows.ChallengeRow.{ChallengeRow}
-use Rattle.desk_model.specs.declared.rows.OrderRow.{OrderRow}
+use Rattle.desk_model.specs.{Lookup.holds, Tables.Tables}
+use Rattle.desk_model.specs.declared.{rows.AuthorizationRow.AuthorizationRow, rows.ChallengeRow.ChallengeRow, rows.OrderRow.OrderRow, verdict.Verdict.Verdict}
 use Rattle.desk_model.specs.declared.status.AuthzStatus.TheVariants as authz
 use Rattle.desk_model.specs.declared.status.OrderStatus.TheVariants as order
-use Rattle.desk_model.specs.declared.verdict.Verdict.{Verdict}
 use Rattle.model_laws.specs.Ordered.{IsOrdered, IsTable}
 use Rattle.model_laws.proofs.Basics.{each-map, each_all, find-map, list_any-same}
-use Rattle.model_laws.proofs.Local.{filter_all}
-use Rattle.model_laws.proofs.RowLists.{ascends_map}
+use Rattle.model_laws.proofs.{Local.filter_all, RowLists.ascends_map}
 use Rattle.model_lives.specs.AnswersAs.{CarriesOutAs}
 use Rattle.model_lives.proofs.Lists.{filter_nothing}
 use Rattle.model_lives.specs.Thinned.{all_challenges, all_listed, in_whole, no_challenges, thin, thinned, with_challenges, with_listed, without_challenges}

@@ -1,31 +1,21 @@
 -- What the validator and the operator do to an authorization reads no account.
 use Rattle.std.proofs.Common.{◌≡◌, ◌≤◌, ◌+◌, ℕ, List, [], ◌∷◌, ◌++◌, map, refl, sym, ap, subst, ◌∙◌, Bool}
 use Rattle.std.specs.Prelude.{◌&&◌}
-use Rattle.desk_model.specs.Account.{opened_by}
+use Rattle.desk_model.specs.{Account.opened_by, Document.expected, Kept.EachOf, Legal.is_processing_challenge, Lookup.holds, Tables.Tables}
 use Rattle.desk_model.specs.Authorization.{is_live, is_pending}
 use Rattle.desk_model.specs.Change.{authorizations_put, changes, nonces_put, orders_put, recorded_changes, spent_by, sweep_changes}
 use Rattle.desk_model.specs.Decide.{entries_of, verdict_reply}
-use Rattle.desk_model.specs.Document.{expected}
 use Rattle.desk_model.specs.Effect.{effects, fresh_account, noted_account, swept}
-use Rattle.desk_model.specs.Kept.{EachOf}
-use Rattle.desk_model.specs.Legal.{is_processing_challenge}
-use Rattle.desk_model.specs.Lookup.{holds}
 use Rattle.desk_model.specs.Questions.{authorization_on, challenge_of, owner_on}
 use Rattle.desk_model.specs.Rules.{is_revoked_status, office_verdict, outcome_of, same_outcome}
-use Rattle.desk_model.specs.Tables.{Tables}
-use Rattle.desk_model.specs.declared.call.OfficeAsk.{OfficeAsk}
+use Rattle.desk_model.specs.declared.{call.OfficeAsk.OfficeAsk, entry.Ending.Ending, entry.Entry.Entry, entry.Outcome.Outcome, rows.AccountRow.AccountRow}
+use Rattle.desk_model.specs.declared.{rows.Change.Change, verdict.Verdict.Verdict}
 use Rattle.desk_model.specs.declared.call.OfficeAsk.TheVariants as office
-use Rattle.desk_model.specs.declared.entry.Ending.{Ending}
-use Rattle.desk_model.specs.declared.entry.Entry.{Entry}
 use Rattle.desk_model.specs.declared.entry.Entry.TheVariants.{AuthorizationEnded as authorization_ended, Reported as reported}
-use Rattle.desk_model.specs.declared.entry.Outcome.{Outcome}
 use Rattle.desk_model.specs.declared.moves.Move.TheVariants as move
 use Rattle.desk_model.specs.declared.refusal.Refusal.TheVariants as refusal
-use Rattle.desk_model.specs.declared.rows.AccountRow.{AccountRow}
-use Rattle.desk_model.specs.declared.rows.Change.{Change}
 use Rattle.desk_model.specs.declared.rows.Change.TheVariants.{PutAccount, PutAuthorization, PutMeta, PutNonce, PutOrder, RemoveNonce}
 use Rattle.desk_model.specs.declared.verdict.Shows.TheVariants as show
-use Rattle.desk_model.specs.declared.verdict.Verdict.{Verdict}
 use Rattle.desk_model.specs.declared.verdict.Verdict.TheVariants.{Answers as answers, Moves as moves, Refused as refused}
 use Rattle.model_lives.specs.AnswersAs.{SettlesAs}
 use Rattle.model_lives.proofs.Lists.{filter_nothing}

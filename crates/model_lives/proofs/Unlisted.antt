@@ -1,60 +1,43 @@
 -- A request that shows orders without what they list: a part may lack that, but for what falls.
-use Rattle.std.proofs.Common.{◌≡◌, ◌+◌, ℕ, List, [], ◌∷◌, ◌++◌, map, filter, Option, Some, None, refl, sym, ap, ◌∙◌, true, false, Bool, cond, not}
-use Rattle.std.proofs.Common.{Result, Ok, Err}
+use Rattle.std.proofs.Common.{◌≡◌, ◌+◌, ℕ, List, [], ◌∷◌, ◌++◌, map, filter, Option, Some, None, refl, sym, ap, ◌∙◌, true, false, Bool, cond, not, Result, Ok}
+use Rattle.std.proofs.Common.{Err}
 use Rattle.std.specs.Prelude.{◌==◌, ◌&&◌, ◌||◌, bytes_eq, find, nat_lt}
 use Rattle.std.proofs.lemmas.Bool.{eqb-true, or_left}
-use Rattle.desk_model.specs.Account.{is_valid as is_valid_account}
-use Rattle.desk_model.specs.Change.{accounts_put, all_changes, authorizations_put, changes, moved_rows, nonces_put, order_differs, recorded_changes}
-use Rattle.desk_model.specs.Change.{spent_by, sweep_changes}
-use Rattle.desk_model.specs.Decide.{entries_of}
+use Rattle.desk_model.specs.{Account.is_valid as is_valid_account, Decide.entries_of, Lookup.holds, Shown.reply_of, Tables.Tables, Order.ordered_by}
+use Rattle.desk_model.specs.{Asked.asks_orders, Touched.is_named_account}
+use Rattle.desk_model.specs.Change.{accounts_put, all_changes, authorizations_put, changes, moved_rows, nonces_put, order_differs, recorded_changes, spent_by}
+use Rattle.desk_model.specs.Change.{sweep_changes}
 use Rattle.desk_model.specs.Derived.{authorization_numbered, numbers_of, restated_order}
 use Rattle.desk_model.specs.Effect.{authorizations_after, effect, effects, falls, fresh_order, is_live_order, is_overdue, lasts, noted_order, swept}
-use Rattle.desk_model.specs.Effect.{swept_authorization, swept_order, touches_order}
+use Rattle.desk_model.specs.Effect.{touches_order}
 use Rattle.desk_model.specs.Kept.{CoversSweep, EachOf, IsClosed, Kept, restricted}
-use Rattle.desk_model.specs.Lookup.{holds}
 use Rattle.desk_model.specs.Questions.{account_with_key, order_on}
 use Rattle.desk_model.specs.Rules.{key_verdict, nothing, open_nonce, own, signed_verdict, target_verdict}
-use Rattle.desk_model.specs.Shown.{reply_of}
-use Rattle.desk_model.specs.Tables.{Tables}
 use Rattle.desk_model.specs.declared.call.Ask.TheVariants as ask
-use Rattle.desk_model.specs.declared.call.BadKey.{BadKey}
-use Rattle.desk_model.specs.declared.call.Signed.{Signed}
-use Rattle.desk_model.specs.declared.call.Target.{Target}
+use Rattle.desk_model.specs.declared.{call.BadKey.BadKey, call.Signed.Signed, call.Target.Target, entry.Entry.Entry, rows.AccountRow.AccountRow}
+use Rattle.desk_model.specs.declared.{rows.AuthorizationRow.AuthorizationRow, rows.Change.Change, rows.OrderRow.OrderRow, verdict.Verdict.Verdict}
 use Rattle.desk_model.specs.declared.call.Target.TheVariants as to
-use Rattle.desk_model.specs.declared.entry.Entry.{Entry}
 use Rattle.desk_model.specs.declared.entry.Entry.TheVariants.{Issued as issued, Spent as spent}
 use Rattle.desk_model.specs.declared.refusal.Refusal.TheVariants as refusal
-use Rattle.desk_model.specs.declared.rows.AccountRow.{AccountRow}
-use Rattle.desk_model.specs.declared.rows.AuthorizationRow.{AuthorizationRow}
-use Rattle.desk_model.specs.Order.{ordered_by}
-use Rattle.desk_model.specs.declared.rows.Change.{Change}
 use Rattle.desk_model.specs.declared.rows.Change.TheVariants.{PutAccount, PutAuthorization, PutMeta, PutNonce, PutOrder, RemoveNonce}
-use Rattle.desk_model.specs.declared.rows.OrderRow.{OrderRow}
 use Rattle.desk_model.specs.declared.status.AuthzStatus.TheVariants as authz
 use Rattle.desk_model.specs.declared.status.OrderStatus.TheVariants as order
-use Rattle.desk_model.specs.declared.verdict.Verdict.{Verdict}
 use Rattle.desk_model.specs.declared.verdict.Verdict.TheVariants.{Refused as refused, KeyTaken as key_taken, Answers as answers}
-use Rattle.desk_model.specs.Asked.{asks_orders}
-use Rattle.desk_model.specs.Touched.{is_named_account}
 use Rattle.model_laws.specs.Ordered.{IsOrdered}
 use Rattle.model_laws.proofs.Basics.{each, each_all, list_any-same}
-use Rattle.model_laws.proofs.Chain.{all_changes_local}
+use Rattle.model_laws.proofs.{Chain.all_changes_local, SweptParts.swept_closed}
 use Rattle.model_laws.proofs.Finds.{each_found, found_passes}
-use Rattle.model_laws.proofs.Local.{filter_part, filters_swap, find_kept, moved_part, swept_number, swept_order_number}
+use Rattle.model_laws.proofs.Local.{filter_part, find_kept, swept_alike}
 use Rattle.model_laws.proofs.Plain.{covers_issued, nonces_covered, nothing_touched}
-use Rattle.model_laws.proofs.SweptParts.{swept_closed}
 use Rattle.model_lives.proofs.Steps.{check_keeps, given_keeps}
 use Rattle.model_lives.specs.AnswersAs.{CarriesOutAs, PassesAs}
 use Rattle.model_lives.specs.Few.{target_needs_listed}
-use Rattle.model_lives.specs.Thinned.{all_challenges}
-use Rattle.model_lives.proofs.Between.{authorizations_stand, bare, bare_ordered, open_kept, orders_end, swept_bare}
+use Rattle.model_lives.proofs.Between.{bare, bare_ordered, carries_by, open_kept, swept_bare}
 use Rattle.model_lives.proofs.Grown.{KeepsNamed, grown_closed}
 use Rattle.model_lives.proofs.Lists.{filter_same, same_number}
-use Rattle.model_lives.proofs.Ready.{swept_names}
+use Rattle.model_lives.proofs.{Ready.swept_names, Walks.sent}
 use Rattle.model_lives.proofs.Replies.{certificate_shown, orders_shown}
-use Rattle.model_lives.proofs.Thin.{whole_authorizations}
 use Rattle.model_lives.proofs.Verdicts.{is_key, nonce_same, signed_same, verdict_by}
-use Rattle.model_lives.proofs.Walks.{sent}
 
 -- ---- what falls
 
@@ -97,19 +80,7 @@ falls_open k T m covers o =
 
 -- the part, swept, is the part of the swept tables
 swept_open : (k : Kept) (T : Tables) (m : ℕ) → CoversSweep k T m → swept m (restricted k T) ≡ restricted k (swept m T)
-swept_open k T m covers =
-    λ i. record {
-      meta = (swept m T).meta;
-      nonces = filters_swap (lasts T.meta.policy m) (λ n. k.nonces n.serial) T.nonces i;
-      accounts = filter (λ a. k.accounts a.number) T.accounts;
-      authorizations =
-          moved_part (λ (a : AuthorizationRow). k.authorizations a.number) (swept_authorization m) (swept_authorization m) T.authorizations
-          (λ a. ap k.authorizations (swept_number m a)) (each_all _ T.authorizations (λ a kept. refl)) i;
-      orders =
-          moved_part (λ (o : OrderRow). k.orders o.number) (swept_order m (restricted k T).authorizations) (swept_order m T.authorizations) T.orders
-          (λ o. ap k.orders (swept_order_number m T.authorizations o))
-          (each_all _ T.orders (λ o kept. ap (λ b. cond b (record o { status = order.Invalid }) o) (falls_open k T m covers o))) i;
-    }
+swept_open k T m covers = swept_alike k T m (each_all _ T.orders (λ o kept. falls_open k T m covers o))
 
 -- the part changes as the whole by the passing of time
 sweep_open : (k : Kept) (T : Tables) (m : ℕ) → CoversSweep k T m → sweep_changes m (restricted k T) ≡ sweep_changes m T
@@ -248,30 +219,10 @@ signed_shown k S r s e named = by s.key (λ x h. or_left _ _ h)
 -- ---- the request
 
 carried_open : (k : Kept) (T : Tables) (m : ℕ) (v : Verdict) → IsOrdered T → CoversSweep k T m → IsShown k (swept m T) v → CarriesOutAs m T (restricted k T) v
-carried_open k T m (refused why ss) h covers shown =
-    record {
-      standing = λ r. (open_kept k T).authorizations r.number;
-      challenges = all_challenges;
-      authorizations = authorizations_stand k T m (refused why ss) h tt ∙ sym (whole_authorizations _);
-      ends = orders_end k T m (refused why ss);
-      shows = λ index. refl;
-    }
-carried_open k T m (key_taken account) h covers shown =
-    record {
-      standing = λ r. (open_kept k T).authorizations r.number;
-      challenges = all_challenges;
-      authorizations = authorizations_stand k T m (key_taken account) h tt ∙ sym (whole_authorizations _);
-      ends = orders_end k T m (key_taken account);
-      shows = λ index. refl;
-    }
+carried_open k T m (refused why ss) h covers shown = carries_by k T m (refused why ss) h tt (λ index. refl)
+carried_open k T m (key_taken account) h covers shown = carries_by k T m (key_taken account) h tt (λ index. refl)
 carried_open k T m (answers what) h covers shown =
-    record {
-      standing = λ r. (open_kept k T).authorizations r.number;
-      challenges = all_challenges;
-      authorizations = authorizations_stand k T m (answers what) h tt ∙ sym (whole_authorizations _);
-      ends = orders_end k T m (answers what);
-      shows = λ index. ap (λ P. reply_of P what) (swept_open k T m covers) ∙ shown;
-    }
+    carries_by k T m (answers what) h tt (λ index. ap (λ P. reply_of P what) (swept_open k T m covers) ∙ shown)
 carried_open k T m _ h covers shown = absurd shown
 
 records_open : (k : Kept) (T : Tables) (m : ℕ) (v : Verdict) → IsOrdered T → CoversSweep k T m → IsShown k (swept m T) v → (n : ℕ) (fresh : List ℕ) →

@@ -3,43 +3,28 @@ use Rattle.std.proofs.Common.{◌≡◌, ℕ, List, [], Option, Some, None, refl
 use Rattle.std.specs.Prelude.{◌==◌, ◌&&◌, bytes_eq, option_and_then}
 use Rattle.std.proofs.lemmas.Bool.{or_left}
 use Rattle.desk_model.specs.declared.refusal.Refusal.TheVariants as refusal
-use Rattle.desk_model.specs.Account.{is_valid as is_valid_account}
-use Rattle.desk_model.specs.Document.{account_url}
-use Rattle.desk_model.specs.Effect.{has_row}
-use Rattle.desk_model.specs.Lookup.{holds}
+use Rattle.desk_model.specs.{Account.is_valid as is_valid_account, Document.account_url, Effect.has_row, Lookup.holds, Tables.Tables}
 use Rattle.desk_model.specs.Payload.{authorization_change, challenge_change, finalize, key_change, new_order}
-use Rattle.desk_model.specs.declared.payload.KeyChange.{KeyChange}
-use Rattle.desk_model.specs.declared.payload.Identifier.{Identifier}
+use Rattle.desk_model.specs.declared.{payload.KeyChange.KeyChange, payload.Identifier.Identifier, verdict.Verdict.Verdict, call.OfficeAsk.OfficeAsk}
+use Rattle.desk_model.specs.declared.{call.BadKey.BadKey, call.Finding.Finding, call.Signed.Signed, call.Target.Target, objects.Nonce.Nonce}
+use Rattle.desk_model.specs.declared.{rows.AccountRow.AccountRow, rows.AuthorizationRow.AuthorizationRow, rows.OrderRow.OrderRow}
 use Rattle.desk_model.specs.Questions.{account_on, account_with_key, authorization_on, order_on, owner_on, challenge_of}
-use Rattle.desk_model.specs.Rules.{certificate_verdict, certify_verdict, challenge_verdict, authorization_verdict, fail_verdict}
-use Rattle.desk_model.specs.Rules.{finalize_verdict, finding_verdict, if_spelled, key_verdict}
-use Rattle.desk_model.specs.Rules.{nothing, office_verdict, open_nonce, open_nonce_in}
-use Rattle.desk_model.specs.Rules.{own, report_verdict, revoke_account, revoke_authorization, signed_verdict}
-use Rattle.desk_model.specs.Rules.{key_change_verdict, rekey_verdict, target_verdict, names_asked, new_order_verdict}
-use Rattle.desk_model.specs.Tables.{Tables}
+use Rattle.desk_model.specs.Rules.{certificate_verdict, certify_verdict, challenge_verdict, authorization_verdict, fail_verdict, finalize_verdict}
+use Rattle.desk_model.specs.Rules.{finding_verdict, if_spelled, key_verdict, nothing, office_verdict, open_nonce, open_nonce_in, own, report_verdict}
+use Rattle.desk_model.specs.Rules.{revoke_account, revoke_authorization, signed_verdict, key_change_verdict, rekey_verdict, target_verdict, names_asked}
+use Rattle.desk_model.specs.Rules.{new_order_verdict}
 use Rattle.desk_model.specs.Tokens.{NonceText, nonce_in}
 use Rattle.desk_model.specs.Kept.{EachOf, Kept, restricted}
 use Rattle.desk_model.specs.Verdict.{check, given}
 use Rattle.desk_model.specs.declared.verdict.Verdict.TheVariants.{Answers as answers, Refused as refused}
-use Rattle.desk_model.specs.declared.verdict.Verdict.{Verdict}
 use Rattle.desk_model.specs.declared.call.Ask.TheVariants as ask
-use Rattle.desk_model.specs.declared.call.OfficeAsk.{OfficeAsk}
 use Rattle.desk_model.specs.declared.call.OfficeAsk.TheVariants as office
-use Rattle.desk_model.specs.declared.call.BadKey.{BadKey}
-use Rattle.desk_model.specs.declared.call.Finding.{Finding}
-use Rattle.desk_model.specs.declared.call.Signed.{Signed}
-use Rattle.desk_model.specs.declared.call.Target.{Target}
 use Rattle.desk_model.specs.declared.call.Target.TheVariants as to
-use Rattle.desk_model.specs.declared.objects.Nonce.{Nonce}
-use Rattle.desk_model.specs.declared.rows.AccountRow.{AccountRow}
-use Rattle.desk_model.specs.declared.rows.AuthorizationRow.{AuthorizationRow}
-use Rattle.desk_model.specs.declared.rows.OrderRow.{OrderRow}
 use Rattle.desk_model.specs.declared.verdict.Shows.TheVariants as show
 use Rattle.model_laws.proofs.Local.{find_kept, find_part}
 use Rattle.model_laws.proofs.Finds.{each_found, found_passes}
 use Rattle.desk_model.specs.Asked.{carries, target_new_key, target_order, target_authorization, target_owner, target_names}
-use Rattle.model_lives.proofs.Grown.{KeepsNamed}
-use Rattle.model_lives.proofs.Lists.{same_number}
+use Rattle.model_lives.proofs.{Grown.KeepsNamed, Lists.same_number}
 use Rattle.model_lives.proofs.Reusing.{KeepsAsked, new_order_same}
 use Rattle.model_laws.proofs.Basics.{each}
 
@@ -171,14 +156,12 @@ report_same k S n finding h =
     ap (λ x. given x refusal.NotFound (λ a. given (challenge_of n a) refusal.NotFound (finding_verdict n finding a))) (owner_same k S n h.owner)
 
 pub office_same : (k : Kept) (S : Tables) (a : OfficeAsk) → KeepsNamed k S (ask.Office a) → office_verdict (restricted k S) a ≡ office_verdict S a
-office_same k S office.Directory h = refl
 office_same k S (office.Report n finding) h = report_same k S n finding h
 office_same k S (office.Certify n bytes) h = ap (λ x. given x refusal.NotFound (certify_verdict n bytes)) (order_same k S n (h.order n (same_number n)))
 office_same k S (office.FailOrder n problem) h = ap (λ x. given x refusal.NotFound (fail_verdict n problem)) (order_same k S n (h.order n (same_number n)))
 office_same k S (office.RevokeAuthz n) h =
     ap (λ x. given x refusal.NotFound (revoke_authorization n)) (authorization_same k S n (h.authorization n (same_number n)))
 office_same k S (office.RevokeAccount n) h = ap (λ x. given x refusal.NotFound (revoke_account n)) (account_same k S n (h.account n (same_number n)))
-office_same k S office.ChallengeWork h = refl
-office_same k S office.OrderWork h = refl
 office_same k S (office.KeyOf n) h = ap (λ x. given x refusal.NotFound (λ (y : AccountRow). answers (show.Key n)))
     (account_same k S n (h.account n (same_number n)))
+office_same k S _ h = refl

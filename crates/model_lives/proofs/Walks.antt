@@ -5,57 +5,35 @@ use Rattle.std.specs.List.{list_any}
 use Rattle.std.proofs.lemmas.Bool.{and_from, eqb-true, or_left, or_right}
 use Rattle.desk_model.specs.Authorization.{is_live, is_pending}
 use Rattle.desk_model.specs.declared.refusal.Refusal.TheVariants as refusal
-use Rattle.desk_model.specs.Account.{is_valid as is_valid_account}
-use Rattle.desk_model.specs.Contact.{contacts_fault}
-use Rattle.desk_model.specs.Derived.{numbers_of}
+use Rattle.desk_model.specs.{Account.is_valid as is_valid_account, Contact.contacts_fault, Derived.numbers_of, Lookup.holds, Name.Name, Tables.Tables}
 use Rattle.desk_model.specs.Document.{account_url, expected}
 use Rattle.desk_model.specs.Effect.{effect, has_row, lists_one, swept}
-use Rattle.desk_model.specs.declared.call.OrderProblem.{OrderProblem}
-use Rattle.desk_model.specs.declared.entry.Ending.{Ending}
+use Rattle.desk_model.specs.declared.{call.OrderProblem.OrderProblem, entry.Ending.Ending, entry.Outcome.Outcome, entry.Wanted.Wanted, call.Ask.Ask}
+use Rattle.desk_model.specs.declared.{call.OfficeAsk.OfficeAsk, call.BadKey.BadKey, call.Finding.Finding, call.Signed.Signed, call.Target.Target}
+use Rattle.desk_model.specs.declared.{entry.Entry.Entry, payload.AccountChange.AccountChange, payload.AuthorizationChange.AuthorizationChange}
+use Rattle.desk_model.specs.declared.{payload.ChallengeChange.ChallengeChange, payload.Identifier.Identifier, payload.NewAccount.NewAccount}
+use Rattle.desk_model.specs.declared.{reply.Subproblem.Subproblem, rows.AccountRow.AccountRow, rows.AuthorizationRow.AuthorizationRow, rows.OrderRow.OrderRow}
 use Rattle.desk_model.specs.declared.entry.Ending.TheVariants.{Deactivated as deactivated, Revoked as revoked}
-use Rattle.desk_model.specs.declared.entry.Outcome.{Outcome}
 use Rattle.desk_model.specs.Legal.{has_length, is_pending_challenge, is_problem, is_processing_challenge}
 use Rattle.desk_model.specs.Limits.{longest_certificate, most_names}
-use Rattle.desk_model.specs.Lookup.{holds}
 use Rattle.desk_model.specs.Order.{is_processing, is_ready}
 use Rattle.desk_model.specs.Payload.{account_change, authorization_change, challenge_change, finalize, key_change, new_account, new_order}
 use Rattle.desk_model.specs.Questions.{account_on, account_with_key, authorization_on, challenge_of, order_on, owner_on}
-use Rattle.desk_model.specs.Rules.{account_verdict, authorization_verdict, certify_verdict, challenge_verdict, csr_in}
-use Rattle.desk_model.specs.Rules.{fail_verdict, finalize_verdict, is_revoked, is_revoked_status, key_verdict}
-use Rattle.desk_model.specs.Rules.{nothing, office_verdict, open_account, order_of, outcome_of, own}
-use Rattle.desk_model.specs.Rules.{has_this_key, rekey_verdict, report_verdict, revoke_account, revoke_authorization, same_outcome, same_problem}
-use Rattle.desk_model.specs.Rules.{signed_verdict, stands_open, subproblems, target_verdict, wanted, kept, names_in, names_asked, names_of}
-use Rattle.desk_model.specs.Name.{Name}
-use Rattle.desk_model.specs.declared.entry.Wanted.{Wanted}
-use Rattle.desk_model.specs.Tables.{Tables}
+use Rattle.desk_model.specs.Rules.{account_verdict, authorization_verdict, certify_verdict, challenge_verdict, csr_in, fail_verdict, finalize_verdict}
+use Rattle.desk_model.specs.Rules.{is_revoked, is_revoked_status, key_verdict, nothing, office_verdict, open_account, order_of, outcome_of, own, has_this_key}
+use Rattle.desk_model.specs.Rules.{rekey_verdict, report_verdict, revoke_account, revoke_authorization, same_outcome, same_problem, signed_verdict, stands_open}
+use Rattle.desk_model.specs.Rules.{subproblems, target_verdict, wanted, kept, names_in, names_asked, names_of}
 use Rattle.desk_model.specs.Kept.{Covers, EachOf, IsClosed, Kept}
-use Rattle.desk_model.specs.declared.call.Ask.{Ask}
 use Rattle.desk_model.specs.declared.call.Ask.TheVariants as ask
-use Rattle.desk_model.specs.declared.call.OfficeAsk.{OfficeAsk}
 use Rattle.desk_model.specs.declared.call.OfficeAsk.TheVariants as office
-use Rattle.desk_model.specs.declared.call.BadKey.{BadKey}
-use Rattle.desk_model.specs.declared.call.Finding.{Finding}
-use Rattle.desk_model.specs.declared.call.Signed.{Signed}
-use Rattle.desk_model.specs.declared.call.Target.{Target}
 use Rattle.desk_model.specs.declared.call.Target.TheVariants as to
-use Rattle.desk_model.specs.declared.entry.Entry.{Entry}
 use Rattle.desk_model.specs.declared.entry.Entry.TheVariants.{Opened as opened, ContactsChanged as contacts_changed, KeyChanged as key_changed}
-use Rattle.desk_model.specs.declared.entry.Entry.TheVariants.{AccountEnded as account_ended, Ordered as ordered}
-use Rattle.desk_model.specs.declared.entry.Entry.TheVariants.{Answered as answered, Reported as reported}
-use Rattle.desk_model.specs.declared.entry.Entry.TheVariants.{AuthorizationEnded as authorization_ended, Finalized as finalized}
-use Rattle.desk_model.specs.declared.entry.Entry.TheVariants.{Certified as certified, Failed as failed}
-use Rattle.desk_model.specs.declared.payload.AccountChange.{AccountChange}
+use Rattle.desk_model.specs.declared.entry.Entry.TheVariants.{AccountEnded as account_ended, Ordered as ordered, Answered as answered, Reported as reported}
+use Rattle.desk_model.specs.declared.entry.Entry.TheVariants.{AuthorizationEnded as authorization_ended, Finalized as finalized, Certified as certified}
+use Rattle.desk_model.specs.declared.entry.Entry.TheVariants.{Failed as failed}
 use Rattle.desk_model.specs.declared.payload.AccountChange.TheVariants as change
-use Rattle.desk_model.specs.declared.payload.AuthorizationChange.{AuthorizationChange}
 use Rattle.desk_model.specs.declared.payload.AuthorizationChange.TheVariants as authz_change
-use Rattle.desk_model.specs.declared.payload.ChallengeChange.{ChallengeChange}
 use Rattle.desk_model.specs.declared.payload.ChallengeChange.TheVariants as chall_change
-use Rattle.desk_model.specs.declared.payload.Identifier.{Identifier}
-use Rattle.desk_model.specs.declared.payload.NewAccount.{NewAccount}
-use Rattle.desk_model.specs.declared.reply.Subproblem.{Subproblem}
-use Rattle.desk_model.specs.declared.rows.AccountRow.{AccountRow}
-use Rattle.desk_model.specs.declared.rows.AuthorizationRow.{AuthorizationRow}
-use Rattle.desk_model.specs.declared.rows.OrderRow.{OrderRow}
 use Rattle.model_laws.proofs.Basics.{each, each_all}
 use Rattle.model_laws.proofs.SweptParts.{swept_closed}
 use Rattle.desk_model.specs.Asked.{asks_authorizations, asks_orders, names_account, names_authorization, names_order, names_owner, target_names}
@@ -71,9 +49,8 @@ use Rattle.model_lives.proofs.Reusing.{KeepsAsked, wanted_kept}
 use Rattle.model_laws.proofs.Finds.{each_found, found_passes}
 use Rattle.model_lives.proofs.Ready.{IsAnswered, IsReady, covered, swept_names}
 use Rattle.model_lives.proofs.Verdicts.{is_key, verdict_by}
-use Rattle.model_lives.proofs.Replies.{account_shown, authorization_shown, certificate_shown, challenge_shown}
-use Rattle.model_lives.proofs.Replies.{client_challenge_shown, finalized_shown, key_shown, known_shown, listed_after, made_shown}
-use Rattle.model_lives.proofs.Replies.{opened_shown, order_shown, orders_shown, owner_after}
+use Rattle.model_lives.proofs.Replies.{account_shown, authorization_shown, certificate_shown, challenge_shown, client_challenge_shown, finalized_shown}
+use Rattle.model_lives.proofs.Replies.{key_shown, known_shown, listed_after, made_shown, opened_shown, order_shown, orders_shown, owner_after}
 
 -- ---- what entries touch
 
@@ -135,30 +112,15 @@ reported_named T a n o named moves =
 
 finalized_named : (T : Tables) (a : Ask) (n : ℕ) (csr : List ℕ) → names_order a n ≡ true → IsNamedBy T a (finalized n csr)
 finalized_named T a n csr named =
-    record {
-      account = λ x h. cc;
-      authorization = λ r h. cc;
-      restated = λ r h. cc;
-      order = λ j h. subst (λ i. names_order a i ≡ true) (eqb-true n j h) named;
-    }
+    record { account = λ x h. cc; authorization = λ r h. cc; restated = λ r h. cc; order = λ j h. subst (λ i. names_order a i ≡ true) (eqb-true n j h) named }
 
 certified_named : (T : Tables) (a : Ask) (n : ℕ) (bytes : List ℕ) → names_order a n ≡ true → IsNamedBy T a (certified n bytes)
 certified_named T a n bytes named =
-    record {
-      account = λ x h. cc;
-      authorization = λ r h. cc;
-      restated = λ r h. cc;
-      order = λ j h. subst (λ i. names_order a i ≡ true) (eqb-true n j h) named;
-    }
+    record { account = λ x h. cc; authorization = λ r h. cc; restated = λ r h. cc; order = λ j h. subst (λ i. names_order a i ≡ true) (eqb-true n j h) named }
 
 failed_named : (T : Tables) (a : Ask) (n : ℕ) (problem : OrderProblem) → names_order a n ≡ true → IsNamedBy T a (failed n problem)
 failed_named T a n problem named =
-    record {
-      account = λ x h. cc;
-      authorization = λ r h. cc;
-      restated = λ r h. cc;
-      order = λ j h. subst (λ i. names_order a i ≡ true) (eqb-true n j h) named;
-    }
+    record { account = λ x h. cc; authorization = λ r h. cc; restated = λ r h. cc; order = λ j h. subst (λ i. names_order a i ≡ true) (eqb-true n j h) named }
 
 -- a payload that changes something is not empty
 authorization_moves : (p : List ℕ) → authorization_change p ≡ Some authz_change.Deactivate → not (nothing p) ≡ true

@@ -1,87 +1,59 @@
 -- Of what a call neither names nor moves authorizations need no challenges: the verdict, what it records and what it shows stay the same.
-use Rattle.std.proofs.Common.{◌≡◌, ◌+◌, ℕ, List, [], ◌∷◌, map, find, Option, Some, None, refl, sym, ap, subst, ◌∙◌, true, false, Bool, not, arith}
-use Rattle.std.proofs.Common.{Result, Ok, Err, cond, filter}
+use Rattle.std.proofs.Common.{◌≡◌, ℕ, List, [], ◌∷◌, map, find, Option, Some, None, refl, sym, ap, subst, ◌∙◌, true, false, Bool, not, Result, Ok, Err, cond}
+use Rattle.std.proofs.Common.{filter}
 use Rattle.std.specs.Prelude.{◌==◌, ◌&&◌, bytes_eq, codes, nat_le, length, option_map}
 use Rattle.std.proofs.lemmas.Bool.{eqb-true, or_left}
 use Rattle.serde_json.specs.Data.{Data, string}
-use Rattle.desk_model.specs.Account.{is_valid as is_valid_account}
+use Rattle.desk_model.specs.{Account.is_valid as is_valid_account, Contact.contacts_fault, Entry.entry_of, Kept.EachOf, Lookup.holds, Name.Name, Tables.Tables}
+use Rattle.desk_model.specs.{Touched.is_named_account}
 use Rattle.desk_model.specs.Asked.{asks_authorizations, names_authorization, names_owner}
 use Rattle.desk_model.specs.Authorization.{is_live, is_pending}
-use Rattle.desk_model.specs.Contact.{contacts_fault}
 use Rattle.desk_model.specs.Decide.{entries_of, verdict_reply}
-use Rattle.desk_model.specs.Derived.{numbers_of, restated_authorization}
+use Rattle.desk_model.specs.Derived.{numbers_of}
 use Rattle.desk_model.specs.Document.{account_url, expected, is_listed, order_document, order_url, order_with_names}
-use Rattle.desk_model.specs.Effect.{effect, effects, fresh_authorization, has_row, is_overdue, moved_authorization, new_authorizations, swept}
-use Rattle.desk_model.specs.Effect.{swept_authorization, touches_authorization}
+use Rattle.desk_model.specs.Effect.{effect, effects, has_row, is_overdue, swept, swept_authorization, touches_authorization}
 use Rattle.desk_model.specs.Json.{document, list}
-use Rattle.desk_model.specs.Entry.{entry_of}
-use Rattle.desk_model.specs.Kept.{EachOf}
 use Rattle.desk_model.specs.Legal.{has_length, is_pending_challenge, is_problem, is_processing_challenge}
 use Rattle.desk_model.specs.Limits.{longest_certificate, most_names}
-use Rattle.desk_model.specs.Lookup.{holds}
-use Rattle.desk_model.specs.Name.{Name}
 use Rattle.desk_model.specs.Order.{is_processing, is_ready}
 use Rattle.desk_model.specs.Payload.{account_change, authorization_change, challenge_change, finalize, key_change, new_account, new_order}
-use Rattle.desk_model.specs.Questions.{account_on, account_with_key, authorization_on, challenge_of, order_end, order_on, owner_on}
-use Rattle.desk_model.specs.Questions.{serves, serving_on}
+use Rattle.desk_model.specs.Questions.{account_on, account_with_key, authorization_on, challenge_of, order_end, order_on, owner_on, serves, serving_on}
 use Rattle.desk_model.specs.Rules.{account_verdict, authorization_verdict, certificate_verdict, certify_verdict, challenge_verdict, csr_in, fail_verdict}
-use Rattle.desk_model.specs.Rules.{finalize_verdict, finding_verdict, has_this_key, is_revoked, is_revoked_status, kept}
-use Rattle.desk_model.specs.Rules.{key_verdict, left_by, names_in, new_order_verdict}
-use Rattle.desk_model.specs.Rules.{nothing, office_verdict, open_nonce, order_of, outcome_of, own, rekey_verdict, report_verdict}
-use Rattle.desk_model.specs.Rules.{revoke_account, revoke_authorization, same_outcome, same_problem, signed_verdict, stands_open, subproblems}
-use Rattle.desk_model.specs.Rules.{target_verdict, wanted, wanted_by}
+use Rattle.desk_model.specs.Rules.{finalize_verdict, finding_verdict, has_this_key, is_revoked, is_revoked_status, kept, key_verdict, left_by, names_in}
+use Rattle.desk_model.specs.Rules.{new_order_verdict, nothing, office_verdict, open_nonce, order_of, outcome_of, own, rekey_verdict, report_verdict}
+use Rattle.desk_model.specs.Rules.{revoke_account, revoke_authorization, same_outcome, same_problem, signed_verdict, stands_open, subproblems, target_verdict}
+use Rattle.desk_model.specs.Rules.{wanted, wanted_by}
 use Rattle.desk_model.specs.Shown.{at, authorization_reply, certificate_reply, challenge_in, client_challenge_in, moved_reply, ok, reply_of, shown}
-use Rattle.desk_model.specs.Tables.{Tables}
 use Rattle.desk_model.specs.Verdict.{check, given}
-use Rattle.desk_model.specs.declared.call.Ask.{Ask}
+use Rattle.desk_model.specs.declared.{call.Ask.Ask, call.BadKey.BadKey, call.Finding.Finding, call.OrderProblem.OrderProblem, call.OfficeAsk.OfficeAsk}
+use Rattle.desk_model.specs.declared.{call.Signed.Signed, call.Target.Target, entry.Entry.Entry, moves.Move.Move, payload.AccountChange.AccountChange}
+use Rattle.desk_model.specs.declared.{payload.AuthorizationChange.AuthorizationChange, payload.ChallengeChange.ChallengeChange, payload.Identifier.Identifier}
+use Rattle.desk_model.specs.declared.{reply.Reply.Reply, reply.Subproblem.Subproblem, rows.AccountRow.AccountRow, rows.AuthorizationRow.AuthorizationRow}
+use Rattle.desk_model.specs.declared.{rows.OrderRow.OrderRow, verdict.Shows.Shows, verdict.Verdict.Verdict}
 use Rattle.desk_model.specs.declared.call.Ask.TheVariants as ask
-use Rattle.desk_model.specs.declared.call.BadKey.{BadKey}
-use Rattle.desk_model.specs.declared.call.Finding.{Finding}
-use Rattle.desk_model.specs.declared.call.OrderProblem.{OrderProblem}
-use Rattle.desk_model.specs.declared.call.OfficeAsk.{OfficeAsk}
 use Rattle.desk_model.specs.declared.call.OfficeAsk.TheVariants as office
-use Rattle.desk_model.specs.declared.call.Signed.{Signed}
-use Rattle.desk_model.specs.declared.call.Target.{Target}
 use Rattle.desk_model.specs.declared.call.Target.TheVariants as to
-use Rattle.desk_model.specs.declared.entry.Entry.{Entry}
 use Rattle.desk_model.specs.declared.entry.Entry.TheVariants.{Answered as answered, Issued as issued, Ordered as ordered, Spent as spent}
-use Rattle.desk_model.specs.declared.moves.Move.{Move}
 use Rattle.desk_model.specs.declared.moves.Move.TheVariants as move
-use Rattle.desk_model.specs.declared.payload.AccountChange.{AccountChange}
 use Rattle.desk_model.specs.declared.payload.AccountChange.TheVariants as change
-use Rattle.desk_model.specs.declared.payload.AuthorizationChange.{AuthorizationChange}
 use Rattle.desk_model.specs.declared.payload.AuthorizationChange.TheVariants as authz_change
-use Rattle.desk_model.specs.declared.payload.ChallengeChange.{ChallengeChange}
 use Rattle.desk_model.specs.declared.payload.ChallengeChange.TheVariants as chall_change
-use Rattle.desk_model.specs.declared.payload.Identifier.{Identifier}
 use Rattle.desk_model.specs.declared.refusal.Refusal.TheVariants as refusal
-use Rattle.desk_model.specs.declared.reply.Reply.{Reply}
-use Rattle.desk_model.specs.declared.reply.Subproblem.{Subproblem}
-use Rattle.desk_model.specs.declared.rows.AccountRow.{AccountRow}
-use Rattle.desk_model.specs.declared.rows.AuthorizationRow.{AuthorizationRow}
-use Rattle.desk_model.specs.declared.rows.OrderRow.{OrderRow}
 use Rattle.desk_model.specs.declared.verdict.Listing.TheVariants as listing
-use Rattle.desk_model.specs.declared.verdict.Shows.{Shows}
 use Rattle.desk_model.specs.declared.verdict.Shows.TheVariants as show
-use Rattle.desk_model.specs.declared.verdict.Verdict.{Verdict}
-use Rattle.desk_model.specs.declared.verdict.Verdict.TheVariants.{Answers as answers, KeyTaken as key_taken, Moves as moves, Opens as opens}
-use Rattle.desk_model.specs.declared.verdict.Verdict.TheVariants.{Orders as orders, Refused as refused}
-use Rattle.desk_model.specs.Touched.{is_named_account}
-use Rattle.model_laws.proofs.Basics.{each, each_all, each-append, each-map, find-map}
-use Rattle.model_laws.proofs.Chain.{up_kept}
+use Rattle.desk_model.specs.declared.verdict.Verdict.TheVariants.{Answers as answers, Moves as moves, Opens as opens, Orders as orders}
+use Rattle.model_laws.proofs.Basics.{each, each_all, each-map, find-map}
+use Rattle.model_laws.proofs.{SweptParts.swept_account}
 use Rattle.model_laws.proofs.Finds.{each_found, found_passes}
-use Rattle.model_laws.proofs.Local.{moved_number, swept_number}
-use Rattle.model_laws.proofs.MovedRows.{has_row-moved}
+use Rattle.model_laws.proofs.Local.{swept_number}
 use Rattle.model_laws.proofs.Plain.{issued_effect, spent_effect}
-use Rattle.model_laws.proofs.Recorded.{made_up}
-use Rattle.model_laws.proofs.SweptParts.{swept_account}
 use Rattle.model_lives.specs.AnswersAs.{AnswersAs, CarriesOutAs, IssuesAs, PassesAs, SettlesAs}
 use Rattle.model_lives.specs.Few.{is_end, restates}
 use Rattle.model_lives.specs.Thinned.{all_listed, with_challenges}
+use Rattle.model_lives.proofs.Replies.{owner_then}
 use Rattle.model_lives.proofs.Bared.{AllWhole, AreWhole, NewWhole, bared, effects_bared, find_changed, recorded_bared, row_whole, swept_bared, those}
 use Rattle.model_lives.proofs.Bared.{touches_bared}
-use Rattle.model_lives.proofs.Lists.{same_number}
-use Rattle.model_lives.proofs.Ready.{swept_named}
+use Rattle.model_lives.proofs.{Lists.same_number, Ready.swept_named}
 use Rattle.model_lives.proofs.Steps.{check_keeps, either_keeps, given_keeps, no_fault_keeps}
 use Rattle.model_lives.proofs.Thin.{carries_thin, found_thin, rows_thin, whole_orders}
 use Rattle.model_lives.proofs.Verdicts.{is_key, verdict_by}
@@ -182,8 +154,7 @@ judged_bared w S n p j =
     changed : (r : AuthorizationRow) (q : Option AuthorizationChange) →
         given q refusal.Malformed (authorization_verdict j (with_challenges (those w) r)) ≡ given q refusal.Malformed (authorization_verdict j r)
     changed r None = refl
-    changed r (Some authz_change.Read) = refl
-    changed r (Some authz_change.Deactivate) = refl
+    changed r _ = refl
 
     own_one : (r : AuthorizationRow) (b : Bool) →
         given (cond b (Some (with_challenges (those w) r)) None) refusal.NotFound
@@ -202,11 +173,7 @@ judged_bared w S n p j =
 
 target_bared : (w : ℕ → Bool) (S : Tables) (r : List ℕ) (n : ℕ) (s : Signed) (t : Target) → KeepsWhole w S (sent s t) →
     target_verdict (bared w S) r n s.payload t ≡ target_verdict S r n s.payload t
-target_bared w S r n s to.NewAccount h = refl
-target_bared w S r n s to.KeyChange h = refl
 target_bared w S r n s to.NewOrder h = λ i. given (new_order s.payload) refusal.Malformed (λ ids. new_order_bared w S r n ids i)
-target_bared w S r n s (to.Account j) h = refl
-target_bared w S r n s (to.Orders j) h = refl
 target_bared w S r n s (to.Order j) h =
     ap (λ x. given (own (λ (y : OrderRow). y.account) n x) refusal.NotFound
     (λ y. check (nothing s.payload) refusal.Malformed (answers (show.Order j)))) (order_bared w S j)
@@ -220,6 +187,7 @@ target_bared w S r n s (to.Authz j) h = judged_bared w S n s.payload j
 target_bared w S r n s (to.Chall j) h =
     ap (λ x. given (own (λ (y : AuthorizationRow). y.account) n x) refusal.NotFound
     (λ y. given (challenge_change s.payload) refusal.Malformed (challenge_verdict j y))) (owner_bared w S j h.owner)
+target_bared w S r n s _ h = refl
 
 key_bared : (w : ℕ → Bool) (S : Tables) (r key : List ℕ) (s : Signed) (t : Target) → KeepsWhole w S (sent s t) → (o : Option AccountRow) →
     key_verdict (bared w S) r key s.payload t o ≡ key_verdict S r key s.payload t o
@@ -244,16 +212,12 @@ revoked_bared w S n = ap (λ o. given o refusal.NotFound (revoke_authorization n
     by (Some r) = refl
 
 pub office_bared : (w : ℕ → Bool) (S : Tables) (a : OfficeAsk) → KeepsWhole w S (ask.Office a) → office_verdict (bared w S) a ≡ office_verdict S a
-office_bared w S office.Directory h = refl
 office_bared w S (office.Report n finding) h =
     ap (λ x. given x refusal.NotFound (λ a. given (challenge_of n a) refusal.NotFound (finding_verdict n finding a))) (owner_bared w S n h.owner)
 office_bared w S (office.Certify n bytes) h = ap (λ x. given x refusal.NotFound (certify_verdict n bytes)) (order_bared w S n)
 office_bared w S (office.FailOrder n problem) h = ap (λ x. given x refusal.NotFound (fail_verdict n problem)) (order_bared w S n)
 office_bared w S (office.RevokeAuthz n) h = revoked_bared w S n
-office_bared w S (office.RevokeAccount n) h = refl
-office_bared w S office.ChallengeWork h = refl
-office_bared w S office.OrderWork h = refl
-office_bared w S (office.KeyOf n) h = refl
+office_bared w S _ h = refl
 
 -- ---- what is shown
 
@@ -268,41 +232,24 @@ order_by_bared w E n f = λ i. shown (λ o. f o (same o i)) (order_bared w E n i
         (rows_thin (λ (a : AuthorizationRow). a.name) (those w) (λ r. refl) E.authorizations (numbers_of o.listed))
 
 reply_bared : (w : ℕ → Bool) (E : Tables) (what : Shows) → shows_whole w E what → reply_of (bared w E) what ≡ reply_of E what
-reply_bared w E (show.List listing.Directory) h = refl
 reply_bared w E (show.List (listing.Orders n)) h =
     ap (λ rows. ok 200 (document ((codes "orders", list (map (λ (o : OrderRow). string (order_url E.meta.policy o.number)) (filter (is_listed n) rows))) ∷ [])))
     (whole_orders E.orders)
 reply_bared w E (show.List listing.ChallengeWork) h = absurd h
 reply_bared w E (show.List listing.OrderWork) h = absurd h
-reply_bared w E (show.Account n) h = refl
-reply_bared w E (show.KnownAccount n) h = refl
 reply_bared w E (show.Order n) h = order_by_bared w E n (λ o d. ok 200 d)
 reply_bared w E (show.Certificate n) h = ap (shown (λ (o : OrderRow). certificate_reply o.certified)) (order_bared w E n)
 reply_bared w E (show.Authorization n) h = ap (shown (authorization_reply E)) (authorization_bared w E n h)
 reply_bared w E (show.Challenge n) h = ap (shown (challenge_in E n)) (owner_bared w E n h)
 reply_bared w E (show.ClientChallenge n) h = ap (shown (client_challenge_in E n)) (owner_bared w E n h)
-reply_bared w E (show.Key n) h = refl
-
--- the authorization of a challenge stays whole
-owner_then : (w : ℕ → Bool) (m : ℕ) (S : Tables) (e : Entry) (n : ℕ) → NewWhole w S → AreWhole w (has_row n) S.authorizations →
-    AreWhole w (has_row n) (effect m S e).authorizations
-owner_then w m S e n new h =
-    each-append _ (map (moved_authorization e m S.accounts) S.authorizations) _
-    (each-map _ (moved_authorization e m S.accounts) S.authorizations
-    (each _ _ S.authorizations (λ r f has. ap w (moved_number e m S.accounts r) ∙ f (sym (has_row-moved n e m S.accounts r) ∙ has)) h))
-    (each _ _ (map (λ a. restated_authorization m (fresh_authorization a)) (new_authorizations S e m)) (λ r f has. f)
-    (up_kept (λ (a : AuthorizationRow). a.number) w S.meta.counters.authorizations new (S.meta.counters.authorizations + 1) (omega arith) _
-    (made_up e m S.meta.policy.authz_life (S.meta.counters.authorizations + 1) (S.meta.counters.challenges + 1))))
+reply_bared w E _ h = refl
 
 moved_reply_bared : (w : ℕ → Bool) (m : ℕ) (S : Tables) (v : Move) → NewWhole w S → moves_whole w S v →
     moved_reply (bared w (effect m S (entry_of v))) v ≡ moved_reply (effect m S (entry_of v)) v
-moved_reply_bared w m S (move.ContactsChanged n contacts) new h = refl
-moved_reply_bared w m S (move.KeyChanged n key) new h = refl
-moved_reply_bared w m S (move.AccountEnded n ending) new h = refl
 moved_reply_bared w m S (move.Answered n) new h =
-    reply_bared w (effect m S (entry_of (move.Answered n))) (show.ClientChallenge n) (owner_then w m S (entry_of (move.Answered n)) n new h)
+    reply_bared w (effect m S (entry_of (move.Answered n))) (show.ClientChallenge n) (owner_then w S m (entry_of (move.Answered n)) n new h)
 moved_reply_bared w m S (move.Reported n outcome) new h =
-    reply_bared w (effect m S (entry_of (move.Reported n outcome))) (show.Challenge n) (owner_then w m S (entry_of (move.Reported n outcome)) n new h)
+    reply_bared w (effect m S (entry_of (move.Reported n outcome))) (show.Challenge n) (owner_then w S m (entry_of (move.Reported n outcome)) n new h)
 moved_reply_bared w m S (move.AuthorizationEnded n ending) new h =
     reply_bared w (effect m S (entry_of (move.AuthorizationEnded n ending))) (show.Authorization n) h
 moved_reply_bared w m S (move.Finalized n csr) new h =
@@ -311,41 +258,34 @@ moved_reply_bared w m S (move.Certified n certificate) new h =
     order_by_bared w (effect m S (entry_of (move.Certified n certificate))) n (λ o d. ok 200 d)
 moved_reply_bared w m S (move.Failed n problem) new h =
     order_by_bared w (effect m S (entry_of (move.Failed n problem))) n (λ o d. ok 200 d)
+moved_reply_bared w m S _ new h = refl
 
 -- by the tables after its entries
 verdict_reply_bared : (w : ℕ → Bool) (m : ℕ) (S : Tables) (v : Verdict) (index : Bool) → NewWhole w S → IsWholly w S v →
     verdict_reply index (bared w (effects m S (entries_of v))) v ≡ verdict_reply index (effects m S (entries_of v)) v
-verdict_reply_bared w m S (refused why ss) index new h = refl
-verdict_reply_bared w m S (key_taken account) index new h = refl
 verdict_reply_bared w m S (answers what) index new h = reply_bared w S what h
-verdict_reply_bared w m S (opens key contacts) index new h = refl
 verdict_reply_bared w m S (orders account ws) index new h =
     let E : Tables = effect m S (ordered account ws) in
     order_by_bared w E E.meta.counters.orders (λ o d. at (order_url E.meta.policy o.number) (ok 201 d))
 verdict_reply_bared w m S (moves v) index new h = moved_reply_bared w m S v new h
+verdict_reply_bared w m S _ index new h = refl
 
 -- ---- what is touched
 
 -- what a move touches
 move_touches : (w : ℕ → Bool) (S : Tables) (v : Move) → moves_whole w S v → AreWhole w (touches_authorization (entry_of v)) S.authorizations
-move_touches w S (move.ContactsChanged n contacts) h = each_all _ S.authorizations (λ r yes. cc)
-move_touches w S (move.KeyChanged n key) h = each_all _ S.authorizations (λ r yes. cc)
 move_touches w S (move.AccountEnded n ending) h = h
 move_touches w S (move.Answered n) h = h
 move_touches w S (move.Reported n outcome) h = h
 move_touches w S (move.AuthorizationEnded n ending) h = each_all _ S.authorizations (λ r yes. subst (λ j. w j ≡ true) (eqb-true n r.number yes) h)
-move_touches w S (move.Finalized n csr) h = each_all _ S.authorizations (λ r yes. cc)
-move_touches w S (move.Certified n certificate) h = each_all _ S.authorizations (λ r yes. cc)
-move_touches w S (move.Failed n problem) h = each_all _ S.authorizations (λ r yes. cc)
+move_touches w S _ h = each_all _ S.authorizations (λ r yes. cc)
 
 -- what a verdict's entries touch
 verdict_touches : (w : ℕ → Bool) (m : ℕ) (S : Tables) (v : Verdict) → IsWholly w S v → AllWhole w m S (entries_of v)
-verdict_touches w m S (refused why ss) h = tt
-verdict_touches w m S (key_taken account) h = tt
-verdict_touches w m S (answers what) h = tt
 verdict_touches w m S (opens key contacts) h = (each_all _ S.authorizations (λ r yes. cc), tt)
 verdict_touches w m S (orders account ws) h = (each_all _ S.authorizations (λ r yes. cc), tt)
 verdict_touches w m S (moves v) h = (move_touches w S v h, tt)
+verdict_touches w m S _ h = tt
 
 -- nonces touch none of them
 nonces_touch : (w : ℕ → Bool) (m : ℕ) (S : Tables) (n : ℕ) (r : List ℕ) (es : List Entry) → AllWhole w m (effect m (effect m S (spent n)) (issued r)) es →
@@ -367,12 +307,10 @@ later_touches w m S n r v h = nonces_touch w m S n r (entries_of v) (by v h)
     rows = ap (λ (E : Tables). E.authorizations) (issued_effect m (effect m S (spent n)) r) ∙ ap (λ (E : Tables). E.authorizations) (spent_effect m S n)
 
     by : (v : Verdict) → IsWholly w S v → AllWhole w m U (entries_of v)
-    by (refused why ss) k = tt
-    by (key_taken account) k = tt
-    by (answers what) k = tt
     by (opens key contacts) k = (each_all _ U.authorizations (λ r yes. cc), tt)
     by (orders account ws) k = (each_all _ U.authorizations (λ r yes. cc), tt)
     by (moves v) k = (subst (AreWhole w (touches_authorization (entry_of v))) (sym rows) (move_touches w S v k), tt)
+    by _ k = tt
 
 -- ---- the walk: each verdict shows and moves what is in whole
 

@@ -4,34 +4,21 @@ use Rattle.std.specs.Prelude.{◌==◌, ◌&&◌, ◌||◌, codes}
 use Rattle.std.specs.List.{flat_map, list_any}
 use Rattle.std.proofs.lemmas.Bool.{and_from, or_left}
 use Rattle.serde_json.specs.Data.{Data, number, string, unsigned}
-use Rattle.desk_model.specs.Asked.{asks_orders}
-use Rattle.desk_model.specs.Authorization.{is_pending}
-use Rattle.desk_model.specs.Derived.{numbers_of}
+use Rattle.desk_model.specs.{Asked.asks_orders, Authorization.is_pending, Derived.numbers_of, Legal.is_processing_challenge, Names.shown_name}
+use Rattle.desk_model.specs.{Order.is_processing, Tables.Tables, Touched.lists, Tokens.base64url, declared.call.Ask.Ask, declared.call.Call.Call}
+use Rattle.desk_model.specs.{declared.call.OfficeAsk.OfficeAsk, declared.rows.AuthorizationRow.AuthorizationRow, declared.rows.ChallengeRow.ChallengeRow}
+use Rattle.desk_model.specs.{declared.rows.OrderRow.OrderRow, declared.verdict.Shows.Shows, declared.verdict.Verdict.TheVariants.Answers as answers}
 use Rattle.desk_model.specs.Document.{bytes_of, challenge_work, order_work, order_work_document, work_document, work_of}
 use Rattle.desk_model.specs.Effect.{falls, is_overdue, swept, swept_authorization, swept_order}
 use Rattle.desk_model.specs.Json.{document, list}
 use Rattle.desk_model.specs.Kept.{EachOf, IsClosed, Kept, restricted}
-use Rattle.desk_model.specs.Legal.{is_processing_challenge}
-use Rattle.desk_model.specs.Names.{shown_name}
-use Rattle.desk_model.specs.Order.{is_processing}
 use Rattle.desk_model.specs.Shown.{ok, reply_of}
-use Rattle.desk_model.specs.Tables.{Tables}
-use Rattle.desk_model.specs.Touched.{lists}
-use Rattle.desk_model.specs.Tokens.{base64url}
-use Rattle.desk_model.specs.declared.call.Ask.{Ask}
 use Rattle.desk_model.specs.declared.call.Ask.TheVariants as ask
-use Rattle.desk_model.specs.declared.call.Call.{Call}
-use Rattle.desk_model.specs.declared.call.OfficeAsk.{OfficeAsk}
 use Rattle.desk_model.specs.declared.call.OfficeAsk.TheVariants as office
-use Rattle.desk_model.specs.declared.rows.AuthorizationRow.{AuthorizationRow}
-use Rattle.desk_model.specs.declared.rows.ChallengeRow.{ChallengeRow}
-use Rattle.desk_model.specs.declared.rows.OrderRow.{OrderRow}
 use Rattle.desk_model.specs.declared.status.AuthzStatus.TheVariants as authz
 use Rattle.desk_model.specs.declared.status.OrderStatus.TheVariants as order
 use Rattle.desk_model.specs.declared.verdict.Listing.TheVariants as listing
-use Rattle.desk_model.specs.declared.verdict.Shows.{Shows}
 use Rattle.desk_model.specs.declared.verdict.Shows.TheVariants as show
-use Rattle.desk_model.specs.declared.verdict.Verdict.TheVariants.{Answers as answers}
 use Rattle.model_laws.specs.Ordered.{IsOrdered}
 use Rattle.model_laws.proofs.Basics.{each, each_all, each_both, each-map, map-each}
 use Rattle.model_laws.proofs.Local.{filter_part, swept_order_number, swept_part}
@@ -40,21 +27,17 @@ use Rattle.model_lives.specs.AnswersAs.{AnswersAs, CarriesOutAs, SettlesAs}
 use Rattle.model_lives.specs.Few.{IsStatedFor, needed_rows}
 use Rattle.model_lives.specs.IsEnough.{IsEnoughFor, challenge_work_rows, enough, enough_at, has_work, is_worked_on, order_work_rows}
 use Rattle.model_lives.specs.IsPart.{IsPartFor}
-use Rattle.model_lives.specs.Thinned.{Thinning, all_challenges, all_listed, in_whole, no_challenges, thin, thinned, waiting_challenges, with_challenges}
-use Rattle.model_lives.proofs.Between.{authorizations_stand, none_listed, open_kept, orders_end, parts_answer}
+use Rattle.model_lives.specs.Thinned.{Thinning, all_listed, in_whole, no_challenges, thin, thinned, waiting_challenges, with_challenges}
+use Rattle.model_lives.proofs.Between.{carries_by, none_listed, parts_answer}
 use Rattle.model_lives.proofs.Cut.{at_number, no_part, no_rows, numbered}
 use Rattle.model_lives.proofs.Enough.{answers_at, restricted_ordered}
 use Rattle.model_lives.proofs.Fewer.{few_issue, few_kept, few_pass, few_settle}
 use Rattle.model_lives.proofs.Grown.{grown, grown_closed, grown_part}
-use Rattle.model_lives.proofs.Listed.{KeepsListed}
+use Rattle.model_lives.proofs.{Listed.KeepsListed, Replies.rows_same, Walks.IsNoWork, Wholly.IsNoList}
 use Rattle.model_lives.proofs.ListedAlone.{all_needed, needed_pass}
 use Rattle.model_lives.proofs.Needed.{needed, needed_answers, needed_cut}
 use Rattle.model_lives.proofs.Lists.{each_member, filter_nothing, filter_same, same_number}
-use Rattle.model_lives.proofs.Replies.{rows_same}
-use Rattle.model_lives.proofs.Thin.{all_falling, bare_authorizations, carries_thin, rows_thin, swept_thin, thin_ordered, thinned_whole}
-use Rattle.model_lives.proofs.Thin.{whole_authorizations, whole_orders}
-use Rattle.model_lives.proofs.Walks.{IsNoWork}
-use Rattle.model_lives.proofs.Wholly.{IsNoList}
+use Rattle.model_lives.proofs.Thin.{all_falling, bare_authorizations, carries_thin, rows_thin, swept_thin, thin_ordered, thinned_whole, whole_orders}
 
 -- ---- parts are enough
 
@@ -73,14 +56,7 @@ enough_ordered T P call h part =
 -- a part that shows the same is carried out as the whole
 shows_as : (k : Kept) (T : Tables) (m : ℕ) (what : Shows) → IsOrdered T → reply_of (swept m (restricted k T)) what ≡ reply_of (swept m T) what
     → CarriesOutAs m T (restricted k T) (answers what)
-shows_as k T m what h same =
-    record {
-      standing = λ r. (open_kept k T).authorizations r.number;
-      challenges = all_challenges;
-      authorizations = authorizations_stand k T m (answers what) h tt ∙ sym (whole_authorizations _);
-      ends = orders_end k T m (answers what);
-      shows = λ index. same;
-    }
+shows_as k T m what h same = carries_by k T m (answers what) h tt (λ index. same)
 
 -- ---- the work of the validator
 

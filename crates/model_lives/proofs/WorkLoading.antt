@@ -2,14 +2,9 @@
 use Rattle.std.proofs.Common.{◌≡◌, ℕ, List, [], map, filter, ap, ◌∙◌}
 use Rattle.std.specs.Prelude.{◌==◌, ◌&&◌}
 use Rattle.std.specs.List.{flat_map, list_any}
-use Rattle.desk_model.specs.Legal.{is_processing_challenge}
-use Rattle.desk_model.specs.Order.{is_processing}
-use Rattle.desk_model.specs.Tables.{Tables}
-use Rattle.desk_model.specs.declared.rows.AuthorizationRow.{AuthorizationRow}
-use Rattle.desk_model.specs.declared.rows.ChallengeRow.{ChallengeRow}
-use Rattle.desk_model.specs.declared.rows.OrderRow.{OrderRow}
-use Rattle.model_laws.specs.Ordered.{IsOrdered}
-use Rattle.model_laws.specs.Placing.{puts}
+use Rattle.desk_model.specs.{Legal.is_processing_challenge, Order.is_processing, Tables.Tables}
+use Rattle.desk_model.specs.declared.rows.{AuthorizationRow.AuthorizationRow, ChallengeRow.ChallengeRow, OrderRow.OrderRow}
+use Rattle.model_laws.specs.{Ordered.IsOrdered, Placing.puts}
 use Rattle.model_laws.proofs.Basics.{each, eq_turn, list_any-map, list_any-same}
 use Rattle.model_lives.specs.IsEnough.{has_work, is_worked_on}
 use Rattle.model_lives.specs.Loaded.{listed_authorizations}

@@ -1,6 +1,5 @@
-use Rattle.model_lives.proofs.Ended.{ended_stays}
+use Rattle.model_lives.proofs.{Ended.ended_stays, Nonces.nonces_serve_once}
 use Rattle.model_lives.proofs.Extends.{acknowledged_stays, histories_are_legal, histories_are_of_calls, replies_are_decided}
-use Rattle.model_lives.proofs.Nonces.{nonces_serve_once}
 use Rattle.model_lives.proofs.lives.lives_hold.Goals as goal
 
 pub returns-clause-legal : goal.returns-clause-legal

@@ -1,8 +1,5 @@
-use Rattle.model_lives.proofs.Answering.{pictures_stated}
-use Rattle.model_lives.proofs.Cut.{touched_part}
-use Rattle.model_lives.proofs.Between.{parts_answer}
+use Rattle.model_lives.proofs.{Answering.pictures_stated, Cut.touched_part, Between.parts_answer, Loading.loaded_touched}
 use Rattle.model_lives.proofs.Enough.{parts_ordered, whole_part}
-use Rattle.model_lives.proofs.Loading.{loaded_touched}
 use Rattle.model_lives.proofs.Work.{enough_ordered, few_enough, part_enough}
 use Rattle.model_lives.proofs.parts.touched_rows_are_enough.Goals as goal
 
