@@ -17,6 +17,7 @@ use Rattle.desk_model.specs.declared.status.AuthzStatus.TheVariants as authz
 use Rattle.desk_model.specs.declared.status.OrderStatus.TheVariants as order
 use Rattle.model_laws.specs.News.{IsNews, KeepsChildren, StayAnswered}
 use Rattle.model_laws.specs.Ordered.{Ascends, Below, IsTable, IsOrdered}
+use Rattle.model_laws.proofs.MovedRows.{challenge_number}
 use Rattle.model_laws.proofs.Basics.{each_all, each-append, each-map}
 use Rattle.model_laws.proofs.Differing.{account_differs_not, authorization_differs_not, order_differs_not}
 use Rattle.model_laws.proofs.RowLists.{ascends_found, none_below}
@@ -93,25 +94,11 @@ of_none : {X : Type 0} (number : X → ℕ) (rows : List X) (x : X) (P : X → T
     IfSome (find (λ z. number z == number x) rows) P
 of_none number rows x P none = subst (λ o. IfSome o P) (sym none) tt
 
--- an entry leaves the number of a challenge
-challenge_number : (e : Entry) (m : ℕ) (key : List ℕ) (c : ChallengeRow) → c.number ≡ (noted_challenge e m key c).number
-challenge_number (answered n) m key c = by (n == c.number)
-  where
-    by : (b : Bool) → c.number ≡ (cond b (answered_challenge m key c) c).number
-    by true = refl
-    by false = refl
-challenge_number (reported n o) m key c = by (n == c.number)
-  where
-    by : (b : Bool) → c.number ≡ (cond b (reported_challenge o m c) c).number
-    by true = refl
-    by false = refl
-challenge_number _ m key c = refl
-
 -- an entry leaves the numbers of challenges
 challenge_numbers : (e : Entry) (m : ℕ) (key : List ℕ) (cs : List ChallengeRow) → map (λ c. c.number) cs
     ≡ map (λ c. c.number) (map (noted_challenge e m key) cs)
 challenge_numbers e m key [] = refl
-challenge_numbers e m key (c ∷ cs) = λ i. challenge_number e m key c i ∷ challenge_numbers e m key cs i
+challenge_numbers e m key (c ∷ cs) = λ i. sym (challenge_number e m key c) i ∷ challenge_numbers e m key cs i
 
 -- ---- the changes of an entry
 
