@@ -3,17 +3,9 @@ use Rattle.std.proofs.Common.{◌≡◌, ◌++◌, ◌∷◌, [], ℕ, true, fal
 use Rattle.model_laws.specs.Ordered.{IsOrdered}
 use Rattle.desk_model.specs.Decide.{entries_of, verdict_reply}
 use Rattle.desk_model.specs.Effect.{effects, swept}
-use Rattle.desk_model.specs.Entry.{entry_of}
-use Rattle.desk_model.specs.Shown.{moved_reply}
-use Rattle.desk_model.specs.Tables.{Tables}
-use Rattle.desk_model.specs.declared.rows.Counters.{Counters}
-use Rattle.desk_model.specs.declared.entry.Entry.{Entry}
-use Rattle.desk_model.specs.declared.moves.Move.{Move}
-use Rattle.desk_model.specs.declared.reply.Reply.{Reply}
-use Rattle.desk_model.specs.declared.rows.Change.{Change}
-use Rattle.desk_model.specs.declared.verdict.Verdict.{Verdict}
-use Rattle.desk_model.specs.declared.verdict.Verdict.TheVariants.{Refused as refused, KeyTaken as key_taken, Answers as answers}
-use Rattle.desk_model.specs.declared.verdict.Verdict.TheVariants.{Opens as opens, Orders as orders, Moves as moves}
+use Rattle.desk_model.specs.{Entry.entry_of, Shown.moved_reply, Tables.Tables, declared.rows.Counters.Counters, declared.entry.Entry.Entry}
+use Rattle.desk_model.specs.{declared.moves.Move.Move, declared.reply.Reply.Reply, declared.rows.Change.Change, declared.verdict.Verdict.Verdict}
+use Rattle.desk_model.specs.declared.verdict.Verdict.TheVariants.{Refused as refused, KeyTaken as key_taken, Moves as moves}
 use Rattle.core_changes.specs.Recorded.{IsAt, IsRecorded, IsUntouched}
 use Rattle.desk_core.specs.HasTexts.{HasTexts}
 use Rattle.desk_core.proofs.ActingRows.{same_entries}
@@ -53,7 +45,4 @@ replies_move B C v r said m at ordered =
 pub linked : (T : Tables) (v : Verdict) (e : Entry) (es : List Entry) → entries_of v ≡ e ∷ es → verdict_reply true T v ≡ verdict_reply false T v
 linked T (refused why subproblems) e es is = cc is
 linked T (key_taken account) e es is = cc is
-linked T (answers what) e es is = refl
-linked T (opens key contacts) e es is = refl
-linked T (orders account wanted) e es is = refl
-linked T (moves move) e es is = refl
+linked T _ e es is = refl

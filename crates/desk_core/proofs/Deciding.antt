@@ -1,43 +1,28 @@
 -- From what the code answers by rows to what is promised against histories.
-use Rattle.std.proofs.Common.{◌≡◌, ℕ, ◌+◌, ◌*◌, ◌<◌, ◌≤◌, not, List, [], ◌∷◌, length, Some, None, sym, ap, subst}
-use Rattle.std.proofs.Common.{◌∙◌, arith, length-append, append-nil, cond}
+use Rattle.std.proofs.Common.{◌≡◌, ℕ, ◌+◌, ◌*◌, ◌<◌, ◌≤◌, not, List, [], ◌∷◌, ◌++◌, length, refl, Some, None, sym, ap, subst, ◌∙◌, arith, length-append}
+use Rattle.std.proofs.Common.{append-nil, cond}
 use Rattle.std.specs.Prelude.{IsTrue}
-use Rattle.desk_model.specs.Entry.{History}
+use Rattle.desk_model.specs.{Entry.History, Nonce.nonces, Account.accounts, Order.orders, Kept.EachOf}
 use Rattle.desk_model.specs.History.{clock, moment_of, record_all}
 use Rattle.desk_model.specs.Legal.{Legal, EachFollows, numbers_fit}
 use Rattle.desk_model.specs.Limits.{last_end, last_moment, last_number}
-use Rattle.desk_model.specs.Nonce.{nonces}
-use Rattle.desk_model.specs.Account.{accounts}
-use Rattle.desk_model.specs.Order.{orders}
 use Rattle.desk_model.specs.Authorization.{authorizations, count_challenges}
 use Rattle.desk_model.specs.Tables.{Tables, picture, tables_at}
-use Rattle.desk_model.specs.Kept.{EachOf}
 use Rattle.desk_model.specs.Change.{applied, recorded_changes}
 use Rattle.desk_model.specs.Decide.{decide, after, tables_after}
 use Rattle.desk_model.specs.Effect.{effects, swept}
 use Rattle.desk_model.specs.Run.{fault, count_pieces, IsFormedCall}
-use Rattle.desk_model.specs.declared.call.Call.{Call}
-use Rattle.desk_model.specs.declared.reply.Reply.{Reply}
-use Rattle.desk_model.specs.declared.rows.Change.{Change}
-use Rattle.desk_model.specs.declared.rows.Counters.{Counters}
-use Rattle.desk_model.specs.declared.entry.Entry.{Entry}
+use Rattle.desk_model.specs.declared.{call.Call.Call, reply.Reply.Reply, rows.Change.Change, rows.Counters.Counters, entry.Entry.Entry, verdict.Verdict.Verdict}
 use Rattle.desk_model.specs.declared.entry.Entry.TheVariants.{Issued as issued, Spent as spent}
-use Rattle.desk_model.specs.declared.verdict.Verdict.{Verdict}
-use Rattle.desk_model.specs.declared.verdict.Verdict.TheVariants.{Refused as refused, KeyTaken as key_taken, Answers as answers}
-use Rattle.desk_model.specs.declared.verdict.Verdict.TheVariants.{Opens as opens, Orders as ordering, Moves as moves}
+use Rattle.desk_model.specs.declared.verdict.Verdict.TheVariants.{Opens as opens, Orders as ordering}
 use Rattle.model_laws.specs.News.{AreNews, AreKept, AreNewChildren}
-use Rattle.model_laws.proofs.KeptInOrder.{records_keep}
-use Rattle.model_laws.proofs.NewChildren.{records_bring_new_children}
-use Rattle.model_laws.proofs.NewsInOrder.{records_put_news}
-use Rattle.model_laws.proofs.Recorded.{recorded}
+use Rattle.model_laws.proofs.{KeptInOrder.records_keep, NewChildren.records_bring_new_children, NewsInOrder.records_put_news, Recorded.recorded}
 use Rattle.model_laws.proofs.Step.{steps, sweep}
 use Rattle.model_laws.proofs.Keeps.{counters_fit, numbers_fit_counters}
 use Rattle.model_laws.specs.LegalLaws.{CountersFit}
 use Rattle.model_lives.proofs.SoundCalls.{moment_later, call_follows, legal_by_numbers}
-use Rattle.desk_core.specs.HasTexts.{HasTexts}
-use Rattle.desk_core.specs.Decided.{IsDecision}
+use Rattle.desk_core.specs.{HasTexts.HasTexts, Decided.IsDecision, SameRows.SameRows}
 use Rattle.core_rules.specs.Needs.{NumbersLeft, NumbersSpent}
-use Rattle.desk_core.specs.SameRows.{SameRows}
 use Rattle.core_replies.specs.Shown.{HasMoments}
 use Rattle.std.proofs.lemmas.Bool.{le-ltb}
 
@@ -70,15 +55,20 @@ fits_issued F m r h lt =
       challenges = subst (λ l. count_challenges l ≤ last_number) (sym (append-nil (authorizations F))) h.challenges;
     }
 
-fits_spent : (F : History) (m n : ℕ) → CountersFit (picture F).meta.counters → CountersFit (picture (record { date = m; entry = spent n } ∷ F)).meta.counters
-fits_spent F m n h =
+-- an entry that gives no number
+pub fits_same : (F G : History) → nonces F ≡ nonces G ++ [] → accounts F ≡ accounts G ++ [] → orders F ≡ orders G ++ [] →
+    authorizations F ≡ authorizations G ++ [] → CountersFit (picture G).meta.counters → CountersFit (picture F).meta.counters
+fits_same F G n a o z h =
     record {
-      nonces = let le : length (nonces F) ≤ last_number = h.nonces in omega (arith, length-append (nonces F) []);
-      accounts = let le : length (accounts F) ≤ last_number = h.accounts in omega (arith, length-append (accounts F) []);
-      orders = let le : length (orders F) ≤ last_number = h.orders in omega (arith, length-append (orders F) []);
-      authorizations = let le : length (authorizations F) ≤ last_number = h.authorizations in omega (arith, length-append (authorizations F) []);
-      challenges = subst (λ l. count_challenges l ≤ last_number) (sym (append-nil (authorizations F))) h.challenges;
+      nonces = subst (λ l. length l ≤ last_number) (sym (n ∙ append-nil (nonces G))) h.nonces;
+      accounts = subst (λ l. length l ≤ last_number) (sym (a ∙ append-nil (accounts G))) h.accounts;
+      orders = subst (λ l. length l ≤ last_number) (sym (o ∙ append-nil (orders G))) h.orders;
+      authorizations = subst (λ l. length l ≤ last_number) (sym (z ∙ append-nil (authorizations G))) h.authorizations;
+      challenges = subst (λ l. count_challenges l ≤ last_number) (sym (z ∙ append-nil (authorizations G))) h.challenges;
     }
+
+fits_spent : (F : History) (m n : ℕ) → CountersFit (picture F).meta.counters → CountersFit (picture (record { date = m; entry = spent n } ∷ F)).meta.counters
+fits_spent F m n h = fits_same (record { date = m; entry = spent n } ∷ F) F refl refl refl refl h
 
 nonces_stay : (F : History) (m n : ℕ) → length (nonces (record { date = m; entry = spent n } ∷ F)) ≡ length (nonces F)
 nonces_stay F m n = omega (arith, length-append (nonces F) [])
@@ -88,38 +78,26 @@ pub fits_nonces : (F : History) (m n : ℕ) (r : List ℕ) → CountersFit (pict
     CountersFit (picture (record_all m (spent n ∷ issued r ∷ []) F)).meta.counters
 fits_nonces F m n r h lt = fits_issued (record { date = m; entry = spent n } ∷ F) m r (fits_spent F m n h) (omega (arith, nonces_stay F m n))
 
--- what a verdict needs does not hang on the count of nonces
-pub left_same : (C D : Counters) (v : Verdict) → C.accounts ≡ D.accounts → C.orders ≡ D.orders → C.authorizations ≡ D.authorizations
-    → C.challenges ≡ D.challenges →
-    NumbersLeft D v → NumbersLeft C v
-left_same C D v a o z c h =
-    subst (λ (K : Counters). NumbersLeft K v)
-    (λ i. record C { accounts = sym a i; orders = sym o i; authorizations = sym z i; challenges = sym c i }) (still v h)
-  where
-    still : (v : Verdict) → NumbersLeft D v
-        → NumbersLeft (record C { accounts = D.accounts; orders = D.orders; authorizations = D.authorizations; challenges = D.challenges }) v
-    still (refused why ss) h = tt
-    still (key_taken account) h = tt
-    still (answers what) h = tt
-    still (opens key contacts) h = h
-    still (ordering account wanted) h = h
-    still (moves move) h = tt
+-- what a verdict asks of counters does not hang on the count of nonces
+same_by : (N : Counters → Verdict → Type 0) (C D : Counters) (v : Verdict) → C.accounts ≡ D.accounts → C.orders ≡ D.orders →
+    C.authorizations ≡ D.authorizations → C.challenges ≡ D.challenges →
+    N (record C { accounts = D.accounts; orders = D.orders; authorizations = D.authorizations; challenges = D.challenges }) v → N C v
+same_by N C D v a o z c =
+    subst (λ (K : Counters). N K v) (λ i. record C { accounts = sym a i; orders = sym o i; authorizations = sym z i; challenges = sym c i })
 
+-- so neither does what it needs
+pub left_same : (C D : Counters) (v : Verdict) → C.accounts ≡ D.accounts → C.orders ≡ D.orders → C.authorizations ≡ D.authorizations
+    → C.challenges ≡ D.challenges → NumbersLeft D v → NumbersLeft C v
+left_same C D (opens key contacts) a o z c h = same_by NumbersLeft C D (opens key contacts) a o z c h
+left_same C D (ordering account wanted) a o z c h = same_by NumbersLeft C D (ordering account wanted) a o z c h
+left_same C D _ a o z c h = tt
+
+-- nor that it has spent them
 pub spent_same : (C D : Counters) (v : Verdict) → C.accounts ≡ D.accounts → C.orders ≡ D.orders → C.authorizations ≡ D.authorizations
-    → C.challenges ≡ D.challenges →
-    NumbersSpent D v → NumbersSpent C v
-spent_same C D v a o z c h =
-    subst (λ (K : Counters). NumbersSpent K v)
-    (λ i. record C { accounts = sym a i; orders = sym o i; authorizations = sym z i; challenges = sym c i }) (still v h)
-  where
-    still : (v : Verdict) → NumbersSpent D v
-        → NumbersSpent (record C { accounts = D.accounts; orders = D.orders; authorizations = D.authorizations; challenges = D.challenges }) v
-    still (refused why ss) h = absurd h
-    still (key_taken account) h = absurd h
-    still (answers what) h = absurd h
-    still (opens key contacts) h = h
-    still (ordering account wanted) h = h
-    still (moves move) h = absurd h
+    → C.challenges ≡ D.challenges → NumbersSpent D v → NumbersSpent C v
+spent_same C D (opens key contacts) a o z c h = same_by NumbersSpent C D (opens key contacts) a o z c h
+spent_same C D (ordering account wanted) a o z c h = same_by NumbersSpent C D (ordering account wanted) a o z c h
+spent_same C D _ a o z c h = absurd h
 
 -- ---- tables
 

@@ -1,49 +1,33 @@
 -- What is promised of each ask.
-use Rattle.std.proofs.Common.{◌≡◌, ℕ, ◌+◌, ◌*◌, ◌≤◌, max, true, false, List, [], ◌∷◌, ◌++◌, length, take, drop, Option, Some}
-use Rattle.std.proofs.Common.{None, refl, sym, ap, subst, ◌∙◌, arith, Result, Ok, Err, IfOk, IfErr, MatchResult}
+use Rattle.std.proofs.Common.{◌≡◌, ℕ, ◌+◌, ◌*◌, ◌≤◌, max, true, false, List, [], ◌∷◌, ◌++◌, length, take, drop, Option, Some, None, refl, sym, ap, subst, ◌∙◌}
+use Rattle.std.proofs.Common.{arith, Result, Ok, Err, IfOk, IfErr, MatchResult}
 use Rattle.std.specs.Prelude.{IsTrue}
-use Rattle.desk_model.specs.Change.{recorded_changes}
+use Rattle.desk_model.specs.{Change.recorded_changes, Entry.History, Limits.last_moment}
 use Rattle.desk_model.specs.declared.refusal.Refusal.TheVariants as refusal
-use Rattle.desk_model.specs.Entry.{History}
 use Rattle.desk_model.specs.History.{clock, moment_of, record_all}
 use Rattle.desk_model.specs.Legal.{Legal, EachFollows, numbers_fit}
-use Rattle.desk_model.specs.Limits.{last_moment}
 use Rattle.desk_model.specs.Tables.{Tables, tables_at, picture}
 use Rattle.desk_model.specs.Effect.{effects, swept}
 use Rattle.desk_model.specs.Rules.{office_verdict, signed_verdict, open_nonce}
 use Rattle.desk_model.specs.Shown.{with_nonce, fresh_nonce, refusal_reply, nonce_reply}
-use Rattle.desk_model.specs.Decide.{Decision, decide, decide_at, entries_of, nonce_entries, office_decision, passed_decision}
-use Rattle.desk_model.specs.Decide.{verdict_reply, tables_after, signed_decision}
+use Rattle.desk_model.specs.Decide.{Decision, decide, decide_at, entries_of, nonce_entries, office_decision, passed_decision, verdict_reply, tables_after}
+use Rattle.desk_model.specs.Decide.{signed_decision}
 use Rattle.desk_model.specs.Run.{count_pieces, IsFormedCall}
-use Rattle.desk_model.specs.declared.call.Call.{Call}
-use Rattle.desk_model.specs.declared.call.Ask.{Ask}
+use Rattle.desk_model.specs.declared.{call.Call.Call, call.Ask.Ask, call.OfficeAsk.OfficeAsk, call.Signed.Signed, reply.Reply.Reply, verdict.Verdict.Verdict}
+use Rattle.desk_model.specs.declared.{rows.Change.Change, entry.Entry.Entry}
 use Rattle.desk_model.specs.declared.call.Ask.TheVariants as ask
-use Rattle.desk_model.specs.declared.call.OfficeAsk.{OfficeAsk}
-use Rattle.desk_model.specs.declared.call.Signed.{Signed}
-use Rattle.desk_model.specs.declared.reply.Reply.{Reply}
-use Rattle.desk_model.specs.declared.verdict.Verdict.{Verdict}
-use Rattle.desk_model.specs.declared.rows.Change.{Change}
-use Rattle.desk_model.specs.declared.entry.Entry.{Entry}
 use Rattle.desk_model.specs.declared.entry.Entry.TheVariants.{Issued as issued, Spent as spent}
-use Rattle.model_laws.proofs.Recorded.{tables_ordered}
-use Rattle.model_laws.proofs.Keeps.{numbers_fit_counters}
+use Rattle.model_laws.proofs.{Recorded.tables_ordered, Keeps.numbers_fit_counters}
 use Rattle.model_laws.specs.Ordered.{IsOrdered}
-use Rattle.desk_core.specs.HasTexts.{HasTexts}
+use Rattle.desk_core.specs.{HasTexts.HasTexts, Decided.IsDecision, SameRows.SameRows}
 use Rattle.desk_core.specs.Outcomes.{Issues, Passes, Settles, MeetsSigned, MeetsAsk}
-use Rattle.desk_core.specs.Decided.{IsDecision}
 use Rattle.core_rules.specs.Needs.{NumbersLeft}
-use Rattle.desk_core.specs.SameRows.{SameRows}
 use Rattle.desk_core.proofs.Deciding.{after_is, counters, decides, decides_none, fits_issued, fits_nonces, left_same, now_is, texts_same}
-use Rattle.desk_core.proofs.NumbersAfter.{numbers_left}
-use Rattle.desk_core.proofs.QuietRows.{nonce_rows}
+use Rattle.desk_core.proofs.{NumbersAfter.numbers_left, QuietRows.nonce_rows, SameVerdicts.signed_same, Parts.asks_whole, Texts.have_texts}
 use Rattle.desk_core.proofs.SameReplies.{effects-append, nonce_effects, verdict_reply_same, verdict_same}
-use Rattle.desk_core.proofs.SameVerdicts.{signed_same}
 use Rattle.desk_core.proofs.Spaced.{no_bytes, no_numbers, office_spaced, pieces_bounded, signed_spaced}
-use Rattle.desk_core.proofs.Parts.{asks_whole}
-use Rattle.desk_core.proofs.Texts.{have_texts}
 use Rattle.model_lives.proofs.Work.{enough_ordered}
-use Rattle.model_lives.specs.AnswersAs.{AnswersAs}
-use Rattle.model_lives.specs.IsEnough.{IsEnoughFor}
+use Rattle.model_lives.specs.{AnswersAs.AnswersAs, IsEnough.IsEnoughFor}
 
 -- ---- a nonce is issued and nothing else
 
@@ -162,6 +146,13 @@ passes F call s serial changes reply legal formed at is h =
     (h.recorded (tables_ordered F (clock F)))
     (passes_reply F call s serial changes reply (passed_is F call s serial is) h)
 
+-- the decision on a signed request, by the nonce that its text opens
+pub signed_is : (F : History) (call : Call) (s : Signed) → call.ask ≡ ask.Signed s → (o : Option ℕ) →
+    open_nonce (swept (moment_of call.at F) (picture F)) s.nonce ≡ o → decide F call ≡ signed_decision F (moment_of call.at F) call.random s o
+signed_is F call s asks o e =
+    ap (λ a. decide_at F (moment_of call.at F) call.random a) asks
+    ∙ ap (signed_decision F (moment_of call.at F) call.random s) (ap (λ T. open_nonce T s.nonce) (now_is F call) ∙ e)
+
 -- a signed request
 signed_decides : (F : History) (call : Call) (s : Signed) (changes : List Change) (reply : Reply) → Legal F → IsFormedCall call → call.at ≤ last_moment →
     call.ask ≡ ask.Signed s →
@@ -169,18 +160,12 @@ signed_decides : (F : History) (call : Call) (s : Signed) (changes : List Change
     → IsDecision F call changes reply
 signed_decides F call s changes reply legal formed at asks h = by (open_nonce (swept (moment_of call.at F) (picture F)) s.nonce) refl h
   where
-    is : (o : Option ℕ) → open_nonce (swept (moment_of call.at F) (picture F)) s.nonce ≡ o
-        → decide F call ≡ signed_decision F (moment_of call.at F) call.random s o
-    is o e =
-        ap (λ a. decide_at F (moment_of call.at F) call.random a) asks
-        ∙ ap (signed_decision F (moment_of call.at F) call.random s) (ap (λ T. open_nonce T s.nonce) (now_is F call) ∙ e)
-
     by : (o : Option ℕ) → open_nonce (swept (moment_of call.at F) (picture F)) s.nonce ≡ o →
         MeetsSigned (moment_of call.at F) (picture F) call.random s o changes reply → IsDecision F call changes reply
     by None e m =
-        issues F call (refusal_reply true refusal.BadNonce []) changes reply legal formed at (ap (λ (d : Decision). d.entries) (is None e))
-        (ap (λ (d : Decision). d.reply) (is None e)) m
-    by (Some serial) e m = passes F call s serial changes reply legal formed at (is (Some serial) e) m
+        issues F call (refusal_reply true refusal.BadNonce []) changes reply legal formed at (ap (λ (d : Decision). d.entries) (signed_is F call s asks None e))
+        (ap (λ (d : Decision). d.reply) (signed_is F call s asks None e)) m
+    by (Some serial) e m = passes F call s serial changes reply legal formed at (signed_is F call s asks (Some serial) e) m
 
 -- ---- each ask
 

@@ -1,47 +1,35 @@
 -- The faults that the code answers are those of the model.
-use Rattle.std.proofs.Common.{◌≡◌, ℕ, ◌+◌, ◌*◌, ◌<◌, ◌≤◌, false, not, cond, List, [], ◌∷◌, ◌++◌, length, take, drop, max, Option}
-use Rattle.std.proofs.Common.{Some, None, refl, ap, subst, ◌∙◌, arith, length-append, ◌⊎◌, inl, inr}
+use Rattle.std.proofs.Common.{◌≡◌, ℕ, ◌+◌, ◌*◌, ◌<◌, ◌≤◌, false, not, cond, List, [], ◌∷◌, ◌++◌, length, take, drop, max, Option, Some, None, refl, ap, subst}
+use Rattle.std.proofs.Common.{◌∙◌, arith, length-append, ◌⊎◌, inl, inr}
 use Rattle.std.specs.Prelude.{nat_lt, nat_le, ◌&&◌, IsTrue}
 use Rattle.std.proofs.lemmas.Bool.{le-ltb, lt-leb, lt-ltb}
 use Rattle.desk_model.specs.Entry.{History, entry_of}
-use Rattle.desk_model.specs.declared.entry.Entry.{Entry}
+use Rattle.desk_model.specs.declared.{entry.Entry.Entry, call.Call.Call, call.Ask.Ask, call.Signed.Signed, verdict.Verdict.Verdict}
 use Rattle.desk_model.specs.declared.entry.Entry.TheVariants.{Issued as issued, Opened as opened, Ordered as ordered}
 use Rattle.desk_model.specs.History.{clock, moment_of, record_all}
 use Rattle.desk_model.specs.Legal.{Legal, numbers_fit}
 use Rattle.desk_model.specs.Limits.{last_moment, last_number}
 use Rattle.desk_model.specs.Nonce.{nonces, issued_by}
-use Rattle.desk_model.specs.Account.{accounts}
-use Rattle.desk_model.specs.Order.{orders}
+use Rattle.desk_model.specs.{Account.accounts, Order.orders, Effect.swept, Rules.open_nonce}
 use Rattle.desk_model.specs.Authorization.{authorizations, count_challenges}
 use Rattle.desk_model.specs.Tables.{Tables, picture}
-use Rattle.desk_model.specs.Effect.{swept}
-use Rattle.desk_model.specs.Rules.{open_nonce}
-use Rattle.desk_model.specs.Decide.{Decision, decide, decide_at, after, entries_of, nonce_entries, signed_decision}
+use Rattle.desk_model.specs.Decide.{Decision, decide, decide_at, after, entries_of, nonce_entries}
 use Rattle.desk_model.specs.Run.{fault, count_pieces}
-use Rattle.desk_model.specs.declared.call.Call.{Call}
-use Rattle.desk_model.specs.declared.call.Ask.{Ask}
 use Rattle.desk_model.specs.declared.call.Ask.TheVariants as ask
-use Rattle.desk_model.specs.declared.call.Signed.{Signed}
-use Rattle.desk_model.specs.declared.verdict.Verdict.{Verdict}
-use Rattle.desk_model.specs.declared.verdict.Verdict.TheVariants.{Refused as refused, KeyTaken as key_taken, Answers as answers}
-use Rattle.desk_model.specs.declared.verdict.Verdict.TheVariants.{Opens as opens, Orders as ordering, Moves as moves}
+use Rattle.desk_model.specs.declared.verdict.Verdict.TheVariants.{Answers as answers, Opens as opens, Orders as ordering, Moves as moves}
 use Rattle.model_laws.proofs.Recorded.{tables_ordered}
 use Rattle.model_laws.specs.Ordered.{IsOrdered}
-use Rattle.desk_core.specs.Decided.{IsFaultOf}
-use Rattle.core_rules.specs.Needs.{NumbersSpent}
+use Rattle.desk_core.specs.{Decided.IsFaultOf, Room.IsIssueFault}
+use Rattle.core_rules.specs.{Needs.NumbersSpent, declared.fault.CoreFault.CoreFault}
 use Rattle.desk_core.specs.Outcomes.{IsPassedFault, IsSignedFault, IsAskFault}
-use Rattle.desk_core.specs.Room.{IsIssueFault}
-use Rattle.core_rules.specs.declared.fault.CoreFault.{CoreFault}
 use Rattle.core_rules.specs.declared.fault.CoreFault.TheVariants as core
-use Rattle.desk_core.proofs.Deciding.{counters, fits_issued, fits_nonces, fitting, now_is, spent_same}
-use Rattle.desk_core.proofs.DecidingAsks.{judged, judged_left, passed_is}
+use Rattle.desk_core.proofs.Deciding.{counters, fits_issued, fits_nonces, fitting, spent_same}
+use Rattle.desk_core.proofs.DecidingAsks.{judged, judged_left, passed_is, signed_is}
 use Rattle.desk_core.proofs.NumbersAfter.{numbers_left, numbers_spent}
-use Rattle.desk_core.proofs.Parts.{faults_whole}
+use Rattle.desk_core.proofs.{Parts.faults_whole, Spaced.signed_spaced}
 use Rattle.desk_core.proofs.QuietRows.{nonce_rows, nonces_more}
 use Rattle.model_lives.proofs.Work.{enough_ordered}
-use Rattle.model_lives.specs.AnswersAs.{AnswersAs}
-use Rattle.model_lives.specs.IsEnough.{IsEnoughFor}
-use Rattle.desk_core.proofs.Spaced.{signed_spaced}
+use Rattle.model_lives.specs.{AnswersAs.AnswersAs, IsEnough.IsEnoughFor}
 
 -- too many nonces
 nonces_over : (G : History) → last_number < length (nonces G) → numbers_fit G ≡ false
@@ -101,12 +89,10 @@ entry_grows : (G : History) (m : ℕ) (e : Entry) → length (nonces G) ≤ leng
 entry_grows G m e = omega (arith, length-append (nonces G) (issued_by e m (length (nonces G) + 1)))
 
 nonces_grow : (G : History) (m : ℕ) (v : Verdict) → length (nonces G) ≤ length (nonces (record_all m (entries_of v) G))
-nonces_grow G m (refused why ss) = omega arith
-nonces_grow G m (key_taken account) = omega arith
-nonces_grow G m (answers what) = omega arith
 nonces_grow G m (opens key contacts) = entry_grows G m (opened key contacts)
 nonces_grow G m (ordering account wanted) = entry_grows G m (ordered account wanted)
 nonces_grow G m (moves move) = entry_grows G m (entry_of move)
+nonces_grow G m _ = omega arith
 
 -- a signed request whose nonce was open
 passed_faults : (F : History) (call : Call) (s : Signed) (serial : ℕ) (e : CoreFault) → Legal F → call.at ≤ last_moment →
@@ -146,24 +132,16 @@ signed_faults : (F : History) (call : Call) (s : Signed) (e : CoreFault) → Leg
     IsSignedFault (moment_of call.at F) (picture F) call.random s (open_nonce (swept (moment_of call.at F) (picture F)) s.nonce) e → IsFaultOf F call e
 signed_faults F call s e legal at asks h = by (open_nonce (swept (moment_of call.at F) (picture F)) s.nonce) refl h
   where
-    is : (o : Option ℕ) → open_nonce (swept (moment_of call.at F) (picture F)) s.nonce ≡ o
-        → decide F call ≡ signed_decision F (moment_of call.at F) call.random s o
-    is o found =
-        ap (λ a. decide_at F (moment_of call.at F) call.random a) asks
-        ∙ ap (signed_decision F (moment_of call.at F) call.random s) (ap (λ T. open_nonce T s.nonce) (now_is F call) ∙ found)
-
     by : (o : Option ℕ) → open_nonce (swept (moment_of call.at F) (picture F)) s.nonce ≡ o
         → IsSignedFault (moment_of call.at F) (picture F) call.random s o e → IsFaultOf F call e
-    by None found h = issue_faults F call e legal at (ap (λ (d : Decision). d.entries) (is None found)) h
+    by None found h = issue_faults F call e legal at (ap (λ (d : Decision). d.entries) (signed_is F call s asks None found)) h
     by (Some serial) found h =
-        passed_faults F call s serial e legal at (ap (λ (d : Decision). d.entries) (passed_is F call s serial (is (Some serial) found))) h
+        passed_faults F call s serial e legal at (ap (λ (d : Decision). d.entries) (passed_is F call s serial (signed_is F call s asks (Some serial) found))) h
 
 -- out of memory is the code's own
 memory_faults : (F : History) (call : Call) (e : CoreFault) → e ≡ core.Memory → IsFaultOf F call e
 memory_faults F call core.Memory h = tt
-memory_faults F call core.Moment h = cc
-memory_faults F call core.Full h = cc
-memory_faults F call core.ShortRandom h = cc
+memory_faults F call _ h = cc
 
 -- each ask
 asks_fail : (F : History) (call : Call) (e : CoreFault) → Legal F → call.at ≤ last_moment →

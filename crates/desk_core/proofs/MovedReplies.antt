@@ -2,15 +2,10 @@
 use Rattle.std.proofs.Common.{◌≡◌, ℕ, List, map, ap, sym, ◌∙◌}
 use Rattle.std.specs.Prelude.{◌==◌, find}
 use Rattle.model_laws.proofs.Basics.{eq_turn}
-use Rattle.desk_model.specs.Document.{listed_rows}
+use Rattle.desk_model.specs.{Document.listed_rows, Entry.entry_of, Tables.Tables}
 use Rattle.desk_model.specs.Effect.{effect, has_row, names_order, swept, touches_account, touches_authorization}
-use Rattle.desk_model.specs.Entry.{entry_of}
 use Rattle.desk_model.specs.Questions.{account_on, authorization_on, order_on, owner_on}
-use Rattle.desk_model.specs.Tables.{Tables}
-use Rattle.desk_model.specs.declared.moves.Move.{Move}
-use Rattle.desk_model.specs.declared.rows.AccountRow.{AccountRow}
-use Rattle.desk_model.specs.declared.rows.AuthorizationRow.{AuthorizationRow}
-use Rattle.desk_model.specs.declared.rows.OrderRow.{OrderRow}
+use Rattle.desk_model.specs.declared.{moves.Move.Move, rows.AccountRow.AccountRow, rows.AuthorizationRow.AuthorizationRow, rows.OrderRow.OrderRow}
 use Rattle.core_changes.specs.Moved.{accounts_moved, authorizations_moved, orders_moved}
 use Rattle.core_changes.proofs.ShownAfter.{account_moved, authorization_moved, names_at, names_moved, order_moved, owner_moved, policy_moved}
 use Rattle.desk_core.specs.Named.{IsNamedAs}

@@ -1,51 +1,31 @@
 -- What a verdict shows or moves is there: it was looked up.
 use Rattle.std.proofs.Common.{◌≡◌, ℕ, List, [], ◌∷◌, Bool, true, false, cond, Option, Some, None, Result, Ok, Err, refl, ap, sym, subst}
 use Rattle.std.specs.Prelude.{◌==◌, ◌&&◌, find, is_some, IfOk, IsSome, IsSomeAnd}
-use Rattle.desk_model.specs.Account.{is_valid as is_valid_account}
+use Rattle.desk_model.specs.{Account.is_valid as is_valid_account, Contact.contacts_fault, Limits.most_names, Tables.Tables}
 use Rattle.desk_model.specs.Authorization.{is_live, is_pending}
-use Rattle.desk_model.specs.Contact.{contacts_fault}
 use Rattle.desk_model.specs.Legal.{has_length, is_pending_challenge, is_problem, is_processing_challenge}
-use Rattle.desk_model.specs.Limits.{most_names}
 use Rattle.desk_model.specs.Order.{is_processing, is_ready}
 use Rattle.desk_model.specs.Questions.{account_on, account_with_key, authorization_on, order_on, owner_on}
-use Rattle.desk_model.specs.Rules.{account_verdict, authorization_verdict, certificate_verdict, certify_verdict}
-use Rattle.desk_model.specs.Rules.{challenge_verdict, csr_in, fail_verdict, finalize_verdict, key_verdict}
-use Rattle.model_laws.proofs.Serving.{all_may_be_wanted}
-use Rattle.desk_model.specs.Rules.{kept, names_in, new_order_verdict, office_verdict, open_account, order_of, own}
-use Rattle.desk_model.specs.Rules.{report_verdict, revoke_account, revoke_authorization, signed_verdict, stands_open, subproblems}
-use Rattle.desk_model.specs.Rules.{target_verdict}
-use Rattle.desk_model.specs.Tables.{Tables}
-use Rattle.desk_model.specs.Verdict.{check, choose, given}
-use Rattle.desk_model.specs.declared.call.BadKey.{BadKey}
-use Rattle.desk_model.specs.declared.call.Finding.{Finding}
-use Rattle.desk_model.specs.declared.call.OfficeAsk.{OfficeAsk}
-use Rattle.desk_model.specs.declared.call.OfficeAsk.TheVariants as office
-use Rattle.desk_model.specs.declared.call.OrderProblem.{OrderProblem}
-use Rattle.desk_model.specs.declared.call.Signed.{Signed}
-use Rattle.desk_model.specs.declared.call.Target.{Target}
-use Rattle.desk_model.specs.declared.call.Target.TheVariants as to
-use Rattle.desk_model.specs.declared.payload.AccountChange.{AccountChange}
-use Rattle.desk_model.specs.declared.payload.AccountChange.TheVariants as change
-use Rattle.desk_model.specs.declared.payload.AuthorizationChange.{AuthorizationChange}
-use Rattle.desk_model.specs.declared.payload.AuthorizationChange.TheVariants as authz_change
+use Rattle.desk_model.specs.Rules.{account_verdict, authorization_verdict, certificate_verdict, certify_verdict, challenge_verdict, csr_in, fail_verdict}
+use Rattle.desk_model.specs.Rules.{finalize_verdict, key_verdict, kept, names_in, new_order_verdict, office_verdict, open_account, order_of, own}
+use Rattle.desk_model.specs.Rules.{report_verdict, revoke_account, revoke_authorization, signed_verdict, stands_open, subproblems, target_verdict}
 use Rattle.desk_model.specs.Rules.{key_change_verdict, rekey_verdict}
-use Rattle.desk_model.specs.declared.payload.KeyChange.{KeyChange}
-use Rattle.desk_model.specs.declared.payload.ChallengeChange.{ChallengeChange}
+use Rattle.model_laws.proofs.Serving.{all_may_be_wanted}
+use Rattle.desk_model.specs.Verdict.{check, choose, given}
+use Rattle.desk_model.specs.declared.{call.BadKey.BadKey, call.Finding.Finding, call.OfficeAsk.OfficeAsk, call.OrderProblem.OrderProblem, call.Signed.Signed}
+use Rattle.desk_model.specs.declared.{call.Target.Target, payload.AccountChange.AccountChange, payload.AuthorizationChange.AuthorizationChange}
+use Rattle.desk_model.specs.declared.{payload.KeyChange.KeyChange, payload.ChallengeChange.ChallengeChange, payload.Identifier.Identifier}
+use Rattle.desk_model.specs.declared.{payload.NewAccount.NewAccount, refusal.Refusal.Refusal, reply.Subproblem.Subproblem, rows.AccountRow.AccountRow}
+use Rattle.desk_model.specs.declared.{rows.AuthorizationRow.AuthorizationRow, rows.Counters.Counters, rows.OrderRow.OrderRow, verdict.Verdict.Verdict}
+use Rattle.desk_model.specs.declared.{verdict.Verdict.TheVariants.Refused as refused}
+use Rattle.desk_model.specs.declared.call.OfficeAsk.TheVariants as office
+use Rattle.desk_model.specs.declared.call.Target.TheVariants as to
+use Rattle.desk_model.specs.declared.payload.AccountChange.TheVariants as change
+use Rattle.desk_model.specs.declared.payload.AuthorizationChange.TheVariants as authz_change
 use Rattle.desk_model.specs.declared.payload.ChallengeChange.TheVariants as chall_change
-use Rattle.desk_model.specs.declared.payload.Identifier.{Identifier}
-use Rattle.desk_model.specs.declared.payload.NewAccount.{NewAccount}
-use Rattle.desk_model.specs.declared.refusal.Refusal.{Refusal}
 use Rattle.desk_model.specs.declared.refusal.Refusal.TheVariants as refusal
-use Rattle.desk_model.specs.declared.reply.Subproblem.{Subproblem}
-use Rattle.desk_model.specs.declared.rows.AccountRow.{AccountRow}
-use Rattle.desk_model.specs.declared.rows.AuthorizationRow.{AuthorizationRow}
-use Rattle.desk_model.specs.declared.rows.Counters.{Counters}
-use Rattle.desk_model.specs.declared.rows.OrderRow.{OrderRow}
-use Rattle.desk_model.specs.declared.verdict.Verdict.{Verdict}
-use Rattle.desk_model.specs.declared.verdict.Verdict.TheVariants.{Refused as refused}
-use Rattle.model_lives.proofs.Sound.{own_found}
+use Rattle.model_lives.proofs.{Sound.own_found, Lists.same_number}
 use Rattle.model_lives.proofs.Steps as step
-use Rattle.model_lives.proofs.Lists.{same_number}
 use Rattle.core_rules.specs.declared.fault.CoreFault.{CoreFault}
 use Rattle.core_rules.proofs.KeyVerdicts.{IsJudged}
 use Rattle.desk_core.specs.There.{NamesRows}
@@ -92,10 +72,8 @@ open_there T key p = check_there T _ refusal.AccountDoesNotExist _ (step.fault_k
 
 -- a change of an account
 account_there : (T : Tables) (n : ℕ) (p : AccountChange) → IsSome (account_on T n) → NamesRows T (account_verdict n p)
-account_there T n change.Read h = h
-account_there T n change.Deactivate h = h
-account_there T n (change.Update None) h = h
 account_there T n (change.Update (Some contacts)) h = step.fault_keeps (NamesRows T) (contacts_fault contacts) _ (λ _. tt) (λ _. h)
+account_there T n _ h = h
 
 -- a key is changed
 rekey_there : (T : Tables) (n : ℕ) (key : List ℕ) (o : Option AccountRow) → IsSome (account_on T n) → NamesRows T (rekey_verdict n key o)
@@ -206,12 +184,10 @@ revoke_account_there T n a h = choose_there T _ _ _ h (check_there T (is_valid_a
 
 -- each of them
 pub office_there : (T : Tables) (a : OfficeAsk) → NamesRows T (office_verdict T a)
-office_there T office.Directory = tt
 office_there T (office.Report n finding) = report_there T n finding
 office_there T (office.Certify n bytes) = given_there T (order_on T n) refusal.NotFound _ (λ o is. certify_there T n bytes o (there _ o is))
 office_there T (office.FailOrder n problem) = given_there T (order_on T n) refusal.NotFound _ (λ o is. fail_there T n problem o (there _ o is))
 office_there T (office.RevokeAuthz n) = given_there T (authorization_on T n) refusal.NotFound _ (λ a is. revoke_authorization_there T n a (there _ a is))
 office_there T (office.RevokeAccount n) = given_there T (account_on T n) refusal.NotFound _ (λ a is. revoke_account_there T n a (there _ a is))
-office_there T office.ChallengeWork = tt
-office_there T office.OrderWork = tt
 office_there T (office.KeyOf n) = given_there T (account_on T n) refusal.NotFound _ (λ a is. there _ a is)
+office_there T _ = tt

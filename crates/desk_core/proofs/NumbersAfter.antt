@@ -1,34 +1,22 @@
 -- The numbers after a verdict's entry.
-use Rattle.std.proofs.Common.{◌≡◌, ℕ, ◌+◌, ◌<◌, ◌≤◌, ◌⊎◌, inl, inr, Bool, true, false, List, [], ◌∷◌, ◌++◌, length, refl, sym, ap}
-use Rattle.std.proofs.Common.{subst, ◌∙◌, arith, length-append, append-nil}
-use Rattle.std.specs.Prelude.{nat_le, ◌&&◌, IsTrue}
-use Rattle.std.proofs.lemmas.Bool.{lt-leb}
-use Rattle.desk_model.specs.Account.{accounts}
+use Rattle.std.proofs.Common.{◌≡◌, ℕ, ◌+◌, ◌<◌, ◌≤◌, ◌⊎◌, inl, inr, Bool, true, false, List, [], ◌∷◌, length, refl, sym, ap, subst, ◌∙◌, arith, length-append}
+use Rattle.std.proofs.Common.{append-nil}
+use Rattle.std.specs.Prelude.{IsTrue}
+use Rattle.desk_model.specs.{Account.accounts, Decide.entries_of, Legal.numbers_fit, Limits.last_number, Nonce.nonces, Tables.picture, Kept.EachOf}
 use Rattle.desk_model.specs.Authorization.{authorizations, challenges_from, count_challenges, kinds_of, made_for}
-use Rattle.desk_model.specs.Decide.{entries_of}
 use Rattle.desk_model.specs.Entry.{History, entry_of}
-use Rattle.desk_model.specs.declared.moves.Move.{Move}
+use Rattle.desk_model.specs.declared.{moves.Move.Move, entry.Wanted.Wanted, objects.Authorization.Authorization, objects.Kind.Kind, verdict.Verdict.Verdict}
 use Rattle.desk_model.specs.declared.moves.Move.TheVariants as move
-use Rattle.desk_model.specs.History.{record_all, terms}
-use Rattle.desk_model.specs.Legal.{numbers_fit}
-use Rattle.desk_model.specs.Limits.{last_number}
-use Rattle.desk_model.specs.Nonce.{nonces}
+use Rattle.desk_model.specs.History.{clock, record_all, terms}
 use Rattle.desk_model.specs.Order.{listed_by, orders}
 use Rattle.desk_model.specs.Run.{count_new, count_tokens}
-use Rattle.desk_model.specs.Tables.{picture}
-use Rattle.desk_model.specs.Kept.{EachOf}
 use Rattle.desk_model.specs.declared.entry.Entry.TheVariants.{Opened as opened, Ordered as ordered}
-use Rattle.desk_model.specs.declared.entry.Wanted.{Wanted}
 use Rattle.desk_model.specs.declared.entry.Wanted.TheVariants.{New, Reused}
-use Rattle.desk_model.specs.declared.objects.Authorization.{Authorization}
-use Rattle.desk_model.specs.declared.objects.Kind.{Kind}
-use Rattle.desk_model.specs.declared.verdict.Verdict.{Verdict}
-use Rattle.desk_model.specs.declared.verdict.Verdict.TheVariants.{Refused as refused, KeyTaken as key_taken, Answers as answers}
 use Rattle.desk_model.specs.declared.verdict.Verdict.TheVariants.{Opens as opens, Orders as ordering, Moves as moves}
 use Rattle.model_laws.specs.LegalLaws.{CountersFit}
-use Rattle.model_laws.proofs.Numbers.{count-append}
+use Rattle.model_laws.proofs.{Keeps.counters_fit, Numbers.count-append}
 use Rattle.core_rules.specs.Needs.{HasTokens, IsSpaced, NumbersLeft, NumbersSpent}
-use Rattle.desk_core.proofs.Deciding.{fitting}
+use Rattle.desk_core.proofs.Deciding.{fits_same, fitting}
 
 -- ---- what an order makes
 
@@ -123,104 +111,51 @@ fits_ordered G m k ws h spaced first second third =
       challenges = subst (λ n. n ≤ last_number) (sym (challenges_after G m k ws spaced)) third;
     }
 
--- an entry that gives no number
-fits_same : (F G : History) → nonces F ≡ nonces G ++ [] → accounts F ≡ accounts G ++ [] → orders F ≡ orders G ++ [] →
-    authorizations F ≡ authorizations G ++ [] → CountersFit (picture G).meta.counters → CountersFit (picture F).meta.counters
-fits_same F G n a o z h =
-    record {
-      nonces = subst (λ l. length l ≤ last_number) (sym (n ∙ append-nil (nonces G))) h.nonces;
-      accounts = subst (λ l. length l ≤ last_number) (sym (a ∙ append-nil (accounts G))) h.accounts;
-      orders = subst (λ l. length l ≤ last_number) (sym (o ∙ append-nil (orders G))) h.orders;
-      authorizations = subst (λ l. length l ≤ last_number) (sym (z ∙ append-nil (authorizations G))) h.authorizations;
-      challenges = subst (λ l. count_challenges l ≤ last_number) (sym (z ∙ append-nil (authorizations G))) h.challenges;
-    }
-
 -- a move
 fits_moved : (G : History) (m : ℕ) (v : Move) → CountersFit (picture G).meta.counters
     → CountersFit (picture (record { date = m; entry = entry_of v } ∷ G)).meta.counters
-fits_moved G m (move.ContactsChanged n contacts) h =
-    fits_same (record { date = m; entry = entry_of (move.ContactsChanged n contacts) } ∷ G) G refl refl refl refl h
-fits_moved G m (move.KeyChanged n key) h = fits_same (record { date = m; entry = entry_of (move.KeyChanged n key) } ∷ G) G refl refl refl refl h
-fits_moved G m (move.AccountEnded n ending) h = fits_same (record { date = m; entry = entry_of (move.AccountEnded n ending) } ∷ G) G refl refl refl refl h
 fits_moved G m (move.Answered n) h = fits_same (record { date = m; entry = entry_of (move.Answered n) } ∷ G) G refl refl refl refl h
-fits_moved G m (move.Reported n outcome) h = fits_same (record { date = m; entry = entry_of (move.Reported n outcome) } ∷ G) G refl refl refl refl h
-fits_moved G m (move.AuthorizationEnded n ending) h =
-    fits_same (record { date = m; entry = entry_of (move.AuthorizationEnded n ending) } ∷ G) G refl refl refl refl h
-fits_moved G m (move.Finalized n csr) h = fits_same (record { date = m; entry = entry_of (move.Finalized n csr) } ∷ G) G refl refl refl refl h
-fits_moved G m (move.Certified n certificate) h = fits_same (record { date = m; entry = entry_of (move.Certified n certificate) } ∷ G) G refl refl refl refl h
-fits_moved G m (move.Failed n problem) h = fits_same (record { date = m; entry = entry_of (move.Failed n problem) } ∷ G) G refl refl refl refl h
+fits_moved G m v h = fits_same (record { date = m; entry = entry_of v } ∷ G) G refl refl refl refl h
 
 -- where there are numbers for what a verdict records, the numbers fit after it
 pub numbers_left : (G : History) (m : ℕ) (v : Verdict) → CountersFit (picture G).meta.counters → IsSpaced v → NumbersLeft (picture G).meta.counters v →
     IsTrue (numbers_fit (record_all m (entries_of v) G))
-numbers_left G m (refused why ss) h spaced left = fitting G h
-numbers_left G m (key_taken account) h spaced left = fitting G h
-numbers_left G m (answers what) h spaced left = fitting G h
 numbers_left G m (opens key contacts) h spaced left =
     fitting (record { date = m; entry = opened key contacts } ∷ G) (fits_account G m key contacts h left)
 numbers_left G m (ordering k ws) h spaced left =
     fitting (record { date = m; entry = ordered k ws } ∷ G) (fits_ordered G m k ws h spaced left.0 left.1 left.2)
 numbers_left G m (moves move) h spaced left = fitting (record { date = m; entry = entry_of move } ∷ G) (fits_moved G m move h)
+numbers_left G m _ h spaced left = fitting G h
 
 -- ---- numbers that don't fit
 
--- the second part of a test is false
-second_false : (a b c : Bool) → b ≡ false → (a && (b && c)) ≡ false
-second_false false b c h = refl
-second_false true b c h = ap (λ x. x && c) h
-
--- the third
-third_false : (a b c d : Bool) → c ≡ false → (a && (b && (c && d))) ≡ false
-third_false false b c d h = refl
-third_false true b c d h = second_false b c d h
-
--- the fourth
-fourth_false : (a b c d e : Bool) → d ≡ false → (a && (b && (c && (d && e)))) ≡ false
-fourth_false false b c d e h = refl
-fourth_false true b c d e h = third_false b c d e h
-
--- the last of five
-last_false : (a b c d e : Bool) → e ≡ false → (a && (b && (c && (d && e)))) ≡ false
-last_false false b c d e h = refl
-last_false true false c d e h = refl
-last_false true true false d e h = refl
-last_false true true true false e h = refl
-last_false true true true true e h = h
+-- where counters would not fit, the numbers don't
+unfit : (G : History) → (CountersFit (picture G).meta.counters → ⊥) → numbers_fit G ≡ false
+unfit G wrong = by (numbers_fit G) refl
+  where
+    by : (b : Bool) → numbers_fit G ≡ b → b ≡ false
+    by true is = absurd (wrong (counters_fit G is (clock G)))
+    by false is = refl
 
 -- too many accounts
 accounts_over : (G : History) → last_number < length (accounts G) → numbers_fit G ≡ false
-accounts_over G h =
-    second_false (nat_le (length (nonces G)) last_number) (nat_le (length (accounts G)) last_number)
-    (nat_le (length (orders G)) last_number && (nat_le (length (authorizations G)) last_number && nat_le (count_challenges (authorizations G)) last_number))
-    (lt-leb (length (accounts G)) last_number h)
+accounts_over G h = unfit G (λ fit. let le : length (accounts G) ≤ last_number = fit.accounts in omega arith)
 
 -- too many orders
 orders_over : (G : History) → last_number < length (orders G) → numbers_fit G ≡ false
-orders_over G h =
-    third_false (nat_le (length (nonces G)) last_number) (nat_le (length (accounts G)) last_number) (nat_le (length (orders G)) last_number)
-    (nat_le (length (authorizations G)) last_number && nat_le (count_challenges (authorizations G)) last_number)
-    (lt-leb (length (orders G)) last_number h)
+orders_over G h = unfit G (λ fit. let le : length (orders G) ≤ last_number = fit.orders in omega arith)
 
 -- too many authorizations
 authorizations_over : (G : History) → last_number < length (authorizations G) → numbers_fit G ≡ false
-authorizations_over G h =
-    fourth_false (nat_le (length (nonces G)) last_number) (nat_le (length (accounts G)) last_number) (nat_le (length (orders G)) last_number)
-    (nat_le (length (authorizations G)) last_number) (nat_le (count_challenges (authorizations G)) last_number)
-    (lt-leb (length (authorizations G)) last_number h)
+authorizations_over G h = unfit G (λ fit. let le : length (authorizations G) ≤ last_number = fit.authorizations in omega arith)
 
 -- too many challenges
 challenges_over : (G : History) → last_number < count_challenges (authorizations G) → numbers_fit G ≡ false
-challenges_over G h =
-    last_false (nat_le (length (nonces G)) last_number) (nat_le (length (accounts G)) last_number) (nat_le (length (orders G)) last_number)
-    (nat_le (length (authorizations G)) last_number) (nat_le (count_challenges (authorizations G)) last_number)
-    (lt-leb (count_challenges (authorizations G)) last_number h)
+challenges_over G h = unfit G (λ fit. let le : count_challenges (authorizations G) ≤ last_number = fit.challenges in omega arith)
 
 -- where a number is wanting for what a verdict records, the numbers don't fit after it
 pub numbers_spent : (G : History) (m : ℕ) (v : Verdict) → IsSpaced v → NumbersSpent (picture G).meta.counters v →
     numbers_fit (record_all m (entries_of v) G) ≡ false
-numbers_spent G m (refused why ss) spaced spent = absurd spent
-numbers_spent G m (key_taken account) spaced spent = absurd spent
-numbers_spent G m (answers what) spaced spent = absurd spent
 numbers_spent G m (opens key contacts) spaced spent =
     accounts_over (record { date = m; entry = opened key contacts } ∷ G)
     (let many : last_number ≤ length (accounts G) = spent in
@@ -235,4 +170,4 @@ numbers_spent G m (ordering k ws) spaced spent = by spent
         authorizations_over (record { date = m; entry = ordered k ws } ∷ G) (subst (λ n. last_number < n) (sym (authorizations_after G m k ws)) many)
     by (inr (inr many)) =
         challenges_over (record { date = m; entry = ordered k ws } ∷ G) (subst (λ n. last_number < n) (sym (challenges_after G m k ws spaced)) many)
-numbers_spent G m (moves move) spaced spent = absurd spent
+numbers_spent G m _ spaced spent = absurd spent

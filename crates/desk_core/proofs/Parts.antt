@@ -1,26 +1,16 @@
 -- What the code answers by a part of the rows it answers by all of them.
 use Rattle.std.proofs.Common.{ℕ, List, [], take, drop, filter, Bool, Option, Some, None, sym, ap, subst, ◌∙◌, true, false}
 use Rattle.desk_model.specs.declared.refusal.Refusal.TheVariants as refusal
-use Rattle.desk_model.specs.Decide.{entries_of}
+use Rattle.desk_model.specs.{Decide.entries_of, Tables.Tables, Kept.EachOf, Limits.last_end}
 use Rattle.desk_model.specs.Effect.{effects, swept}
 use Rattle.desk_model.specs.Rules.{office_verdict, open_nonce, signed_verdict}
 use Rattle.desk_model.specs.Shown.{fresh_nonce, nonce_reply, refusal_reply, with_nonce}
-use Rattle.desk_model.specs.Tables.{Tables}
-use Rattle.desk_model.specs.Kept.{EachOf}
-use Rattle.desk_model.specs.declared.call.Ask.{Ask}
+use Rattle.desk_model.specs.declared.{call.Ask.Ask, call.OfficeAsk.OfficeAsk, call.Signed.Signed, reply.Reply.Reply, rows.AuthorizationRow.AuthorizationRow}
+use Rattle.desk_model.specs.declared.{rows.ChallengeRow.ChallengeRow, rows.Change.Change, verdict.Verdict.Verdict}
 use Rattle.desk_model.specs.declared.call.Ask.TheVariants as ask
-use Rattle.desk_model.specs.declared.call.OfficeAsk.{OfficeAsk}
-use Rattle.desk_model.specs.declared.call.Signed.{Signed}
-use Rattle.desk_model.specs.declared.reply.Reply.{Reply}
-use Rattle.desk_model.specs.declared.rows.AuthorizationRow.{AuthorizationRow}
-use Rattle.desk_model.specs.declared.rows.ChallengeRow.{ChallengeRow}
-use Rattle.desk_model.specs.declared.rows.Change.{Change}
-use Rattle.desk_model.specs.declared.verdict.Verdict.{Verdict}
-use Rattle.desk_core.specs.HasTexts.{HasTexts}
+use Rattle.desk_core.specs.{HasTexts.HasTexts, Room.IsIssueFault}
 use Rattle.core_replies.specs.Shown.{HasMoments}
-use Rattle.desk_model.specs.Limits.{last_end}
 use Rattle.desk_core.specs.Outcomes.{IsAskFault, IsPassedFault, IsSignedFault, Issues, MeetsAsk, MeetsSigned, Passes, Settles}
-use Rattle.desk_core.specs.Room.{IsIssueFault}
 use Rattle.model_laws.specs.Ordered.{IsOrdered}
 use Rattle.model_lives.specs.AnswersAs.{AnswersAs, CarriesOutAs, IssuesAs, PassesAs, SettlesAs}
 use Rattle.model_lives.specs.Thinned.{Thinning, thinned, with_challenges}
@@ -107,16 +97,12 @@ asks_whole m k T random (ask.Office a) changes reply ordered alike met = settles
 
 issue_fault_whole : (k : Thinning) (T : Tables) (random : List ℕ) (e : CoreFault) → IsIssueFault (thinned k T) random e → IsIssueFault T random e
 issue_fault_whole k T random core.Memory h = h
-issue_fault_whole k T random core.Moment h = h
-issue_fault_whole k T random core.ShortRandom h = h
-issue_fault_whole k T random core.Full h = h
+issue_fault_whole k T random _ h = h
 
 passed_fault_whole : (k : Thinning) (T : Tables) (random : List ℕ) (v : Verdict) (e : CoreFault) → IsPassedFault (thinned k T) random v e
     → IsPassedFault T random v e
 passed_fault_whole k T random v core.Memory h = h
-passed_fault_whole k T random v core.Moment h = h
-passed_fault_whole k T random v core.ShortRandom h = h
-passed_fault_whole k T random v core.Full h = h
+passed_fault_whole k T random v _ h = h
 
 signed_fault_whole : (m : ℕ) (k : Thinning) (T : Tables) (random : List ℕ) (s : Signed) (e : CoreFault) → PassesAs m s T (thinned k T) → (o : Option ℕ) →
     IsSignedFault m (thinned k T) random s o e → IsSignedFault m T random s o e

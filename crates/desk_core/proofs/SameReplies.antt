@@ -1,16 +1,12 @@
 -- What an entry does to the rows, and what is shown then, depends on no nonce.
 use Rattle.std.proofs.Common.{◌≡◌, ℕ, ◌+◌, List, [], ◌∷◌, ◌++◌, Bool, refl, ap, ◌∙◌}
-use Rattle.desk_model.specs.Tables.{Tables}
+use Rattle.desk_model.specs.{Tables.Tables, Entry.entry_of, declared.entry.Entry.Entry, declared.rows.Counters.Counters, declared.verdict.Verdict.Verdict}
 use Rattle.desk_model.specs.Effect.{effect, effects}
 use Rattle.desk_model.specs.Shown.{made_account, made_order, moved_reply, reply_of, taken_reply}
 use Rattle.desk_model.specs.Decide.{entries_of, verdict_reply}
-use Rattle.desk_model.specs.Entry.{entry_of}
-use Rattle.desk_model.specs.declared.entry.Entry.{Entry}
 use Rattle.desk_model.specs.declared.entry.Entry.TheVariants.{Issued as issued, Opened as opened, Ordered as ordered, Spent as spent}
-use Rattle.desk_model.specs.declared.rows.Counters.{Counters}
-use Rattle.desk_model.specs.declared.verdict.Verdict.{Verdict}
-use Rattle.desk_model.specs.declared.verdict.Verdict.TheVariants.{Refused as refused, KeyTaken as key_taken, Answers as answers}
-use Rattle.desk_model.specs.declared.verdict.Verdict.TheVariants.{Opens as opens, Orders as orders, Moves as moves}
+use Rattle.desk_model.specs.declared.verdict.Verdict.TheVariants.{Refused as refused, KeyTaken as key_taken, Answers as answers, Opens as opens}
+use Rattle.desk_model.specs.declared.verdict.Verdict.TheVariants.{Orders as orders, Moves as moves}
 use Rattle.model_laws.proofs.Plain.{issued_effect, spent_effect}
 use Rattle.desk_core.specs.SameRows.{SameRows}
 use Rattle.core_changes.proofs.QuietEntries.{issued_counters, spent_counters}
@@ -35,12 +31,10 @@ entry_same m T U e h =
 
 -- so does what a verdict records
 pub verdict_same : (m : ℕ) (T U : Tables) (v : Verdict) → SameRows T U → SameRows (effects m T (entries_of v)) (effects m U (entries_of v))
-verdict_same m T U (refused why subproblems) h = h
-verdict_same m T U (key_taken account) h = h
-verdict_same m T U (answers what) h = h
 verdict_same m T U (opens key contacts) h = entry_same m T U (opened key contacts) h
 verdict_same m T U (orders account wanted) h = entry_same m T U (ordered account wanted) h
 verdict_same m T U (moves move) h = entry_same m T U (entry_of move) h
+verdict_same m T U _ h = h
 
 -- the reply of a verdict is the same after it
 pub verdict_reply_same : (index : Bool) (m : ℕ) (T U : Tables) (v : Verdict) → SameRows T U →

@@ -1,16 +1,10 @@
 -- The moments of rows that are found have texts.
 use Rattle.std.proofs.Common.{◌≡◌, ℕ, ◌≤◌, List, Option, Some, None, IfSome, Result, Ok, Err, IfOk, OnOk, ◌∙◌, ap, refl, subst, sym}
 use Rattle.std.specs.Prelude.{◌==◌, find, is_some, Bool}
-use Rattle.std.specs.Option.{option_map}
-use Rattle.std.specs.Result.{result_and}
+use Rattle.std.specs.{Option.option_map, Result.result_and}
 use Rattle.model_laws.proofs.Finds.{each_found}
-use Rattle.desk_model.specs.Kept.{EachOf}
-use Rattle.desk_model.specs.Limits.{last_end}
-use Rattle.desk_model.specs.Effect.{has_row}
+use Rattle.desk_model.specs.{Kept.EachOf, Limits.last_end, Effect.has_row, Shown.shown, Tables.Tables, declared.reply.Reply.Reply}
 use Rattle.desk_model.specs.Questions.{authorization_on, order_on, owner_on}
-use Rattle.desk_model.specs.Shown.{shown}
-use Rattle.desk_model.specs.Tables.{Tables}
-use Rattle.desk_model.specs.declared.reply.Reply.{Reply}
 use Rattle.core_replies.specs.Shown.{HasMoments}
 use Rattle.desk_core.specs.HasTexts.{HasTexts}
 

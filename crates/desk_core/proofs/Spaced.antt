@@ -1,60 +1,34 @@
 -- The tokens that verdicts take: one for each challenge of a new order, and none else.
 use Rattle.std.proofs.Common.{◌≡◌, ◌≤◌, ◌+◌, ◌*◌, ℕ, length, List, [], ◌∷◌, Bool, not, Option, Some, None, Result, Ok, Err, refl, arith}
 use Rattle.std.specs.Prelude.{◌&&◌, nat_le}
-use Rattle.desk_model.specs.declared.refusal.Refusal.{Refusal}
+use Rattle.desk_model.specs.declared.{refusal.Refusal.Refusal, call.OfficeAsk.OfficeAsk, call.BadKey.BadKey, call.Finding.Finding}
+use Rattle.desk_model.specs.declared.{call.OrderProblem.OrderProblem, call.Signed.Signed, call.Target.Target, moves.Move.Move, entry.Outcome.Outcome}
+use Rattle.desk_model.specs.declared.{payload.AccountChange.AccountChange, payload.AuthorizationChange.AuthorizationChange, payload.KeyChange.KeyChange}
+use Rattle.desk_model.specs.declared.{payload.ChallengeChange.ChallengeChange, payload.Identifier.Identifier, payload.NewAccount.NewAccount}
+use Rattle.desk_model.specs.declared.{reply.Subproblem.Subproblem, rows.AccountRow.AccountRow, rows.AuthorizationRow.AuthorizationRow}
+use Rattle.desk_model.specs.declared.{rows.ChallengeRow.ChallengeRow, rows.Counters.Counters, rows.OrderRow.OrderRow, verdict.Verdict.Verdict}
 use Rattle.desk_model.specs.declared.refusal.Refusal.TheVariants as refusal
-use Rattle.desk_model.specs.Account.{is_valid as is_valid_account}
+use Rattle.desk_model.specs.{Account.is_valid as is_valid_account, Contact.contacts_fault, Decide.entries_of, Name.Name, Run.count_pieces, Tables.Tables}
+use Rattle.desk_model.specs.{Kept.EachOf, Entry.entry_of}
 use Rattle.desk_model.specs.Authorization.{kinds_of, is_live, is_pending}
-use Rattle.desk_model.specs.Contact.{contacts_fault}
-use Rattle.desk_model.specs.Decide.{entries_of}
 use Rattle.desk_model.specs.Legal.{has_length, is_pending_challenge, is_problem, is_processing_challenge}
 use Rattle.desk_model.specs.Limits.{longest_certificate, most_names}
-use Rattle.desk_model.specs.Name.{Name}
 use Rattle.desk_model.specs.Order.{is_processing, is_ready}
-use Rattle.desk_model.specs.Questions.{account_with_key}
-use Rattle.desk_model.specs.Run.{count_pieces}
-use Rattle.desk_model.specs.Tables.{Tables}
-use Rattle.desk_model.specs.Kept.{EachOf}
+use Rattle.desk_model.specs.Questions.{account_with_key, serving_on}
 use Rattle.desk_model.specs.Verdict.{check, given}
-use Rattle.desk_model.specs.Rules.{key_change_verdict, rekey_verdict}
-use Rattle.desk_model.specs.Rules.{open_account, account_verdict, kept, names_in, wanted, order_of, wanted_by, left_by}
-use Rattle.desk_model.specs.Rules.{new_order_verdict, subproblems, csr_in, finalize_verdict, authorization_verdict, stands_open}
-use Rattle.desk_model.specs.Rules.{challenge_verdict, target_verdict, key_verdict, signed_verdict}
-use Rattle.desk_model.specs.Rules.{outcome_verdict, report_verdict, certify_verdict, fail_verdict, revoke_authorization}
-use Rattle.desk_model.specs.Rules.{revoke_account, office_verdict}
-use Rattle.desk_model.specs.declared.call.OfficeAsk.{OfficeAsk}
+use Rattle.desk_model.specs.Rules.{key_change_verdict, rekey_verdict, open_account, account_verdict, kept, names_in, wanted, order_of, wanted_by, left_by}
+use Rattle.desk_model.specs.Rules.{new_order_verdict, subproblems, csr_in, finalize_verdict, authorization_verdict, stands_open, challenge_verdict}
+use Rattle.desk_model.specs.Rules.{target_verdict, key_verdict, signed_verdict, outcome_verdict, report_verdict, certify_verdict, fail_verdict}
+use Rattle.desk_model.specs.Rules.{revoke_authorization, revoke_account, office_verdict}
 use Rattle.desk_model.specs.declared.call.OfficeAsk.TheVariants as office
-use Rattle.desk_model.specs.declared.call.BadKey.{BadKey}
-use Rattle.desk_model.specs.declared.call.Finding.{Finding}
-use Rattle.desk_model.specs.declared.call.OrderProblem.{OrderProblem}
-use Rattle.desk_model.specs.declared.call.Signed.{Signed}
-use Rattle.desk_model.specs.declared.call.Target.{Target}
 use Rattle.desk_model.specs.declared.call.Target.TheVariants as to
-use Rattle.desk_model.specs.Entry.{entry_of}
-use Rattle.desk_model.specs.declared.moves.Move.{Move}
 use Rattle.desk_model.specs.declared.moves.Move.TheVariants as move
-use Rattle.desk_model.specs.declared.entry.Outcome.{Outcome}
-use Rattle.desk_model.specs.declared.payload.AccountChange.{AccountChange}
 use Rattle.desk_model.specs.declared.payload.AccountChange.TheVariants as change
-use Rattle.desk_model.specs.declared.payload.AuthorizationChange.{AuthorizationChange}
 use Rattle.desk_model.specs.declared.payload.AuthorizationChange.TheVariants as authz_change
-use Rattle.desk_model.specs.declared.payload.KeyChange.{KeyChange}
-use Rattle.desk_model.specs.declared.payload.ChallengeChange.{ChallengeChange}
 use Rattle.desk_model.specs.declared.payload.ChallengeChange.TheVariants as chall_change
-use Rattle.desk_model.specs.declared.payload.Identifier.{Identifier}
-use Rattle.desk_model.specs.declared.payload.NewAccount.{NewAccount}
-use Rattle.desk_model.specs.declared.reply.Subproblem.{Subproblem}
-use Rattle.desk_model.specs.declared.rows.AccountRow.{AccountRow}
-use Rattle.desk_model.specs.declared.rows.AuthorizationRow.{AuthorizationRow}
-use Rattle.desk_model.specs.declared.rows.ChallengeRow.{ChallengeRow}
-use Rattle.desk_model.specs.declared.rows.Counters.{Counters}
-use Rattle.desk_model.specs.declared.rows.OrderRow.{OrderRow}
-use Rattle.desk_model.specs.declared.verdict.Verdict.{Verdict}
-use Rattle.desk_model.specs.declared.verdict.Verdict.TheVariants.{Refused as refused, KeyTaken as key_taken, Answers as answers}
-use Rattle.desk_model.specs.declared.verdict.Verdict.TheVariants.{Opens as opens, Orders as orders, Moves as moves}
+use Rattle.desk_model.specs.declared.verdict.Verdict.TheVariants.{Refused as refused, Opens as opens, Orders as orders, Moves as moves}
 use Rattle.model_lives.proofs.Steps as step
 use Rattle.model_lives.proofs.Steps.{either_keeps, no_fault_keeps}
-use Rattle.desk_model.specs.Questions.{serving_on}
 use Rattle.core_rules.specs.Needs.{HasTokens, IsSpaced, NumbersLeft, BytesLeft}
 use Rattle.model_laws.proofs.Drawn.{length-pieces}
 
@@ -77,10 +51,8 @@ open_spaced key p = check_keeps IsSpaced (not p.only_existing) refusal.AccountDo
 
 -- a change of an account
 account_spaced : (n : ℕ) (p : AccountChange) → IsSpaced (account_verdict n p)
-account_spaced n change.Read = tt
-account_spaced n change.Deactivate = tt
-account_spaced n (change.Update None) = tt
 account_spaced n (change.Update (Some contacts)) = no_fault_keeps IsSpaced (contacts_fault contacts) _ (λ _. tt) tt
+account_spaced n _ = tt
 
 -- a key that is changed
 rekey_spaced : (n : ℕ) (key : List ℕ) (o : Option AccountRow) → IsSpaced (rekey_verdict n key o)
@@ -197,54 +169,37 @@ revoke_account_quiet n a = either_keeps IsQuiet _ _ _ tt (check_keeps IsQuiet (i
 
 -- what carries no nonce
 pub office_quiet : (T : Tables) (a : OfficeAsk) → IsQuiet (office_verdict T a)
-office_quiet T office.Directory = tt
 office_quiet T (office.Report n finding) = report_quiet T n finding
 office_quiet T (office.Certify n bytes) = given_keeps IsQuiet _ refusal.NotFound _ tt (certify_quiet n bytes)
 office_quiet T (office.FailOrder n problem) = given_keeps IsQuiet _ refusal.NotFound _ tt (fail_quiet n problem)
 office_quiet T (office.RevokeAuthz n) = given_keeps IsQuiet _ refusal.NotFound _ tt (revoke_authorization_quiet n)
 office_quiet T (office.RevokeAccount n) = given_keeps IsQuiet _ refusal.NotFound _ tt (revoke_account_quiet n)
-office_quiet T office.ChallengeWork = tt
-office_quiet T office.OrderWork = tt
 office_quiet T (office.KeyOf n) = given_keeps IsQuiet _ refusal.NotFound _ tt (λ _. tt)
+office_quiet T _ = tt
 
 -- such a verdict takes no tokens
 quiet_spaced : (v : Verdict) → IsQuiet v → IsSpaced v
-quiet_spaced (refused why ss) h = tt
-quiet_spaced (key_taken account) h = tt
-quiet_spaced (answers what) h = tt
 quiet_spaced (opens key contacts) h = absurd h
 quiet_spaced (orders account wanted) h = absurd h
-quiet_spaced (moves move) h = tt
+quiet_spaced _ h = tt
 
 -- no numbers
 quiet_numbers : (C : Counters) (v : Verdict) → IsQuiet v → NumbersLeft C v
-quiet_numbers C (refused why ss) h = tt
-quiet_numbers C (key_taken account) h = tt
-quiet_numbers C (answers what) h = tt
 quiet_numbers C (opens key contacts) h = absurd h
 quiet_numbers C (orders account wanted) h = absurd h
-quiet_numbers C (moves move) h = tt
+quiet_numbers C _ h = tt
 
 -- a move takes no random bytes
 no_pieces : (v : Move) → count_pieces (entry_of v ∷ []) ≡ 0
 no_pieces (move.ContactsChanged n contacts) = refl
-no_pieces (move.KeyChanged n key) = refl
-no_pieces (move.AccountEnded n ending) = refl
-no_pieces (move.Answered n) = refl
-no_pieces (move.Reported n outcome) = refl
-no_pieces (move.AuthorizationEnded n ending) = refl
-no_pieces (move.Finalized n csr) = refl
-no_pieces (move.Certified n certificate) = refl
-no_pieces (move.Failed n problem) = refl
+no_pieces _ = refl
 
 -- and no random bytes
 quiet_bytes : (v : Verdict) → IsQuiet v → count_pieces (entries_of v) ≡ 0
-quiet_bytes (refused why ss) h = refl
-quiet_bytes (key_taken account) h = refl
-quiet_bytes (answers what) h = refl
 quiet_bytes (opens key contacts) h = absurd h
 quiet_bytes (orders account wanted) h = absurd h
 quiet_bytes (moves move) h = no_pieces move
+quiet_bytes _ h = refl
 
 -- so it is for what carries no nonce: no tokens,
 pub office_spaced : (T : Tables) (a : OfficeAsk) → IsSpaced (office_verdict T a)
@@ -262,12 +217,9 @@ no_bytes a T = quiet_bytes (office_verdict T a) (office_quiet T a)
 
 -- where there are bytes for the tokens of an order, and for a nonce, there are for both
 bytes_enough : (random : List ℕ) (v : Verdict) → IsSpaced v → BytesLeft random v → 16 ≤ length random → 16 * (1 + count_pieces (entries_of v)) ≤ length random
-bytes_enough random (refused why ss) spaced left enough = enough
-bytes_enough random (key_taken account) spaced left enough = enough
-bytes_enough random (answers what) spaced left enough = enough
-bytes_enough random (opens key contacts) spaced left enough = enough
 bytes_enough random (orders account wanted) spaced left enough = left
 bytes_enough random (moves move) spaced left enough = omega (arith, no_pieces move)
+bytes_enough random _ spaced left enough = enough
 
 -- a signed request
 pub pieces_bounded : (T : Tables) (r : List ℕ) (s : Signed) (random : List ℕ) → BytesLeft random (signed_verdict T r s) → 16 ≤ length random →

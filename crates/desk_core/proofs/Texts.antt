@@ -2,14 +2,9 @@
 use Rattle.std.proofs.Common.{◌≤◌, ℕ, [], ◌∷◌, Option, Some, None, Bool, true, false, cond, arith}
 use Rattle.std.specs.Prelude.{◌==◌}
 use Rattle.desk_model.specs.Authorization.{authorizations, report, reporting}
-use Rattle.desk_model.specs.Entry.{History}
-use Rattle.desk_model.specs.History.{earlier}
-use Rattle.desk_model.specs.Legal.{EachFollows}
-use Rattle.desk_model.specs.Limits.{last_moment}
+use Rattle.desk_model.specs.{Entry.History, History.earlier, Legal.EachFollows, Limits.last_moment}
 use Rattle.desk_model.specs.Tables.{authorization_row, challenge_row, tables_at}
-use Rattle.desk_model.specs.declared.entry.Entry.{Entry}
-use Rattle.desk_model.specs.declared.entry.Entry.TheVariants.{Reported as reported}
-use Rattle.desk_model.specs.declared.objects.Report.{Report}
+use Rattle.desk_model.specs.declared.{entry.Entry.Entry, entry.Entry.TheVariants.Reported as reported, objects.Report.Report}
 use Rattle.model_laws.proofs.Basics.{each, each_all, each-map}
 use Rattle.model_laws.proofs.Keeps.{all_end, authorizations_end}
 use Rattle.desk_core.specs.HasTexts.{HasTexts}

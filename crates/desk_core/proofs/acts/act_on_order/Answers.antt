@@ -1,16 +1,10 @@
 use Rattle.std.proofs.Common.{◌≡◌, ◌≤◌, ◌∙◌, ap, subst, sym, map, Some}
-use Rattle.desk_model.specs.Limits.{last_end}
-use Rattle.desk_model.specs.Document.{listed_rows}
+use Rattle.desk_model.specs.{Limits.last_end, Document.listed_rows, Tables.Tables, Terms.Terms}
 use Rattle.desk_model.specs.Effect.{effect, swept}
 use Rattle.desk_model.specs.Shown.{located_order, shown}
-use Rattle.desk_model.specs.Tables.{Tables}
-use Rattle.desk_model.specs.Terms.{Terms}
-use Rattle.desk_model.specs.declared.entry.Entry.TheVariants.{Ordered as ordered}
-use Rattle.desk_model.specs.declared.rows.Meta.{Meta}
-use Rattle.desk_model.specs.declared.rows.OrderRow.{OrderRow}
+use Rattle.desk_model.specs.declared.{entry.Entry.TheVariants.Ordered as ordered, rows.Meta.Meta, rows.OrderRow.OrderRow}
 use Rattle.core_changes.specs.Made.{next_order}
-use Rattle.core_changes.proofs.MadeRows.{wanted_standing}
-use Rattle.core_changes.proofs.Recordings.{clock_is}
+use Rattle.core_changes.proofs.{MadeRows.wanted_standing, Recordings.clock_is}
 use Rattle.desk_core.proofs.Acting.{clock_at, where_answered}
 use Rattle.desk_core.proofs.ActingRows.{may_be_wanted, ordered_found, ordered_names, ordered_text}
 use Rattle.core_replies.proofs.Results.{ok_so}

@@ -1,5 +1,4 @@
-use Rattle.desk_core.proofs.Acting.{where_answered}
-use Rattle.desk_core.proofs.MovedThere.{among_moved}
+use Rattle.desk_core.proofs.{Acting.where_answered, MovedThere.among_moved}
 use Rattle.core_replies.proofs.Results.{ok_so}
 use Rattle.desk_core.proofs.acts.act_on_rows.Goals as goal
 

@@ -1,19 +1,16 @@
 use Rattle.std.proofs.Common.{◌+◌, ◌∷◌, [], true, ap, subst, sym, ◌∙◌}
-use Rattle.desk_model.specs.Change.{recorded_changes}
+use Rattle.desk_model.specs.{Change.recorded_changes, Shown.with_nonce, Tokens.nonce_text}
 use Rattle.desk_model.specs.Decide.{entries_of, verdict_reply}
 use Rattle.desk_model.specs.Effect.{effects, swept}
-use Rattle.desk_model.specs.Shown.{with_nonce}
-use Rattle.desk_model.specs.Tokens.{nonce_text}
 use Rattle.desk_model.specs.declared.entry.Entry.TheVariants.{Issued as issued, Spent as spent}
 use Rattle.core_changes.proofs.Moving.{untouched_nonces}
 use Rattle.core_changes.specs.Recorded.{IsAt}
 use Rattle.core_replies.proofs.Results.{ok_so}
 use Rattle.desk_core.specs.Outcomes.{IsShort}
-use Rattle.desk_core.proofs.ActingRows.{at_issued}
-use Rattle.desk_core.proofs.Faults.{fault_so}
+use Rattle.desk_core.proofs.{ActingRows.at_issued, Faults.fault_so}
+use Rattle.desk_core.proofs.decisions.act_with_fresh_nonce.Goals.{After-outcome_of}
 use Rattle.desk_core.proofs.ShownTexts.{ok_both, ok_if, ok_on}
 use Rattle.desk_core.proofs.decisions.act_with_fresh_nonce.Goals as goal
-use Rattle.desk_core.proofs.decisions.act_with_fresh_nonce.Goals.{After-outcome_of}
 
 -- the counters when the verdict is carried out
 issued_at : (c : After-outcome_of) → IsAt c.args.moment c.args.book.now c.in_ok-recording.recording.counters

@@ -1,6 +1,5 @@
 use Rattle.std.proofs.Common.{◌+◌, ◌∙◌}
-use Rattle.desk_model.specs.Shown.{with_nonce}
-use Rattle.desk_model.specs.Tokens.{nonce_text}
+use Rattle.desk_model.specs.{Shown.with_nonce, Tokens.nonce_text}
 use Rattle.core_replies.proofs.Results.{ok_so}
 use Rattle.desk_core.proofs.Acting.{where_answered}
 use Rattle.desk_core.proofs.decisions.act_with_nonce.Goals as goal

@@ -1,6 +1,5 @@
 use Rattle.std.proofs.Common.{◌+◌, ◌∷◌, [], ap, ◌∙◌}
-use Rattle.desk_model.specs.declared.entry.Entry.TheVariants.{Spent as spent}
-use Rattle.desk_model.specs.declared.rows.Counters.{Counters}
+use Rattle.desk_model.specs.declared.{entry.Entry.TheVariants.Spent as spent, rows.Counters.Counters}
 use Rattle.desk_core.proofs.decisions.begin_signed.Goals as goal
 
 pub returns-clause-recorded : goal.returns-clause-recorded

@@ -2,8 +2,7 @@ use Rattle.std.proofs.Common.{subst, sym}
 use Rattle.desk_model.specs.Effect.{swept}
 use Rattle.core_rules.specs.Needs.{NumbersLeft}
 use Rattle.desk_core.specs.Outcomes.{Settles}
-use Rattle.desk_core.proofs.Faults.{passed_or_fault}
-use Rattle.desk_core.proofs.Spaced.{no_numbers}
+use Rattle.desk_core.proofs.{Faults.passed_or_fault, Spaced.no_numbers}
 use Rattle.desk_core.proofs.decisions.office.Goals as goal
 
 pub act_without_nonce-requires-clause-numbers : goal.act_without_nonce-requires-clause-numbers

@@ -1,7 +1,5 @@
 use Rattle.std.proofs.Common.{◌≡◌, IfOk, subst, sym}
-use Rattle.desk_model.specs.Effect.{swept}
-use Rattle.desk_model.specs.Rules.{office_verdict}
-use Rattle.desk_model.specs.Tables.{Tables}
+use Rattle.desk_model.specs.{Effect.swept, Rules.office_verdict, Tables.Tables}
 use Rattle.desk_core.specs.There.{NamesRows}
 use Rattle.desk_core.proofs.NamedRows.{office_there}
 use Rattle.core_replies.proofs.Results.{ok_so}

@@ -1,15 +1,14 @@
 use Rattle.std.proofs.Common.{[], ap, sym, ◌∙◌}
-use Rattle.desk_model.specs.Change.{recorded_changes}
-use Rattle.desk_model.specs.Decide.{entries_of}
+use Rattle.desk_model.specs.{Change.recorded_changes, Decide.entries_of}
 use Rattle.desk_model.specs.Effect.{effects, swept}
 use Rattle.core_changes.specs.Recorded.{IsAt}
 use Rattle.desk_core.proofs.Acting.{linked}
+use Rattle.desk_core.proofs.decisions.recorded.Goals.{After-outcome_of}
 use Rattle.desk_core.proofs.ActingRows.{at_begun, same_entries}
 use Rattle.core_changes.proofs.Moving.{untouched_none}
 use Rattle.core_replies.proofs.Results.{ok_so}
 use Rattle.desk_core.proofs.ShownTexts.{ok_both, ok_if, ok_on}
 use Rattle.desk_core.proofs.decisions.recorded.Goals as goal
-use Rattle.desk_core.proofs.decisions.recorded.Goals.{After-outcome_of}
 
 -- the counters when the verdict is carried out
 begun_at : (c : After-outcome_of) → IsAt c.args.moment c.args.book.now c.in_ok-recording.recording.counters

@@ -1,7 +1,5 @@
 use Rattle.std.proofs.Common.{drop, subst}
-use Rattle.desk_model.specs.Effect.{swept}
-use Rattle.desk_model.specs.Rules.{signed_verdict}
-use Rattle.desk_model.specs.Tables.{Tables}
+use Rattle.desk_model.specs.{Effect.swept, Rules.signed_verdict, Tables.Tables}
 use Rattle.core_rules.proofs.KeyVerdicts.{IsJudged}
 use Rattle.desk_core.proofs.NamedRows.{judged_there, signed_there}
 use Rattle.desk_core.proofs.decisions.signed_verdict.Goals as goal

@@ -1,9 +1,8 @@
 use Rattle.std.proofs.Common.{◌∙◌, ap, sym}
 use Rattle.std.specs.Option.{option_map}
 use Rattle.model_laws.proofs.Finds.{each_found, found_passes}
-use Rattle.desk_model.specs.Effect.{has_row}
+use Rattle.desk_model.specs.{Effect.has_row, Tables.Tables}
 use Rattle.desk_model.specs.Shown.{challenge_in, shown}
-use Rattle.desk_model.specs.Tables.{Tables}
 use Rattle.core_replies.specs.Shown.{HasMoments}
 use Rattle.core_replies.proofs.Results.{ok_so}
 use Rattle.desk_core.proofs.showing.show_challenge_at.Goals as goal
