@@ -1,6 +1,7 @@
 use Rattle.std.proofs.Common.{drop, subst}
 use Rattle.desk_model.specs.declared.call.Target.TheVariants as to
-use Rattle.core_rules.proofs.{AskedOrders.order_judged, KeyVerdicts.IsJudged, Sparing.target-made, Sparing.target-spared}
+use Rattle.core_rules.proofs.{AskedOrders.order_judged, KeyVerdicts.IsJudged}
+use Rattle.core_rules.proofs.Sparing.{target-made, target-spared}
 use Rattle.core_rules.proofs.judging.target_verdict.Goals as goal
 
 pub returns-in-NewAccount : goal.returns-in-NewAccount
