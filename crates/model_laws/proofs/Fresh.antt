@@ -84,13 +84,7 @@ orders_fresh F (ordered k ws) m h =
     let n : ℕ = length (orders F) + 1 in
     let G : History = record { date = m; entry = ordered k ws } ∷ F in
     let o : Order =
-    record {
-      number = n;
-      account = k;
-      made = m;
-      expires = m + (terms F).order_life;
-      authorizations = listed_by ws (length (authorizations F) + 1);
-    } in
+    record { number = n; account = k; made = m; expires = m + (terms F).order_life; authorizations = listed_by ws (length (authorizations F) + 1) } in
     let new : length (orders F) < n = omega arith in
     let unnamed = each _ _ F (λ d. new_order_unnamed (counts F) n new d.entry) (all_named F h.1) in
     (order_stated G m m o ∙ order_unnamed G m m (map (authorization_row G m) (authorizations G)) o (refl, unnamed), tt)

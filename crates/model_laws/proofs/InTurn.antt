@@ -15,7 +15,8 @@ use Rattle.desk_model.specs.Change.{recorded_changes, spent_by, sweep_changes}
 use Rattle.desk_model.specs.declared.rows.Change.TheVariants.{PutMeta, RemoveNonce, PutNonce, PutAccount, PutAuthorization, PutOrder}
 use Rattle.desk_model.specs.declared.status.AuthzStatus.TheVariants as authz
 use Rattle.desk_model.specs.declared.status.OrderStatus.TheVariants as order
-use Rattle.model_laws.specs.{News.InTurn, Placing.puts, Placing.removes}
+use Rattle.model_laws.specs.News.{InTurn}
+use Rattle.model_laws.specs.Placing.{puts, removes}
 use Rattle.model_laws.specs.Ordered.{Ascends, Below, IsOrdered, IsTable}
 use Rattle.model_laws.proofs.Basics.{each, each_both}
 use Rattle.model_laws.proofs.Recorded.{below_filter, below_map, changes_make, issued_up, made_up, opened_up, ordered_up, sweep_makes, tables_ordered}

@@ -10,7 +10,7 @@ use Rattle.desk_model.specs.History.{clock, record_all}
 use Rattle.desk_model.specs.Tables.{Tables, tables_at, picture}
 use Rattle.desk_model.specs.Change.{put, applied, applied_one, recorded_changes}
 use Rattle.desk_model.specs.declared.{entry.Entry.Entry, rows.AuthorizationRow.AuthorizationRow, rows.Change.Change, rows.ChallengeRow.ChallengeRow}
-use Rattle.desk_model.specs.declared.rows.Change.TheVariants.{PutAuthorization}
+use Rattle.desk_model.specs.declared.{rows.Change.TheVariants.PutAuthorization}
 use Rattle.model_laws.specs.Distinct.{Distinct}
 use Rattle.model_laws.specs.News.{AreKept, AreNewChildren, BringsNewChildren, KeepChallenges, KeepsChildren}
 use Rattle.model_laws.proofs.Basics.{each, each_of_map, each_parts, eq_turn}

@@ -89,10 +89,7 @@ challenge_moves F (reported n o) m account c = by (n == c.number)
         x ≡ cond b (reported_challenge o m (challenge_row F account c)) (challenge_row F account c))
     by true =
         let r : Option Report = earlier (report c.number F) (Some (record { date = m; outcome = o })) in
-        λ i. record (challenge_row F account c) {
-          reported = r;
-          status = challenge_status_by r (sym (answered_alike account c.number F) i);
-        }
+        λ i. record (challenge_row F account c) { reported = r; status = challenge_status_by r (sym (answered_alike account c.number F) i) }
     by false = refl
 challenge_moves F _ m account c = refl
 
