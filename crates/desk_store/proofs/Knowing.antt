@@ -5,7 +5,7 @@ use Rattle.std.specs.Prelude.{◌==◌, ◌&&◌, IfSome, IsTrue, if◌then◌el
 use Rattle.std.proofs.lemmas.Bool.{eq-eqb, le-ltb}
 use Rattle.std.proofs.lemmas.Bool.Decides.{nat_tests}
 use Rattle.std.proofs.lemmas.List.{get_or-set_other}
-use Rattle.model_laws.proofs.Basics.{each, each_both, each_of_map}
+use Rattle.model_laws.proofs.Basics.{each, each_all, each_both, each_of_map}
 use Rattle.desk_model.specs.Change.{applied, applied_one, put}
 use Rattle.desk_model.specs.Derived.{authz_code, order_code}
 use Rattle.desk_model.specs.Kept.{EachOf}
@@ -17,55 +17,32 @@ use Rattle.desk_model.specs.declared.rows.Change.TheVariants.{PutNonce, RemoveNo
 use Rattle.desk_model.specs.declared.rows.Meta.{Meta}
 use Rattle.desk_model.specs.declared.rows.OrderRow.{OrderRow}
 use Rattle.desk_model.specs.declared.status.AuthzStatus.{AuthzStatus}
-use Rattle.desk_model.specs.declared.status.AuthzStatus.TheVariants as authz
 use Rattle.desk_model.specs.declared.status.OrderStatus.{OrderStatus}
-use Rattle.desk_model.specs.declared.status.OrderStatus.TheVariants as order
 use Rattle.model_laws.proofs.Keeps.{each-filter}
 use Rattle.model_laws.specs.Ordered.{Ascends}
+use Rattle.model_lives.proofs.Lists.{each_filtered}
 use Rattle.model_lives.specs.LookUps.{authorizations_past, nonces_before, nonces_numbered, orders_past}
 use Rattle.sql_tables.proofs.Keyed.{ranked}
 use Rattle.sql_tables.proofs.Sorting.{each_put}
 use Rattle.sql_read.specs.Earliest.{IsEarliest, authorization_ends, issues, order_ends}
 use Rattle.desk_store.specs.Known.{EndFrom, IsKnownOf, bound_of, earlier, known_nonce, lowered, nonce_place, nothing, without}
 use Rattle.desk_store.specs.declared.known.Known.{Known}
-use Rattle.desk_store.proofs.KnownNonces.{found_alone, none_there, nonce_there, nonces_left, nonces_put}
+use Rattle.desk_store.proofs.KnownNonces.{found_alone, none_there, nonce_there, nonces_left, nonces_put, same_everywhere}
 
 -- ---- nothing
 
--- no moment is before 0
-from_zero : {X : Type 0} (end : X → ℕ) (xs : List X) → EachOf (λ x. 0 ≤ end x) xs
-from_zero end [] = tt
-from_zero end (x ∷ xs) = (omega arith, from_zero end xs)
-
--- so none ends before what stands there
+-- where zeros stand none ends before them
 zeros_from : {X : Type 0} (code end : X → ℕ) (ends : List ℕ) → ((x : X) → slice_index ends (code x) ≡ 0) → (xs : List X) → EndFrom code end ends xs
-zeros_from code end ends zeros xs = each _ _ xs (λ x low. subst (λ m. m ≤ end x) (sym (zeros x)) low) (from_zero end xs)
-
--- of orders
-order_zeros : (s : OrderStatus) → slice_index (replicate 5 0) (order_code s) ≡ 0
-order_zeros order.Pending = refl
-order_zeros order.Ready = refl
-order_zeros order.Processing = refl
-order_zeros order.Valid = refl
-order_zeros order.Invalid = refl
-
--- of authorizations
-authorization_zeros : (s : AuthzStatus) → slice_index (replicate 6 0) (authz_code s) ≡ 0
-authorization_zeros authz.Pending = refl
-authorization_zeros authz.Valid = refl
-authorization_zeros authz.Invalid = refl
-authorization_zeros authz.Deactivated = refl
-authorization_zeros authz.Expired = refl
-authorization_zeros authz.Revoked = refl
+zeros_from code end ends zeros xs = each_all (λ x. slice_index ends (code x) ≤ end x) xs (λ x. let none = zeros x in omega (arith, none))
 
 -- where nothing is known, it is so of any tables
 pub nothing_known : (T : Tables) → IsKnownOf nothing T
 nothing_known T = record {
   meta = tt;
   nonces = none_there T.nonces;
-  issues = from_zero (λ n. n.issued) T.nonces;
-  orders = zeros_from _ _ (replicate 5 0) (λ (o : OrderRow). order_zeros o.status) T.orders;
-  authorizations = zeros_from _ _ (replicate 6 0) (λ (r : AuthorizationRow). authorization_zeros r.status) T.authorizations;
+  issues = each_all (λ (n : Nonce). 0 ≤ n.issued) T.nonces (λ n. omega arith);
+  orders = zeros_from _ _ (replicate 5 0) (λ (o : OrderRow). same_everywhere 5 (order_code o.status) 0) T.orders;
+  authorizations = zeros_from _ _ (replicate 6 0) (λ (r : AuthorizationRow). same_everywhere 6 (authz_code r.status) 0) T.authorizations;
 }
 
 -- ---- moments in their places
@@ -193,16 +170,6 @@ followed_all known left W none (U, is, same) = subst (IsKnownOf known) (sym (ap 
 
 -- ---- what was found
 
--- what holds of the rows that pass
-unfiltered : {X : Type 0} (P : X → Type 0) (test : X → Bool) (xs : List X) → EachOf P (filter test xs) → EachOf (λ x. test x ≡ true → P x) xs
-unfiltered P test [] h = tt
-unfiltered {X} P test (x ∷ xs) h = by (test x) refl h (unfiltered P test xs)
-  where
-    by : (b : Bool) → test x ≡ b → EachOf P (cond b (x ∷ filter test xs) (filter test xs))
-        → (EachOf P (filter test xs) → EachOf (λ x. test x ≡ true → P x) xs) → EachOf (λ x. test x ≡ true → P x) (x ∷ xs)
-    by true is h rest = (λ _. h.0, rest h.1)
-    by false is h rest = (λ passes. absurd (let e = sym is ∙ passes in cc), rest h)
-
 -- nothing is made of nothing alone
 none_mapped : {X : Type 0} (P : X → Type 0) (f : X → ℕ) (xs : List X) → map f xs ≡ [] → EachOf P xs
 none_mapped P f [] none = tt
@@ -220,7 +187,7 @@ noted_ends : {X : Type 0} (code end : X → ℕ) (ends : List ℕ) (place : ℕ)
 noted_ends {X} code end ends place found xs earliest h =
     let m = bound_of found in
     each _ _ xs (λ (x : X) both. one x both.0 both.1)
-    (each_both _ _ xs h (unfiltered (λ x. m ≤ end x) (λ x. code x == place) xs (found_ends end found (filter (λ x. code x == place) xs) earliest)))
+    (each_both _ _ xs h (each_filtered (λ x. m ≤ end x) (λ x. code x == place) xs (found_ends end found (filter (λ x. code x == place) xs) earliest)))
   where
     one : (x : X) → slice_index ends (code x) ≤ end x → ((code x == place) ≡ true → bound_of found ≤ end x)
         → slice_index (slice_set ends place (bound_of found)) (code x) ≤ end x

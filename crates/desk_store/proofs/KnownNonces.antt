@@ -84,15 +84,15 @@ found_alone {X} number n low x (y ∷ ys) ascends found =
 abbrev nonce_in : List (Option Nonce) → ℕ → Option Nonce
 nonce_in nonces p = slice_index_or nonces p None
 
--- where all places are empty none stands in one
-blank : (places p : ℕ) → nonce_in (replicate places None) p ≡ None
-blank zero p = refl
-blank (suc places) zero = refl
-blank (suc places) (suc p) = blank places p
+-- where one value is in all places it stands in each
+pub same_everywhere : {X : Type 0} (places p : ℕ) (x : X) → slice_index_or (replicate places x) p x ≡ x
+same_everywhere zero p x = refl
+same_everywhere (suc places) zero x = refl
+same_everywhere (suc places) (suc p) x = same_everywhere places p x
 
--- so each that stands in one is there
+-- so each that stands where all places are empty is there
 pub none_there : (rows : List Nonce) → AreThere (replicate 8 None) rows
-none_there rows x at = absurd (let e = sym (blank 8 (nonce_place x.serial)) ∙ at in cc)
+none_there rows x at = absurd (let e = sym (same_everywhere 8 (nonce_place x.serial) None) ∙ at in cc)
 
 -- what is set in a place stands there, if there is one
 set_in : (nonces : List (Option Nonce)) (p : ℕ) (v : Option Nonce) (x : Nonce) → nonce_in (slice_set nonces p v) p ≡ Some x → v ≡ Some x

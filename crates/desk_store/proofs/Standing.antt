@@ -19,6 +19,7 @@ use Rattle.store_api.proofs.Readings.{stands_here}
 use Rattle.desk_store.specs.Causes.{FailsToLookUp, IsSilent}
 use Rattle.desk_store.specs.Desks.{HasDesk, HasTables, IsDesk, store_sight}
 use Rattle.desk_store.specs.Known.{IsKnownOf}
+use Rattle.desk_store.specs.declared.known.Known.{Known}
 use Rattle.desk_store.specs.declared.store.Store.{Store}
 
 -- ---- states
@@ -137,12 +138,20 @@ module _ {S : Type 0} (g : Ghosts S) where
       (λ clean T held. record { met = λ _. met clean T held; shut = λ _ shut. record { from = mid; asked = asked; silent = silent clean shut } })
 
   -- what a reading found is found by what hands it on
-  pub hands_on : {R E : Type 0} (P : Tables → R → Type 0) (old : Store S) (mid new : State) (read : Result R E) (result : Result R StorageFault)
-      → ForHeld (state g old.conn) mid (λ T. IsStoredBook T → IfOk read (P T)) → IfOk result (λ found. read ≡ Ok found)
-      → (HasCleanDisk new → HasCleanDisk mid) → HasCleanDisk new → (T : Tables) → HasTables g old T → IfOk result (P T)
+  pub hands_on : {R E : Type 0} (P : Tables → R → Type 0) (old : Store S) (mid : Held S) (new : Store S) (read : Result R E) (result : Result R StorageFault)
+      → ForHeld (state g old.conn) (state g mid) (λ T. IsStoredBook T → IfOk read (P T)) → IfOk result (λ found. read ≡ Ok found)
+      → (HasCleanDisk (state g new.conn) → HasCleanDisk (state g mid)) → HasCleanDisk (state g new.conn) → (T : Tables) → HasTables g old T → IfOk result (P T)
   hands_on P old mid new read (Ok found) of same honest clean T has =
       subst (λ r. IfOk r (P T)) same (of (honest clean) T has.desk.desk.holds has.desk.desk.book)
   hands_on P old mid new read (Err why) of same honest clean T has = tt
+
+  -- so what a store notes of it is so of its tables
+  pub notes_on : {R E : Type 0} (P : Tables → R → Type 0) (old : Store S) (mid : Held S) (new : Store S) (known : Known) (read : Result R E) (found : R)
+      → ForHeld (state g old.conn) (state g mid) (λ T. IsStoredBook T → IfOk read (P T)) → read ≡ Ok found
+      → (HasCleanDisk (state g new.conn) → HasCleanDisk (state g mid)) → ((T : Tables) → P T found → IsKnownOf new.known T → IsKnownOf known T)
+      → HasCleanDisk (state g new.conn) → (T : Tables) → HasTables g old T → IsKnownOf new.known T → IsKnownOf known T
+  notes_on P old mid new known read found of is honest noted clean T has =
+      noted T (hands_on P old mid new read (Ok found) of is honest clean T has)
 
   -- a store that knows more of what was read has what it had
   pub reads_knowing : {A B : Type 0} (old mid new : Store S) (a : A) (b : B) → new.conn ≡ mid.conn → Reads (store_sight g) old mid (Ok a)

@@ -1,8 +1,9 @@
 -- What an upgrade leaves of a desk.
-use Rattle.std.proofs.Common.{◌≡◌, IfOk, Result, Ok, Err, ap, sym, subst, ◌∙◌}
-use Rattle.sqlite.specs.State.{State, IsUnchanged}
-use Rattle.sqlite.specs.Tree.{Trees}
+use Rattle.std.proofs.Common.{◌≡◌, IfOk, Result, Ok, Err, ap, arith, sym, subst, ◌∙◌}
+use Rattle.sqlite.proofs.StateLemmas.{survives_then}
+use Rattle.sqlite.specs.State.{State, HasCleanDisk, IsUnchanged, Survives}
 use Rattle.desk_model.specs.Tables.{Tables}
+use Rattle.sql_schema.specs.Stays.{Asks}
 use Rattle.sql_write.specs.Committing.{IsLeft}
 use Rattle.desk_store.specs.Desks.{AreOfDesk}
 use Rattle.sql_upgrade.specs.FirstDesks.{HasFirst, IsAdded, IsFirstDesk, IsOfBook, UpgradesDesk}
@@ -31,16 +32,17 @@ pub added_by_book : {E : Type 0} (s : State) (B : Tables) (made : Result Additio
 added_by_book s B (Ok additions) is book = λ T has. books_have_additions B additions is s.now T has.desk (same_blank T B (book T has))
 added_by_book s B (Err why) is book = tt
 
--- what a stop leaves is the same desk
-pub desk_left_by : (old mid : State) (additions : Additions) (trees : Trees) → mid.step_limit ≡ old.step_limit → IsUnchanged old mid
-    → ((T : Tables) → HasFirst old T → IsAdded additions T) → IsLeft (UpgradesDesk additions mid.now) trees → (T : Tables) → HasFirst old T
-    → AreOfDesk trees T
-desk_left_by old mid additions trees limit same added left T has =
-    let there = first_unchanged old mid T limit same has in (
-      left.0,
-      left.1,
-      record { holds = left.2 T there.desk (added T has); book = there.desk.book },
-    )
+-- what a stop in an upgrade leaves, behind a call that changed nothing, is the same desk
+pub upgrade_left : (old mid new : State) (additions : Additions) → Asks old mid → (HasCleanDisk mid → IsUnchanged old mid)
+    → (HasCleanDisk mid → (T : Tables) → HasFirst old T → IsAdded additions T) → Survives mid new (IsLeft (UpgradesDesk additions mid.now))
+    → Survives old new (λ trees. (T : Tables) → HasFirst old T → AreOfDesk trees T)
+upgrade_left old mid new additions asked same added left =
+    survives_then old mid new _ _ _ (λ _ _ none. absurd none)
+    (λ clean trees it T has.
+    let there : HasCleanDisk mid = omega (arith, clean, left.clean) in
+    let first = first_unchanged old mid T asked.survives.limit (same there) has in
+    (it.0, it.1, record { holds = it.2 T first.desk (added there T has); book = first.desk.book }))
+    asked.survives left
 
 -- what is added to a desk was added to it before a call that changed nothing
 pub added_behind : {E : Type 0} (old mid : State) (r : Result Additions E) → mid.step_limit ≡ old.step_limit → IsUnchanged old mid

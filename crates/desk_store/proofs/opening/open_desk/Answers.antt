@@ -8,46 +8,27 @@ use Rattle.desk_store.proofs.Failing.{leaves_nothing, opened_nothing}
 use Rattle.desk_store.proofs.Openings.{opens_behind}
 use Rattle.desk_store.proofs.opening.open_desk.Goals as goal
 
-pub returns-in-Ok-clause-opens : goal.returns-in-Ok-clause-opens
-returns-in-Ok-clause-opens g c =
-    opens_behind g.S.Store c.args.conn.now c.check_format.new.conn c.open_known.new.conn c.open_known.result c.check_format.ensures.asks
-    c.in-Ok.ensures.unchanged c.open_known.ensures.idle c.open_known.ensures.opens
-
-pub returns-in-Ok-clause-refused : goal.returns-in-Ok-clause-refused
-returns-in-Ok-clause-refused g c =
+pub returns-in-Ok : goal.returns-in-Ok
+returns-in-Ok g c =
     let old = state g.S.Store c.args.conn.now in
     let mid = state g.S.Store c.check_format.new.conn in
     let new = state g.S.Store c.open_known.new.conn in
-    refused_so c.open_known.result (λ no_desk. asks_then old mid new c.check_format.ensures.asks (c.open_known.ensures.refused no_desk))
-    c.open_known.ensures.no_newer
-
-pub returns-in-Ok-clause-newer : goal.returns-in-Ok-clause-newer
-returns-in-Ok-clause-newer g c clean newer = absurd (c.open_known.ensures.no_newer newer)
-
-pub returns-in-Ok-clause-known : goal.returns-in-Ok-clause-known
-returns-in-Ok-clause-known g c clean =
-    let mid = state g.S.Store c.check_format.new.conn in
-    let clean_mid : HasCleanDisk mid = let le = c.open_known.ensures.opens.left.clean in omega (arith, clean, le) in
-    always_ok c.open_known.result (c.check_format.new.conn, c.in-Ok.ensures.known clean_mid)
-
-pub returns-in-Ok-clause-later : goal.returns-in-Ok-clause-later
-returns-in-Ok-clause-later g c clean later =
-    let mid = state g.S.Store c.check_format.new.conn in
-    let clean_mid : HasCleanDisk mid = let le = c.open_known.ensures.opens.left.clean in omega (arith, clean, le) in
-    absurd (c.in-Ok.ensures.later clean_mid later)
-
-pub returns-in-Ok-clause-no_later : goal.returns-in-Ok-clause-no_later
-returns-in-Ok-clause-no_later g c clean none =
-    let mid = state g.S.Store c.check_format.new.conn in
-    let clean_mid : HasCleanDisk mid = let le = c.open_known.ensures.opens.left.clean in omega (arith, clean, le) in
-    inl (c.check_format.new.conn, c.in-Ok.ensures.known clean_mid)
-
-pub returns-in-Ok-clause-no_desk : goal.returns-in-Ok-clause-no_desk
-returns-in-Ok-clause-no_desk g c clean none =
-    let mid = state g.S.Store c.check_format.new.conn in
-    let clean_mid : HasCleanDisk mid = let le = c.open_known.ensures.opens.left.clean in omega (arith, clean, le) in
-    inr (no_desk_still g.S.Store c.args.conn.now c.check_format.new.conn (c.in-Ok.ensures.unchanged clean_mid).0.now_is
-    (c.open_known.ensures.no_desk clean none))
+    let asked = c.check_format.ensures.asks in
+    let format = c.in-Ok.ensures in
+    let opened = c.open_known.ensures in
+    let there : HasCleanDisk new → HasCleanDisk mid = λ clean. let le = opened.opens.left.clean in omega (arith, clean, le) in
+    record {
+      idle = opened.idle;
+      opens = opens_behind g.S.Store c.args.conn.now c.check_format.new.conn c.open_known.new.conn c.open_known.result asked format.unchanged
+          opened.idle opened.opens;
+      refused = refused_so c.open_known.result (λ no_desk. asks_then old mid new asked (opened.refused no_desk)) opened.no_newer;
+      newer = λ clean newer. absurd (opened.no_newer newer);
+      known = λ clean. always_ok c.open_known.result (c.check_format.new.conn, format.known (there clean));
+      no_later = λ clean none. inl (c.check_format.new.conn, format.known (there clean));
+      no_desk = λ clean none. inr (no_desk_still g.S.Store c.args.conn.now c.check_format.new.conn (format.unchanged (there clean)).0.now_is
+          (opened.no_desk clean none));
+      later = λ clean later. absurd (format.later (there clean) later);
+    }
 
 pub returns-in-Err-clause-opens : goal.returns-in-Err-clause-opens
 returns-in-Err-clause-opens g c =

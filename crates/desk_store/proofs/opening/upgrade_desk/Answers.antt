@@ -4,7 +4,7 @@ use Rattle.sqlite.specs.Held.{state}
 use Rattle.sqlite.specs.State.{HasCleanDisk}
 use Rattle.desk_store.proofs.OpeningFaults.{same_storage}
 use Rattle.desk_store.proofs.Standing.{failed, same_fault}
-use Rattle.desk_store.proofs.Upgrading.{desk_left_by, first_unchanged}
+use Rattle.desk_store.proofs.Upgrading.{first_unchanged, upgrade_left}
 use Rattle.desk_store.proofs.Failing.{leaves_nothing, opened_nothing}
 use Rattle.desk_store.proofs.opening.upgrade_desk.Goals as goal
 
@@ -22,25 +22,13 @@ returns-in-Ok-upgrade_with-clause-upgraded g c clean T has =
 
 pub returns-in-Ok-upgrade_with-clause-left : goal.returns-in-Ok-upgrade_with-clause-left
 returns-in-Ok-upgrade_with-clause-left g c =
-    let old = state g.S.Store c.args.conn.now in
-    let mid = state g.S.Store c.find_additions.new.conn in
-    let new = state g.S.Store c.upgrade_with.new.conn in
-    survives_then old mid new _ _ _ (λ _ _ none. absurd none)
-    (λ clean trees left.
-    let clean_mid : HasCleanDisk mid = omega (arith, clean, c.upgrade_with.ensures.left.clean) in
-    desk_left_by old mid _ trees c.find_additions.ensures.reads.asks.survives.limit (c.in-Ok.ensures.reads.unchanged clean_mid) (c.in-Ok.ensures.added clean_mid) left)
-    c.find_additions.ensures.reads.asks.survives c.upgrade_with.ensures.left
+    upgrade_left (state g.S.Store c.args.conn.now) (state g.S.Store c.find_additions.new.conn) (state g.S.Store c.upgrade_with.new.conn) _
+    c.find_additions.ensures.reads.asks c.in-Ok.ensures.reads.unchanged c.in-Ok.ensures.added c.upgrade_with.ensures.left
 
 pub returns-in-Err-upgrade_with-clause-left : goal.returns-in-Err-upgrade_with-clause-left
 returns-in-Err-upgrade_with-clause-left g c =
-    let old = state g.S.Store c.args.conn.now in
-    let mid = state g.S.Store c.find_additions.new.conn in
-    let new = state g.S.Store c.upgrade_with.new.conn in
-    survives_then old mid new _ _ _ (λ _ _ none. absurd none)
-    (λ clean trees left.
-    let clean_mid : HasCleanDisk mid = omega (arith, clean, c.upgrade_with.ensures.left.clean) in
-    desk_left_by old mid _ trees c.find_additions.ensures.reads.asks.survives.limit (c.in-Ok.ensures.reads.unchanged clean_mid) (c.in-Ok.ensures.added clean_mid) left)
-    c.find_additions.ensures.reads.asks.survives c.upgrade_with.ensures.left
+    upgrade_left (state g.S.Store c.args.conn.now) (state g.S.Store c.find_additions.new.conn) (state g.S.Store c.upgrade_with.new.conn) _
+    c.find_additions.ensures.reads.asks c.in-Ok.ensures.reads.unchanged c.in-Ok.ensures.added c.upgrade_with.ensures.left
 
 pub returns-in-Ok-upgrade_with-clause-shown : goal.returns-in-Ok-upgrade_with-clause-shown
 returns-in-Ok-upgrade_with-clause-shown g c clean =

@@ -1,9 +1,9 @@
-use Rattle.std.proofs.Common.{Ok, refl, subst, sym}
-use Rattle.sqlite.specs.Held.{state}
+use Rattle.std.proofs.Common.{refl, subst, sym}
 use Rattle.sql_read.specs.Earliest.{IsEarliest, authorization_ends}
 use Rattle.desk_store.specs.Known.{IsKnownOf}
 use Rattle.desk_store.proofs.Knowing.{authorization_end_noted, no_authorizations_past, not_late}
-use Rattle.desk_store.proofs.Standing.{hands_on, reads_knowing}
+use Rattle.desk_store.proofs.Standing.{notes_on, reads_knowing}
+use Rattle.store_api.proofs.Readings.{reads_failed_as}
 use Rattle.desk_store.proofs.store.Store.has_no_authorization_past.Goals as goal
 
 pub returns-then-authorization_end-moment-clause-found : goal.returns-then-authorization_end-moment-clause-found
@@ -11,31 +11,23 @@ returns-then-authorization_end-moment-clause-found g c clean T has _ =
     no_authorizations_past c.args.self.now.known T c.args.status c.args.moment c.authorization_end.result has.known c.authorization_end.ensures
     c.if-authorization_end-moment.true
 
-pub returns-in-Ok-clause-reads : goal.returns-in-Ok-clause-reads
-returns-in-Ok-clause-reads g c =
-    reads_knowing g.S.Store c.args.self.now c.told.new.self (record { conn = c.told.new.self.conn; known = c.note_authorization_end.new.self })
-    c.in-Ok.earliest _ refl
-    (c.in-Ok.ensures.reads c.args.self.now refl c.earliest_authorization_end-read.ensures.asks c.earliest_authorization_end-read.ensures.unchanged
-    c.earliest_authorization_end-read.ensures.caused)
-    (λ clean T has known.
-    authorization_end_noted c.told.new.self.known c.note_authorization_end.new.self c.args.status c.in-Ok.earliest c.note_authorization_end.ensures T
-    (hands_on g.S.Store (λ T. IsEarliest (authorization_ends T c.args.status)) c.args.self.now (state g.S.Store c.earliest_authorization_end-read.new.conn)
-    (state g.S.Store c.told.new.self.conn) _ (Ok c.in-Ok.earliest)
-    (λ clean T held book. c.earliest_authorization_end-read.ensures.found clean T held) c.in-Ok.ensures.found c.told.ensures.honest clean T has)
-    known)
-
-pub returns-in-Ok-clause-found : goal.returns-in-Ok-clause-found
-returns-in-Ok-clause-found g c clean T has none =
-    no_authorizations_past c.note_authorization_end.new.self T c.args.status c.args.moment c.authorization_end-in-Ok.result
-    (authorization_end_noted c.told.new.self.known c.note_authorization_end.new.self c.args.status c.in-Ok.earliest c.note_authorization_end.ensures T
-    (hands_on g.S.Store (λ T. IsEarliest (authorization_ends T c.args.status)) c.args.self.now (state g.S.Store c.earliest_authorization_end-read.new.conn)
-    (state g.S.Store c.told.new.self.conn) _ (Ok c.in-Ok.earliest)
-    (λ clean T held book. c.earliest_authorization_end-read.ensures.found clean T held) c.in-Ok.ensures.found c.told.ensures.honest clean T has)
-    (subst (λ k. IsKnownOf k T) (sym c.told.ensures.known) has.known))
-    c.authorization_end-in-Ok.ensures (not_late c.args.moment c.authorization_end-in-Ok.result none)
+pub returns-in-Ok : goal.returns-in-Ok
+returns-in-Ok g c =
+    let old = c.args.self.now in
+    let read = c.earliest_authorization_end-read.ensures in
+    let mid = c.told.new.self in
+    let known = c.note_authorization_end.new.self in
+    let knows = notes_on g.S.Store (λ T. IsEarliest (authorization_ends T c.args.status)) old c.earliest_authorization_end-read.new.conn mid known _ c.in-Ok.earliest
+    (λ clean T held book. read.found clean T held) c.in-Ok.ensures.found c.told.ensures.honest (authorization_end_noted mid.known known c.args.status c.in-Ok.earliest c.note_authorization_end.ensures) in
+    record {
+      reads = reads_knowing g.S.Store old mid (record { conn = mid.conn; known = known }) c.in-Ok.earliest _ refl
+          (c.in-Ok.ensures.reads old refl read.asks read.unchanged read.caused) knows;
+      found = λ clean T has none.
+          no_authorizations_past known T c.args.status c.args.moment c.authorization_end-in-Ok.result
+          (knows clean T has (subst (λ k. IsKnownOf k T) (sym c.told.ensures.known) has.known)) c.authorization_end-in-Ok.ensures
+          (not_late c.args.moment c.authorization_end-in-Ok.result none);
+    }
 
 pub returns-in-Err-clause-reads : goal.returns-in-Err-clause-reads
 returns-in-Err-clause-reads g c =
-    let read = c.earliest_authorization_end-read.ensures in
-    let reads = c.in-Err.ensures.reads c.args.self.now refl read.asks read.unchanged read.caused in
-    record { honest = reads.honest; left = reads.left; tables = tt; without_memory = reads.without_memory; failed = reads.failed }
+    let read = c.earliest_authorization_end-read.ensures in reads_failed_as (c.in-Err.ensures.reads c.args.self.now refl read.asks read.unchanged read.caused)

@@ -44,44 +44,31 @@ returns-in-Ok-clause-whole g c = c.in-Ok.ensures.opens.whole
 pub returns-in-Ok-clause-whole_first : goal.returns-in-Ok-clause-whole_first
 returns-in-Ok-clause-whole_first g c = c.in-Ok.ensures.opens.whole_first
 
-pub returns-in-Err-clause-asks : goal.returns-in-Err-clause-asks
-returns-in-Err-clause-asks g c = c.open_desk.ensures.opens.asks
-
-pub returns-in-Err-clause-refused : goal.returns-in-Err-clause-refused
-returns-in-Err-clause-refused g c = c.in-Err.ensures.refused
-
-pub returns-in-Err-clause-back : goal.returns-in-Err-clause-back
-returns-in-Err-clause-back g c = c.in-Err.ensures.opens.back
-
-pub returns-in-Err-clause-left : goal.returns-in-Err-clause-left
-returns-in-Err-clause-left g c = c.open_desk.ensures.opens.left
-
-pub returns-in-Err-clause-spared : goal.returns-in-Err-clause-spared
-returns-in-Err-clause-spared g c memory = c.in-Err.ensures.opens.spared (ap (failed (Unit {0})) memory)
-
-pub returns-in-Err-clause-newer : goal.returns-in-Err-clause-newer
-returns-in-Err-clause-newer g c clean newer = c.in-Err.ensures.newer clean (ap (failed (Unit {0})) newer)
-
-pub returns-in-Err-clause-desk : goal.returns-in-Err-clause-desk
-returns-in-Err-clause-desk g c = c.in-Err.ensures.opens.desk
-
-pub returns-in-Err-clause-first : goal.returns-in-Err-clause-first
-returns-in-Err-clause-first g c = c.in-Err.ensures.opens.first
-
-pub returns-in-Err-clause-answering : goal.returns-in-Err-clause-answering
-returns-in-Err-clause-answering g c clean memory = c.in-Err.ensures.opens.answering clean (ap (failed (Unit {0})) memory)
-
 pub returns-in-Ok-clause-later : goal.returns-in-Ok-clause-later
 returns-in-Ok-clause-later g c later clean = c.in-Ok.ensures.later clean later
 
-pub returns-in-Err-clause-later : goal.returns-in-Err-clause-later
-returns-in-Err-clause-later g c later clean = c.in-Err.ensures.later clean later
-
-pub returns-in-Err-clause-failed : goal.returns-in-Err-clause-failed
-returns-in-Err-clause-failed g c = c.in-Err.ensures.opens.failed
-
-pub returns-in-Err-clause-no_later : goal.returns-in-Err-clause-no_later
-returns-in-Err-clause-no_later g c clean none = c.in-Err.ensures.no_later clean (ap (failed (Unit {0})) none)
-
-pub returns-in-Err-clause-no_desk : goal.returns-in-Err-clause-no_desk
-returns-in-Err-clause-no_desk g c clean none = c.in-Err.ensures.no_desk clean (ap (failed (Unit {0})) none)
+pub returns-in-Err : goal.returns-in-Err
+returns-in-Err g c =
+    let unopened = c.in-Err.ensures in
+    record {
+      idle = c.open_desk.ensures.idle;
+      asks = c.open_desk.ensures.opens.asks;
+      unchanged = λ uses. tt;
+      refused = unopened.refused;
+      kept = tt;
+      upgraded = tt;
+      back = unopened.opens.back;
+      left = c.open_desk.ensures.opens.left;
+      spared = λ memory. unopened.opens.spared (ap (failed (Unit {0})) memory);
+      newer = λ clean newer. unopened.newer clean (ap (failed (Unit {0})) newer);
+      known = tt;
+      no_later = λ clean none. unopened.no_later clean (ap (failed (Unit {0})) none);
+      no_desk = λ clean none. unopened.no_desk clean (ap (failed (Unit {0})) none);
+      whole = tt;
+      whole_first = tt;
+      desk = unopened.opens.desk;
+      first = unopened.opens.first;
+      later = λ later clean. unopened.later clean later;
+      failed = unopened.opens.failed;
+      answering = λ clean memory. unopened.opens.answering clean (ap (failed (Unit {0})) memory);
+    }

@@ -2,21 +2,21 @@ use Rattle.std.proofs.Common.{◌≡◌, ap, refl, Ok}
 use Rattle.sqlite.specs.Held.{state}
 use Rattle.desk_model.specs.declared.rows.Meta.{Meta}
 use Rattle.sql_schema.proofs.StaysLemmas.{asks_then}
+use Rattle.store_api.proofs.Readings.{reads_failed_as, reads_standing, stands_read}
 use Rattle.desk_store.proofs.Failing.{read_failed}
 use Rattle.desk_store.proofs.Standing.{failed, hands_on}
 use Rattle.desk_store.proofs.store.Store.policy.Goals as goal
 
 pub returns-in-Ok-clause-reads : goal.returns-in-Ok-clause-reads
 returns-in-Ok-clause-reads g c =
-    let reads = c.in-Ok.ensures.reads c.args.self.now refl c.meta_row-read.ensures.asks c.meta_row-read.ensures.unchanged c.meta_row-read.ensures.caused in
-    record { honest = reads.honest; left = reads.left; tables = reads.tables; without_memory = tt; failed = λ clean T held. tt }
+    let read = c.meta_row-read.ensures in
+    reads_standing _ tt (stands_read (c.in-Ok.ensures.reads c.args.self.now refl read.asks read.unchanged read.caused))
 
 pub returns-in-Ok-clause-found : goal.returns-in-Ok-clause-found
 returns-in-Ok-clause-found g c clean T has =
     ap (λ (meta : Meta). meta.policy)
-    (hands_on g.S.Store (λ T meta. meta ≡ T.meta) c.args.self.now (state g.S.Store c.meta_row-read.new.conn)
-    (state g.S.Store c.told.new.self.conn) c.meta_row-read.result (Ok c.in-Ok.meta) c.meta_row-read.ensures.found c.in-Ok.ensures.found
-    c.in-Ok.ensures.honest clean T has)
+    (hands_on g.S.Store (λ T meta. meta ≡ T.meta) c.args.self.now c.meta_row-read.new.conn c.told.new.self c.meta_row-read.result (Ok c.in-Ok.meta)
+    c.meta_row-read.ensures.found c.in-Ok.ensures.found c.in-Ok.ensures.honest clean T has)
 
 pub returns-in-Ok-clause-asks : goal.returns-in-Ok-clause-asks
 returns-in-Ok-clause-asks g c =
@@ -25,8 +25,7 @@ returns-in-Ok-clause-asks g c =
 
 pub returns-in-Err-clause-reads : goal.returns-in-Err-clause-reads
 returns-in-Err-clause-reads g c =
-    let reads = c.in-Err.ensures.reads c.args.self.now refl c.meta_row-read.ensures.asks c.meta_row-read.ensures.unchanged c.meta_row-read.ensures.caused in
-    record { honest = reads.honest; left = reads.left; tables = tt; without_memory = reads.without_memory; failed = reads.failed }
+    let read = c.meta_row-read.ensures in reads_failed_as (c.in-Err.ensures.reads c.args.self.now refl read.asks read.unchanged read.caused)
 
 pub returns-in-Err-clause-asks : goal.returns-in-Err-clause-asks
 returns-in-Err-clause-asks g c =

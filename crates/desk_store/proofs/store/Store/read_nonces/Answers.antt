@@ -1,17 +1,17 @@
 use Rattle.std.proofs.Common.{refl}
-use Rattle.sqlite.specs.Held.{state}
 use Rattle.store_api.proofs.Readings.{reads_then, stands_read}
 use Rattle.desk_store.proofs.Standing.{hands_on}
 use Rattle.desk_store.proofs.store.Store.read_nonces.Goals as goal
 
-pub returns-clause-reads : goal.returns-clause-reads
-returns-clause-reads g c =
-    reads_then c.told.result (stands_read c.in_ok-has_no_nonces.ensures.reads)
-    (c.told.ensures.reads c.has_no_nonces.new.self refl c.find_nonces-read.ensures.asks c.find_nonces-read.ensures.unchanged c.find_nonces-read.ensures.caused)
-
-pub returns-clause-found : goal.returns-clause-found
-returns-clause-found g c clean T has =
-    let before = (c.told.ensures.reads c.has_no_nonces.new.self refl c.find_nonces-read.ensures.asks c.find_nonces-read.ensures.unchanged
-    c.find_nonces-read.ensures.caused).honest clean in
-    hands_on g.S.Store _ c.has_no_nonces.new.self (state g.S.Store c.find_nonces-read.new.conn) (state g.S.Store c.told.new.self.conn) _ c.told.result
-    c.find_nonces-read.ensures.found c.told.ensures.found c.told.ensures.honest clean T (c.in_ok-has_no_nonces.ensures.reads.tables before T has)
+pub returns : goal.returns
+returns g c =
+    let mid = c.has_no_nonces.new.self in
+    let known = c.in_ok-has_no_nonces.ensures.reads in
+    let read = c.find_nonces-read.ensures in
+    let reads = c.told.ensures.reads mid refl read.asks read.unchanged read.caused in
+    record {
+      reads = reads_then c.told.result (stands_read known) reads;
+      found = λ clean T has.
+          hands_on g.S.Store _ mid c.find_nonces-read.new.conn c.told.new.self _ c.told.result read.found c.told.ensures.found c.told.ensures.honest
+          clean T (known.tables (reads.honest clean) T has);
+    }
