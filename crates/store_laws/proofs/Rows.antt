@@ -30,7 +30,7 @@ use Rattle.desk_model.specs.Legal.{has_length, is_problem, is_problem_kind, Lega
 use Rattle.desk_model.specs.Limits.{last_end, last_moment, last_number, longest_detail}
 use Rattle.desk_model.specs.Nonce.{is_open, nonce, nonces}
 use Rattle.desk_model.specs.Order.{orders}
-use Rattle.desk_model.specs.Questions.{authorization_on}
+use Rattle.desk_model.specs.Questions.{account_on, authorization_on}
 use Rattle.desk_model.specs.Tables.{authorization_row, challenge_row, order_row, picture, Tables, tables_at}
 use Rattle.desk_model.specs.declared.entry.Entry.{Entry}
 use Rattle.desk_model.specs.declared.entry.Entry.TheVariants.{Spent as spent}
@@ -211,54 +211,37 @@ row_tokens F h t =
     each-map _ (authorization_row F t) (authorizations F)
     (each HasTokens _ (authorizations F) (λ a. each-map (λ c. length c.token ≡ 16) (challenge_row F a.account) a.challenges) (tokens_drawn F h.each))
 
--- what is known of an authorization
-record AreAuthorizationFacts (F : History) (last : ℕ) (row : AuthorizationRow) : Type 0 where
-  number : IsNumber row.number
-  account : IsNumber row.account
-  name : IsTrue (is_base_name row.name.base)
-  expires : row.expires ≤ last_end
-  dates : IsAuthorizationDatedBy (clock F) row
-  up : Ascends (λ c. c.number) 1 row.challenges
-  below : Below (λ c. c.number) (last + 1) row.challenges
-  tokens : EachOf (λ c. length c.token ≡ 16) row.challenges
-  thumbs : EachOf (λ c. HasThumb c.answered) row.challenges
-
--- these are enough for an authorization and its challenges
-authorization_stored : (F : History) → Legal F → (last : ℕ) → last ≤ last_number → (row : AuthorizationRow) → AreAuthorizationFacts F last row →
+-- what is known of an authorization is enough for it and its challenges
+authorization_stored : (F : History) → Legal F → (t : ℕ) (row : AuthorizationRow) →
+    IsNumber row.number × (IsSome (account_on (tables_at F t) row.account) × (IsTrue (is_base_name row.name.base) × ((row.expires ≤ last_end)
+    × (IsAuthorizationDatedBy (clock F) row × (Ascends (λ c. c.number) 1 row.challenges
+    × (Below (λ c. c.number) ((tables_at F t).meta.counters.challenges + 1) row.challenges
+    × (EachOf (λ c. length c.token ≡ 16) row.challenges × EachOf (λ c. HasThumb c.answered) row.challenges))))))) →
     IsAuthorizationInLimits row
-authorization_stored F h last fits row k =
+authorization_stored F h t row (number, (account, (name, (expires, (dates, (up, (below, (tokens, thumbs)))))))) =
+    let last = (tables_at F t).meta.counters.challenges in
+    let fits = (counters_fit F h.numbered t).challenges in
     record {
       columns = record {
-        number = k.number;
-        account = k.account;
-        name = k.name;
-        made = moment_of F h row.made k.dates.made;
-        expires = k.expires;
-        ended = dated F h (λ e. e.date) row.ended k.dates.ended;
+        number = number;
+        account = found_in_limits (λ b. b.number) row.account (tables_at F t).accounts (account_numbers F h t) account;
+        name = name;
+        made = moment_of F h row.made dates.made;
+        expires = expires;
+        ended = dated F h (λ e. e.date) row.ended dates.ended;
         challenges = refl;
       };
-      challenges = challenges_stored F h row.number last k.number fits row.challenges k.up k.below k.tokens k.dates.challenges;
-      keys = keys_stored row.number row.challenges (numbers_in_limits (λ c. c.number) last row.challenges k.up k.below fits) k.thumbs;
+      challenges = challenges_stored F h row.number last number fits row.challenges up below tokens dates.challenges;
+      keys = keys_stored row.number row.challenges (numbers_in_limits (λ c. c.number) last row.challenges up below fits) thumbs;
     }
 
 -- each authorization
 authorizations_stored : (F : History) → Legal F → (t : ℕ) → EachOf IsAuthorizationInLimits (tables_at F t).authorizations
 authorizations_stored F h t =
-    let T = tables_at F t in
+    let rows : List AuthorizationRow = (tables_at F t).authorizations in
     let book = tables_book F h.each t in
-    let rows : List AuthorizationRow = T.authorizations in
     let both : (P Q : AuthorizationRow → Type 0) → EachOf P rows → EachOf Q rows → EachOf (λ a. P a × Q a) rows = λ P Q. each_both P Q rows in
-    each _ _ T.authorizations (λ a p. authorization_stored F h T.meta.counters.challenges (counters_fit F h.numbered t).challenges a (record {
-      number = p.0;
-      account = found_in_limits (λ b. b.number) a.account T.accounts (account_numbers F h t) p.1.0;
-      name = p.1.1.0;
-      expires = p.1.1.1.0;
-      dates = p.1.1.1.1.0;
-      up = p.1.1.1.1.1.0;
-      below = p.1.1.1.1.1.1.0;
-      tokens = p.1.1.1.1.1.1.1.0;
-      thumbs = p.1.1.1.1.1.1.1.1;
-    }))
+    each _ _ rows (authorization_stored F h t)
     (both _ _ (authorization_numbers F h t)
     (both _ _ book.sound.references.authorizations
     (both _ _ (row_names_formed F h.each t)
@@ -289,32 +272,24 @@ failure_stored F h o dates formed =
     (λ f p. (moment_of F h f.date p.0, (and_parts (is_problem_kind f.problem.kind) (has_length 1 longest_detail f.problem.detail) p.1).0)) o
     (if_both _ _ o dates formed)
 
--- what is known of an order
-record AreOrderFacts (F : History) (T : Tables) (row : OrderRow) : Type 0 where
-  number : IsNumber row.number
-  account : IsNumber row.account
-  expires : row.expires ≤ last_end
-  dates : IsOrderDatedBy (clock F) row
-  formed : IfSome row.failed (λ f. is_problem f.problem ≡ true)
-  up : Ascends (λ l. l.place) 1 row.listed
-  found : ListsFound T row
-
--- these are enough for an order and what it lists
-order_stored : (F : History) → Legal F → (T : Tables) → EachOf (λ a. IsNumber a.number) T.authorizations → (row : OrderRow) →
-    AreOrderFacts F T row → IsOrderInLimits row
-order_stored F h T numbers row k =
+-- what is known of an order is enough for it and what it lists
+order_stored : (F : History) → Legal F → (t : ℕ) (row : OrderRow) →
+    IsNumber row.number × (IsSome (account_on (tables_at F t) row.account) × ((row.expires ≤ last_end) × (IsOrderDatedBy (clock F) row
+    × (IfSome row.failed (λ f. is_problem f.problem ≡ true) × (Ascends (λ l. l.place) 1 row.listed × ListsFound (tables_at F t) row))))) →
+    IsOrderInLimits row
+order_stored F h t row (number, (account, (expires, (dates, (formed, (up, found)))))) =
     record {
       columns = record {
-        number = k.number;
-        account = k.account;
-        made = moment_of F h row.made k.dates.made;
-        expires = k.expires;
+        number = number;
+        account = found_in_limits (λ b. b.number) row.account (tables_at F t).accounts (account_numbers F h t) account;
+        made = moment_of F h row.made dates.made;
+        expires = expires;
         listed = refl;
-        finalized = dated F h (λ b. b.date) row.finalized k.dates.finalized;
-        certified = dated F h (λ b. b.date) row.certified k.dates.certified;
-        failed = failure_stored F h row.failed k.dates.failed k.formed;
+        finalized = dated F h (λ b. b.date) row.finalized dates.finalized;
+        certified = dated F h (λ b. b.date) row.certified dates.certified;
+        failed = failure_stored F h row.failed dates.failed formed;
       };
-      listed = listed_stored T row.number numbers k.number row.listed k.up k.found;
+      listed = listed_stored (tables_at F t) row.number (authorization_numbers F h t) number row.listed up found;
     }
 
 -- the number of each order
@@ -331,19 +306,10 @@ row_problems F h t = each-map _ (order_row F t) (orders F) (each_all _ (orders F
 -- each order
 orders_stored : (F : History) → Legal F → (t : ℕ) → EachOf IsOrderInLimits (tables_at F t).orders
 orders_stored F h t =
-    let T = tables_at F t in
+    let rows : List OrderRow = (tables_at F t).orders in
     let book = tables_book F h.each t in
-    let rows : List OrderRow = T.orders in
     let both : (P Q : OrderRow → Type 0) → EachOf P rows → EachOf Q rows → EachOf (λ o. P o × Q o) rows = λ P Q. each_both P Q rows in
-    each _ _ T.orders (λ o p. order_stored F h T (authorization_numbers F h t) o (record {
-      number = p.0;
-      account = found_in_limits (λ b. b.number) o.account T.accounts (account_numbers F h t) p.1.0;
-      expires = p.1.1.0;
-      dates = p.1.1.1.0;
-      formed = p.1.1.1.1.0;
-      up = p.1.1.1.1.1.0;
-      found = p.1.1.1.1.1.1;
-    }))
+    each _ _ rows (order_stored F h t)
     (both _ _ (order_numbers F h t)
     (both _ _ book.sound.references.orders
     (both _ _ (all_end F h.each t).orders
