@@ -17,7 +17,8 @@ returns-in-Ok g c =
     let mid = c.told.new.self in
     let known = c.note_issue.new.self in
     let knows = notes_on g.S.Store (λ T. IsEarliest (issues T)) old c.earliest_issue-read.new.conn mid known _ c.in-Ok.earliest
-    (λ clean T held book. read.found clean T held) c.in-Ok.ensures.found c.told.ensures.honest (issue_noted mid.known known c.in-Ok.earliest c.note_issue.ensures) in
+    (λ clean T held book. read.found clean T held) c.in-Ok.ensures.found c.told.ensures.honest
+    (issue_noted mid.known known c.in-Ok.earliest c.note_issue.ensures) in
     record {
       reads = reads_knowing g.S.Store old mid (record { conn = mid.conn; known = known }) c.in-Ok.earliest _ refl
           (c.in-Ok.ensures.reads old refl read.asks read.unchanged read.caused) knows;

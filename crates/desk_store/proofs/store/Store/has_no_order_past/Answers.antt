@@ -17,7 +17,8 @@ returns-in-Ok g c =
     let mid = c.told.new.self in
     let known = c.note_order_end.new.self in
     let knows = notes_on g.S.Store (λ T. IsEarliest (order_ends T c.args.status)) old c.earliest_order_end-read.new.conn mid known _ c.in-Ok.earliest
-    (λ clean T held book. read.found clean T held) c.in-Ok.ensures.found c.told.ensures.honest (order_end_noted mid.known known c.args.status c.in-Ok.earliest c.note_order_end.ensures) in
+    (λ clean T held book. read.found clean T held) c.in-Ok.ensures.found c.told.ensures.honest
+    (order_end_noted mid.known known c.args.status c.in-Ok.earliest c.note_order_end.ensures) in
     record {
       reads = reads_knowing g.S.Store old mid (record { conn = mid.conn; known = known }) c.in-Ok.earliest _ refl
           (c.in-Ok.ensures.reads old refl read.asks read.unchanged read.caused) knows;
