@@ -1,8 +1,7 @@
 -- What a line asks, where memory was found.
 use Rattle.std.proofs.Common.{◌≡◌, true, Result, Ok, Err}
 use Rattle.std.specs.Prelude.{IfOk}
-use Rattle.http_routes.specs.declared.lines.Line.{Line}
-use Rattle.http_routes.specs.declared.request.Request.{Request}
+use Rattle.http_routes.specs.declared.{lines.Line.Line, request.Request.Request}
 use Rattle.http_wire.specs.Spelled.{Spells}
 use Rattle.app_batch.specs.LineRequests.{IsRequestOf, are_visible, request_bytes, spelled}
 

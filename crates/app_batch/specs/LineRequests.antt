@@ -1,13 +1,10 @@
 -- What the line of a batch asks: the bytes of its request, read as those of a connection are.
 use Rattle.std.specs.Prelude.{◌≡◌, ◌++◌, ℕ, Bool, true, false, ◌&&◌, List, length, codes, decimal}
-use Rattle.desk_model.specs.declared.call.Ask.{Ask}
-use Rattle.desk_model.specs.declared.call.Call.{Call}
+use Rattle.desk_model.specs.declared.call.{Ask.Ask, Call.Call}
 use Rattle.desk_model.specs.declared.refusal.Refusal.TheVariants as refusal
 use Rattle.desk_model.specs.declared.reply.Allow.TheVariants as allow
-use Rattle.http_routes.specs.Request.{refused_request}
-use Rattle.http_routes.specs.Routes.{is_visible}
-use Rattle.http_routes.specs.declared.lines.Line.{Line}
-use Rattle.http_routes.specs.declared.request.Request.{Request}
+use Rattle.http_routes.specs.{Request.refused_request, Routes.is_visible}
+use Rattle.http_routes.specs.declared.{lines.Line.Line, request.Request.Request}
 use Rattle.http_routes.specs.declared.request.Request.TheVariants as request
 use Rattle.http_wire.specs.Spelled.{Spells}
 

@@ -4,8 +4,7 @@ ghost use Rattle.std.specs.Io.BufRead.{DropsThrough, first_piece, strip_last};
 ghost use Rattle.std.specs.Io.KnownBytes.{Appends, IsAtEnd};
 ghost use Rattle.app_batch.specs.InTurn.{AnswersFirst, AnswersLine, AnswersLines, StopsBehind};
 ghost use Rattle.app_batch.specs.LineRequests.{call_of};
-ghost use Rattle.desk.specs.Meets.{ActsOnce};
-ghost use Rattle.desk.specs.SeenDesks.{IsSeenOn};
+ghost use Rattle.desk.specs.{Meets.ActsOnce, SeenDesks.IsSeenOn};
 ghost use Rattle.app_batch.specs.Said.{Says, SaysNothing, RepliesTo, DeclinesTo};
 
 use crate::line_requests::request_of;

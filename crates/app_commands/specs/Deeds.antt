@@ -10,14 +10,9 @@ use Rattle.app_commands.specs.declared.fault.Fault.TheVariants as fault
 use Rattle.desk_http.specs.InTurn.{ServesAll}
 use Rattle.desk_http.specs.declared.serve_fault.ServeFault.{ServeFault}
 use Rattle.desk_http.specs.declared.serve_fault.ServeFault.TheVariants as servefault
-use Rattle.desk.specs.Answers.{is_closed_after}
-use Rattle.desk.specs.Faults.{storage_fault}
-use Rattle.desk.specs.Office.{AnswersOffice}
-use Rattle.desk.specs.SeenDesks.{IsSeenOn}
-use Rattle.desk.specs.State.{DeskState}
+use Rattle.desk.specs.{Answers.is_closed_after, Faults.storage_fault, Office.AnswersOffice, SeenDesks.IsSeenOn, State.DeskState}
 use Rattle.desk.specs.declared.fault.DeskFault.{DeskFault}
-use Rattle.desk_model.specs.Derived.{status_faults}
-use Rattle.desk_model.specs.Tables.{Tables}
+use Rattle.desk_model.specs.{Derived.status_faults, Tables.Tables}
 use Rattle.desk_model.specs.declared.call.OfficeAsk.{OfficeAsk}
 use Rattle.desk_model.specs.declared.call.OfficeAsk.TheVariants as ask
 use Rattle.desk_model.specs.declared.refusal.Refusal.{Refusal}
@@ -25,15 +20,9 @@ use Rattle.store_api.specs.Sight.{FailsToRead, ForTables, Sight, Stands}
 use Rattle.store_api.specs.Storing.{Causes}
 use Rattle.store_api.specs.declared.fault.StorageFault.{StorageFault}
 use Rattle.app_files.specs.Doing.{Deed}
-use Rattle.app_reports.specs.About.{about_text}
+use Rattle.app_reports.specs.{About.about_text, Page.page_html, Printed.faults_text, Reported.Reports}
 use Rattle.app_reports.specs.Listed.{PrintsAll, Roster}
-use Rattle.app_reports.specs.Page.{page_html}
-use Rattle.app_reports.specs.Printed.{faults_text}
-use Rattle.app_reports.specs.Reported.{Reports}
-use Rattle.app_reports.specs.declared.about.Beside.{Beside}
-use Rattle.app_reports.specs.declared.faults.Checked.{Checked}
-use Rattle.app_reports.specs.declared.form.Form.{Form}
-use Rattle.app_reports.specs.declared.fault.ReportFault.{ReportFault}
+use Rattle.app_reports.specs.declared.{about.Beside.Beside, faults.Checked.Checked, form.Form.Form, fault.ReportFault.ReportFault}
 
 -- ---- reports
 

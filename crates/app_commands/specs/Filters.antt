@@ -1,14 +1,10 @@
 -- Which rows the words of a list ask for.
 use Rattle.std.specs.Prelude.{◌≡◌, ℕ, List, Option, None, Some}
 use Rattle.std.specs.Borrow.{Bor}
-use Rattle.app_words.specs.declared.command.AuthorizationListing.{AuthorizationListing}
-use Rattle.app_words.specs.declared.command.Listing.{Listing}
-use Rattle.desk_model.specs.Document.{order_status_text}
-use Rattle.desk_model.specs.Name.{Name}
-use Rattle.desk_model.specs.Names.{name_of}
+use Rattle.app_words.specs.declared.command.{AuthorizationListing.AuthorizationListing, Listing.Listing}
+use Rattle.desk_model.specs.{Document.order_status_text, Name.Name, Names.name_of}
 use Rattle.desk_model.specs.declared.status.OrderStatus.{OrderStatus}
-use Rattle.app_reports.specs.declared.authorizations.AuthorizationFilter.{AuthorizationFilter}
-use Rattle.app_reports.specs.declared.orders.OrderFilter.{OrderFilter}
+use Rattle.app_reports.specs.declared.{authorizations.AuthorizationFilter.AuthorizationFilter, orders.OrderFilter.OrderFilter}
 use Rattle.app_commands.specs.declared.filters.Unasked.{Unasked}
 use Rattle.app_commands.specs.declared.filters.Unasked.TheVariants as unasked
 

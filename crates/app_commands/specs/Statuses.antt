@@ -2,9 +2,7 @@
 use Rattle.std.specs.Prelude.{◌≡◌, ◌≢◌, ◌⊎◌, ℕ, Bool, List, codes, Option, Some, None, Result, Ok, Err, true, false}
 use Rattle.sqlite.specs.Recovery.{Image}
 use Rattle.sqlite_disk.specs.declared.Disk as disk
-use Rattle.app_words.specs.declared.command.AuthorizationListing.{AuthorizationListing}
-use Rattle.app_words.specs.declared.command.Listing.{Listing}
-use Rattle.app_words.specs.declared.command.Command.{Command}
+use Rattle.app_words.specs.declared.command.{AuthorizationListing.AuthorizationListing, Listing.Listing, Command.Command}
 use Rattle.app_words.specs.declared.command.Command.TheVariants as command
 use Rattle.app_words.specs.declared.command.Syncs.{Syncs}
 use Rattle.app_words.specs.declared.command.Syncs.TheVariants as syncs
@@ -30,9 +28,7 @@ use Rattle.app_files.specs.declared.copies.CopyFault.TheVariants as copyfault
 use Rattle.app_files.specs.declared.left.Left.{Left}
 use Rattle.app_files.specs.declared.left.Left.TheVariants as rest
 use Rattle.app_reports.specs.Listed.{accounts_roster, authorizations_roster, orders_roster}
-use Rattle.app_reports.specs.declared.authorizations.AuthorizationFilter.{AuthorizationFilter}
-use Rattle.app_reports.specs.declared.about.Beside.{Beside}
-use Rattle.app_reports.specs.declared.form.Form.{Form}
+use Rattle.app_reports.specs.declared.{authorizations.AuthorizationFilter.AuthorizationFilter, about.Beside.Beside, form.Form.Form}
 use Rattle.app_reports.specs.declared.form.Form.TheVariants as form
 use Rattle.app_reports.specs.declared.orders.OrderFilter.{OrderFilter}
 

@@ -1,7 +1,6 @@
 //! Which rows the words of a list ask for.
 ghost use Rattle.std.specs.Prelude.{IfErr, IfOk};
-ghost use Rattle.app_commands.specs.Filters.{AreRight, AsksForAuthorizations, AsksForName, AsksForOrders, AsksForStatus};
-ghost use Rattle.app_commands.specs.Filters.{IsUnasked, NamesStatus, StandsForName};
+ghost use Rattle.app_commands.specs.Filters.{AreRight, AsksForAuthorizations, AsksForName, AsksForOrders, AsksForStatus, IsUnasked, NamesStatus, StandsForName};
 
 use crate::fault::Wrong;
 use app_reports::{AuthorizationFilter, OrderFilter};

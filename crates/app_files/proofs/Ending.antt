@@ -8,8 +8,7 @@ use Rattle.desk_files.specs.Opening.{FailsToMake, FoundNoName, MakesFiles, Refus
 use Rattle.desk_files.specs.declared.opening.NotOpened.{NotOpened}
 use Rattle.desk_model.specs.Terms.{Terms}
 use Rattle.desk_store.specs.Making.{IsOfStorage}
-use Rattle.desk_store.specs.declared.open_fault.OpenFault.{OpenFault}
-use Rattle.desk_store.specs.declared.store.Store.{Store}
+use Rattle.desk_store.specs.declared.{open_fault.OpenFault.OpenFault, store.Store.Store}
 use Rattle.app_files.specs.Endings.{EndsMaking, IsLeft, made, unmade}
 use Rattle.app_files.specs.declared.left.Left.{Left}
 use Rattle.app_files.specs.declared.left.Left.TheVariants as rest

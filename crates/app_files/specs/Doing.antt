@@ -1,10 +1,8 @@
 -- What a task does with the store of a desk.
 use Rattle.std.specs.Prelude.{ℕ, List, Option, Result}
 use Rattle.sqlite.specs.Store.{Ghosts}
-use Rattle.store_api.specs.Sight.{Sight}
-use Rattle.store_api.specs.Storing.{Causes}
-use Rattle.desk_store.specs.Causes.{Failed}
-use Rattle.desk_store.specs.Desks.{store_sight}
+use Rattle.store_api.specs.{Sight.Sight, Storing.Causes}
+use Rattle.desk_store.specs.{Causes.Failed, Desks.store_sight}
 use Rattle.desk_store.specs.declared.store.Store.{Store}
 
 -- what is so of a store before and after, where a task ends by this exit status or this fault: by what may be said of the store as one

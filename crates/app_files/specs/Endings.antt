@@ -1,10 +1,6 @@
 -- How a task ends that is done with the desk of two files, or with a new one in memory.
 use Rattle.std.specs.Prelude.{◌≡◌, ◌≢◌, ◌⊎◌, ℕ, List, Option, None, Result, Ok, Err, IfErr, IfOk, IfSome, IsErrAnd}
-use Rattle.sqlite.specs.FileStore.{recovers}
-use Rattle.sqlite.specs.Files.{over_files}
-use Rattle.sqlite.specs.Recovery.{Image}
-use Rattle.sqlite.specs.Steps.{over_memory}
-use Rattle.sqlite.specs.Tree.{Trees}
+use Rattle.sqlite.specs.{FileStore.recovers, Files.over_files, Recovery.Image, Steps.over_memory, Tree.Trees}
 use Rattle.sqlite_disk.specs.declared.Disk as disk
 use Rattle.sqlite_disk.specs.declared.Files.{Files}
 use Rattle.sqlite_store.specs.declared.store.FileStore.{FileStore}
@@ -13,15 +9,10 @@ use Rattle.desk_files.specs.Closing.{EndsAsStop, KeepsInFile, WasHonest}
 use Rattle.desk_files.specs.Opening.{FailsToMake, FoundNoName, LeavesAnOpening, LeavesAsFound, MakesFiles, OpensFiles}
 use Rattle.desk_files.specs.Opening.{RefusesName, RefusesNoDatabase, RefusesNoDesk}
 use Rattle.desk_files.specs.declared.opening.NotOpened.{NotOpened}
-use Rattle.desk_model.specs.History.{first_history}
-use Rattle.desk_model.specs.Tables.{picture}
-use Rattle.desk_model.specs.Terms.{Terms}
+use Rattle.desk_model.specs.{History.first_history, Tables.picture, Terms.Terms}
 use Rattle.store_api.specs.Sight.{Keeps}
-use Rattle.desk_store.specs.Desks.{store_sight}
-use Rattle.desk_store.specs.Making.{IsOfStorage}
-use Rattle.desk_store.specs.declared.open_fault.OpenFault.{OpenFault}
-use Rattle.desk_store.specs.declared.open_fault.OpenFault.TheVariants.{NotADesk}
-use Rattle.desk_store.specs.declared.store.Store.{Store}
+use Rattle.desk_store.specs.{Desks.store_sight, Making.IsOfStorage}
+use Rattle.desk_store.specs.declared.{open_fault.OpenFault.OpenFault, open_fault.OpenFault.TheVariants.NotADesk, store.Store.Store}
 use Rattle.app_files.specs.Doing.{Deed, Doing, OverStore}
 use Rattle.app_files.specs.declared.left.Left.{Left}
 use Rattle.app_files.specs.declared.left.Left.TheVariants as rest

@@ -1,8 +1,7 @@
 //! A task by the store of a file.
 ghost use Rattle.std.specs.Prelude.{◌≡◌, ◌≢◌, Ok, IfErr, IfOk, IsErrAnd};
 ghost use Rattle.sqlite.specs.WalFiles.{image_at};
-ghost use Rattle.app_files.specs.Doing.{OverStore};
-ghost use Rattle.app_files.specs.Endings.{EndsOver};
+ghost use Rattle.app_files.specs.{Doing.OverStore, Endings.EndsOver};
 
 use crate::files::{close, open};
 use crate::left::Left;

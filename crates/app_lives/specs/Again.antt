@@ -5,19 +5,15 @@ use Rattle.app_words.specs.declared.command.Target.{Target}
 use Rattle.app_commands.specs.Deeds.{AnswersReader, ChecksStatuses, ListsRows, RevokesTarget, ServesCount, TellsAbout, TellsPage}
 use Rattle.app_commands.specs.declared.fault.Fault.{Fault}
 use Rattle.desk.specs.Seen.{Told, replied}
-use Rattle.desk_model.specs.Entry.{History}
+use Rattle.desk_model.specs.{Entry.History, Tables.picture}
 use Rattle.desk_model.specs.Life.{Event, IsLife, history, kept_calls}
-use Rattle.desk_model.specs.Tables.{picture}
 use Rattle.desk_model.specs.declared.call.Call.{Call}
 use Rattle.desk_files.specs.LeftFiles.{LeftFiles, file_sight}
 use Rattle.desk_store.specs.Desks.{AreOfDesk}
-use Rattle.app_files.specs.Doing.{Doing}
-use Rattle.app_files.specs.Endings.{IsDoneOver}
+use Rattle.app_files.specs.{Doing.Doing, Endings.IsDoneOver}
 use Rattle.app_reports.specs.Listed.{accounts_roster, authorizations_roster, orders_roster}
-use Rattle.app_reports.specs.declared.authorizations.AuthorizationFilter.{AuthorizationFilter}
-use Rattle.app_reports.specs.declared.about.Beside.{Beside}
-use Rattle.app_reports.specs.declared.form.Form.{Form}
-use Rattle.app_reports.specs.declared.orders.OrderFilter.{OrderFilter}
+use Rattle.app_reports.specs.declared.{authorizations.AuthorizationFilter.AuthorizationFilter, about.Beside.Beside, form.Form.Form}
+use Rattle.app_reports.specs.declared.{orders.OrderFilter.OrderFilter}
 use Rattle.app_lives.specs.Kept.{AreKept, calls_of}
 use Rattle.app_lives.specs.Told.{TellsAny, TellsBatch, TellsRevocation}
 

@@ -1,8 +1,7 @@
 -- What the words of the program leave of a desk's files.
 use Rattle.std.specs.Prelude.{◌≡◌, ◌⊎◌, ℕ, List, [], Option, Result, Ok}
 use Rattle.sqlite.specs.Files.{image_of, over_files}
-use Rattle.sqlite.specs.Recovery.{Image}
-use Rattle.sqlite.specs.WalReads.{AreClean}
+use Rattle.sqlite.specs.{Recovery.Image, WalReads.AreClean}
 use Rattle.sqlite_disk.specs.declared.Disk as disk
 use Rattle.sqlite_disk.specs.declared.Files.{Files}
 use Rattle.sqlite_store.specs.declared.store.FileStore.{FileStore}
@@ -10,23 +9,17 @@ use Rattle.app_words.specs.declared.command.Target.{Target}
 use Rattle.app_commands.specs.Deeds.{Adopts, AnswersReader, ChecksStatuses, FailsToAdopt, ListsRows, RevokesTarget, ServesCount, TellsAbout, TellsPage}
 use Rattle.app_commands.specs.Statuses.{EndsBackUp}
 use Rattle.app_commands.specs.declared.fault.Fault.{Fault}
-use Rattle.desk.specs.Seen.{Told}
-use Rattle.desk.specs.State.{DeskState}
-use Rattle.desk_model.specs.Entry.{History}
-use Rattle.desk_model.specs.Legal.{Legal}
-use Rattle.desk_model.specs.Tables.{picture}
+use Rattle.desk.specs.{Seen.Told, State.DeskState}
+use Rattle.desk_model.specs.{Entry.History, Legal.Legal, Tables.picture}
 use Rattle.desk_files.specs.LeftFiles.{HoldDesk, LeftFiles, file_sight}
 use Rattle.desk_store.specs.Desks.{store_sight}
 use Rattle.desk_store.specs.declared.store.Store.{Store}
-use Rattle.app_files.specs.Doing.{Doing}
-use Rattle.app_files.specs.Endings.{IsDoneOver}
+use Rattle.app_files.specs.{Doing.Doing, Endings.IsDoneOver}
 use Rattle.app_reports.specs.Listed.{accounts_roster, authorizations_roster, orders_roster}
-use Rattle.app_reports.specs.declared.authorizations.AuthorizationFilter.{AuthorizationFilter}
-use Rattle.app_reports.specs.declared.about.Beside.{Beside}
+use Rattle.app_reports.specs.declared.{authorizations.AuthorizationFilter.AuthorizationFilter, about.Beside.Beside}
 use Rattle.app_files.specs.declared.left.Left.{Left}
 use Rattle.app_files.specs.declared.left.Left.TheVariants as rest
-use Rattle.app_reports.specs.declared.form.Form.{Form}
-use Rattle.app_reports.specs.declared.orders.OrderFilter.{OrderFilter}
+use Rattle.app_reports.specs.declared.{form.Form.Form, orders.OrderFilter.OrderFilter}
 use Rattle.app_lives.specs.Kept.{Answered, HasLife}
 use Rattle.app_lives.specs.Told.{TellsAny, TellsBatch, TellsRevocation}
 

@@ -1,6 +1,5 @@
 //! What the words of the program leave of a desk's files.
-ghost use Rattle.app_lives.specs.Again.{WordsGoOn};
-ghost use Rattle.app_lives.specs.Left.{WordsLeave};
+ghost use Rattle.app_lives.specs.{Again.WordsGoOn, Left.WordsLeave};
 
 use sqlite_disk::Disk;
 

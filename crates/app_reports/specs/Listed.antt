@@ -1,17 +1,11 @@
 -- What a list of rows prints of a desk.
 use Rattle.std.specs.Prelude.{◌≡◌, ◌⊎◌, ℕ, ◌^◌, ◌+◌, ◌-◌, ◌++◌, List, Option, ⊤, codes, length, map, min}
-use Rattle.std.specs.Io.KnownBytes.{Appends}
-use Rattle.std.specs.List.{flat_map}
-use Rattle.desk_model.specs.Document.{listed_rows}
-use Rattle.desk_model.specs.Tables.{Tables}
-use Rattle.desk_model.specs.declared.rows.AccountRow.{AccountRow}
-use Rattle.desk_model.specs.declared.rows.AuthorizationRow.{AuthorizationRow}
-use Rattle.desk_model.specs.declared.rows.OrderRow.{OrderRow}
+use Rattle.std.specs.{Io.KnownBytes.Appends, List.flat_map}
+use Rattle.desk_model.specs.{Document.listed_rows, Tables.Tables}
+use Rattle.desk_model.specs.declared.rows.{AccountRow.AccountRow, AuthorizationRow.AuthorizationRow, OrderRow.OrderRow}
 use Rattle.app_reports.specs.Filter.{Allows, AreKept, AsksFor, IsNamed}
 use Rattle.app_reports.specs.Printed.{account_line, authorization_line, count_line, order_line}
-use Rattle.app_reports.specs.declared.authorizations.AuthorizationFilter.{AuthorizationFilter}
-use Rattle.app_reports.specs.declared.form.Form.{Form}
-use Rattle.app_reports.specs.declared.orders.OrderFilter.{OrderFilter}
+use Rattle.app_reports.specs.declared.{authorizations.AuthorizationFilter.AuthorizationFilter, form.Form.Form, orders.OrderFilter.OrderFilter}
 
 -- ---- what a list is
 

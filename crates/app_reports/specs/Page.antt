@@ -2,27 +2,16 @@
 use Rattle.std.specs.Prelude.{◌≡◌, ◌&&◌, ◌+◌, ◌-◌, ◌^◌, ◌++◌, ℕ, Bool, List, [], Option, codes, cond, decimal, length, map, min, nat_lt, take}
 use Rattle.std.specs.Io.KnownBytes.{Appends}
 use Rattle.std.specs.List.{filter, flat_map, list_any}
-use Rattle.desk_model.specs.Authorization.{is_pending}
+use Rattle.desk_model.specs.{Authorization.is_pending, Effect.is_overdue, Legal.is_processing_challenge, Moment.moment_text, Name.Name, Names.shown_name}
+use Rattle.desk_model.specs.{Tables.Tables, Touched.is_past_order}
 use Rattle.desk_model.specs.Document.{authorization_status_text, challenge_status_text, kind_text, listed_rows, order_status_text}
-use Rattle.desk_model.specs.Effect.{is_overdue}
-use Rattle.desk_model.specs.Legal.{is_processing_challenge}
-use Rattle.desk_model.specs.Moment.{moment_text}
-use Rattle.desk_model.specs.Name.{Name}
-use Rattle.desk_model.specs.Names.{shown_name}
-use Rattle.desk_model.specs.Tables.{Tables}
-use Rattle.desk_model.specs.Touched.{is_past_order}
-use Rattle.desk_model.specs.declared.rows.AccountRow.{AccountRow}
-use Rattle.desk_model.specs.declared.rows.AuthorizationRow.{AuthorizationRow}
-use Rattle.desk_model.specs.declared.rows.ChallengeRow.{ChallengeRow}
-use Rattle.desk_model.specs.declared.rows.Counters.{Counters}
-use Rattle.desk_model.specs.declared.rows.Meta.{Meta}
-use Rattle.desk_model.specs.declared.rows.OrderRow.{OrderRow}
+use Rattle.desk_model.specs.declared.rows.{AccountRow.AccountRow, AuthorizationRow.AuthorizationRow, ChallengeRow.ChallengeRow, Counters.Counters, Meta.Meta}
+use Rattle.desk_model.specs.declared.rows.{OrderRow.OrderRow}
 use Rattle.model_lives.specs.Above.{authorizations_above, orders_above}
 use Rattle.model_lives.specs.LookUps.{accounts_numbered, wants_order}
 use Rattle.model_lives.specs.declared.queries.OrdersWhere.TheVariants as orders
 use Rattle.moments.specs.Capped.{capped}
-use Rattle.app_reports.specs.About.{statuses_said}
-use Rattle.app_reports.specs.Html.{escaped}
+use Rattle.app_reports.specs.{About.statuses_said, Html.escaped}
 use Rattle.app_reports.specs.declared.page.TheConstants as page
 
 -- ---- cells

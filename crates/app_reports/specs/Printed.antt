@@ -3,19 +3,11 @@ use Rattle.std.specs.Prelude.{ℕ, ◌^◌, ◌-◌, false, List, [], ◌++◌, 
 use Rattle.std.specs.Fmt.{format_spec, padded, padded_integral}
 use Rattle.std.specs.List.{flat_map}
 use Rattle.desk_model.specs.Document.{account_status_text, authorization_status_text, challenge_status_text, order_status_text}
-use Rattle.desk_model.specs.Json.{list}
-use Rattle.desk_model.specs.Keys.{thumbprint}
-use Rattle.desk_model.specs.Moment.{moment_text}
-use Rattle.desk_model.specs.Names.{shown_name}
-use Rattle.desk_model.specs.Tokens.{base64url}
-use Rattle.desk_model.specs.declared.rows.AccountRow.{AccountRow}
-use Rattle.desk_model.specs.declared.rows.AuthorizationRow.{AuthorizationRow}
-use Rattle.desk_model.specs.declared.rows.OrderRow.{OrderRow}
-use Rattle.desk_model.specs.declared.rows.StatusFault.{StatusFault}
+use Rattle.desk_model.specs.{Json.list, Keys.thumbprint, Moment.moment_text, Names.shown_name, Tokens.base64url}
+use Rattle.desk_model.specs.declared.rows.{AccountRow.AccountRow, AuthorizationRow.AuthorizationRow, OrderRow.OrderRow, StatusFault.StatusFault}
 use Rattle.desk_model.specs.declared.rows.StatusFault.TheVariants as fault
 use Rattle.moments.specs.Capped.{capped}
-use Rattle.serde_json.specs.Data.{string}
-use Rattle.serde_json.specs.Written.{compact_text}
+use Rattle.serde_json.specs.{Data.string, Written.compact_text}
 use Rattle.app_reports.specs.declared.form.Form.{Form}
 use Rattle.app_reports.specs.declared.form.Form.TheVariants as form
 

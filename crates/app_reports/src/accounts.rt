@@ -1,8 +1,7 @@
 //! The list of accounts.
 ghost use Rattle.std.specs.Prelude.{◌≡◌, IfOk, OnOk, string_bytes};
 ghost use Rattle.std.specs.Io.KnownBytes.{Appends};
-ghost use Rattle.desk_model.specs.Keys.{thumbprint};
-ghost use Rattle.desk_model.specs.Tokens.{base64url};
+ghost use Rattle.desk_model.specs.{Keys.thumbprint, Tokens.base64url};
 ghost use Rattle.app_reports.specs.Printed.{account_line};
 
 use crate::form::Form;

@@ -1,9 +1,7 @@
 //! What is asked of the rows that are listed.
 ghost use Rattle.std.specs.Prelude.{◌≡◌, ◌↔◌, IsTrue, IfOk, map};
 ghost use Rattle.std.specs.List.{list_any};
-ghost use Rattle.desk_model.specs.Derived.{numbers_of};
-ghost use Rattle.desk_model.specs.Document.{rows_of};
-ghost use Rattle.desk_model.specs.Name.{same_name};
+ghost use Rattle.desk_model.specs.{Derived.numbers_of, Document.rows_of, Name.same_name};
 ghost use Rattle.store_api.specs.Sight.{ForTables, Reads};
 ghost use Rattle.app_reports.specs.Filter.{Allows, AsksFor, IsNamed};
 

@@ -23,8 +23,7 @@ pub struct AuthorizationFilter {
 
 impl RowList for AuthorizationFilter {
     ghost use Rattle.std.specs.Prelude.{codes};
-    ghost use Rattle.app_reports.specs.Listed.{KeepsAuthorization};
-    ghost use Rattle.app_reports.specs.Printed.{authorization_line};
+    ghost use Rattle.app_reports.specs.{Listed.KeepsAuthorization, Printed.authorization_line};
 
     type Item = AuthorizationRow;
 

@@ -3,8 +3,7 @@ ghost use Rattle.std.specs.Prelude.{IfOk, OnOk};
 ghost use Rattle.std.specs.Io.KnownBytes.{Appends};
 ghost use Rattle.store_api.specs.Sight.{ForTables};
 ghost use Rattle.app_reports.specs.Listed.{Prints, PrintsAll, Turns, roster};
-ghost use Rattle.app_reports.specs.Printed.{count_line};
-ghost use Rattle.app_reports.specs.Reported.{Reports};
+ghost use Rattle.app_reports.specs.{Printed.count_line, Reported.Reports};
 
 use crate::fault::ReportFault;
 use crate::form::Form;

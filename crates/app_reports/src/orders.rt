@@ -1,8 +1,7 @@
 //! The list of orders.
 ghost use Rattle.std.specs.Prelude.{◌≡◌, ◌↔◌, IsTrue, OnOk};
 ghost use Rattle.std.specs.Io.KnownBytes.{Appends};
-ghost use Rattle.app_reports.specs.Filter.{Allows};
-ghost use Rattle.app_reports.specs.Printed.{order_line};
+ghost use Rattle.app_reports.specs.{Filter.Allows, Printed.order_line};
 
 use crate::asked::{allows_account, allows_listed};
 use crate::form::Form;
@@ -35,8 +34,7 @@ impl OrderFilter {
 
 impl RowList for OrderFilter {
     ghost use Rattle.std.specs.Prelude.{codes};
-    ghost use Rattle.app_reports.specs.Listed.{KeepsOrder};
-    ghost use Rattle.app_reports.specs.Printed.{order_line};
+    ghost use Rattle.app_reports.specs.{Listed.KeepsOrder, Printed.order_line};
 
     type Item = OrderRow;
 

@@ -5,8 +5,7 @@ ghost use Rattle.desk_model.specs.Moment.{moment_text};
 ghost use Rattle.moments.specs.Capped.{capped};
 ghost use Rattle.store_api.specs.Sight.{ForTables};
 ghost use Rattle.app_reports.specs.Page.{ending_html, head_html, last_html, page_html, soon_after, tables_html, waiting_html};
-ghost use Rattle.app_reports.specs.Html.{escaped};
-ghost use Rattle.app_reports.specs.Reported.{Reports};
+ghost use Rattle.app_reports.specs.{Html.escaped, Reported.Reports};
 
 use crate::about::write_statuses;
 use crate::fault::ReportFault;

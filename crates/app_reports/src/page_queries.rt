@@ -1,9 +1,7 @@
 //! Which rows the page shows.
 ghost use Rattle.std.specs.Prelude.{◌≡◌};
 ghost use Rattle.std.specs.List.{list_any};
-ghost use Rattle.desk_model.specs.Effect.{is_overdue};
-ghost use Rattle.desk_model.specs.Legal.{is_processing_challenge};
-ghost use Rattle.desk_model.specs.Touched.{is_past_order};
+ghost use Rattle.desk_model.specs.{Effect.is_overdue, Legal.is_processing_challenge, Touched.is_past_order};
 ghost use Rattle.app_reports.specs.Page.{waits_for_report};
 
 use desk_model::{AuthorizationRow, AuthzStatus, ChallengeRow, OrderRow};

@@ -1,6 +1,5 @@
 //! Rows of the page's tables.
-ghost use Rattle.std.specs.Prelude.{OnOk};
-ghost use Rattle.std.specs.Io.KnownBytes.{Appends};
+ghost use Rattle.std.specs.{Prelude.OnOk, Io.KnownBytes.Appends};
 ghost use Rattle.store_api.specs.Sight.{ForTables};
 ghost use Rattle.app_reports.specs.Page.{authorization_html, begin_html, cells_html, order_html, order_row_html};
 ghost use Rattle.app_reports.specs.Reported.{Reports};

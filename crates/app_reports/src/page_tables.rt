@@ -1,7 +1,6 @@
 //! A table of the page: the first of the rows that are asked for, and how many these are.
 ghost use Rattle.std.specs.Prelude.{IfOk, OnOk};
-ghost use Rattle.std.specs.Io.KnownBytes.{Appends};
-ghost use Rattle.std.specs.List.{filter};
+ghost use Rattle.std.specs.{Io.KnownBytes.Appends, List.filter};
 ghost use Rattle.model_lives.specs.Above.{above as rows_above};
 ghost use Rattle.store_api.specs.Sight.{ForTables};
 ghost use Rattle.app_reports.specs.Page.{IsShown, ShowsFirst, count_html, if_room, table_html};

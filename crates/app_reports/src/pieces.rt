@@ -1,7 +1,5 @@
 //! What a cell of the page lists: names, contacts, challenges.
-ghost use Rattle.std.specs.Prelude.{OnOk};
-ghost use Rattle.std.specs.Io.KnownBytes.{Appends};
-ghost use Rattle.std.specs.List.{flat_map};
+ghost use Rattle.std.specs.{Prelude.OnOk, Io.KnownBytes.Appends, List.flat_map};
 ghost use Rattle.app_reports.specs.Page.{challenge_html, code_html, contacts_html, name_html};
 
 use crate::html::write_escaped;

@@ -1,7 +1,6 @@
 //! A disk that fails once and goes on.
 ghost use Rattle.std.specs.Prelude.{◌≡◌, false};
-ghost use Rattle.sqlite_disk.specs.Disk.{CountsFault};
-ghost use Rattle.sqlite_disk.specs.Refusal.{finds_no_room};
+ghost use Rattle.sqlite_disk.specs.{Disk.CountsFault, Refusal.finds_no_room};
 
 use sqlite_disk::{Disk, Tally};
 use std::io;

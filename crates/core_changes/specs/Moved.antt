@@ -5,10 +5,7 @@ use Rattle.desk_model.specs.Derived.{restated_authorization, restated_order}
 use Rattle.desk_model.specs.Effect.{swept_authorization, swept_order, moved_authorization, noted_account, noted_authorization}
 use Rattle.desk_model.specs.Effect.{noted_order, touches_account, touches_authorization, touches_order}
 use Rattle.desk_model.specs.Tables.{Tables}
-use Rattle.desk_model.specs.declared.entry.Entry.{Entry}
-use Rattle.desk_model.specs.declared.rows.AccountRow.{AccountRow}
-use Rattle.desk_model.specs.declared.rows.AuthorizationRow.{AuthorizationRow}
-use Rattle.desk_model.specs.declared.rows.OrderRow.{OrderRow}
+use Rattle.desk_model.specs.declared.{entry.Entry.Entry, rows.AccountRow.AccountRow, rows.AuthorizationRow.AuthorizationRow, rows.OrderRow.OrderRow}
 
 -- the authorizations at the moment, and after the entry
 abbrev pub standing_rows : ℕ → List AuthorizationRow → List AuthorizationRow

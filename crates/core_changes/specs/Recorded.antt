@@ -3,10 +3,8 @@ use Rattle.std.specs.Prelude.{ℕ, ◌≡◌, List, ◌++◌, map}
 use Rattle.desk_model.specs.Tables.{Tables}
 use Rattle.desk_model.specs.Effect.{effects, swept, swept_order, noted_account, touches_account, touches_authorization, touches_order}
 use Rattle.desk_model.specs.Change.{all_changes, sweep_changes, moved_rows, account_differs, authorization_differs, order_differs}
-use Rattle.desk_model.specs.declared.rows.Change.{Change}
+use Rattle.desk_model.specs.declared.{rows.Change.Change, rows.Counters.Counters, entry.Entry.Entry}
 use Rattle.desk_model.specs.declared.rows.Change.TheVariants.{PutAccount, PutAuthorization, PutOrder}
-use Rattle.desk_model.specs.declared.rows.Counters.{Counters}
-use Rattle.desk_model.specs.declared.entry.Entry.{Entry}
 use Rattle.core_changes.specs.Moved.{standing_rows, stated_authorization, stated_order}
 
 -- these entries are recorded at m: the changes of rows so far, and the counters after them; the policy stays

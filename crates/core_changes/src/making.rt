@@ -2,11 +2,9 @@
 //! the places of all that it lists, and its status.
 ghost use Rattle.std.specs.Prelude.{◌≡◌, ◌≤◌, ◌<◌, ◌+◌, ◌^◌, ◌++◌, map, length, None, IfOk, OnOk};
 ghost use Rattle.desk_model.specs.Authorization.{challenges_from, count_challenges, kinds_of, made_for};
-ghost use Rattle.desk_model.specs.Limits.{last_number};
+ghost use Rattle.desk_model.specs.{Limits.last_number, Effect.fresh_challenge, Tables.listed_from};
 ghost use Rattle.desk_model.specs.Order.{listed_by, made_status};
 ghost use Rattle.desk_model.specs.Run.{count_new, count_tokens};
-ghost use Rattle.desk_model.specs.Effect.{fresh_challenge};
-ghost use Rattle.desk_model.specs.Tables.{listed_from};
 ghost use Rattle.core_changes.specs.Made.{made_row, made_rows};
 
 use desk_book::derived_authorization;

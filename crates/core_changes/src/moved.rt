@@ -2,17 +2,14 @@
 ghost use Rattle.std.specs.Prelude.{◌≡◌, ◌==◌, ◌++◌, ◌∷◌, [], ⊤, ℕ, Bool, List, cond, map, find, option_copied, option_map, IfOk, IsOkAnd, OnOk};
 ghost use Rattle.std.specs.List.{filter};
 ghost use Rattle.desk_model.specs.Derived.{authorization_numbered, numbers_of, stored_statuses};
-ghost use Rattle.desk_model.specs.Entry.{entry_of};
+ghost use Rattle.desk_model.specs.{Entry.entry_of, Tables.Tables};
 ghost use Rattle.desk_model.specs.Effect.{has_row, swept_authorization, swept_order, noted_account, touches_account, touches_authorization, touches_order};
 ghost use Rattle.desk_model.specs.Change.{account_differs, authorization_differs, order_differs, moved_rows};
-ghost use Rattle.desk_model.specs.Tables.{Tables};
-ghost use Rattle.desk_model.specs.declared.entry.Entry.{Entry};
-ghost use Rattle.desk_model.specs.declared.rows.AuthorizationRow.{AuthorizationRow as AuthorizationOf};
-ghost use Rattle.desk_model.specs.declared.rows.Change.{Change as ChangeOf};
+ghost use Rattle.desk_model.specs.declared.{entry.Entry.Entry, rows.AuthorizationRow.AuthorizationRow as AuthorizationOf, rows.Change.Change as ChangeOf};
 ghost use Rattle.desk_model.specs.declared.rows.Change.TheVariants.{PutAccount, PutAuthorization, PutOrder};
 ghost use Rattle.core_changes.specs.Moved.{AreMoved, accounts_moved, authorizations_moved, moved_one, orders_moved, rows_after};
-ghost use Rattle.core_changes.specs.Recorded.{book_moves};
 ghost use Rattle.core_changes.specs.Moved.{standing_rows, stated_authorization, stated_order, row_of, touched_one};
+ghost use Rattle.core_changes.specs.Recorded.{book_moves};
 
 use crate::differing::{challenges_differ, is_gained, same_texts};
 use crate::noted::{account_end_by, end_after, note_contacts, note_key, noted_challenges};

@@ -1,9 +1,7 @@
 //! Moves, written into the rows of accounts, challenges and authorizations.
 ghost use Rattle.std.specs.Prelude.{◌≡◌, map, unwrap_or, IfOk, OnOk};
-ghost use Rattle.desk_model.specs.Entry.{entry_of};
-ghost use Rattle.desk_model.specs.History.{earlier};
+ghost use Rattle.desk_model.specs.{Entry.entry_of, History.earlier, Authorization.in_time};
 ghost use Rattle.desk_model.specs.Account.{changing, rekeying, ends as account_ends};
-ghost use Rattle.desk_model.specs.Authorization.{in_time};
 ghost use Rattle.desk_model.specs.declared.entry.Entry.TheVariants.{Reported as reported};
 ghost use Rattle.desk_model.specs.Effect.{noted_challenge, answered_challenge, reported_challenge, row_ends};
 

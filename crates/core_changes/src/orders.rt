@@ -1,11 +1,6 @@
 //! The row of an order: as it is made, the dates that moves note in it, and what makes it differ.
 ghost use Rattle.std.specs.Prelude.{◌≡◌, ◌<◌, ◌≤◌, ◌+◌, if◌then◌else◌, None, Some, IfOk, OnOk};
-ghost use Rattle.desk_model.specs.Change.{order_differs};
-ghost use Rattle.desk_model.specs.Effect.{noted_order};
-ghost use Rattle.desk_model.specs.Entry.{entry_of};
-ghost use Rattle.desk_model.specs.History.{earlier};
-ghost use Rattle.desk_model.specs.Limits.{last_number};
-ghost use Rattle.desk_model.specs.Run.{count_new};
+ghost use Rattle.desk_model.specs.{Change.order_differs, Effect.noted_order, Entry.entry_of, History.earlier, Limits.last_number, Run.count_new};
 ghost use Rattle.core_changes.specs.Made.{made_order};
 
 use crate::differing::is_gained;

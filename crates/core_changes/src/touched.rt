@@ -1,7 +1,6 @@
 //! Which rows a move touches.
 ghost use Rattle.std.specs.Prelude.{◌≡◌};
-ghost use Rattle.desk_model.specs.Entry.{entry_of};
-ghost use Rattle.desk_model.specs.Lookup.{holds};
+ghost use Rattle.desk_model.specs.{Entry.entry_of, Lookup.holds};
 ghost use Rattle.desk_model.specs.Derived.{authorization_numbered, numbers_of};
 ghost use Rattle.desk_model.specs.Effect.{names_order, lists_one, touches_authorization, touches_order};
 

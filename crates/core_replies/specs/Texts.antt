@@ -1,14 +1,10 @@
 -- The tokens that documents are written by, one behind the other.
 use Rattle.std.specs.Prelude.{◌≡◌, ℕ, List, [], ◌∷◌, ◌++◌, Some, true}
 use Rattle.std.specs.List.{flat_map}
-use Rattle.json.specs.Token.{Token}
-use Rattle.json.specs.Tree.{json_tokens}
+use Rattle.json.specs.{Token.Token, Tree.json_tokens}
 use Rattle.serde_json.specs.Data.{Data, no_members}
-use Rattle.serde_json.specs.Read.{of_json}
-use Rattle.serde_json.specs.Written.{outline}
-use Rattle.desk_model.specs.Json.{members}
-use Rattle.desk_model.specs.Kept.{EachOf}
-use Rattle.desk_model.specs.Plain.{is_document}
+use Rattle.serde_json.specs.{Read.of_json, Written.outline}
+use Rattle.desk_model.specs.{Json.members, Kept.EachOf, Plain.is_document}
 use Rattle.core_replies.specs.Shown.{with_members}
 
 -- the tokens of a value

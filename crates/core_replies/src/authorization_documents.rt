@@ -5,8 +5,7 @@ ghost use Rattle.serde_json.specs.Data.{boolean};
 ghost use Rattle.desk_model.specs.Json.{when};
 ghost use Rattle.desk_model.specs.Document.{error_of, report_error, validated, validated_by};
 ghost use Rattle.moments.specs.Capped.{capped};
-ghost use Rattle.core_replies.specs.Shown.{authorization_members, capped_authorization, capped_challenge, capped_report};
-ghost use Rattle.core_replies.specs.Shown.{challenge_members, shown_challenge};
+ghost use Rattle.core_replies.specs.Shown.{authorization_members, capped_authorization, capped_challenge, capped_report, challenge_members, shown_challenge};
 ghost use Rattle.core_replies.specs.Texts.{HasMembers};
 
 use crate::json_text::JsonText;

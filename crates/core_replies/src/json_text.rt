@@ -1,7 +1,6 @@
 //! The text of a JSON value, written from its beginning to its end (RFC 8259).
 ghost use Rattle.std.specs.Prelude.{◌≡◌, ◌∷◌, ◌++◌, [], IfOk, OnOk, List, ℕ, decimal, string_bytes, true};
-ghost use Rattle.json.specs.Lex.{tokens};
-ghost use Rattle.json.specs.Print.{print};
+ghost use Rattle.json.specs.{Lex.tokens, Print.print};
 ghost use Rattle.json.specs.Token.{Token as JsonToken, begin_array, begin_object, end_array, end_object, key};
 ghost use Rattle.serde_json.specs.Data.{boolean, number, string, unsigned};
 ghost use Rattle.core_replies.specs.Texts.{HasMembers, HasValues};

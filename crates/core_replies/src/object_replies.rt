@@ -1,11 +1,10 @@
 //! Replies with one object, by its row (RFC 8555, 7).
 ghost use Rattle.std.specs.Prelude.{ℕ, List, ◌≡◌, ◌≤◌, map, string_bytes, IfOk, Some};
 ghost use Rattle.serde_json.specs.Data.{Data};
-ghost use Rattle.desk_model.specs.Limits.{last_end};
+ghost use Rattle.desk_model.specs.{Limits.last_end, Tables.Tables};
 ghost use Rattle.desk_model.specs.Document.{authorization_url, key_document, listed_rows};
 ghost use Rattle.desk_model.specs.Shown.{account_reply, at, authorization_reply, below, certificate_reply, challenge_reply};
 ghost use Rattle.desk_model.specs.Shown.{located_account, located_order, ok, order_reply, taken_reply};
-ghost use Rattle.desk_model.specs.Tables.{Tables};
 ghost use Rattle.core_replies.specs.Shown.{HasDatedReport, HasMoments};
 
 use crate::objects::shown_document;

@@ -2,8 +2,7 @@
 ghost use Rattle.std.specs.Prelude.{ℕ, List, ◌≡◌, ◌∷◌, [], IfOk, IsTrue, OnOk, codes};
 ghost use Rattle.serde_json.specs.Data.{Data};
 ghost use Rattle.desk_model.specs.Document.{error, identifier};
-ghost use Rattle.desk_model.specs.Json.{document};
-ghost use Rattle.desk_model.specs.Plain.{is_document};
+ghost use Rattle.desk_model.specs.{Json.document, Plain.is_document};
 ghost use Rattle.core_replies.specs.Shown.{error_members};
 ghost use Rattle.core_replies.specs.Texts.{AreInOrder, HasMembers, HasValues, IsText};
 

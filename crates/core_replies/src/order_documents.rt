@@ -1,12 +1,9 @@
 //! The documents of orders (RFC 8555, 7.1.3).
 ghost use Rattle.std.specs.Prelude.{ℕ, ◌≡◌, ◌++◌, ◌∷◌, [], map, codes, is_some, IfOk, OnOk};
 ghost use Rattle.serde_json.specs.Data.{string};
-ghost use Rattle.desk_model.specs.Json.{when};
-ghost use Rattle.desk_model.specs.Derived.{numbers_of};
-ghost use Rattle.desk_model.specs.Names.{shown_name};
+ghost use Rattle.desk_model.specs.{Json.when, Derived.numbers_of, Names.shown_name};
 ghost use Rattle.desk_model.specs.Effect.{swept, swept_order};
-ghost use Rattle.desk_model.specs.Document.{order_error, identifier, certificate_url, authorization_url};
-ghost use Rattle.desk_model.specs.Document.{rows_of, listed_rows, is_listed};
+ghost use Rattle.desk_model.specs.Document.{order_error, identifier, certificate_url, authorization_url, rows_of, listed_rows, is_listed};
 ghost use Rattle.core_replies.specs.Shown.{capped_order, listed_order, order_members};
 ghost use Rattle.core_replies.specs.Texts.{HasMembers};
 

@@ -1,8 +1,6 @@
 //! The documents of what waits for the validator and for the signing office.
 ghost use Rattle.std.specs.Prelude.{◌≡◌, string_bytes, IfOk};
-ghost use Rattle.desk_model.specs.Derived.{authorization_numbered};
-ghost use Rattle.desk_model.specs.Tokens.{base64url};
-ghost use Rattle.desk_model.specs.Document.{bytes_of};
+ghost use Rattle.desk_model.specs.{Derived.authorization_numbered, Tokens.base64url, Document.bytes_of};
 ghost use Rattle.core_replies.specs.Shown.{answered, listed_name, order_work_at, order_work_members, work_at, work_members};
 
 use crate::json_text::JsonText;

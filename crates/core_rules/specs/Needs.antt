@@ -1,14 +1,9 @@
 -- What a verdict needs: an account, numbers that can be given, and random bytes for tokens.
 use Rattle.std.specs.Prelude.{ℕ, ◌+◌, ◌*◌, ◌≡◌, ◌<◌, ◌≤◌, ◌⊎◌, List, length}
-use Rattle.desk_model.specs.Authorization.{kinds_of}
-use Rattle.desk_model.specs.Limits.{last_number}
+use Rattle.desk_model.specs.{Authorization.kinds_of, Limits.last_number, Kept.EachOf, Decide.entries_of}
 use Rattle.desk_model.specs.Run.{count_new, count_tokens, count_pieces}
-use Rattle.desk_model.specs.Kept.{EachOf}
-use Rattle.desk_model.specs.Decide.{entries_of}
-use Rattle.desk_model.specs.declared.rows.Counters.{Counters}
-use Rattle.desk_model.specs.declared.verdict.Verdict.{Verdict}
+use Rattle.desk_model.specs.declared.{rows.Counters.Counters, verdict.Verdict.Verdict, entry.Wanted.Wanted}
 use Rattle.desk_model.specs.declared.verdict.Verdict.TheVariants.{Opens as opens, Orders as orders}
-use Rattle.desk_model.specs.declared.entry.Wanted.{Wanted}
 use Rattle.desk_model.specs.declared.entry.Wanted.TheVariants.{New as new, Reused as reused}
 use Rattle.core_rules.specs.declared.fault.CoreFault.{CoreFault}
 use Rattle.core_rules.specs.declared.fault.CoreFault.TheVariants as fault

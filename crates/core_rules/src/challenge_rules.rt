@@ -1,7 +1,6 @@
 //! The rules on challenges (RFC 8555, 7.5.1, 8).
 ghost use Rattle.std.specs.Prelude.{◌≡◌, Some};
-ghost use Rattle.desk_model.specs.Lookup.{holds};
-ghost use Rattle.desk_model.specs.Questions.{challenge_of};
+ghost use Rattle.desk_model.specs.{Lookup.holds, Questions.challenge_of};
 ghost use Rattle.desk_model.specs.Rules.{challenge_verdict, outcome_of, outcome_verdict, same_outcome, judged};
 
 use crate::verdicts::refused;

@@ -2,8 +2,7 @@
 ghost use Rattle.std.specs.Prelude.{◌≡◌, drop, MatchResult, option_map};
 ghost use Rattle.serde_json.specs.View.{view};
 ghost use Rattle.core_rules.specs.Needs.{NumbersLeft, BytesLeft, IsNeedFault};
-ghost use Rattle.desk_model.specs.Payload.{object_in};
-ghost use Rattle.desk_model.specs.Questions.{account_with_key};
+ghost use Rattle.desk_model.specs.{Payload.object_in, Questions.account_with_key};
 ghost use Rattle.desk_model.specs.Rules.{key_verdict, signed_verdict, target_verdict};
 ghost use Rattle.identifiers.specs.AskedOrders.{target_order};
 

@@ -1,8 +1,6 @@
 //! The rules on the change of an account's key (RFC 8555, 7.3.5).
 ghost use Rattle.std.specs.Prelude.{◌≡◌, bytes_eq, IfOk, MatchResult};
-ghost use Rattle.desk_model.specs.Document.{account_url};
-ghost use Rattle.desk_model.specs.Lookup.{holds};
-ghost use Rattle.desk_model.specs.Questions.{account_with_key};
+ghost use Rattle.desk_model.specs.{Document.account_url, Lookup.holds, Questions.account_with_key};
 ghost use Rattle.desk_model.specs.Rules.{has_this_key, key_change_verdict, rekey_verdict};
 ghost use Rattle.core_rules.specs.declared.fault.CoreFault.TheVariants.{Memory};
 

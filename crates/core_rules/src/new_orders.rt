@@ -1,12 +1,10 @@
 //! The rules on new orders (RFC 8555, 7.4).
 ghost use Rattle.std.specs.Prelude.{◌≡◌, ◌+◌, ◌*◌, ◌<◌, ◌≤◌, ◌⊎◌, length, drop, sum_by, IfOk, MatchResult};
 ghost use Rattle.core_rules.specs.Needs.{NumbersLeft, BytesLeft, IsNeedFault};
-ghost use Rattle.desk_model.specs.Authorization.{kinds_of};
+ghost use Rattle.desk_model.specs.{Authorization.kinds_of, Limits.last_number, Run.count_tokens};
 ghost use Rattle.core_rules.specs.Making.{drawn_for, made_for};
-ghost use Rattle.desk_model.specs.Limits.{last_number};
 ghost use Rattle.core_rules.specs.OrderVerdicts.{order_verdict};
 ghost use Rattle.desk_model.specs.Rules.{pieces, wanted};
-ghost use Rattle.desk_model.specs.Run.{count_tokens};
 ghost use Rattle.desk_model.specs.declared.verdict.Verdict.TheVariants.{Orders as orders};
 
 use crate::fault::CoreFault;

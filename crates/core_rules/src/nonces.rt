@@ -1,8 +1,7 @@
 //! Nonces (RFC 8555, 6.5).
 ghost use Rattle.std.specs.Prelude.{◌≡◌};
-ghost use Rattle.desk_model.specs.Effect.{swept};
+ghost use Rattle.desk_model.specs.{Effect.swept, Tokens.nonce_in};
 ghost use Rattle.desk_model.specs.Rules.{open_nonce, open_nonce_in};
-ghost use Rattle.desk_model.specs.Tokens.{nonce_in};
 ghost use Rattle.model_laws.specs.Ordered.{IsOrdered};
 
 use desk_book::Book;

@@ -1,10 +1,9 @@
 //! The rules on what the validator, the signing office and the operator ask (RFC 8555, 7.1.6, 7.4, 8).
 ghost use Rattle.std.specs.Prelude.{◌≡◌, ◌&&◌, IfOk, bytes_eq};
-ghost use Rattle.desk_model.specs.Lookup.{holds};
+ghost use Rattle.desk_model.specs.{Lookup.holds, Verdict.given};
 ghost use Rattle.desk_model.specs.Questions.{account_on, authorization_on, order_on};
 ghost use Rattle.desk_model.specs.Rules.{certify_verdict, fail_verdict, is_revoked, office_verdict};
 ghost use Rattle.desk_model.specs.Rules.{report_verdict, revoke_account, revoke_authorization, same_problem};
-ghost use Rattle.desk_model.specs.Verdict.{given};
 
 use crate::challenge_rules::{outcome_of, outcome_verdict};
 use crate::verdicts::refused;

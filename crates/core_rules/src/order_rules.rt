@@ -1,7 +1,6 @@
 //! The rules on orders (RFC 8555, 7.4).
 ghost use Rattle.std.specs.Prelude.{◌≡◌, IfOk, MatchResult};
-ghost use Rattle.desk_model.specs.Order.{is_ready};
-ghost use Rattle.desk_model.specs.Rules.{csr_in};
+ghost use Rattle.desk_model.specs.{Order.is_ready, Rules.csr_in};
 ghost use Rattle.desk_model.specs.Verdict.{check, given};
 ghost use Rattle.desk_model.specs.declared.verdict.Verdict.TheVariants.{Moves as moves};
 ghost use Rattle.desk_model.specs.declared.moves.Move.TheVariants as move;

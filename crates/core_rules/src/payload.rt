@@ -1,12 +1,9 @@
 //! The payloads of signed requests: JSON texts in the forms that the routes read.
 ghost use Rattle.std.specs.Prelude.{◌≡◌, Some, Option, option_map, option_and_then, IfOk};
-ghost use Rattle.serde_json.specs.View.{view};
-ghost use Rattle.desk_model.specs.Payload.{object_in, texts_in, optional, new_account};
-ghost use Rattle.desk_model.specs.Payload.{says_deactivated, account_change, key_change};
-ghost use Rattle.desk_model.specs.Payload.{authorization_change, challenge_change};
-ghost use Rattle.desk_model.specs.Payload.{finalize};
+ghost use Rattle.serde_json.specs.{View.view, Read.read};
+ghost use Rattle.desk_model.specs.Payload.{object_in, texts_in, optional, new_account, says_deactivated, account_change, key_change, authorization_change};
+ghost use Rattle.desk_model.specs.Payload.{challenge_change, finalize};
 ghost use Rattle.serde_json.specs.Find.{get, as_bool, as_str};
-ghost use Rattle.serde_json.specs.Read.{read};
 
 use desk_model::{
     AccountChange, AuthorizationChange, ChallengeChange, KeyChange, NewAccount, Sequence, Text,

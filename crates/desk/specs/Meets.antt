@@ -1,7 +1,6 @@
 -- The exits of a call to a desk, open or closed.
 use Rattle.std.specs.Prelude.{◌≡◌, ◌⊎◌, true, false, Result, Err}
-use Rattle.desk_model.specs.declared.call.Call.{Call}
-use Rattle.desk_model.specs.declared.reply.Reply.{Reply}
+use Rattle.desk_model.specs.declared.{call.Call.Call, reply.Reply.Reply}
 use Rattle.store_api.specs.Sight.{Sight}
 use Rattle.desk.specs.Answers.{Answers, is_closed_after}
 use Rattle.desk.specs.State.{DeskState}

@@ -1,10 +1,7 @@
 -- What an office asks, answered by a desk.
 use Rattle.std.specs.Prelude.{◌≡◌, ℕ, [], Option, Some, None, Result, Ok, Err}
 use Rattle.desk_model.specs.declared.call.Ask.TheVariants as ask
-use Rattle.desk_model.specs.declared.call.Call.{Call}
-use Rattle.desk_model.specs.declared.call.OfficeAsk.{OfficeAsk}
-use Rattle.desk_model.specs.declared.refusal.Refusal.{Refusal}
-use Rattle.desk_model.specs.declared.reply.Body.{Body}
+use Rattle.desk_model.specs.declared.{call.Call.Call, call.OfficeAsk.OfficeAsk, refusal.Refusal.Refusal, reply.Body.Body}
 use Rattle.desk_model.specs.declared.reply.Body.TheVariants as body
 use Rattle.desk_model.specs.declared.reply.Reply.{Reply}
 use Rattle.store_api.specs.Sight.{Sight}

@@ -1,13 +1,8 @@
 -- What may be seen of a desk over time, and that it is a life.
 use Rattle.std.specs.Prelude.{ℕ, ◌≡◌, ◌⊎◌, List, [], ◌∷◌, ◌++◌, Bool, false, Result, Ok, Err, IsTrue}
-use Rattle.desk_model.specs.Entry.{History}
-use Rattle.desk_model.specs.History.{terms}
-use Rattle.desk_model.specs.Legal.{Legal}
-use Rattle.desk_model.specs.Tables.{picture}
-use Rattle.desk_model.specs.Decide.{decide}
+use Rattle.desk_model.specs.{Entry.History, History.terms, Legal.Legal, Tables.picture, Decide.decide}
 use Rattle.desk_model.specs.Life.{Event, Replied, Faulted, Stopped, Reopened, IsLife, history, is_running, made_by, Passed, EndedRowsStay}
-use Rattle.desk_model.specs.declared.call.Call.{Call}
-use Rattle.desk_model.specs.declared.reply.Reply.{Reply}
+use Rattle.desk_model.specs.declared.{call.Call.Call, reply.Reply.Reply}
 use Rattle.store_api.specs.Sight.{Sight, Keeps, Opens, FailsToOpen}
 use Rattle.desk.specs.Answers.{Answers, is_closed_after}
 use Rattle.desk.specs.declared.fault.DeskFault.{DeskFault}

@@ -1,10 +1,8 @@
 -- What is seen of a run of calls.
 use Rattle.std.specs.Prelude.{◌≡◌, List, [], ◌∷◌, ◌++◌, length, take, drop, false, Option, Some, None, Err}
-use Rattle.desk_model.specs.declared.call.Call.{Call}
-use Rattle.desk_model.specs.declared.reply.Reply.{Reply}
+use Rattle.desk_model.specs.declared.{call.Call.Call, reply.Reply.Reply}
 use Rattle.store_api.specs.Sight.{Sight}
-use Rattle.desk.specs.Faults.{closes}
-use Rattle.desk.specs.Runs.{RunsAs}
+use Rattle.desk.specs.{Faults.closes, Runs.RunsAs}
 use Rattle.desk.specs.Seen.{Place, runs, Seen, seen_fault, seen_stop, place_after, Told, told_by, IsSeen}
 use Rattle.desk.specs.declared.fault.DeskFault.{DeskFault}
 

@@ -1,8 +1,6 @@
 //! A store in memory.
 ghost use Rattle.std.specs.Prelude.{◌≡◌};
-ghost use Rattle.desk_model.specs.History.{first_history};
-ghost use Rattle.desk_model.specs.Legal.{Legal};
-ghost use Rattle.desk_model.specs.Tables.{picture};
+ghost use Rattle.desk_model.specs.{History.first_history, Legal.Legal, Tables.picture};
 
 use desk_book::Book;
 use desk_model::{Change, Clock, Policy};

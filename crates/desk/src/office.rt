@@ -1,8 +1,7 @@
 //! What an office asks of a desk.
 ghost use Rattle.std.specs.Prelude.{◌≡◌, ◌<◌, ◌↔◌, IsTrue, false, Err, IfErr};
 ghost use Rattle.desk.specs.declared.fault.DeskFault.TheVariants as fault;
-ghost use Rattle.desk.specs.Answers.{is_closed_after};
-ghost use Rattle.desk.specs.Causes.{IsCaused};
+ghost use Rattle.desk.specs.{Answers.is_closed_after, Causes.IsCaused};
 ghost use Rattle.desk.specs.Office.{AnswersOffice, refusal_in};
 ghost use Rattle.desk_model.specs.Limits.{last_moment};
 

@@ -20,8 +20,7 @@ pub struct At<'a> {
 }
 
 impl<'a> Model for At<'a> {
-    ghost use Rattle.desk_model.specs.Effect.{swept};
-    ghost use Rattle.desk_model.specs.Tables.{Tables};
+    ghost use Rattle.desk_model.specs.{Effect.swept, Tables.Tables};
 
     ghost Value = { Tables };
 

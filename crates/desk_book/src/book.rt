@@ -1,7 +1,6 @@
 //! The book of a desk: its rows in memory.
 ghost use Rattle.std.specs.Prelude.{◌≡◌, ◌==◌, List, find, bytes_eq, IfOk, OnOk, OnErr, option_copied};
-ghost use Rattle.desk_model.specs.History.{first_history};
-ghost use Rattle.desk_model.specs.Legal.{Legal};
+ghost use Rattle.desk_model.specs.{History.first_history, Legal.Legal};
 ghost use Rattle.desk_model.specs.Tables.{Tables, picture};
 ghost use Rattle.desk_model.specs.Questions.{nonce_on, account_on, account_with_key, order_on, authorization_on, owner_on};
 ghost use Rattle.desk_model.specs.Change.{applied_one, applied};

@@ -1,7 +1,6 @@
 //! Which authorization an order uses again (RFC 8555, 7.4).
 ghost use Rattle.std.specs.Prelude.{◌≡◌, ◌+◌, find, nat_le, option_copied};
-ghost use Rattle.desk_model.specs.Effect.{swept_authorization};
-ghost use Rattle.desk_model.specs.Questions.{serves};
+ghost use Rattle.desk_model.specs.{Effect.swept_authorization, Questions.serves};
 
 use crate::standing::authorization_status;
 use crate::table::Table;

@@ -16,8 +16,7 @@ pub struct Table<R: Row + Drop> {
 }
 
 impl<R: Row + Drop> Model for Table<R> {
-    ghost use Rattle.std.specs.Prelude.{List};
-    ghost use Rattle.std.specs.BTreeMap.{values};
+    ghost use Rattle.std.specs.{Prelude.List, BTreeMap.values};
     ghost use Rattle.desk_book.specs.Keyed.{IsKeyed};
 
     ghost Value = { List R };

@@ -1,15 +1,9 @@
 -- What a decision promises, against the history of whose picture the book is a part.
 use Rattle.std.specs.Prelude.{◌≡◌, Some, None, List, []}
-use Rattle.desk_model.specs.Entry.{History}
-use Rattle.desk_model.specs.History.{moment_of}
-use Rattle.desk_model.specs.Legal.{Legal}
-use Rattle.desk_model.specs.Tables.{picture}
+use Rattle.desk_model.specs.{Entry.History, History.moment_of, Legal.Legal, Tables.picture, Run.fault}
 use Rattle.desk_model.specs.Change.{applied, recorded_changes}
 use Rattle.desk_model.specs.Decide.{decide, after}
-use Rattle.desk_model.specs.Run.{fault}
-use Rattle.desk_model.specs.declared.call.Call.{Call}
-use Rattle.desk_model.specs.declared.reply.Reply.{Reply}
-use Rattle.desk_model.specs.declared.rows.Change.{Change}
+use Rattle.desk_model.specs.declared.{call.Call.Call, reply.Reply.Reply, rows.Change.Change}
 use Rattle.model_laws.specs.News.{AreKept, AreNewChildren, AreNews}
 use Rattle.core_rules.specs.declared.fault.CoreFault.{CoreFault}
 use Rattle.core_rules.specs.declared.fault.CoreFault.TheVariants as core

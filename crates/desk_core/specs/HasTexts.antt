@@ -1,8 +1,6 @@
 -- Where the moments that are shown have a text.
 use Rattle.std.specs.Prelude.{◌≤◌}
-use Rattle.desk_model.specs.Limits.{last_end}
-use Rattle.desk_model.specs.Kept.{EachOf}
-use Rattle.desk_model.specs.Tables.{Tables}
+use Rattle.desk_model.specs.{Limits.last_end, Kept.EachOf, Tables.Tables}
 use Rattle.core_replies.specs.Shown.{HasMoments}
 
 -- each moment that may be shown has a text

@@ -1,7 +1,6 @@
 -- Whether a nonce can be issued.
 use Rattle.std.specs.Prelude.{ℕ, ◌<◌, ◌≤◌, List, length}
-use Rattle.desk_model.specs.Limits.{last_number}
-use Rattle.desk_model.specs.Tables.{Tables}
+use Rattle.desk_model.specs.{Limits.last_number, Tables.Tables}
 use Rattle.core_rules.specs.declared.fault.CoreFault.{CoreFault}
 use Rattle.core_rules.specs.declared.fault.CoreFault.TheVariants as fault
 

@@ -1,15 +1,12 @@
 //! What a verdict names, shown as its rows stand at a moment, or as a move leaves them (RFC 8555, 7).
 ghost use Rattle.std.specs.Prelude.{◌≡◌, ◌≤◌, ◌∷◌, [], ℕ, true, IfOk, IsSome, IsSomeAnd, Some};
 ghost use Rattle.desk_model.specs.Effect.{effects, has_row, swept};
-ghost use Rattle.desk_model.specs.Entry.{entry_of};
-ghost use Rattle.desk_model.specs.Limits.{last_end};
+ghost use Rattle.desk_model.specs.{Entry.entry_of, Limits.last_end, Tables.Tables};
 ghost use Rattle.desk_model.specs.Questions.{account_on, authorization_on, challenge_of, order_on, owner_on};
 ghost use Rattle.desk_model.specs.Shown.{authorization_reply, certificate_reply, challenge_in, client_challenge_in};
 ghost use Rattle.desk_model.specs.Shown.{located_order, moved_reply, order_reply, reply_of, shown};
-ghost use Rattle.desk_model.specs.Tables.{Tables};
 ghost use Rattle.core_changes.specs.Moved.{AreMoved};
-ghost use Rattle.desk_core.specs.HasTexts.{HasTexts};
-ghost use Rattle.desk_core.specs.Named.{IsNamedAs};
+ghost use Rattle.desk_core.specs.{HasTexts.HasTexts, Named.IsNamedAs};
 ghost use Rattle.desk_core.specs.There.{IsAmong, IsThere};
 ghost use Rattle.core_replies.specs.Shown.{HasMoments};
 

@@ -6,15 +6,11 @@ use Rattle.sqlite_disk.specs.declared.Disk as disk
 use Rattle.sqlite_disk.specs.declared.Files.{Files}
 use Rattle.sqlite_store.specs.declared.store.FileStore.{FileStore}
 use Rattle.sqlite.specs.Files.{FailsToClose, file_state, image_of}
-use Rattle.sqlite.specs.Recovery.{Image}
-use Rattle.sqlite.specs.State.{HasCleanDisk}
-use Rattle.sqlite.specs.WalFiles.{outcomes}
-use Rattle.sqlite.specs.WalReads.{AreClean}
+use Rattle.sqlite.specs.{Recovery.Image, State.HasCleanDisk, WalFiles.outcomes, WalReads.AreClean}
 use Rattle.desk_model.specs.Tables.{Tables}
 use Rattle.sqlite.specs.declared.error.Error.{Error}
 use Rattle.desk_store.specs.Desks.{HasDesk}
-use Rattle.desk_store.specs.declared.open_fault.OpenFault.{OpenFault}
-use Rattle.desk_store.specs.declared.store.Store.{Store}
+use Rattle.desk_store.specs.declared.{open_fault.OpenFault.OpenFault, store.Store.Store}
 use Rattle.desk_files.specs.LeftFiles.{HoldDesk, LeavesFound}
 use Rattle.desk_files.specs.Opening.{fault_of_close}
 

@@ -1,8 +1,6 @@
 -- Desks in either format: in format 1, or in today's.
 use Rattle.std.specs.Prelude.{◌≡◌, ◌⊎◌}
-use Rattle.sqlite.specs.Effect.{Database}
-use Rattle.sqlite.specs.State.{State}
-use Rattle.sqlite.specs.Tree.{Trees}
+use Rattle.sqlite.specs.{Effect.Database, State.State, Tree.Trees}
 use Rattle.desk_model.specs.Tables.{Tables}
 use Rattle.desk_store.specs.Desks.{AreOfDesk, HasDesk}
 use Rattle.sql_upgrade.specs.FirstDesks.{HasFirst, IsFirstDesk}

@@ -4,10 +4,7 @@ use Rattle.sqlite_disk.specs.declared.Disk as disk
 use Rattle.sqlite_store.specs.declared.store.FileStore.{FileStore}
 use Rattle.sqlite.specs.FileStore as engine
 use Rattle.sqlite.specs.Files.{HoldsDatabase, over_files}
-use Rattle.sqlite.specs.Held.{Held}
-use Rattle.sqlite.specs.Recovery.{Image}
-use Rattle.sqlite.specs.Schema.{Schema}
-use Rattle.sqlite.specs.Tree.{Trees}
+use Rattle.sqlite.specs.{Held.Held, Recovery.Image, Schema.Schema, Tree.Trees}
 use Rattle.desk_model.specs.Tables.{Tables}
 use Rattle.sql_schema.specs.Names.{uses_key_table}
 use Rattle.store_api.specs.Sight.{Sight, Keeps}

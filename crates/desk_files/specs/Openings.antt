@@ -4,9 +4,7 @@ use Rattle.sqlite_disk.specs.declared.Disk as disk
 use Rattle.sqlite_store.specs.declared.store.FileStore.{FileStore}
 use Rattle.sqlite.specs.Files.{IsEmpty, IsOpened, file_state}
 use Rattle.sqlite.specs.Held.{Held, IsNew}
-use Rattle.sqlite.specs.Recovery.{Image}
-use Rattle.sqlite.specs.Start.{FindsIn}
-use Rattle.sqlite.specs.Tree.{Trees}
+use Rattle.sqlite.specs.{Recovery.Image, Start.FindsIn, Tree.Trees}
 use Rattle.desk_model.specs.Tables.{Tables}
 use Rattle.sql_schema.specs.Schema.{no_schema}
 use Rattle.store_api.specs.Sight.{FailsToOpen}

@@ -1,10 +1,7 @@
 //! Desks in two files, for all bytes that these may hold.
 ghost use Rattle.std.specs.Prelude.{◌≡◌, None, IfErr, IfOk, IfSome};
 ghost use Rattle.sqlite.specs.Files.{IsOpened, file_state};
-ghost use Rattle.sqlite.specs.Held.{IsNew};
-ghost use Rattle.sqlite.specs.Start.{FindsIn};
-ghost use Rattle.sqlite.specs.State.{HasCleanDisk};
-ghost use Rattle.sqlite.specs.WalFiles.{image_at};
+ghost use Rattle.sqlite.specs.{Held.IsNew, Start.FindsIn, State.HasCleanDisk, WalFiles.image_at};
 ghost use Rattle.desk_files.specs.Opening.{FailedOver, FailedToMakeOver, FailsToMake, FoundNoName, LeavesAnOpening, LeavesAsFound, MakesFiles};
 ghost use Rattle.desk_files.specs.Opening.{OpensFiles, RefusedBy, RefusesName, RefusesNoDatabase, RefusesNoDesk};
 ghost use Rattle.desk_store.specs.Making.{IsOfStorage};

@@ -3,8 +3,7 @@ ghost use Rattle.std.specs.Prelude.{◌≡◌, ◌⊎◌, Err, IfErr, IfOk, IsTr
 ghost use Rattle.desk_model.specs.History.{first_history};
 ghost use Rattle.desk_model.specs.Tables.{Tables, picture};
 ghost use Rattle.sql_schema.specs.Names.{uses_key_table, uses_names};
-ghost use Rattle.sql_schema.specs.Schema.{no_schema};
-ghost use Rattle.sql_schema.specs.Stays.{Asks};
+ghost use Rattle.sql_schema.specs.{Schema.no_schema, Stays.Asks};
 ghost use Rattle.store_api.specs.Sight.{Keeps};
 ghost use Rattle.store_api.specs.declared.fault.StorageFault.TheVariants.{Memory as memory};
 ghost use Rattle.desk_store.specs.Desks.{HasDesk, store_sight};
@@ -12,8 +11,7 @@ ghost use Rattle.desk_store.specs.Making.{IsNewDesk, IsOfStorage};
 ghost use Rattle.desk_store.specs.Opening.{HasLaterFormat, IsUpgraded, IsWhole, IsWholeFirst, ShowsKnownFormat, ShowsNewerFormat};
 ghost use Rattle.desk_store.specs.declared.open_fault.OpenFault.TheVariants.{NewerFormat as newer_format, NotADesk as not_a_desk, Storage as of_storage};
 ghost use Rattle.sql_upgrade.specs.FirstDesks.{HasFirst};
-ghost use Rattle.sqlite.specs.Held.{state};
-ghost use Rattle.sqlite.specs.State.{HasCleanDisk};
+ghost use Rattle.sqlite.specs.{Held.state, State.HasCleanDisk};
 ghost use Rattle.desk_files.specs.StoredDesks.{FailedToAsk, FailedToMakeDesk, FailedToOpenDesk, GoesBackOrIsMade, IsDeskOf, Leaves};
 
 use desk::Desk;

@@ -1,13 +1,9 @@
 //! Desks over a connection, and what a stop leaves where they are not opened or made.
 ghost use Rattle.std.specs.Prelude.{◌≡◌, ◌≤◌, ◌⊎◌, false, None, IfErr, IfOk, IfSome, IsTrue, MatchResult};
-ghost use Rattle.sqlite.specs.Held.{state};
-ghost use Rattle.sqlite.specs.State.{HasCleanDisk};
-ghost use Rattle.sqlite.specs.Tree.{Trees};
-ghost use Rattle.sqlite.specs.View.{doubt};
+ghost use Rattle.sqlite.specs.{Held.state, State.HasCleanDisk, Tree.Trees, View.doubt};
 ghost use Rattle.desk_model.specs.History.{first_history};
 ghost use Rattle.desk_model.specs.Tables.{Tables, picture};
-ghost use Rattle.sql_schema.specs.Names.{uses_names};
-ghost use Rattle.sql_schema.specs.Schema.{no_schema};
+ghost use Rattle.sql_schema.specs.{Names.uses_names, Schema.no_schema};
 ghost use Rattle.store_api.specs.Sight.{Keeps};
 ghost use Rattle.desk_store.specs.Desks.{store_sight};
 ghost use Rattle.desk_store.specs.Making.{FailedToMake, IsOfStorage};

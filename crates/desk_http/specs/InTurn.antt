@@ -1,10 +1,8 @@
 -- What serving connections one after the other does to a desk.
 use Rattle.std.specs.Prelude.{◌≡◌, ◌⊎◌, ◌<◌, ◌≤◌, ℕ, length, List, zero, suc, Bool, true, false, Option, Some, None, Result, Ok, Err, MatchResult}
 use Rattle.std.specs.Io.KnownBytes.{Keeps}
-use Rattle.store_api.specs.Sight.{Sight}
-use Rattle.store_api.specs.Storing.{Causes}
-use Rattle.desk.specs.Faults.{closes}
-use Rattle.desk.specs.State.{DeskState}
+use Rattle.store_api.specs.{Sight.Sight, Storing.Causes}
+use Rattle.desk.specs.{Faults.closes, State.DeskState}
 use Rattle.desk.specs.declared.fault.DeskFault.{DeskFault}
 use Rattle.desk.specs.declared.fault.DeskFault.TheVariants as deskfault
 use Rattle.std.specs.declared.alloc.AllocError.{AllocError}
@@ -20,8 +18,7 @@ use Rattle.desk_http.specs.declared.saying.Cause.{Cause}
 use Rattle.desk_http.specs.declared.saying.Cause.TheVariants as cause
 use Rattle.desk_http.specs.declared.sending.IoFault.{IoFault}
 use Rattle.desk_http.specs.declared.sending.IoFault.TheVariants as iofault
-use Rattle.desk_http.specs.declared.serving.Served.{Served}
-use Rattle.desk_http.specs.declared.serve_fault.ServeFault.{ServeFault}
+use Rattle.desk_http.specs.declared.{serving.Served.Served, serve_fault.ServeFault.ServeFault}
 use Rattle.desk_http.specs.declared.serve_fault.ServeFault.TheVariants as servefault
 
 -- the fault, if it closes a desk

@@ -17,9 +17,7 @@ use Rattle.http_routes.specs.declared.request.Request.TheVariants as request
 use Rattle.std.specs.declared.alloc.AllocError.{AllocError}
 use Rattle.desk_http.specs.declared.saying.Cause.{Cause}
 use Rattle.desk_http.specs.declared.saying.Cause.TheVariants as cause
-use Rattle.desk_http.specs.declared.sending.IoFault.{IoFault}
-use Rattle.desk_http.specs.declared.serving.Served.{Served}
-use Rattle.desk_http.specs.declared.telling.Told.{Told}
+use Rattle.desk_http.specs.declared.{sending.IoFault.IoFault, serving.Served.Served, telling.Told.Told}
 
 -- ---- what a reply tells
 

@@ -1,8 +1,7 @@
 //! What is sent to a client: a reply, or in its place that the desk could not act.
 ghost use Rattle.std.specs.Prelude.{◌≡◌, IfOk, IfErr, OnOk};
 ghost use Rattle.std.specs.Io.KnownBytes.{Appends};
-ghost use Rattle.desk_model.specs.declared.refusal.Refusal.TheVariants.{ServerInternal};
-ghost use Rattle.desk_model.specs.declared.reply.Allow.TheVariants.{No};
+ghost use Rattle.desk_model.specs.declared.{refusal.Refusal.TheVariants.ServerInternal, reply.Allow.TheVariants.No};
 ghost use Rattle.http_routes.specs.Request.{refused_reply, refused_request};
 ghost use Rattle.http_wire.specs.Replies.{reply_bytes};
 ghost use Rattle.desk_http.specs.Serving.{Tells};

@@ -1,8 +1,7 @@
 -- The limits of terms, one by one.
 use Rattle.std.proofs.Common.{◌≡◌, ℕ, ◌≤◌, true, arith}
-use Rattle.std.proofs.lemmas.Bool.Decides.{nat_tests}
+use Rattle.std.proofs.lemmas.{Bool.Decides.nat_tests, Bool.and_parts}
 use Rattle.std.specs.Prelude.{IsTrue, ◌&&◌}
-use Rattle.std.proofs.lemmas.Bool.{and_parts}
 use Rattle.desk_model.specs.Limits.{longest_life}
 use Rattle.desk_model.specs.Terms.{Terms, are_terms, is_base, is_life}
 

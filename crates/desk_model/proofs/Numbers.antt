@@ -1,7 +1,6 @@
 -- The number at the front of a text ends at its first quotation mark.
 use Rattle.std.proofs.Common.{◌≡◌, ◌≢◌, ℕ, ◌<◌, true, suc, List, [], ◌∷◌, ◌++◌, length, get_or, refl, sym, ◌∙◌, ap, subst, arith}
-use Rattle.std.specs.Prelude.{IsTrue}
-use Rattle.std.specs.List.{list_all}
+use Rattle.std.specs.{Prelude.IsTrue, List.list_all}
 use Rattle.std.proofs.lemmas.Bool.{and_parts}
 use Rattle.desk_model.specs.Keys.{is_number_text, is_base64url_byte}
 use Rattle.desk_model.specs.KeyTexts.{IsNumberThen}

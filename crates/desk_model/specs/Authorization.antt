@@ -2,12 +2,10 @@
 use Rattle.std.specs.Prelude.{ℕ, ◌+◌, List, [], ◌∷◌, ◌++◌, length, Bool, false, true, not, ◌||◌, ◌==◌, nat_lt, nat_le, Option}
 use Rattle.std.specs.Prelude.{Some, None, find, if◌then◌else◌, is_some}
 use Rattle.std.specs.List.{list_any}
-use Rattle.desk_model.specs.Name.{Name}
+use Rattle.desk_model.specs.{Name.Name, Account.account_key, Keys.thumbprint}
 use Rattle.desk_model.specs.Entry.{Entry, ordered, answered, reported, authorization_ended, account_ended, Wanted, new, reused, Ending}
 use Rattle.desk_model.specs.Entry.{deactivated, revoked, Outcome, good, History}
 use Rattle.desk_model.specs.History.{first, earlier, terms}
-use Rattle.desk_model.specs.Account.{account_key}
-use Rattle.desk_model.specs.Keys.{thumbprint}
 pub use Rattle.desk_model.specs.declared.objects.Kind.{Kind}
 pub use Rattle.desk_model.specs.declared.objects.Kind.TheVariants.{Http01 as http_01, Dns01 as dns_01}
 pub use Rattle.desk_model.specs.declared.objects.Challenge.{Challenge}

@@ -5,8 +5,7 @@ use Rattle.std.specs.Cmp.Lexicographic.{pointwise}
 use Rattle.std.specs.List.{filter, list_any, zip}
 use Rattle.desk_model.specs.Entry.{Entry, spent}
 use Rattle.desk_model.specs.Nonce.{Nonce, issued_by}
-use Rattle.desk_model.specs.Account.{opened_by}
-use Rattle.desk_model.specs.Order.{ordered_by}
+use Rattle.desk_model.specs.{Account.opened_by, Order.ordered_by}
 use Rattle.desk_model.specs.Tables.{AccountRow, AuthorizationRow, ChallengeRow, OrderRow, Tables}
 use Rattle.desk_model.specs.Derived.{account_code, chall_code, authz_code, order_code, restated_authorization, restated_order}
 pub use Rattle.desk_model.specs.declared.rows.Change.{Change}

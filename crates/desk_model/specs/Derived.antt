@@ -1,10 +1,8 @@
 -- The status that a row ought to have, from its dated columns and the statuses stored beside it.
 use Rattle.std.specs.Prelude.{ℕ, ◌==◌, nat_le, List, [], ◌∷◌, ◌++◌, map, Bool, cond, ◌||◌, nat_lt, Option, Some, None, is_some, find}
 use Rattle.std.specs.List.{flat_map, list_any, list_all}
-use Rattle.desk_model.specs.Lookup.{holds}
-use Rattle.desk_model.specs.Account.{status_of}
+use Rattle.desk_model.specs.{Lookup.holds, Account.status_of, Order.order_status_by}
 use Rattle.desk_model.specs.Authorization.{authorization_status_by, challenge_status_by, is_over, is_valid, is_good}
-use Rattle.desk_model.specs.Order.{order_status_by}
 use Rattle.desk_model.specs.Tables.{Tables, AccountRow, ChallengeRow, AuthorizationRow, OrderRow, Listed}
 use Rattle.desk_model.specs.declared.status.AccountStatus.{AccountStatus}
 use Rattle.desk_model.specs.declared.status.AccountStatus.TheVariants as account

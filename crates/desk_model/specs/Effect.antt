@@ -2,9 +2,7 @@
 use Rattle.std.specs.Prelude.{ℕ, ◌+◌, List, [], ◌∷◌, ◌++◌, length, map, Bool, true, false, not, cond, ◌&&◌, ◌||◌, ◌==◌, nat_lt}
 use Rattle.std.specs.Prelude.{nat_le, Option, Some, None, find, is_some, unwrap_or}
 use Rattle.std.specs.List.{filter, list_any}
-use Rattle.desk_model.specs.Terms.{Terms}
-use Rattle.desk_model.specs.Lookup.{holds}
-use Rattle.desk_model.specs.Keys.{thumbprint}
+use Rattle.desk_model.specs.{Terms.Terms, Lookup.holds, Keys.thumbprint}
 use Rattle.desk_model.specs.Entry.{Entry, spent, contacts_changed, key_changed, account_ended, answered, reported, authorization_ended}
 use Rattle.desk_model.specs.Entry.{finalized, certified, failed, Outcome}
 use Rattle.desk_model.specs.History.{terms_after, earlier}

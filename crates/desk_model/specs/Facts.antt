@@ -1,8 +1,6 @@
 -- The texts of facts, as the columns of a file keep them.
 use Rattle.std.specs.Prelude.{ℕ, List, codes}
-use Rattle.desk_model.specs.declared.entry.Ending.{Ending}
-use Rattle.desk_model.specs.declared.entry.Outcome.{Outcome}
-use Rattle.desk_model.specs.declared.objects.EndKind.{EndKind}
+use Rattle.desk_model.specs.declared.{entry.Ending.Ending, entry.Outcome.Outcome, objects.EndKind.EndKind}
 use Rattle.desk_model.specs.declared.entry.Ending.TheVariants as ending
 use Rattle.desk_model.specs.declared.entry.Outcome.TheVariants as outcome
 use Rattle.desk_model.specs.declared.objects.EndKind.TheVariants as end

@@ -1,9 +1,7 @@
 -- Some rows of the tables, chosen by their numbers, and what makes them enough for a call.
 use Rattle.std.specs.Prelude.{ℕ, ◌<◌, ◌≡◌, List, [], ◌∷◌, Bool, true, not}
 use Rattle.std.specs.List.{filter}
-use Rattle.desk_model.specs.Entry.{Entry}
-use Rattle.desk_model.specs.Tables.{Tables}
-use Rattle.desk_model.specs.Derived.{numbers_of}
+use Rattle.desk_model.specs.{Entry.Entry, Tables.Tables, Derived.numbers_of}
 use Rattle.desk_model.specs.Effect.{touches_account, touches_authorization, touches_order, lasts, is_overdue, falls}
 
 -- which rows are kept, by number

@@ -1,9 +1,7 @@
 -- The keys of accounts, their canonical texts (RFC 7638, 3) and what is made of them.
 use Rattle.std.specs.Prelude.{◌≡◌, ℕ, Bool, ◌⊎◌, ◌&&◌, ◌||◌, ◌==◌, List, ◌++◌}
 use Rattle.std.specs.Prelude.{length, codes, Option, Some, None, IsTrue, bytes_eq, option_and_then, if◌then◌else◌}
-use Rattle.std.specs.Int.{is_in_range}
-use Rattle.std.specs.Char.{is_ascii_alphanumeric}
-use Rattle.std.specs.List.{list_all}
+use Rattle.std.specs.{Int.is_in_range, Char.is_ascii_alphanumeric, List.list_all}
 use Rattle.serde_json.specs.Data.{Data}
 use Rattle.sha2.specs.Sha256.{sha256}
 use Rattle.serde_json.specs.Find.{get, as_str}

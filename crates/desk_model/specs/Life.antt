@@ -1,19 +1,13 @@
 -- The lives of a desk: what may happen to it, and what holds over every life.
 use Rattle.std.specs.Prelude.{ℕ, ◌≡◌, List, [], ◌∷◌, ◌++◌, Bool, true, false, Option, Some, None, IsTrue, is_some}
-use Rattle.desk_model.specs.Entry.{History}
-use Rattle.desk_model.specs.History.{moment_of}
-use Rattle.desk_model.specs.Legal.{Legal}
-use Rattle.desk_model.specs.Authorization.{is_over}
+use Rattle.desk_model.specs.{Entry.History, History.moment_of, Legal.Legal, Authorization.is_over, Rules.open_nonce}
 use Rattle.desk_model.specs.Tables.{Tables, AccountRow, ChallengeRow, AuthorizationRow, OrderRow, tables_at, picture}
 use Rattle.desk_model.specs.Questions.{account_on, order_on, authorization_on, owner_on, challenge_of}
-use Rattle.desk_model.specs.Rules.{open_nonce}
 use Rattle.desk_model.specs.Decide.{decide, after}
 use Rattle.desk_model.specs.Run.{fault, IsFormedCall}
 use Rattle.desk_model.specs.declared.call.Call.{Call}
 use Rattle.desk_model.specs.declared.call.Ask.TheVariants as ask
-use Rattle.desk_model.specs.declared.call.Signed.{Signed}
-use Rattle.desk_model.specs.declared.reply.Reply.{Reply}
-use Rattle.desk_model.specs.declared.status.AccountStatus.{AccountStatus}
+use Rattle.desk_model.specs.declared.{call.Signed.Signed, reply.Reply.Reply, status.AccountStatus.AccountStatus}
 use Rattle.desk_model.specs.declared.status.AccountStatus.TheVariants as account
 use Rattle.desk_model.specs.declared.status.OrderStatus.{OrderStatus}
 use Rattle.desk_model.specs.declared.status.OrderStatus.TheVariants as order

@@ -3,11 +3,8 @@ use Rattle.std.specs.Prelude.{◌≡◌, ℕ, Bool, true, false, ◌==◌, ◌�
 use Rattle.std.specs.Prelude.{option_and_then, nat_eq, if◌then◌else◌}
 use Rattle.std.specs.List.{list_any, starts_with}
 use Rattle.idna.specs.Uts46.{to_ascii}
-use Rattle.idna.specs.declared.deny_list.TheConstants.AsciiDenyList.{EMPTY}
-use Rattle.idna.specs.declared.options.Hyphens.TheVariants.{Allow}
-use Rattle.idna.specs.declared.options.DnsLength.TheVariants.{Ignore}
-use Rattle.desk_model.specs.BaseName.{is_base_name}
-use Rattle.desk_model.specs.Name.{Name}
+use Rattle.idna.specs.declared.{deny_list.TheConstants.AsciiDenyList.EMPTY, options.Hyphens.TheVariants.Allow, options.DnsLength.TheVariants.Ignore}
+use Rattle.desk_model.specs.{BaseName.is_base_name, Name.Name}
 
 -- the type of identifiers that are names (RFC 8555, 9.7.7)
 abbrev pub dns_type : List ℕ

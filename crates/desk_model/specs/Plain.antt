@@ -1,9 +1,7 @@
 -- JSON values whose compact text reads back as them.
 use Rattle.std.specs.Prelude.{◌≡◌, ℕ, zero, suc, List, Bool, true, false, ◌&&◌, not, Some, unwrap_or}
 use Rattle.serde_json.specs.Data.{Data, null, boolean, number, string, array, object, Items, no_items, item, Members, no_members, member}
-use Rattle.serde_json.specs.Find.{is_float}
-use Rattle.serde_json.specs.Read.{read}
-use Rattle.serde_json.specs.Written.{compact_text}
+use Rattle.serde_json.specs.{Find.is_float, Read.read, Written.compact_text}
 
 -- the value that a text reads as
 abbrev pub data_in : List ℕ → Data

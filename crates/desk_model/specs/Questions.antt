@@ -1,9 +1,7 @@
 -- What a decision asks of the tables.
 use Rattle.std.specs.Prelude.{ℕ, ◌+◌, ◌==◌, ◌&&◌, nat_le, List, Bool, Option, find, bytes_eq}
-use Rattle.desk_model.specs.Authorization.{is_valid}
+use Rattle.desk_model.specs.{Authorization.is_valid, Nonce.Nonce, Effect.has_row}
 use Rattle.desk_model.specs.Name.{Name, same_name}
-use Rattle.desk_model.specs.Nonce.{Nonce}
-use Rattle.desk_model.specs.Effect.{has_row}
 use Rattle.desk_model.specs.Tables.{Tables, AccountRow, ChallengeRow, AuthorizationRow, OrderRow}
 
 abbrev pub nonce_on : Tables → ℕ → Option Nonce

@@ -5,8 +5,7 @@ use Rattle.serde_json.specs.Data as json
 use Rattle.desk_model.specs.Json.{document, list}
 pub use Rattle.desk_model.specs.declared.refusal.Refusal.{Refusal}
 use Rattle.desk_model.specs.declared.refusal.Refusal.TheVariants as refusal
-use Rattle.desk_model.specs.declared.reply.Problem.{Problem}
-use Rattle.desk_model.specs.declared.reply.Subproblem.{Subproblem}
+use Rattle.desk_model.specs.declared.reply.{Problem.Problem, Subproblem.Subproblem}
 
 -- what is said of a refusal
 pub record RefusalRow : Type 0 where

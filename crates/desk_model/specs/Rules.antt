@@ -1,16 +1,13 @@
 -- The rules on requests: which are refused, and what the others record and show, by the tables at their moment.
 use Rattle.std.specs.Prelude.{ℕ, suc, zero, ◌*◌, List, [], ◌∷◌, length, take, drop, filter, Bool, false, true, not, ◌&&◌, ◌==◌}
 use Rattle.std.specs.Prelude.{nat_le, Option, Some, None, Ok, Err, is_none, if◌then◌else◌, bytes_eq, option_and_then}
-use Rattle.desk_model.specs.Lookup.{holds}
+use Rattle.desk_model.specs.{Lookup.holds, Nonce.Nonce, Account.is_valid as is_valid_account, Contact.contacts_fault}
 use Rattle.desk_model.specs.Name.{Name, same_name}
 use Rattle.desk_model.specs.Names.{dns_type, name_of}
 use Rattle.desk_model.specs.Tokens.{NonceText, nonce_in, body_matches, records_match, from_base64url}
 use Rattle.desk_model.specs.Entry.{Wanted, new, reused, Ending, deactivated, revoked, Outcome, good, incorrect_response, connection, dns, OrderProblem}
-use Rattle.desk_model.specs.Nonce.{Nonce}
-use Rattle.desk_model.specs.Account.{is_valid as is_valid_account}
 use Rattle.desk_model.specs.Authorization.{Kind, http_01, dns_01, is_live, is_pending, kinds_of}
 use Rattle.desk_model.specs.Order.{is_ready, is_processing}
-use Rattle.desk_model.specs.Contact.{contacts_fault}
 use Rattle.desk_model.specs.Legal.{is_problem, has_length, is_pending_challenge, is_processing_challenge}
 use Rattle.desk_model.specs.Limits.{longest_certificate, longest_csr, most_names}
 use Rattle.desk_model.specs.Tables.{Tables, AccountRow, ChallengeRow, AuthorizationRow, OrderRow}
@@ -25,13 +22,11 @@ use Rattle.desk_model.specs.Verdict.{Verdict, refused, key_taken, answers, opens
 use Rattle.desk_model.specs.declared.verdict.Shows.TheVariants as show
 use Rattle.desk_model.specs.declared.verdict.Listing.TheVariants as list
 use Rattle.desk_model.specs.declared.moves.Move.TheVariants as move
-use Rattle.desk_model.specs.declared.reply.Subproblem.{Subproblem}
-use Rattle.desk_model.specs.declared.status.AuthzStatus.{AuthzStatus}
+use Rattle.desk_model.specs.declared.{reply.Subproblem.Subproblem, status.AuthzStatus.AuthzStatus}
 use Rattle.desk_model.specs.declared.status.AuthzStatus.TheVariants as authz
 use Rattle.desk_model.specs.declared.call.OfficeAsk.{OfficeAsk}
 use Rattle.desk_model.specs.declared.call.OfficeAsk.TheVariants as office
-use Rattle.desk_model.specs.declared.call.Signed.{Signed}
-use Rattle.desk_model.specs.declared.call.Target.{Target}
+use Rattle.desk_model.specs.declared.call.{Signed.Signed, Target.Target}
 use Rattle.desk_model.specs.declared.call.Target.TheVariants as to
 use Rattle.desk_model.specs.declared.call.Finding.{Finding}
 use Rattle.desk_model.specs.declared.call.Finding.TheVariants as found

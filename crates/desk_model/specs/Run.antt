@@ -1,19 +1,13 @@
 -- Runs of calls, and the faults of a call.
 use Rattle.std.specs.Prelude.{ℕ, ◌+◌, ◌*◌, List, [], ◌∷◌, length, not, nat_lt, Option, Some, None, Result, Ok, Err, IsUtf8, if◌then◌else◌}
 use Rattle.desk_model.specs.Entry.{Entry, issued, ordered, Wanted, new, reused, History}
-use Rattle.desk_model.specs.Keys.{IsKeyText}
-use Rattle.desk_model.specs.Legal.{numbers_fit}
-use Rattle.desk_model.specs.Limits.{last_moment}
-use Rattle.desk_model.specs.Texts.{IsTextProblem}
+use Rattle.desk_model.specs.{Keys.IsKeyText, Legal.numbers_fit, Limits.last_moment, Texts.IsTextProblem}
 use Rattle.desk_model.specs.Decide.{decide, after}
-use Rattle.desk_model.specs.declared.call.BadKey.{BadKey}
-use Rattle.desk_model.specs.declared.call.Call.{Call}
-use Rattle.desk_model.specs.declared.call.Ask.{Ask}
+use Rattle.desk_model.specs.declared.call.{BadKey.BadKey, Call.Call, Ask.Ask}
 use Rattle.desk_model.specs.declared.call.Ask.TheVariants as ask
 use Rattle.desk_model.specs.declared.call.OfficeAsk.{OfficeAsk}
 use Rattle.desk_model.specs.declared.call.OfficeAsk.TheVariants as office
-use Rattle.desk_model.specs.declared.call.Signed.{Signed}
-use Rattle.desk_model.specs.declared.reply.Reply.{Reply}
+use Rattle.desk_model.specs.declared.{call.Signed.Signed, reply.Reply.Reply}
 
 -- ---- faults of a call
 

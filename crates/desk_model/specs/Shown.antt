@@ -3,15 +3,11 @@ use Rattle.std.specs.Prelude.{ℕ, ◌+◌, List, [], take, Bool, false, Option,
 use Rattle.serde_json.specs.Data.{Data}
 use Rattle.desk_model.specs.declared.refusal.Refusal.{Refusal}
 use Rattle.desk_model.specs.declared.refusal.Refusal.TheVariants as refusal
-use Rattle.desk_model.specs.Tokens.{nonce_text}
-use Rattle.desk_model.specs.Order.{DatedBytes}
+use Rattle.desk_model.specs.{Tokens.nonce_text, Order.DatedBytes, Refusals.refusal_of, Verdict.Shows}
 use Rattle.desk_model.specs.Tables.{Tables, AccountRow, ChallengeRow, AuthorizationRow, OrderRow}
 use Rattle.desk_model.specs.Questions.{account_on, order_on, authorization_on, owner_on, challenge_of}
-use Rattle.desk_model.specs.Refusals.{refusal_of}
-use Rattle.desk_model.specs.Document.{directory, account_url, order_url, authorization_url, account_document, order_document}
-use Rattle.desk_model.specs.Document.{orders_document, authorization_document, challenge_document, challenge_work, order_work}
-use Rattle.desk_model.specs.Document.{key_document}
-use Rattle.desk_model.specs.Verdict.{Shows}
+use Rattle.desk_model.specs.Document.{directory, account_url, order_url, authorization_url, account_document, order_document, orders_document}
+use Rattle.desk_model.specs.Document.{authorization_document, challenge_document, challenge_work, order_work, key_document}
 use Rattle.desk_model.specs.declared.verdict.Shows.TheVariants as show
 use Rattle.desk_model.specs.declared.verdict.Listing.{Listing}
 use Rattle.desk_model.specs.declared.verdict.Listing.TheVariants as list

@@ -1,12 +1,8 @@
 //! What is asked of the desk.
 ghost use Rattle.std.specs.Prelude.{◌≡◌, bytes_eq};
-ghost use Rattle.desk_model.specs.Document.{problem_status};
+ghost use Rattle.desk_model.specs.{Document.problem_status, Limits.longest_detail, Refusals.refusal_of, Rules.same_problem, Texts.IsTextProblem};
 ghost use Rattle.desk_model.specs.Legal.{has_length, is_problem, is_problem_kind};
-ghost use Rattle.desk_model.specs.Limits.{longest_detail};
-ghost use Rattle.desk_model.specs.Refusals.{refusal_of};
-ghost use Rattle.desk_model.specs.Rules.{same_problem};
 ghost use Rattle.desk_model.specs.Run.{IsFormedCall, IsFormedSigned};
-ghost use Rattle.desk_model.specs.Texts.{IsTextProblem};
 
 use crate::jwk::Jwk;
 use crate::limits::LONGEST_DETAIL;

@@ -1,12 +1,8 @@
 //! Domain names of identifiers.
 ghost use Rattle.std.specs.Prelude.{◌≡◌, ◌==◌, ◌||◌, ◌-◌, ℕ, true, false, nat_le, length, slice_index, IsTrue, IfOk, MatchOption, string_bytes};
-ghost use Rattle.std.specs.Int.{is_in_range};
-ghost use Rattle.std.specs.List.{list_all};
-ghost use Rattle.std.specs.Char.{is_ascii_digit};
-ghost use Rattle.desk_model.specs.Authorization.{kinds_of};
+ghost use Rattle.std.specs.{Int.is_in_range, List.list_all, Char.is_ascii_digit};
+ghost use Rattle.desk_model.specs.{Authorization.kinds_of, Name.same_name, Names.shown_name};
 ghost use Rattle.desk_model.specs.BaseName.{is_base_name, is_label, is_label_byte, labels_of, last_label};
-ghost use Rattle.desk_model.specs.Name.{same_name};
-ghost use Rattle.desk_model.specs.Names.{shown_name};
 
 use crate::objects::Kind;
 use crate::text::Text;
@@ -22,8 +18,7 @@ pub struct DnsName {
 
 impl Model for DnsName {
     ghost use Rattle.std.specs.Prelude.{IsTrue};
-    ghost use Rattle.desk_model.specs.Name.{Name};
-    ghost use Rattle.desk_model.specs.BaseName.{is_base_name};
+    ghost use Rattle.desk_model.specs.{Name.Name, BaseName.is_base_name};
 
     ghost Value = { Name };
 

@@ -1,7 +1,6 @@
 //! JSON documents of replies.
 ghost use Rattle.std.specs.Prelude.{◌≡◌, Some, string_bytes};
-ghost use Rattle.serde_json.specs.Read.{read};
-ghost use Rattle.serde_json.specs.Written.{compact_text};
+ghost use Rattle.serde_json.specs.{Read.read, Written.compact_text};
 ghost use Rattle.desk_model.specs.Plain.{IsWritten};
 
 use crate::text::Text;

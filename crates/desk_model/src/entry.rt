@@ -3,8 +3,7 @@ ghost use Rattle.std.specs.Prelude.{◌≡◌};
 ghost use Rattle.desk_model.specs.Authorization.{is_good, kind_of};
 ghost use Rattle.desk_model.specs.Document.{outcome_detail, outcome_status};
 ghost use Rattle.desk_model.specs.Facts.{ending_text, outcome_text};
-ghost use Rattle.desk_model.specs.Legal.{wanted_name};
-ghost use Rattle.desk_model.specs.Lookup.{IsValueOf};
+ghost use Rattle.desk_model.specs.{Legal.wanted_name, Lookup.IsValueOf};
 
 use crate::call::OrderProblem;
 use crate::dns_name::DnsName;

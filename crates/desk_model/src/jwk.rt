@@ -1,7 +1,6 @@
 //! Public keys of accounts.
 ghost use Rattle.std.specs.Prelude.{◌≡◌, ◌≢◌, ◌↔◌, ◌++◌, ◌∷◌, ℕ, List, IsTrue, IfOk, MatchOption, codes, string_bytes};
-ghost use Rattle.std.specs.Int.{is_in_range};
-ghost use Rattle.std.specs.List.{list_all};
+ghost use Rattle.std.specs.{Int.is_in_range, List.list_all};
 ghost use Rattle.desk_model.specs.Keys.{IsKeyText, is_number_text, is_base64url_byte};
 ghost use Rattle.desk_model.specs.KeyTexts.{IsNumberThen, IsLastNumber, AreTwoNumbers, HasEcShape, HasKeyShape, HasTwoNumbers, HasOneNumber};
 

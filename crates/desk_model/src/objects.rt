@@ -1,9 +1,6 @@
 //! What a history makes, as it was made.
 ghost use Rattle.std.specs.Prelude.{◌≡◌};
-ghost use Rattle.desk_model.specs.Authorization.{status_of};
-ghost use Rattle.desk_model.specs.Document.{kind_text};
-ghost use Rattle.desk_model.specs.Facts.{end_kind_text};
-ghost use Rattle.desk_model.specs.Lookup.{IsValueOf};
+ghost use Rattle.desk_model.specs.{Authorization.status_of, Document.kind_text, Facts.end_kind_text, Lookup.IsValueOf};
 
 use crate::dns_name::DnsName;
 use crate::entry::{Ending, Outcome};

@@ -1,7 +1,6 @@
 //! What the operator fixes when the desk is made.
 ghost use Rattle.std.specs.Prelude.{◌≡◌, ◌≤◌, ◌==◌, ◌-◌, length, slice_index, true, false, IfOk, IsTrue, MatchOption};
-ghost use Rattle.std.specs.Int.{is_in_range};
-ghost use Rattle.std.specs.List.{list_all};
+ghost use Rattle.std.specs.{Int.is_in_range, List.list_all};
 ghost use Rattle.desk_model.specs.Effect.{lasts};
 ghost use Rattle.desk_model.specs.Limits.{longest_base, longest_life, shortest_base};
 ghost use Rattle.desk_model.specs.Terms.{Terms, are_terms, is_base, is_life, has_scheme, is_base_byte};

@@ -1,18 +1,14 @@
 -- What a desk's tables are to a file.
 use Rattle.std.proofs.Common.{◌≡◌, Result, Ok, Err, subst}
 use Rattle.std.specs.Prelude.{IfOk, IsTrue, OnOk}
-use Rattle.sqlite.specs.Effect.{Database}
+use Rattle.sqlite.specs.{Effect.Database, State.State, Store.Ghosts}
 use Rattle.sqlite.specs.Held.{Held, state}
-use Rattle.sqlite.specs.State.{State}
-use Rattle.sqlite.specs.Store.{Ghosts}
-use Rattle.store_columns.specs.Columns.{rows_columns}
-use Rattle.store_columns.specs.Flat.{flat}
+use Rattle.store_columns.specs.{Columns.rows_columns, Flat.flat}
 use Rattle.store_columns.specs.declared.columns.StoredRows.{StoredRows}
 use Rattle.desk_model.specs.Tables.{Tables}
 use Rattle.sql_read.specs.Failures.{MayRead}
 use Rattle.sql_read.specs.Shown.{AreColumnsOf, AreShown}
-use Rattle.sql_read.proofs.Loading.{reordered}
-use Rattle.sql_read.proofs.ShownRows.{shown_before}
+use Rattle.sql_read.proofs.{Loading.reordered, ShownRows.shown_before}
 use Rattle.sql_schema.specs.Names.{has_all_indexes}
 use Rattle.desk_store.specs.Desks.{HasDesk, IsDesk, PicturesAreDesks}
 use Rattle.desk_store.specs.Opening.{IsWhole, ShowsBook}

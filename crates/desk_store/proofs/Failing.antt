@@ -5,12 +5,9 @@ use Rattle.sqlite.specs.Held.{Held, state}
 use Rattle.sqlite.specs.State.{State, HasCleanDisk, Survives}
 use Rattle.sqlite.specs.Store.{Ghosts}
 use Rattle.desk_model.specs.Tables.{Tables}
-use Rattle.sql_write.specs.Committing.{IsBeforeCommit}
-use Rattle.sql_write.specs.Refusals.{IsCause}
-use Rattle.sql_write.specs.Statements.{Sql}
+use Rattle.sql_write.specs.{Committing.IsBeforeCommit, Refusals.IsCause, Statements.Sql}
 use Rattle.sql_write.specs.declared.fault.SaveFault.{SaveFault}
-use Rattle.sql_write.proofs.Exits.{survives_both}
-use Rattle.sql_write.proofs.Told.{cause_then}
+use Rattle.sql_write.proofs.{Exits.survives_both, Told.cause_then}
 use Rattle.sql_schema.proofs.StaysLemmas.{asks_then}
 use Rattle.sql_schema.specs.Stays.{Asks}
 use Rattle.sql_upgrade.specs.FirstDesks.{HasFirst}
@@ -19,11 +16,9 @@ use Rattle.store_api.specs.declared.fault.StorageFault.{StorageFault}
 use Rattle.desk_store.specs.Causes.{Failed, FailedToSave, IsMetFault, IsOfSave, LeavesNothing}
 use Rattle.desk_store.specs.Desks.{store_sight}
 use Rattle.desk_store.specs.Opening.{FailedToOpen, FailedToUpgrade}
-use Rattle.desk_store.specs.declared.open_fault.OpenFault.{OpenFault}
+use Rattle.desk_store.specs.declared.{open_fault.OpenFault.OpenFault, store.Store.Store}
 use Rattle.desk_store.specs.declared.open_fault.OpenFault.TheVariants.{NewerFormat, NotADesk, Storage}
-use Rattle.desk_store.specs.declared.store.Store.{Store}
-use Rattle.desk_store.proofs.EitherFormat.{of_faults}
-use Rattle.desk_store.proofs.OpeningFaults.{met_later}
+use Rattle.desk_store.proofs.{EitherFormat.of_faults, OpeningFaults.met_later}
 
 -- nothing is left that was not, where no commit survives
 pub leaves_nothing : (old new : State) → Survives old new (λ _. ⊥) → LeavesNothing old new

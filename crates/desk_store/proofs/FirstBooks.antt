@@ -1,17 +1,11 @@
 -- What a desk's tables in format 1 are to a file.
 use Rattle.std.proofs.Common.{◌≡◌, Result, Ok, Err}
 use Rattle.std.specs.Prelude.{IfOk, OnOk}
-use Rattle.sqlite.specs.Effect.{Database}
-use Rattle.sqlite.specs.Held.{Held}
-use Rattle.sqlite.specs.State.{State}
-use Rattle.sqlite.specs.Store.{Ghosts}
-use Rattle.store_columns.specs.Columns.{rows_columns}
-use Rattle.store_columns.specs.Flat.{flat}
+use Rattle.sqlite.specs.{Effect.Database, Held.Held, State.State, Store.Ghosts}
+use Rattle.store_columns.specs.{Columns.rows_columns, Flat.flat}
 use Rattle.store_columns.specs.declared.columns.StoredRows.{StoredRows}
 use Rattle.desk_model.specs.Tables.{Tables}
-use Rattle.sql_read.specs.Failures.{MayRead}
-use Rattle.sql_read.specs.First.{AreFirstShown}
-use Rattle.sql_read.specs.Shown.{AreColumnsOf}
+use Rattle.sql_read.specs.{Failures.MayRead, First.AreFirstShown, Shown.AreColumnsOf}
 use Rattle.sql_read.proofs.Loading.{reordered}
 use Rattle.desk_store.specs.Opening.{ShowsFirstBook}
 use Rattle.sql_tables.specs.Holds.{HoldsFirst}

@@ -3,27 +3,19 @@ use Rattle.std.proofs.Common.{◌≡◌, ◌≢◌, ◌≤◌, ℕ, zero, suc, B
 use Rattle.std.proofs.Common.{inl, inr, refl, sym, ap, subst, ◌∙◌, arith}
 use Rattle.std.specs.Prelude.{◌==◌, ◌&&◌, IfSome, IsTrue, if◌then◌else◌, nat_le, nat_lt, replicate, slice_index, slice_set}
 use Rattle.std.proofs.lemmas.Bool.{eq-eqb, le-ltb}
-use Rattle.std.proofs.lemmas.Bool.Decides.{nat_tests}
-use Rattle.std.proofs.lemmas.List.{get_or-set_other}
+use Rattle.std.proofs.lemmas.{Bool.Decides.nat_tests, List.get_or-set_other}
 use Rattle.model_laws.proofs.Basics.{each, each_all, each_both, each_of_map}
 use Rattle.desk_model.specs.Change.{applied, applied_one, put}
 use Rattle.desk_model.specs.Derived.{authz_code, order_code}
-use Rattle.desk_model.specs.Kept.{EachOf}
-use Rattle.desk_model.specs.Tables.{Tables}
-use Rattle.desk_model.specs.declared.objects.Nonce.{Nonce}
-use Rattle.desk_model.specs.declared.rows.AuthorizationRow.{AuthorizationRow}
-use Rattle.desk_model.specs.declared.rows.Change.{Change}
+use Rattle.desk_model.specs.{Kept.EachOf, Tables.Tables}
+use Rattle.desk_model.specs.declared.{objects.Nonce.Nonce, rows.AuthorizationRow.AuthorizationRow, rows.Change.Change, rows.Meta.Meta, rows.OrderRow.OrderRow}
+use Rattle.desk_model.specs.declared.{status.AuthzStatus.AuthzStatus, status.OrderStatus.OrderStatus}
 use Rattle.desk_model.specs.declared.rows.Change.TheVariants.{PutNonce, RemoveNonce, PutAuthorization, PutOrder}
-use Rattle.desk_model.specs.declared.rows.Meta.{Meta}
-use Rattle.desk_model.specs.declared.rows.OrderRow.{OrderRow}
-use Rattle.desk_model.specs.declared.status.AuthzStatus.{AuthzStatus}
-use Rattle.desk_model.specs.declared.status.OrderStatus.{OrderStatus}
 use Rattle.model_laws.proofs.Keeps.{each-filter}
 use Rattle.model_laws.specs.Ordered.{Ascends}
 use Rattle.model_lives.proofs.Lists.{each_filtered}
 use Rattle.model_lives.specs.LookUps.{authorizations_past, nonces_before, nonces_numbered, orders_past}
-use Rattle.sql_tables.proofs.Keyed.{ranked}
-use Rattle.sql_tables.proofs.Sorting.{each_put}
+use Rattle.sql_tables.proofs.{Keyed.ranked, Sorting.each_put}
 use Rattle.sql_read.specs.Earliest.{IsEarliest, authorization_ends, issues, order_ends}
 use Rattle.desk_store.specs.Known.{EndFrom, IsKnownOf, bound_of, earlier, known_nonce, lowered, nonce_place, nothing, without}
 use Rattle.desk_store.specs.declared.known.Known.{Known}

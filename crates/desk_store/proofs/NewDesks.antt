@@ -1,13 +1,9 @@
 -- From the tables that are made to a desk.
 use Rattle.std.proofs.Common.{◌≡◌, ℕ, refl, sym, subst, ◌∙◌}
 use Rattle.std.specs.Prelude.{false}
-use Rattle.sqlite.specs.Effect.{Database}
-use Rattle.sqlite.specs.State.{State}
-use Rattle.sqlite.specs.Tree.{Trees}
-use Rattle.desk_model.specs.Legal.{Legal}
+use Rattle.sqlite.specs.{Effect.Database, State.State, Tree.Trees}
+use Rattle.desk_model.specs.{Legal.Legal, History.first_history, Terms.Terms}
 use Rattle.desk_model.specs.Tables.{Tables, picture}
-use Rattle.desk_model.specs.History.{first_history}
-use Rattle.desk_model.specs.Terms.{Terms}
 use Rattle.sql_write.specs.Committing.{HasCommitted, IsLeft}
 use Rattle.sql_write.specs.Making.{MakesDesk, tables_of}
 use Rattle.sql_schema.specs.Schema.{no_schema}

@@ -2,8 +2,7 @@
 use Rattle.std.proofs.Common.{◌≡◌, ◌≤◌, Result, Ok, Err, inl, inr, true, false, Bool, arith, refl, subst, ap, sym, ◌∙◌}
 use Rattle.std.specs.Prelude.{IfErr, IsTrue, ◌⊎◌}
 use Rattle.sqlite_disk.specs.Disk.{MoreFaults}
-use Rattle.sqlite.specs.State.{State}
-use Rattle.sqlite.specs.Schema.{Schema}
+use Rattle.sqlite.specs.{State.State, Schema.Schema}
 use Rattle.sqlite_schema.specs.Names.{same_name}
 use Rattle.sql_schema.specs.Names.{uses_names}
 use Rattle.sqlite.specs.declared.error.Error.{Error}
@@ -15,16 +14,13 @@ use Rattle.sql_read.specs.LookUpFaults.{IsOfMemoryOrDisk}
 use Rattle.sql_read.specs.declared.fault.ReadFault.{ReadFault}
 use Rattle.sql_read.specs.declared.fault.ReadFault.TheVariants.{Engine, NotARow}
 use Rattle.sql_read.proofs.MetFaults.{met_on}
-use Rattle.sql_schema.specs.Stays.{Asks}
-use Rattle.sql_schema.specs.Failing.{IsFailure}
+use Rattle.sql_schema.specs.{Stays.Asks, Failing.IsFailure}
 use Rattle.store_api.specs.declared.fault.StorageFault.{StorageFault}
 use Rattle.store_api.specs.declared.fault.StorageFault.TheVariants as fault
 use Rattle.desk_store.specs.Causes.{IsMetFault, IsOfOpening, IsOfReading, IsOfStatement, cause_of}
-use Rattle.desk_store.specs.Making.{IsOfStorage}
-use Rattle.desk_store.specs.Opening.{RefusesReading}
+use Rattle.desk_store.specs.{Making.IsOfStorage, Opening.RefusesReading}
 use Rattle.desk_store.specs.declared.faults.Cause.TheVariants as cause
-use Rattle.desk_store.specs.declared.faults.Cause.{Cause}
-use Rattle.desk_store.specs.declared.open_fault.OpenFault.{OpenFault}
+use Rattle.desk_store.specs.declared.{faults.Cause.Cause, open_fault.OpenFault.OpenFault}
 use Rattle.desk_store.specs.declared.open_fault.OpenFault.TheVariants.{NewerFormat, NotADesk, Storage}
 
 -- a failure of memory or of the disk is the store's

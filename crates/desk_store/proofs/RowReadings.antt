@@ -7,12 +7,9 @@ use Rattle.sqlite.specs.Store.{Ghosts}
 use Rattle.sqlite.specs.declared.error.Error.{Error}
 use Rattle.desk_model.specs.Tables.{Tables}
 use Rattle.sql_read.specs.Failures.{IsMet}
-use Rattle.sql_read.proofs.FirstLoading.{first_before}
-use Rattle.sql_read.proofs.Results.{unchanged_after}
-use Rattle.sql_read.proofs.ShownRows.{shown_before}
+use Rattle.sql_read.proofs.{FirstLoading.first_before, Results.unchanged_after, ShownRows.shown_before}
 use Rattle.sql_schema.proofs.StaysLemmas.{asks_then}
-use Rattle.sql_schema.specs.Failing.{IsFailure}
-use Rattle.sql_schema.specs.Stays.{Asks}
+use Rattle.sql_schema.specs.{Failing.IsFailure, Stays.Asks}
 use Rattle.store_api.specs.declared.fault.StorageFault.TheVariants.{Memory}
 use Rattle.desk_store.specs.Causes.{IsOfOpening, cause_of}
 use Rattle.desk_store.specs.Desks.{HasDesk}
@@ -20,11 +17,10 @@ use Rattle.desk_store.specs.Opening.{ReadsRows, ShowsBook, ShowsFirstBook, Shows
 use Rattle.desk_store.specs.declared.faults.Cause.TheVariants as cause
 use Rattle.desk_store.specs.declared.open_fault.OpenFault.{OpenFault}
 use Rattle.desk_store.specs.declared.open_fault.OpenFault.TheVariants.{NotADesk, Storage}
-use Rattle.desk_store.proofs.Books.{always_ok}
+use Rattle.desk_store.proofs.{Books.always_ok, Upgrading.first_unchanged}
 use Rattle.desk_store.proofs.EitherFormat.{no_book_still, no_first_still, of_answer, of_faults}
 use Rattle.desk_store.proofs.OpeningFaults.{book_is_known, book_met, failure_is_storage, met_later, no_desk_is_other, none_has, opening_met, reading_is_known}
 use Rattle.desk_store.proofs.Standing.{desk_unchanged, failed, same_fault}
-use Rattle.desk_store.proofs.Upgrading.{first_unchanged}
 use Rattle.sql_upgrade.specs.FirstDesks.{HasFirst}
 
 -- what was so before a call is so after it, or what is so after it was so before

@@ -4,22 +4,15 @@ use Rattle.std.proofs.Common.{arith}
 use Rattle.std.proofs.lemmas.Bool.{eqb-true}
 use Rattle.std.specs.List.{filter}
 use Rattle.std.specs.Prelude.{◌⊎◌, ◌==◌, IfSome, cond, find, option_map}
-use Rattle.sqlite.specs.Effect.{Database}
-use Rattle.sqlite.specs.Held.{state}
+use Rattle.sqlite.specs.{Effect.Database, Held.state, Store.Ghosts, Tree.Trees}
 use Rattle.sqlite.specs.State.{State, HasCleanDisk, IsUnchanged, Survives}
-use Rattle.sqlite.specs.Store.{Ghosts}
-use Rattle.sqlite.specs.Tree.{Trees}
 use Rattle.sqlite.proofs.StateLemmas.{survives_then}
 use Rattle.model_laws.proofs.Basics.{each, find-map}
 use Rattle.model_laws.proofs.RowLists.{Above, ascends_above}
 use Rattle.model_laws.specs.Ordered.{Ascends}
-use Rattle.desk_model.specs.Change.{applied}
-use Rattle.desk_model.specs.Tables.{Tables}
-use Rattle.desk_model.specs.declared.rows.AccountRow.{AccountRow}
-use Rattle.desk_model.specs.declared.rows.AuthorizationRow.{AuthorizationRow}
-use Rattle.desk_model.specs.declared.rows.ChallengeRow.{ChallengeRow}
-use Rattle.desk_model.specs.declared.rows.Change.{Change}
-use Rattle.desk_model.specs.declared.rows.OrderRow.{OrderRow}
+use Rattle.desk_model.specs.{Change.applied, Tables.Tables}
+use Rattle.desk_model.specs.declared.rows.{AccountRow.AccountRow, AuthorizationRow.AuthorizationRow, ChallengeRow.ChallengeRow, Change.Change}
+use Rattle.desk_model.specs.declared.rows.{OrderRow.OrderRow}
 use Rattle.sql_write.specs.Committing.{GoesBack, HasCommitted, IsBeforeCommit, IsLeft}
 use Rattle.sql_write.specs.declared.fault.SaveFault.{SaveFault}
 use Rattle.sql_schema.specs.Stays.{Asks}
@@ -27,9 +20,7 @@ use Rattle.sql_write.specs.Fitting.{FitAfter, Saves as Puts}
 use Rattle.sql_write.specs.Standing.{HasSome, IsPartIn, IsRow, IsWithout, Stand, StandsIn}
 use Rattle.model_lives.specs.Thinned.{with_challenges, with_listed}
 use Rattle.model_lives.proofs.Lists.{filtered_each}
-use Rattle.sql_write.proofs.KnownRows.{all_of}
-use Rattle.sql_write.proofs.Numbered.{find_none}
-use Rattle.sql_write.proofs.OrderedFit.{ordered_fit}
+use Rattle.sql_write.proofs.{KnownRows.all_of, Numbered.find_none, OrderedFit.ordered_fit}
 use Rattle.store_api.specs.Sight.{Sight}
 use Rattle.store_api.specs.Storing.{Fit, HasChanges, HasSaved, IsCutFrom, SavesOf}
 use Rattle.store_api.specs.declared.fault.StorageFault.{StorageFault}

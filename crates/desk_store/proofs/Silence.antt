@@ -5,12 +5,10 @@ use Rattle.sqlite_schema.specs.declared.schema.Schema.{Schema}
 use Rattle.sqlite_tied.specs.Compute.{everything}
 use Rattle.sqlite_trees.specs.declared.error.StoreError.{StoreError}
 use Rattle.sqlite_trees.specs.declared.error.StoreError.TheVariants as store
-use Rattle.sqlite.specs.Listing.{understood}
-use Rattle.sqlite.specs.Order.{Row}
+use Rattle.sqlite.specs.{Listing.understood, Order.Row}
 use Rattle.sqlite.specs.State.{State, IsNotRun, IsUnchanged, store_error}
 use Rattle.sqlite.specs.declared.error.Error.{Error}
-use Rattle.desk_store.specs.Asked.{tells_open}
-use Rattle.desk_store.specs.Causes.{IsSilent}
+use Rattle.desk_store.specs.{Asked.tells_open, Causes.IsSilent}
 
 -- the word is none, whatever the schema is
 none_understood : (schema : Schema) → is_ok (understood schema (codes "ANSWER")) ≡ false

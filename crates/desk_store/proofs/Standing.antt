@@ -4,8 +4,7 @@ use Rattle.std.specs.Prelude.{IfOk, IsTrue, false}
 use Rattle.sqlite_disk.specs.Disk.{MoreFaults}
 use Rattle.sqlite.specs.Held.{Held, state}
 use Rattle.sqlite.specs.State.{State, HasCleanDisk, IsUnchanged, Survives}
-use Rattle.sqlite.specs.Store.{Ghosts}
-use Rattle.sqlite.specs.Tree.{Trees}
+use Rattle.sqlite.specs.{Store.Ghosts, Tree.Trees}
 use Rattle.desk_model.specs.Tables.{Tables}
 use Rattle.sql_read.specs.Held.{ForHeld}
 use Rattle.store_book.specs.IsBook.{IsStoredBook}
@@ -19,8 +18,7 @@ use Rattle.store_api.proofs.Readings.{stands_here}
 use Rattle.desk_store.specs.Causes.{FailsToLookUp, IsSilent}
 use Rattle.desk_store.specs.Desks.{HasDesk, HasTables, IsDesk, store_sight}
 use Rattle.desk_store.specs.Known.{IsKnownOf}
-use Rattle.desk_store.specs.declared.known.Known.{Known}
-use Rattle.desk_store.specs.declared.store.Store.{Store}
+use Rattle.desk_store.specs.declared.{known.Known.Known, store.Store.Store}
 
 -- ---- states
 

@@ -3,20 +3,15 @@ use Rattle.std.specs.Prelude.{◌≡◌, ◌⊎◌, List, false, Option, None, S
 use Rattle.sqlite_disk.specs.Disk.{MoreFaults}
 use Rattle.sqlite.specs.Held.{Held, state}
 use Rattle.sqlite.specs.State.{State, Fails, HasCleanDisk}
-use Rattle.sqlite.specs.Store.{Ghosts}
-use Rattle.sqlite.specs.Tree.{Trees}
-use Rattle.sqlite.specs.declared.error.Error.{Error}
-use Rattle.sqlite.specs.declared.error.Error.TheVariants.{SqliteFailure}
+use Rattle.sqlite.specs.{Store.Ghosts, Tree.Trees}
+use Rattle.sqlite.specs.declared.error.{Error.Error, Error.TheVariants.SqliteFailure}
 use Rattle.sqlite.specs.declared.error.ErrorCode.TheVariants as code
-use Rattle.desk_model.specs.Kept.{EachOf}
-use Rattle.desk_model.specs.Tables.{Tables}
+use Rattle.desk_model.specs.{Kept.EachOf, Tables.Tables}
 use Rattle.desk_model.specs.declared.rows.Change.{Change}
 use Rattle.sql_read.specs.declared.fault.ReadFault.{ReadFault}
 use Rattle.sql_read.specs.declared.fault.ReadFault.TheVariants.{Engine, NotARow}
-use Rattle.sql_write.specs.Committing.{IsBeforeCommit}
+use Rattle.sql_write.specs.{Committing.IsBeforeCommit, Numbers.FitsColumns, Refusals.IsCause}
 use Rattle.sql_schema.specs.Stays.{Asks}
-use Rattle.sql_write.specs.Numbers.{FitsColumns}
-use Rattle.sql_write.specs.Refusals.{IsCause}
 use Rattle.sql_write.specs.Statements.{Sql, save_statements}
 use Rattle.sql_write.specs.declared.fault.SaveFault.{SaveFault}
 use Rattle.sql_write.specs.declared.fault.SaveFault.TheVariants.{Row, Statement, Commit}

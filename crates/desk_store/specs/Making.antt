@@ -1,21 +1,14 @@
 -- What making a desk leaves.
 use Rattle.std.specs.Prelude.{◌≡◌, ℕ, None}
-use Rattle.sqlite.specs.Held.{Held}
-use Rattle.sqlite.specs.State.{State}
-use Rattle.sqlite.specs.Store.{Ghosts}
-use Rattle.sqlite.specs.Tree.{Trees}
-use Rattle.desk_model.specs.History.{first_history}
-use Rattle.desk_model.specs.Terms.{Terms}
-use Rattle.desk_model.specs.Tables.{picture}
+use Rattle.sqlite.specs.{Held.Held, State.State, Store.Ghosts, Tree.Trees}
+use Rattle.desk_model.specs.{History.first_history, Terms.Terms, Tables.picture}
 use Rattle.desk_model.specs.declared.rows.Meta.{Meta}
-use Rattle.sql_write.specs.Statements.{make_statements}
+use Rattle.sql_write.specs.{Statements.make_statements, Fits.FitsMeta}
 use Rattle.sql_schema.specs.Schema.{no_schema}
 use Rattle.store_api.specs.declared.fault.StorageFault.{StorageFault}
 use Rattle.desk_store.specs.Causes.{FailedToSave}
 use Rattle.desk_store.specs.Desks.{AreOfDesk, HasDesk}
-use Rattle.desk_store.specs.declared.open_fault.OpenFault.{OpenFault}
-use Rattle.desk_store.specs.declared.open_fault.OpenFault.TheVariants.{Storage}
-use Rattle.sql_write.specs.Fits.{FitsMeta}
+use Rattle.desk_store.specs.declared.open_fault.{OpenFault.OpenFault, OpenFault.TheVariants.Storage}
 
 -- what a stop in the commit leaves, where there was nothing: the new desk
 abbrev pub IsNewDesk : Terms → ℕ → State → Trees → Type 0

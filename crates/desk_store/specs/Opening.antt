@@ -2,23 +2,17 @@
 use Rattle.std.specs.Prelude.{◌≡◌, ◌≢◌, ◌⊎◌, Err, IfErr, IsTrue, OnErr, OnOk, Result, false}
 use Rattle.sqlite.specs.Held.{Held, state}
 use Rattle.sqlite.specs.State.{State, HasCleanDisk, IsUnchanged, Survives}
-use Rattle.sqlite.specs.Store.{Ghosts}
-use Rattle.sqlite.specs.Tree.{Trees}
+use Rattle.sqlite.specs.{Store.Ghosts, Tree.Trees}
 use Rattle.sqlite.specs.declared.error.Error.{Error}
 use Rattle.store_columns.specs.declared.columns.StoredRows.{StoredRows}
 use Rattle.desk_model.specs.Tables.{Tables}
 use Rattle.sql_read.specs.AllTables.{FailsAtFirst, FailsAtTable}
-use Rattle.sql_read.specs.First.{AreFirstShown}
-use Rattle.sql_read.specs.Failures.{MayRead}
+use Rattle.sql_read.specs.{First.AreFirstShown, Failures.MayRead, Shown.AreShown}
 use Rattle.sql_read.specs.Format.{FailsToShowFormat, IsNewer, IsOfLaterFormat, ShowsFormats}
-use Rattle.sql_read.specs.Shown.{AreShown}
-use Rattle.sql_write.specs.Committing.{GoesBack}
-use Rattle.sql_write.specs.Numbers.{FitsUpgrade}
-use Rattle.sql_write.specs.Statements.{upgrade_statements}
+use Rattle.sql_write.specs.{Committing.GoesBack, Numbers.FitsUpgrade, Statements.upgrade_statements}
 use Rattle.sql_schema.specs.Names.{has_all_indexes, uses_key_table}
 use Rattle.sql_schema.specs.Stays.{Asks}
-use Rattle.store_api.specs.declared.fault.StorageFault.{StorageFault}
-use Rattle.store_api.specs.declared.fault.StorageFault.TheVariants.{Memory}
+use Rattle.store_api.specs.declared.fault.{StorageFault.StorageFault, StorageFault.TheVariants.Memory}
 use Rattle.desk_store.specs.Causes.{FailedToRead, FailedToSave, IsMetFault, LeavesNothing, cause_of}
 use Rattle.desk_store.specs.Desks.{AreOfDesk, HasDesk}
 use Rattle.desk_store.specs.Making.{IsOfStorage}

@@ -8,8 +8,7 @@ use store_api::{ParsedCall, Storage, StorageFault, load_enough};
 
 impl<S: Alter> Storage for Store<S> {
     ghost use Rattle.sqlite.specs.Tree.{Trees};
-    ghost use Rattle.desk_store.specs.Causes.{Failed};
-    ghost use Rattle.desk_store.specs.Desks.{store_sight};
+    ghost use Rattle.desk_store.specs.{Causes.Failed, Desks.store_sight};
 
     ghost Content = { Trees };
 

@@ -1,11 +1,8 @@
 -- The router of the desk finds each of its paths.
 use Rattle.std.proofs.Common.{◌≡◌, ℕ, suc, ◌<◌, ◌≤◌, List, [], ◌∷◌, ◌++◌, length, Some, refl, cond, codes, decimal, arith, ap, append-nil}
-use Rattle.std.specs.Prelude.{option_map}
-use Rattle.std.specs.Str.Parse.{AllDigits}
+use Rattle.std.specs.{Prelude.option_map, Str.Parse.AllDigits}
 use Rattle.std.proofs.lemmas.Fmt.{decimal_is_IsNumeral}
-use Rattle.matchit.specs.Rows.{RowsOf}
-use Rattle.matchit.specs.Router.{RouteOf}
-use Rattle.matchit.specs.Route.{scan}
+use Rattle.matchit.specs.{Rows.RowsOf, Router.RouteOf, Route.scan}
 use Rattle.matchit.specs.Seek.{first, seek, param_step}
 use Rattle.http_routes.specs.Router.{add_route, desk_routes, value_of}
 use Rattle.http_routes.specs.Routes.{HasNumber, IsPathText, is_numbered, prefix, suffix}

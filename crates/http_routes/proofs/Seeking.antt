@@ -2,12 +2,8 @@
 use Rattle.std.proofs.Common.{◌≡◌, ◌≢◌, ℕ, zero, suc, ◌+◌, ◌-◌, ◌<◌, List, [], ◌∷◌, ◌++◌, length, drop, Some, None, Bool, true}
 use Rattle.std.proofs.Common.{false, cond, refl, sym, ap, ◌∙◌, arith, nat_eq, ◌==◌, ltb, ◌&&◌, append-nil}
 use Rattle.std.proofs.lemmas.Bool.{lt-ltb, ne_eqb}
-use Rattle.std.proofs.lemmas.Bool.Decides.{nat_tests}
-use Rattle.std.proofs.lemmas.List.{length-append}
-use Rattle.std.proofs.Math.Seq.{drop-append_seam}
-use Rattle.std.specs.Char.{digit_value}
-use Rattle.std.specs.Cmp.Lexicographic.{pointwise}
-use Rattle.std.specs.Str.Parse.{AllDigits}
+use Rattle.std.proofs.{lemmas.Bool.Decides.nat_tests, lemmas.List.length-append, Math.Seq.drop-append_seam}
+use Rattle.std.specs.{Char.digit_value, Cmp.Lexicographic.pointwise, Str.Parse.AllDigits}
 use Rattle.matchit.specs.Rows.{RowsOf}
 use Rattle.matchit.specs.Seek.{cuts, has_slash, or_else, own, param_step, seek, segment, step}
 

@@ -1,15 +1,12 @@
 -- From the value of a line to its bytes, and the parts of a reply's line.
 use Rattle.std.proofs.Common.{◌≡◌, ◌++◌, ◌∙◌, ℕ, List, Some, Ok, Err, Result, MatchResult, append_assoc, subst, sym}
 use Rattle.std.specs.Prelude.{IsUtf8, Option, None, codes}
-use Rattle.serde_json.specs.Data.{Data}
-use Rattle.serde_json.specs.Read.{read}
-use Rattle.desk_model.specs.declared.call.Ask.{Ask}
-use Rattle.desk_model.specs.declared.call.Target.{Target}
+use Rattle.serde_json.specs.{Data.Data, Read.read}
+use Rattle.desk_model.specs.declared.call.{Ask.Ask, Target.Target}
 use Rattle.http_routes.specs.Envelopes.{Envelope, IsEnvelope, IsEnvelopeText, IsSignedAskIn}
 use Rattle.http_routes.specs.Request.{IsSignedAsk}
 use Rattle.http_routes.specs.Lines.{IsLine, IsNoLine, Spells, SpellsNone}
-use Rattle.http_routes.specs.declared.lines.Line.{Line}
-use Rattle.http_routes.specs.declared.lines.LineFault.{LineFault}
+use Rattle.http_routes.specs.declared.lines.{Line.Line, LineFault.LineFault}
 use Rattle.http_routes.specs.declared.lines.LineFault.TheVariants as linefault
 
 -- bytes have one value

@@ -1,22 +1,13 @@
 -- Where documents and replies show URLs.
 use Rattle.std.specs.Prelude.{◌≡◌, ℕ, Some, IsTrue, true, codes, is_some, map}
 use Rattle.std.specs.List.{filter}
-use Rattle.serde_json.specs.Data.{string}
-use Rattle.serde_json.specs.Find.{get}
+use Rattle.serde_json.specs.{Data.string, Find.get}
 use Rattle.http_wire.specs.Replies.{index_line, link}
-use Rattle.desk_model.specs.Document.{account_document, account_url, is_listed, orders_document, authorization_url}
-use Rattle.desk_model.specs.Document.{certificate_url, challenge_document, challenge_url, directory, finalize_url, order_document}
-use Rattle.desk_model.specs.Document.{order_url, orders_url}
-use Rattle.desk_model.specs.Derived.{numbers_of}
-use Rattle.desk_model.specs.Json.{list}
-use Rattle.desk_model.specs.Keys.{text_member}
+use Rattle.desk_model.specs.Document.{account_document, account_url, is_listed, orders_document, authorization_url, certificate_url, challenge_document}
+use Rattle.desk_model.specs.Document.{challenge_url, directory, finalize_url, order_document, order_url, orders_url}
+use Rattle.desk_model.specs.{Derived.numbers_of, Json.list, Keys.text_member, Tables.Tables, Terms.Terms}
 use Rattle.desk_model.specs.Shown.{client_challenge_in, located_account, located_order}
-use Rattle.desk_model.specs.Tables.{Tables}
-use Rattle.desk_model.specs.Terms.{Terms}
-use Rattle.desk_model.specs.declared.rows.AccountRow.{AccountRow}
-use Rattle.desk_model.specs.declared.rows.AuthorizationRow.{AuthorizationRow}
-use Rattle.desk_model.specs.declared.rows.ChallengeRow.{ChallengeRow}
-use Rattle.desk_model.specs.declared.rows.OrderRow.{OrderRow}
+use Rattle.desk_model.specs.declared.rows.{AccountRow.AccountRow, AuthorizationRow.AuthorizationRow, ChallengeRow.ChallengeRow, OrderRow.OrderRow}
 use Rattle.http_wire.specs.Served.{directory_url, key_change_url, new_account_url, new_nonce_url, new_order_url}
 
 -- the URLs of the directory (RFC 8555, 7.1.1)

@@ -1,14 +1,12 @@
 -- What the bytes of a request ask, or how the request is refused.
 use Rattle.std.specs.Prelude.{◌≡◌, ◌<◌, ◌≤◌, ℕ, true, false, List, take, length, map, Some, None, codes, bytes_eq}
-use Rattle.httparse.specs.Grammar.{RequestHead}
-use Rattle.httparse.specs.Spans.{name_and_value}
+use Rattle.httparse.specs.{Grammar.RequestHead, Spans.name_and_value}
 use Rattle.desk_model.specs.declared.call.Ask.{Ask}
 use Rattle.desk_model.specs.declared.refusal.Refusal.TheVariants as refusal
 use Rattle.desk_model.specs.declared.reply.Allow.TheVariants as allow
 use Rattle.http_routes.specs.Request.{IsAskIn, IsServed, IsUnserved, refused_request}
 use Rattle.http_routes.specs.Routes.{has_index}
-use Rattle.http_routes.specs.declared.request.Request.{Request}
-use Rattle.http_routes.specs.declared.request.RequestRefusal.{RequestRefusal}
+use Rattle.http_routes.specs.declared.request.{Request.Request, RequestRefusal.RequestRefusal}
 use Rattle.http_routes.specs.declared.request.Request.TheVariants as request
 use Rattle.http_routes.specs.declared.routes.Resource.{Resource}
 use Rattle.http_wire.specs.Framing.{framing_for}

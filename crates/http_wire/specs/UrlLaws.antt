@@ -1,8 +1,6 @@
 -- The laws of the URLs that the desk shows.
 use Rattle.std.specs.Prelude.{ℕ, ◌≤◌, ◌^◌}
-use Rattle.desk_model.specs.Limits.{last_number}
-use Rattle.desk_model.specs.Tables.{Tables}
-use Rattle.desk_model.specs.Terms.{Terms}
+use Rattle.desk_model.specs.{Limits.last_number, Tables.Tables, Terms.Terms}
 use Rattle.http_wire.specs.Served.{AreServed}
 use Rattle.http_wire.specs.ShownUrls.{HaveUrls, NameUrls}
 

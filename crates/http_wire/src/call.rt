@@ -2,8 +2,7 @@
 ghost use Rattle.std.specs.Prelude.{◌≡◌, ◌≤◌, ◌+◌, ◌++◌, ℕ, List, IfOk, IfSome, IsUtf8, length, take, drop, true, false};
 ghost use Rattle.httparse.specs.Grammar.{IsToken};
 ghost use Rattle.httparse.specs.Spans.{IsRequestWithin, span_bytes};
-ghost use Rattle.http_routes.specs.Request.{refused_request};
-ghost use Rattle.http_routes.specs.Routes.{has_index};
+ghost use Rattle.http_routes.specs.{Request.refused_request, Routes.has_index};
 ghost use Rattle.http_wire.specs.Spelled.{IsRequestWith, form_by};
 ghost use Rattle.http_wire.specs.Head.{TakesAtMost};
 ghost use Rattle.http_wire.specs.ParsedRequest.{Parses, IsPlan, IsRequestAt};

@@ -1,8 +1,7 @@
 //! What a head says before the body behind it is read.
 ghost use Rattle.std.specs.Prelude.{◌≡◌, IfOk, All, map, length};
 ghost use Rattle.httparse.specs.Spans.{IsHeaderWithin, header_bytes};
-ghost use Rattle.http_routes.specs.Request.{refused_request};
-ghost use Rattle.http_routes.specs.Routes.{has_index};
+ghost use Rattle.http_routes.specs.{Request.refused_request, Routes.has_index};
 ghost use Rattle.http_wire.specs.ParsedRequest.{IsPlan};
 ghost use Rattle.desk_model.specs.declared.reply.Allow.TheVariants.{No};
 

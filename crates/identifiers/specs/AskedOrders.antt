@@ -1,16 +1,11 @@
 -- What the payload of a newOrder asks for, as its identifiers are read once for the whole call (RFC 8555, 7.4).
 use Rattle.std.specs.Prelude.{ℕ, ◌≡◌, List, [], ◌∷◌, Option, Some, None, if◌then◌else◌, option_map}
-use Rattle.desk_model.specs.Legal.{has_length}
-use Rattle.desk_model.specs.Limits.{most_names}
-use Rattle.desk_model.specs.Name.{Name}
-use Rattle.desk_model.specs.Payload.{new_order}
+use Rattle.desk_model.specs.{Legal.has_length, Limits.most_names, Name.Name, Payload.new_order}
 use Rattle.desk_model.specs.Rules.{kept, names_in, subproblems}
-use Rattle.desk_model.specs.declared.payload.Identifier.{Identifier}
-use Rattle.desk_model.specs.declared.call.Target.{Target}
+use Rattle.desk_model.specs.declared.{payload.Identifier.Identifier, call.Target.Target}
 use Rattle.desk_model.specs.declared.call.Target.TheVariants as to
 use Rattle.desk_model.specs.declared.reply.Subproblem.{Subproblem}
-use Rattle.serde_json.specs.Read.{read}
-use Rattle.serde_json.specs.View.{view}
+use Rattle.serde_json.specs.{Read.read, View.view}
 use Rattle.serde_json.specs.declared.value.Value.{Value}
 use Rattle.identifiers.specs.declared.asked.AskedOrder.{AskedOrder}
 use Rattle.identifiers.specs.declared.asked.AskedOrder.TheVariants as order

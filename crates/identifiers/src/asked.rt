@@ -1,8 +1,7 @@
 //! What the payload of a request for a new order asks for.
 ghost use Rattle.std.specs.Prelude.{◌≡◌, option_map, IfOk};
 ghost use Rattle.identifiers.specs.AskedOrders.{asked_order, order_names, order_of};
-ghost use Rattle.serde_json.specs.Read.{read};
-ghost use Rattle.serde_json.specs.View.{view};
+ghost use Rattle.serde_json.specs.{Read.read, View.view};
 
 use crate::identified::{Identified, identify};
 use crate::listed::{new_order_in, object_of};

@@ -1,10 +1,8 @@
 //! A call with what its payload says, which is read once for all that the call does.
 ghost use Rattle.std.specs.Prelude.{◌≡◌, option_map, IfOk};
 ghost use Rattle.desk_model.specs.Asked.{asked_names, target_names};
-ghost use Rattle.identifiers.specs.AskedOrders.{target_order};
-ghost use Rattle.identifiers.specs.Parsed.{ask_of};
-ghost use Rattle.serde_json.specs.Read.{read};
-ghost use Rattle.serde_json.specs.View.{view};
+ghost use Rattle.identifiers.specs.{AskedOrders.target_order, Parsed.ask_of};
+ghost use Rattle.serde_json.specs.{Read.read, View.view};
 
 use crate::asked::{AskedOrder, asked_order};
 use desk_model::{Ask, Call, DnsName, OfficeAsk, Signed, Target};

@@ -4,12 +4,10 @@ use Rattle.std.specs.Prelude.{◌&&◌}
 use Rattle.serde_json.specs.Data.{Members, object, put, string, unsigned}
 use Rattle.serde_json.specs.Data as json
 use Rattle.serde_json.specs.View.{items_of}
-use Rattle.desk_model.specs.declared.refusal.Refusal.{Refusal}
+use Rattle.desk_model.specs.declared.{refusal.Refusal.Refusal, reply.Problem.Problem, reply.Subproblem.Subproblem}
 use Rattle.desk_model.specs.Json.{document, list, members}
 use Rattle.desk_model.specs.Plain.{is_document, items_are_plain}
 use Rattle.desk_model.specs.Refusals.{refusal_of, error_type, problem_document, subproblem_document, subproblem_members}
-use Rattle.desk_model.specs.declared.reply.Problem.{Problem}
-use Rattle.desk_model.specs.declared.reply.Subproblem.{Subproblem}
 use Rattle.json_texts.specs.Refused.{refusal_members, with_subproblems}
 
 -- a document of a refusal by its why and its subproblems

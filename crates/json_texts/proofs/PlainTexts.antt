@@ -5,8 +5,7 @@ use Rattle.std.specs.List.{list_all}
 use Rattle.json.specs.Print.{escape}
 use Rattle.json.specs.Run.{is_stop, is_plain}
 use Rattle.json.proofs.Printed.Strings.{escape_byte_plain}
-use Rattle.serde_json.specs.Data.{string}
-use Rattle.serde_json.specs.Written.{compact_text}
+use Rattle.serde_json.specs.{Data.string, Written.compact_text}
 use Rattle.desk_model.specs.Json.{list}
 
 -- what needs no escape is written as it stands

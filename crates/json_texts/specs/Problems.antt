@@ -1,7 +1,6 @@
 -- The problem of an order, by its text.
 use Rattle.std.specs.Prelude.{ℕ, List, codes, Option, Some, None, option_and_then}
-use Rattle.serde_json.specs.Data.{Data}
-use Rattle.serde_json.specs.Read.{read}
+use Rattle.serde_json.specs.{Data.Data, Read.read}
 use Rattle.desk_model.specs.Keys.{text_member}
 use Rattle.desk_model.specs.declared.call.OrderProblem.{OrderProblem}
 

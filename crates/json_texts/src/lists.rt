@@ -1,7 +1,6 @@
 //! Lists of strings.
 ghost use Rattle.std.specs.Prelude.{◌≡◌, IfOk, map};
-ghost use Rattle.serde_json.specs.Data.{string};
-ghost use Rattle.serde_json.specs.Find.{as_str};
+ghost use Rattle.serde_json.specs.{Data.string, Find.as_str};
 ghost use Rattle.serde_json.specs.View.{view, items_view};
 ghost use Rattle.desk_model.specs.Json.{list};
 ghost use Rattle.desk_model.specs.Payload.{each_in, texts_in};

@@ -2,10 +2,8 @@
 ghost use Rattle.std.specs.Prelude.{◌≡◌, IfOk, IfSome, Some, option_map};
 ghost use Rattle.std.specs.List.{list_all};
 ghost use Rattle.json.specs.Value.{value_view};
-ghost use Rattle.serde_json.specs.Data.{Data};
+ghost use Rattle.serde_json.specs.{Data.Data, Read.read, View.view};
 ghost use Rattle.serde_json.specs.Find.{as_str, get};
-ghost use Rattle.serde_json.specs.Read.{read};
-ghost use Rattle.serde_json.specs.View.{view};
 ghost use Rattle.desk_model.specs.Keys.{text_member};
 ghost use Rattle.json_texts.specs.Objects.{is_shallow, is_text, is_text_or_texts, plain_value};
 

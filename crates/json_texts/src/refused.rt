@@ -1,9 +1,7 @@
 //! The JSON documents of refusals (RFC 7807, RFC 8555, 6.7).
 ghost use Rattle.std.specs.Prelude.{◌≡◌, IfOk, OnOk, Some, map, string_bytes};
-ghost use Rattle.serde_json.specs.Data.{string};
-ghost use Rattle.serde_json.specs.Read.{read};
+ghost use Rattle.serde_json.specs.{Data.string, Read.read, Written.compact_text};
 ghost use Rattle.serde_json.specs.View.{view, members_view};
-ghost use Rattle.serde_json.specs.Written.{compact_text};
 ghost use Rattle.desk_model.specs.Json.{list, members};
 ghost use Rattle.desk_model.specs.Refusals.{refusal_of, error_type, problem_document, subproblem_document};
 ghost use Rattle.json_texts.specs.Refused.{identifier, refusal_members, with_subproblems};

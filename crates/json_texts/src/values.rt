@@ -1,7 +1,6 @@
 //! The values of texts, and their members.
 ghost use Rattle.std.specs.Prelude.{◌≡◌, IfOk, option_map};
-ghost use Rattle.serde_json.specs.Read.{read};
-ghost use Rattle.serde_json.specs.View.{view};
+ghost use Rattle.serde_json.specs.{Read.read, View.view};
 ghost use Rattle.desk_model.specs.Keys.{text_member};
 
 use desk_model::is_same_text;

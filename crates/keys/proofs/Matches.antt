@@ -3,8 +3,7 @@ use Rattle.std.proofs.Common.{◌≡◌, ◌↔◌, ℕ, zero, suc, Bool, true, 
 use Rattle.std.proofs.lemmas.List.{reverse-append, reverse-reverse}
 use Rattle.std.proofs.lemmas.List.Elements.{All-append, All-head, All-tail}
 use Rattle.std.proofs.lemmas.List.Folds.{Any-from_list_any, length-prefix_len, list_any-from_Any}
-use Rattle.std.proofs.Math.Seq.{drop-append_seam}
-use Rattle.std.proofs.lemmas.Slice.Eq.{bytes_eq-Decides}
+use Rattle.std.proofs.{Math.Seq.drop-append_seam, lemmas.Slice.Eq.bytes_eq-Decides}
 use Rattle.std.specs.Prelude.{IsTrue, Any, bytes_eq, reverse, take_while}
 use Rattle.std.specs.List.{list_any, prefix_len}
 use Rattle.desk_model.specs.Tokens.{IsBodyMatch, is_blank, without_blanks}

@@ -7,10 +7,8 @@ use Rattle.std.specs.declared.result.Result.TheVariants.{Ok, Err}
 use Rattle.std.proofs.lemmas.List.{append-nil, take-append-drop}
 use Rattle.std.proofs.lemmas.Nat.{be_bytes_8}
 use Rattle.std.specs.Int.{w64, to_be_bytes, from_be_bytes}
-use Rattle.base64.specs.declared.decode.DecodeError.{DecodeError}
-use Rattle.base64.specs.declared.decode.DecodeSliceError.{DecodeSliceError}
-use Rattle.base64.specs.declared.decode.DecodeSliceError.TheVariants.{OutputSliceTooSmall}
-use Rattle.base64.specs.declared.engine.general_purpose.GeneralPurpose.{GeneralPurpose}
+use Rattle.base64.specs.declared.{decode.DecodeError.DecodeError, decode.DecodeSliceError.DecodeSliceError}
+use Rattle.base64.specs.declared.{decode.DecodeSliceError.TheVariants.OutputSliceTooSmall, engine.general_purpose.GeneralPurpose.GeneralPurpose}
 use Rattle.base64.specs.Decode.{or_error, or_else, bytes_fit, lone_error, groups_error, suffix_error, decode_outcome, groups_before_last}
 use Rattle.base64.specs.GeneralPurpose.{IsBytes, decode_of, decoded_bytes_of, decode_slice_of}
 use Rattle.base64.specs.Engines.{url_safe_no_pad}

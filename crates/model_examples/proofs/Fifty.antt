@@ -2,8 +2,7 @@
 use Rattle.std.specs.Prelude.{refl}
 use Rattle.model_examples.proofs.FiftyNames.{all_fifty, no_subproblems, names_taken, fifty_steps}
 use Rattle.model_examples.proofs.Computing.{computing}
-use Rattle.model_examples.specs.Fifty.{FiftyIdentifiers, FiftyNames, FiftyFaultless, FiftyTaken, FiftyKept, FiftyWanted}
-use Rattle.model_examples.specs.Fifty.{FiftyOrdered, names}
+use Rattle.model_examples.specs.Fifty.{FiftyIdentifiers, FiftyNames, FiftyFaultless, FiftyTaken, FiftyKept, FiftyWanted, FiftyOrdered, names}
 
 -- the payload says fifty identifiers
 pub fifty_identifiers : FiftyIdentifiers

@@ -4,20 +4,16 @@ use Rattle.std.specs.Cmp.Lexicographic.{bytes_decides}
 use Rattle.std.specs.List.{list_all, list_any}
 use Rattle.std.proofs.Common.{ap, ◌∙◌, bytes_eq}
 use Rattle.std.proofs.lemmas.Bool.{and_parts, not-true}
-use Rattle.desk_model.specs.BaseName.{is_base_name}
-use Rattle.desk_model.specs.Names.{name_of}
+use Rattle.desk_model.specs.{BaseName.is_base_name, Names.name_of}
 use Rattle.desk_model.specs.declared.refusal.Refusal.TheVariants as refusal
 use Rattle.desk_model.specs.Rules.{subproblems, names_in, kept, wanted, order_of, new_order_verdict}
 use Rattle.desk_model.specs.Verdict.{check, given}
-use Rattle.desk_model.specs.declared.verdict.Verdict.TheVariants.{Orders as orders}
-use Rattle.desk_model.specs.Name.{Name}
-use Rattle.desk_model.specs.declared.entry.Wanted.{Wanted}
-use Rattle.desk_model.specs.declared.payload.Identifier.{Identifier}
-use Rattle.desk_model.specs.declared.reply.Subproblem.{Subproblem}
+use Rattle.desk_model.specs.declared.{verdict.Verdict.TheVariants.Orders as orders, entry.Wanted.Wanted, payload.Identifier.Identifier}
+use Rattle.desk_model.specs.declared.{reply.Subproblem.Subproblem}
+use Rattle.desk_model.specs.{Name.Name, Tables.Tables}
 use Rattle.model_examples.proofs.Computing.{computing}
 use Rattle.model_examples.proofs.PlainNames.{is_marked, is_plain, lowered, plain_name}
 use Rattle.model_examples.specs.Calls.{simple, zeros}
-use Rattle.desk_model.specs.Tables.{Tables}
 use Rattle.model_examples.specs.Fifty.{bare, names, identifier, AreNames, FiftyIdentifiers, FiftyFaultless, FiftyTaken, FiftyKept, FiftyWanted, FiftyOrdered}
 
 -- the text is plain, and a name in its own spelling

@@ -2,23 +2,13 @@
 use Rattle.std.specs.Prelude.{◌≡◌, ℕ, List, [], ◌∷◌, map, codes, Option, Some, None, if◌then◌else◌, not, nat_lt, ◌*◌, refl}
 use Rattle.std.proofs.Common.{ap, ◌∙◌}
 use Rattle.desk_model.specs.Decide.{Decision, after, decide, nonce_entries, passed_decision, tables_after}
-use Rattle.desk_model.specs.History.{record_all}
-use Rattle.desk_model.specs.Legal.{numbers_fit}
-use Rattle.desk_model.specs.Names.{name_of}
+use Rattle.desk_model.specs.{History.record_all, Legal.numbers_fit, Names.name_of, Tables.Tables}
 use Rattle.desk_model.specs.Rules.{new_order_verdict, wanted}
-use Rattle.desk_model.specs.Tables.{Tables}
 use Rattle.desk_model.specs.Run.{Ran, and_reply, count_pieces, run, unless_faulty}
-use Rattle.desk_model.specs.declared.verdict.Verdict.{Verdict}
-use Rattle.desk_model.specs.declared.verdict.Verdict.TheVariants.{Orders as orders}
-use Rattle.model_examples.proofs.Computing.{computing}
-use Rattle.model_examples.proofs.PlainNames.{plain_name}
-use Rattle.model_examples.specs.Accounts.{with_fifth_nonce}
-use Rattle.model_examples.specs.Calls.{zeros}
-use Rattle.model_examples.specs.Computed.{computed}
-use Rattle.model_examples.specs.Entries.{History}
-use Rattle.model_examples.specs.Fifty.{identifier}
-use Rattle.model_examples.specs.Orders.{ordering, example_org, any_example_org, FirstOrder, EnoughRandom, ShortRandomKeepsNonce}
-use Rattle.model_examples.specs.Orders.{ShortRandomRecordsNothing}
+use Rattle.desk_model.specs.declared.verdict.{Verdict.Verdict, Verdict.TheVariants.Orders as orders}
+use Rattle.model_examples.proofs.{Computing.computing, PlainNames.plain_name}
+use Rattle.model_examples.specs.{Accounts.with_fifth_nonce, Calls.zeros, Computed.computed, Entries.History, Fifty.identifier}
+use Rattle.model_examples.specs.Orders.{ordering, example_org, any_example_org, FirstOrder, EnoughRandom, ShortRandomKeepsNonce, ShortRandomRecordsNothing}
 use Rattle.model_examples.specs.Orders.{FirstCalls}
 
 -- each spelling is read

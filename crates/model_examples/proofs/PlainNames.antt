@@ -4,13 +4,10 @@ use Rattle.std.proofs.Common.{get_or, ◌<◌, ◌∙◌, ltb-true}
 use Rattle.std.specs.Char.{is_ascii, to_ascii_lowercase}
 use Rattle.std.specs.List.{list_all, list_any, starts_with}
 use Rattle.std.proofs.lemmas.Bool.{and_parts, not-true}
-use Rattle.std.proofs.lemmas.List.Elements.{All-weaker}
-use Rattle.std.proofs.lemmas.List.Sums.{AllPass-from_list_all}
-use Rattle.std.proofs.lemmas.Str.Ascii.{IsAscii-from_all}
+use Rattle.std.proofs.lemmas.{List.Elements.All-weaker, List.Sums.AllPass-from_list_all, Str.Ascii.IsAscii-from_all}
 use Rattle.idna.specs.Validity.{has_ace_prefix}
 use Rattle.idna.specs.declared.deny_list.TheConstants.AsciiDenyList.{EMPTY}
-use Rattle.idna.proofs.Uts46Lemmas.{domain_to_ascii-ascii}
-use Rattle.idna.proofs.ValidityLemmas.{denies-EMPTY}
+use Rattle.idna.proofs.{Uts46Lemmas.domain_to_ascii-ascii, ValidityLemmas.denies-EMPTY}
 use Rattle.desk_model.specs.BaseName.{is_base_name, labels_of}
 use Rattle.desk_model.specs.Name.{Name}
 use Rattle.desk_model.specs.Names.{ascii_form, name_of, name_with}

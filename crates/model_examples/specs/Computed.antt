@@ -4,9 +4,7 @@ use Rattle.serde_json.specs.Written.{compact_text}
 use Rattle.model_examples.specs.Entries.{Entry, History, issued, spent}
 use Rattle.desk_model.specs.Refusals.{problem_document}
 use Rattle.desk_model.specs.Decide.{Decision, decide}
-use Rattle.desk_model.specs.declared.call.Call.{Call}
-use Rattle.desk_model.specs.declared.reply.Reply.{Reply}
-use Rattle.desk_model.specs.declared.reply.Body.{Body}
+use Rattle.desk_model.specs.declared.{call.Call.Call, reply.Reply.Reply, reply.Body.Body}
 use Rattle.desk_model.specs.declared.reply.Body.TheVariants as body
 use Rattle.model_examples.specs.Calls.{nonce_two, zeros}
 

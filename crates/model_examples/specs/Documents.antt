@@ -2,8 +2,7 @@
 use Rattle.std.specs.Prelude.{◌≡◌, ℕ, List, [], ◌∷◌, ◌++◌, replicate, Some, None, unwrap_or, codes}
 use Rattle.serde_json.specs.Data.{Data}
 use Rattle.serde_json.specs.Data as json
-use Rattle.serde_json.specs.Read.{read}
-use Rattle.serde_json.specs.Written.{compact_text}
+use Rattle.serde_json.specs.{Read.read, Written.compact_text}
 use Rattle.desk_model.specs.Keys.{Key, ec, rsa, okp, canonical_text, number_member, IsKeyOf}
 use Rattle.desk_model.specs.Document.{key_document}
 use Rattle.desk_model.specs.declared.call.Target.TheVariants as to

@@ -9,9 +9,8 @@ use Rattle.desk_model.specs.declared.call.Ask.TheVariants as ask
 use Rattle.desk_model.specs.declared.call.OfficeAsk.TheVariants as office
 use Rattle.desk_model.specs.declared.call.Target.TheVariants as to
 use Rattle.model_examples.specs.Computed.{Gives, plain, shows, Problem, Answers, Reads, Refuses}
-use Rattle.model_examples.specs.Entries.{Entry, account_ended, ordered, answered, reported, good}
-use Rattle.model_examples.specs.Entries.{incorrect_response, authorization_ended, finalized, certified, deactivated, revoked}
-use Rattle.model_examples.specs.Entries.{History}
+use Rattle.model_examples.specs.Entries.{Entry, account_ended, ordered, answered, reported, good, incorrect_response, authorization_ended, finalized, certified}
+use Rattle.model_examples.specs.Entries.{deactivated, revoked, History}
 use Rattle.model_examples.specs.Calls.{on, account_desk, asked, request, wants}
 use Rattle.model_examples.specs.Texts.{unauthorized, unfit_report, nothing_here}
 

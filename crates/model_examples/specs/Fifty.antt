@@ -1,13 +1,8 @@
 -- An order of fifty names, which is too large for its decision to be computed at once: each of its steps (RFC 8555, 7.4).
 use Rattle.std.specs.Prelude.{◌≡◌, ℕ, zero, suc, ◌+◌, List, [], ◌∷◌, ◌++◌, map, decimal, Some, true, codes}
-use Rattle.desk_model.specs.Names.{name_of}
-use Rattle.desk_model.specs.Payload.{new_order}
-use Rattle.desk_model.specs.Legal.{may_follow}
-use Rattle.desk_model.specs.Tables.{Tables}
-use Rattle.desk_model.specs.declared.verdict.Verdict.TheVariants.{Orders as orders}
+use Rattle.desk_model.specs.{Names.name_of, Payload.new_order, Legal.may_follow, Tables.Tables, Run.count_pieces}
+use Rattle.desk_model.specs.declared.{verdict.Verdict.TheVariants.Orders as orders, payload.Identifier.Identifier}
 use Rattle.desk_model.specs.Rules.{subproblems, names_in, kept, wanted, target_verdict}
-use Rattle.desk_model.specs.Run.{count_pieces}
-use Rattle.desk_model.specs.declared.payload.Identifier.{Identifier}
 use Rattle.desk_model.specs.declared.call.Target.TheVariants as to
 use Rattle.model_examples.specs.Entries.{issued, spent, ordered}
 use Rattle.model_examples.specs.Calls.{zeros, account_desk, simple, wants}

@@ -1,9 +1,8 @@
 -- Which entries may follow a history: each kind where it may, and where each of its conditions fails.
 use Rattle.std.specs.Prelude.{◌≡◌, ℕ, List, [], ◌∷◌, ◌++◌, map, replicate, true, false, codes}
 use Rattle.desk_model.specs.Legal.{may_follow}
-use Rattle.model_examples.specs.Entries.{Entry, made, issued, spent, opened, contacts_changed, account_ended, ordered, answered}
-use Rattle.model_examples.specs.Entries.{reported, good, incorrect_response, connection, authorization_ended, finalized, certified}
-use Rattle.model_examples.specs.Entries.{failed, new, deactivated, revoked, History}
+use Rattle.model_examples.specs.Entries.{Entry, made, issued, spent, opened, contacts_changed, account_ended, ordered, answered, reported, good}
+use Rattle.model_examples.specs.Entries.{incorrect_response, connection, authorization_ended, finalized, certified, failed, new, deactivated, revoked, History}
 use Rattle.model_examples.specs.Calls.{on, zeros, new_desk, account_desk, order_desk, default_terms, terms_of, first_key, second_key, simple, wants}
 use Rattle.model_examples.specs.Fifty.{names}
 

@@ -5,8 +5,7 @@ use Rattle.desk_model.specs.declared.call.Target.TheVariants as to
 use Rattle.desk_model.specs.declared.call.OfficeAsk.TheVariants as office
 use Rattle.desk_model.specs.declared.call.Finding.TheVariants as found
 use Rattle.model_examples.specs.Computed.{Answer, Gives, plain, located, shows, Json, Problem, Answers, Refuses}
-use Rattle.model_examples.specs.Entries.{Entry, opened, key_changed, account_ended, deactivated, answered, reported, good, History}
-use Rattle.model_examples.specs.Entries.{incorrect_response}
+use Rattle.model_examples.specs.Entries.{Entry, opened, key_changed, account_ended, deactivated, answered, reported, good, History, incorrect_response}
 use Rattle.model_examples.specs.Calls.{on, account_desk, first_key, second_key, request}
 use Rattle.model_examples.specs.Following.{May, MayNot}
 use Rattle.model_examples.specs.Offices.{waiting_desk, http_desk, handed, report, Repeats, http_work, proved_challenge, unmatched_challenge}

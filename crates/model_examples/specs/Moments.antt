@@ -1,8 +1,6 @@
 -- Moments: how long a nonce serves, at which moment a call acts, and which moments are faults (RFC 8555, 6.5).
 use Rattle.std.specs.Prelude.{◌≡◌, ℕ, [], ◌∷◌, false, Some, None, codes}
-use Rattle.desk_model.specs.Moment.{moment_text}
-use Rattle.desk_model.specs.Decide.{after}
-use Rattle.desk_model.specs.Run.{fault}
+use Rattle.desk_model.specs.{Moment.moment_text, Decide.after, Run.fault}
 use Rattle.desk_model.specs.declared.call.Call.{Call}
 use Rattle.desk_model.specs.declared.call.Ask.TheVariants as ask
 use Rattle.desk_model.specs.declared.call.OfficeAsk.TheVariants as office

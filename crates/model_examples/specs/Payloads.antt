@@ -2,10 +2,8 @@
 use Rattle.std.specs.Prelude.{ℕ, List, [], ◌∷◌, codes}
 use Rattle.desk_model.specs.declared.call.Target.{Target}
 use Rattle.desk_model.specs.declared.call.Target.TheVariants as to
-use Rattle.model_examples.specs.Computed.{Refuses}
-use Rattle.model_examples.specs.Entries.{issued}
+use Rattle.model_examples.specs.{Computed.Refuses, Entries.issued, Texts.malformed}
 use Rattle.model_examples.specs.Calls.{on, zeros, new_desk, order_desk, default_terms, request}
-use Rattle.model_examples.specs.Texts.{malformed}
 
 -- a request to the desk of one order is malformed
 abbrev pub IsMalformed : Target → List ℕ → Type 0

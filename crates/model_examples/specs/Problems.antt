@@ -4,8 +4,7 @@ use Rattle.serde_json.specs.Written.{compact_text}
 use Rattle.desk_model.specs.declared.refusal.Refusal.{Refusal}
 use Rattle.desk_model.specs.Refusals.{problem_document, refusal_of}
 use Rattle.desk_model.specs.declared.refusal.Refusal.TheVariants as refusal
-use Rattle.desk_model.specs.declared.reply.Problem.{Problem}
-use Rattle.desk_model.specs.declared.reply.Subproblem.{Subproblem}
+use Rattle.desk_model.specs.declared.reply.{Problem.Problem, Subproblem.Subproblem}
 use Rattle.desk_model.specs.declared.reply.Allow.TheVariants as allow
 use Rattle.model_examples.specs.Texts.{malformed, nothing_here, wrong_method, bad_nonce, bad_public_key, no_account, unauthorized}
 use Rattle.model_examples.specs.Texts.{unsupported_contact, invalid_contact, unsupported_identifier, rejected_identifier}

@@ -1,11 +1,8 @@
 -- The rows that a desk keeps, and which stored statuses are faults.
-use Rattle.desk_model.specs.declared.rows.ChallengeRow.{ChallengeRow}
-use Rattle.desk_model.specs.declared.rows.AuthorizationRow.{AuthorizationRow}
-use Rattle.desk_model.specs.declared.rows.AccountRow.{AccountRow}
+use Rattle.desk_model.specs.declared.rows.{ChallengeRow.ChallengeRow, AuthorizationRow.AuthorizationRow, AccountRow.AccountRow, OrderRow.OrderRow}
 use Rattle.std.specs.Prelude.{◌≡◌, [], ◌∷◌, map, Some, None, codes}
 use Rattle.desk_model.specs.Tables.{Tables, picture, tables_at}
 use Rattle.desk_model.specs.Derived.{status_faults}
-use Rattle.desk_model.specs.declared.rows.OrderRow.{OrderRow}
 use Rattle.desk_model.specs.declared.rows.StatusFault.TheVariants as fault
 use Rattle.desk_model.specs.declared.objects.EndKind.TheVariants as kind
 use Rattle.desk_model.specs.declared.objects.Kind.TheVariants.{Http01 as http_01, Dns01 as dns_01}

@@ -1,18 +1,14 @@
 //! What may be recorded, and the rows that are kept of it.
-ghost use Rattle.model_examples.specs.Following.{MadeFirst, MadeTwice, MadeWithoutLife, MadeForever, MadeOverHttp, MadeOverFtp};
-ghost use Rattle.model_examples.specs.Following.{MadeOnScheme, MadeOnLongBase, MadeOnTooLongBase, MadeOnSlash, MadeOnSpace};
-ghost use Rattle.model_examples.specs.Following.{Issues, IssuesTooShort, Spends, SpendsTooLate, SpendsTwice, SpendsUnknown, Opens};
-ghost use Rattle.model_examples.specs.Following.{OpensTwice, OpensWithBadContact, ChangesContacts, ChangesToBadContact};
-ghost use Rattle.model_examples.specs.Following.{ChangesEnded, ChangesUnknown, EndsAccount, EndsAccountTwice, EndsUnknownAccount};
-ghost use Rattle.model_examples.specs.Following.{Orders, OrdersFifty, OrdersFiftyOne, OrdersNothing, OrdersTwice, OrdersWildcard};
-ghost use Rattle.model_examples.specs.Following.{OrdersWithoutToken, OrdersShortToken, OrdersNoName, OrdersForEnded};
-ghost use Rattle.model_examples.specs.Following.{OrdersForUnknown, AnswersPending, AnswersTooLate, AnswersUnknown, AnswersTwice};
-ghost use Rattle.model_examples.specs.Following.{AnswersProved, Reports, ReportsTooLate, ReportsUnanswered, ReportsTwice};
-ghost use Rattle.model_examples.specs.Following.{ReportsDeactivated, EndsPending, EndsValid, EndsTooLate, EndsFailed, EndsUnknown};
-ghost use Rattle.model_examples.specs.Following.{Finalizing, FinalizingTooLate, FinalizingTooMuch, FinalizingNothing};
-ghost use Rattle.model_examples.specs.Following.{FinalizingPending, FinalizingUnknown, FinalizingTwice, Certifying};
-ghost use Rattle.model_examples.specs.Following.{CertifyingTooLate, CertifyingTooMuch, CertifyingNothing, CertifyingReady};
-ghost use Rattle.model_examples.specs.Following.{CertifyingFallen, CertifyingTwice, Failing, FailingInside, FailingByDns};
+ghost use Rattle.model_examples.specs.Following.{MadeFirst, MadeTwice, MadeWithoutLife, MadeForever, MadeOverHttp, MadeOverFtp, MadeOnScheme, MadeOnLongBase};
+ghost use Rattle.model_examples.specs.Following.{MadeOnTooLongBase, MadeOnSlash, MadeOnSpace, Issues, IssuesTooShort, Spends, SpendsTooLate, SpendsTwice};
+ghost use Rattle.model_examples.specs.Following.{SpendsUnknown, Opens, OpensTwice, OpensWithBadContact, ChangesContacts, ChangesToBadContact, ChangesEnded};
+ghost use Rattle.model_examples.specs.Following.{ChangesUnknown, EndsAccount, EndsAccountTwice, EndsUnknownAccount, Orders, OrdersFifty, OrdersFiftyOne};
+ghost use Rattle.model_examples.specs.Following.{OrdersNothing, OrdersTwice, OrdersWildcard, OrdersWithoutToken, OrdersShortToken, OrdersNoName};
+ghost use Rattle.model_examples.specs.Following.{OrdersForEnded, OrdersForUnknown, AnswersPending, AnswersTooLate, AnswersUnknown, AnswersTwice, AnswersProved};
+ghost use Rattle.model_examples.specs.Following.{Reports, ReportsTooLate, ReportsUnanswered, ReportsTwice, ReportsDeactivated, EndsPending, EndsValid};
+ghost use Rattle.model_examples.specs.Following.{EndsTooLate, EndsFailed, EndsUnknown, Finalizing, FinalizingTooLate, FinalizingTooMuch, FinalizingNothing};
+ghost use Rattle.model_examples.specs.Following.{FinalizingPending, FinalizingUnknown, FinalizingTwice, Certifying, CertifyingTooLate, CertifyingTooMuch};
+ghost use Rattle.model_examples.specs.Following.{CertifyingNothing, CertifyingReady, CertifyingFallen, CertifyingTwice, Failing, FailingInside, FailingByDns};
 ghost use Rattle.model_examples.specs.Following.{FailingWithoutDetail, FailingAtLength, FailingReady, FailingTwice};
 ghost use Rattle.model_examples.specs.Formed.{ChangesToText, ChangesToLatin, OpensWithLatin, FailsByLatin};
 ghost use Rattle.model_examples.specs.Reusing.{ReusesValid, ReusesBesideNew, MakesAnother, ReusesPending, ReusesRevoked, ReusesOther, ReusesForWildcard};

@@ -1,29 +1,24 @@
 //! Orders from their making to their end.
-ghost use Rattle.model_examples.specs.Endings.{OrdersBefore, AuthorizationsBefore, OrdersListed, AccountDeactivated, OrdersAfter};
-ghost use Rattle.model_examples.specs.Endings.{AuthorizationsAfter, NextRequest, NextNewAccount, AccountRevoked};
-ghost use Rattle.model_examples.specs.Endings.{AuthorizationsOfRevoked, AccountRevokedAgain, DeactivatedIsNotRevoked};
-ghost use Rattle.model_examples.specs.Endings.{UnknownAccountRevoked, AuthorizationRevoked, AuthorizationRevokedAgain};
+ghost use Rattle.model_examples.specs.Endings.{OrdersBefore, AuthorizationsBefore, OrdersListed, AccountDeactivated, OrdersAfter, AuthorizationsAfter};
+ghost use Rattle.model_examples.specs.Endings.{NextRequest, NextNewAccount, AccountRevoked, AuthorizationsOfRevoked, AccountRevokedAgain};
+ghost use Rattle.model_examples.specs.Endings.{DeactivatedIsNotRevoked, UnknownAccountRevoked, AuthorizationRevoked, AuthorizationRevokedAgain};
 ghost use Rattle.model_examples.specs.Endings.{InvalidIsNotRevoked, ExpiredIsNotRevoked, UnknownAuthorizationRevoked};
 ghost use Rattle.model_examples.specs.Fifty.{FiftyIdentifiers, FiftyNames, FiftyFaultless, FiftyTaken, FiftyKept, FiftyWanted};
 ghost use Rattle.model_examples.specs.Fifty.{FiftyOrdered, FiftyPieces, FiftyFollow};
 ghost use Rattle.model_examples.specs.Large.{LargestCertificate, TooLargeCertificate, LargestCsr, TooLargeCsr};
 ghost use Rattle.model_examples.specs.Many.{FiftyOneNames, OneNameTooOften, TwoFaultyIdentifiers, FaultyName};
-ghost use Rattle.model_examples.specs.Offices.{NoChallengeWork, HttpWork, BothWork, NoExpiredWork, WrongBody, RightBody};
-ghost use Rattle.model_examples.specs.Offices.{RightRecord, NoConnection, NoRecordsFound, WrongBodyAgain, OtherOutcome};
-ghost use Rattle.model_examples.specs.Offices.{RecordsForHttp, BodyForDns, UnknownChallenge, NoOrderWork, Certifies};
-ghost use Rattle.model_examples.specs.Offices.{EmptyCertificate, EmptyForUnknown, SameCertificate, OtherCertificate};
-ghost use Rattle.model_examples.specs.Offices.{UnreadyCertificate, Fails, FailsInside, FailsAgain, FailsOtherwise, FailsByDns};
-ghost use Rattle.model_examples.specs.Offices.{FailsAtLength, FailsWithoutDetail, FailsUnknown, FailsUnready, KeyOfAccount};
-ghost use Rattle.model_examples.specs.Offices.{KeyOfUnknown, Directory, ConnectionAgain, DnsAgain, DnsAfterConnection, OwnKeyWork};
+ghost use Rattle.model_examples.specs.Offices.{NoChallengeWork, HttpWork, BothWork, NoExpiredWork, WrongBody, RightBody, RightRecord, NoConnection};
+ghost use Rattle.model_examples.specs.Offices.{NoRecordsFound, WrongBodyAgain, OtherOutcome, RecordsForHttp, BodyForDns, UnknownChallenge, NoOrderWork};
+ghost use Rattle.model_examples.specs.Offices.{Certifies, EmptyCertificate, EmptyForUnknown, SameCertificate, OtherCertificate, UnreadyCertificate, Fails};
+ghost use Rattle.model_examples.specs.Offices.{FailsInside, FailsAgain, FailsOtherwise, FailsByDns, FailsAtLength, FailsWithoutDetail, FailsUnknown};
+ghost use Rattle.model_examples.specs.Offices.{FailsUnready, KeyOfAccount, KeyOfUnknown, Directory, ConnectionAgain, DnsAgain, DnsAfterConnection, OwnKeyWork};
 ghost use Rattle.model_examples.specs.Orders.{FirstOrder, EnoughRandom, ShortRandomKeepsNonce, ShortRandomRecordsNothing};
 ghost use Rattle.model_examples.specs.Orders.{FirstAuthorization, WildcardAuthorization, WildcardChallenge, FirstCalls};
-ghost use Rattle.model_examples.specs.Statuses.{ChallengeAnswered, AnswersAgain, ReportInTime, ValidAuthorization, ReadyOrder};
-ghost use Rattle.model_examples.specs.Statuses.{ReportTooLate, ExpiredOrder, ExpiredAuthorization, ValidExpires, AnswerTooLate};
-ghost use Rattle.model_examples.specs.Statuses.{LateEnd, ReportAgain, ReportContradicts, ReportUnasked, NoCertificateYet};
-ghost use Rattle.model_examples.specs.Statuses.{Deactivates, DeactivatesAgain, ProcessingFalls, FallenIsNotCertified};
-ghost use Rattle.model_examples.specs.Statuses.{FallenIsNotListed, ValidStays, ValidNeverExpires, CertificateGiven, OneOfTwo};
-ghost use Rattle.model_examples.specs.Statuses.{PendingIsNotFinalized, BothOfTwo, EmptyCsr, NoCsr, Finalizes, FinalizesOnce};
-ghost use Rattle.model_examples.specs.Statuses.{OrderWork, OtherChallengeAnswered, DeactivatesPending};
+ghost use Rattle.model_examples.specs.Statuses.{ChallengeAnswered, AnswersAgain, ReportInTime, ValidAuthorization, ReadyOrder, ReportTooLate, ExpiredOrder};
+ghost use Rattle.model_examples.specs.Statuses.{ExpiredAuthorization, ValidExpires, AnswerTooLate, LateEnd, ReportAgain, ReportContradicts, ReportUnasked};
+ghost use Rattle.model_examples.specs.Statuses.{NoCertificateYet, Deactivates, DeactivatesAgain, ProcessingFalls, FallenIsNotCertified, FallenIsNotListed};
+ghost use Rattle.model_examples.specs.Statuses.{ValidStays, ValidNeverExpires, CertificateGiven, OneOfTwo, PendingIsNotFinalized, BothOfTwo, EmptyCsr, NoCsr};
+ghost use Rattle.model_examples.specs.Statuses.{Finalizes, FinalizesOnce, OrderWork, OtherChallengeAnswered, DeactivatesPending};
 
 /// The first order of a desk, with its authorizations and challenges (RFC 8555, 7.4).
 pub fn first_order_holds()

@@ -1,10 +1,8 @@
 //! A key that an account gets in place of another.
-ghost use Rattle.model_examples.specs.KeyChanges.{ChangesKey, ChangesToTaken, ChangesToOwn, ChangesBack};
-ghost use Rattle.model_examples.specs.KeyChanges.{ChangesToGivenUp, ChangesKeyOfEnded, ChangesKeyOfUnknown};
-ghost use Rattle.model_examples.specs.KeyChanges.{OpensByGivenUp, OpensByChanged, KeysNow, KeyIsChanged, KeyOfAnother};
-ghost use Rattle.model_examples.specs.KeyChanges.{KeyOfItsOwn, UrlOfAnother, OldKeyOfAnother, OldKeyFirst, NewKeyIsNone};
-ghost use Rattle.model_examples.specs.KeyChanges.{NewKeyNoObject, WithoutOldKey, EndedKeepsKey, GivenUpKey, WorkByOldKey};
-ghost use Rattle.model_examples.specs.KeyChanges.{ReportByOldKey, ReportByNewKey, AnsweredThenMatched, AnsweredByNewKey};
+ghost use Rattle.model_examples.specs.KeyChanges.{ChangesKey, ChangesToTaken, ChangesToOwn, ChangesBack, ChangesToGivenUp, ChangesKeyOfEnded};
+ghost use Rattle.model_examples.specs.KeyChanges.{ChangesKeyOfUnknown, OpensByGivenUp, OpensByChanged, KeysNow, KeyIsChanged, KeyOfAnother, KeyOfItsOwn};
+ghost use Rattle.model_examples.specs.KeyChanges.{UrlOfAnother, OldKeyOfAnother, OldKeyFirst, NewKeyIsNone, NewKeyNoObject, WithoutOldKey, EndedKeepsKey};
+ghost use Rattle.model_examples.specs.KeyChanges.{GivenUpKey, WorkByOldKey, ReportByOldKey, ReportByNewKey, AnsweredThenMatched, AnsweredByNewKey};
 
 /// Which keys an account may get, and which it may be opened by (RFC 8555, 7.3.5).
 pub fn keys_are_free()

@@ -1,23 +1,19 @@
 //! Requests to a new desk, and those that are refused.
 ghost use Rattle.model_examples.specs.Accounts.{FirstNonce, FirstNonceByHead, FirstAccount, NonceTwice, SameKeyOtherSpelling};
 ghost use Rattle.model_examples.specs.Accounts.{KnownKey, OnlyExisting, OnlyExistingTwice};
-ghost use Rattle.model_examples.specs.Contacts.{EmptyAddress, TwoAddresses, HeaderFields, NoScheme, Telephone, UpperCaseScheme};
-ghost use Rattle.model_examples.specs.Contacts.{LongestContact, TooLongContact, TenContacts, ElevenContacts, FirstFault};
-ghost use Rattle.model_examples.specs.Contacts.{TelephoneRefused, EmptyAddressRefused, ContactsReplaced, ContactsNotReplaced};
-ghost use Rattle.model_examples.specs.Contacts.{ContactsLeft, ExistingBeforeContacts, NotOnlyExisting};
-ghost use Rattle.model_examples.specs.Moments.{NonceToTheEndOfItsLife, NoncePastItsLife, EarlierMoment, LaterMoment};
-ghost use Rattle.model_examples.specs.Moments.{PastAtTheClock, LastMoment, MomentFault, MomentBeforeRandom, ShortNonce};
-ghost use Rattle.model_examples.specs.Moments.{ShortRefusal, DirectoryWithoutRandom, FirstText, LeapDay, NoLeapDay, TimeOfDay};
+ghost use Rattle.model_examples.specs.Contacts.{EmptyAddress, TwoAddresses, HeaderFields, NoScheme, Telephone, UpperCaseScheme, LongestContact, TooLongContact};
+ghost use Rattle.model_examples.specs.Contacts.{TenContacts, ElevenContacts, FirstFault, TelephoneRefused, EmptyAddressRefused, ContactsReplaced};
+ghost use Rattle.model_examples.specs.Contacts.{ContactsNotReplaced, ContactsLeft, ExistingBeforeContacts, NotOnlyExisting};
+ghost use Rattle.model_examples.specs.Moments.{NonceToTheEndOfItsLife, NoncePastItsLife, EarlierMoment, LaterMoment, PastAtTheClock, LastMoment, MomentFault};
+ghost use Rattle.model_examples.specs.Moments.{MomentBeforeRandom, ShortNonce, ShortRefusal, DirectoryWithoutRandom, FirstText, LeapDay, NoLeapDay, TimeOfDay};
 ghost use Rattle.model_examples.specs.Moments.{LastText};
-ghost use Rattle.model_examples.specs.Payloads.{AccountOfList, AccountOfNothing, ContactNoList, ContactNoString, ContactNull};
-ghost use Rattle.model_examples.specs.Payloads.{ExistingNoTruth, KnownKeyMalformed, AccountChangeOfList, AccountChangeContact};
-ghost use Rattle.model_examples.specs.Payloads.{OrdersWithPayload, OrderWithPayload, CertificateWithPayload};
-ghost use Rattle.model_examples.specs.Payloads.{AuthorizationOtherStatus, ChallengeOfList, CsrNoString, NoIdentifiers};
+ghost use Rattle.model_examples.specs.Payloads.{AccountOfList, AccountOfNothing, ContactNoList, ContactNoString, ContactNull, ExistingNoTruth};
+ghost use Rattle.model_examples.specs.Payloads.{KnownKeyMalformed, AccountChangeOfList, AccountChangeContact, OrdersWithPayload, OrderWithPayload};
+ghost use Rattle.model_examples.specs.Payloads.{CertificateWithPayload, AuthorizationOtherStatus, ChallengeOfList, CsrNoString, NoIdentifiers};
 ghost use Rattle.model_examples.specs.Payloads.{EmptyIdentifiers, IdentifierWithoutValue, IdentifierNoString, NotBefore, NotAfter};
-ghost use Rattle.model_examples.specs.Refused.{WithoutNonce, UnknownNonce, GuessedNonce, NoNonceText, BadKey, BadKeyWithoutNonce};
-ghost use Rattle.model_examples.specs.Refused.{KeyWithoutAccount, EndedAccount, EndedKey, UnknownOrder, FormBeforeStatus};
-ghost use Rattle.model_examples.specs.Refused.{StatusBeforeCsr, AnotherAccount, AnotherOrders, AnotherOrder, MissingOrder};
-ghost use Rattle.model_examples.specs.Refused.{AnotherFinalize, AnotherCertificate, AnotherAuthorization, AnotherChallenge};
+ghost use Rattle.model_examples.specs.Refused.{WithoutNonce, UnknownNonce, GuessedNonce, NoNonceText, BadKey, BadKeyWithoutNonce, KeyWithoutAccount};
+ghost use Rattle.model_examples.specs.Refused.{EndedAccount, EndedKey, UnknownOrder, FormBeforeStatus, StatusBeforeCsr, AnotherAccount, AnotherOrders};
+ghost use Rattle.model_examples.specs.Refused.{AnotherOrder, MissingOrder, AnotherFinalize, AnotherCertificate, AnotherAuthorization, AnotherChallenge};
 ghost use Rattle.model_examples.specs.Refused.{MissingChallenge, NoCertificate, OwnOrders};
 
 /// The first nonce and account of a desk, and whose account a key finds (RFC 8555, 6.5, 7.2, 7.3).

@@ -1,19 +1,15 @@
 //! Texts that are read and written.
-ghost use Rattle.model_examples.specs.Documents.{KeyRead, EdwardsKeyRead, EdwardsKeyText, RsaKeyText, PaddedNumber, EmptyNumber};
-ghost use Rattle.model_examples.specs.Documents.{LongNumber, LongestNumber, CurveDocument, RsaDocument, EdwardsDocument};
-ghost use Rattle.model_examples.specs.Documents.{TwoContacts, InvalidAuthorization};
+ghost use Rattle.model_examples.specs.Documents.{KeyRead, EdwardsKeyRead, EdwardsKeyText, RsaKeyText, PaddedNumber, EmptyNumber, LongNumber, LongestNumber};
+ghost use Rattle.model_examples.specs.Documents.{CurveDocument, RsaDocument, EdwardsDocument, TwoContacts, InvalidAuthorization};
 ghost use Rattle.model_examples.specs.Keys.{RsaThumbprint, DnsValue};
-ghost use Rattle.model_examples.specs.Matches.{LineEnd, Blanks, SpaceInFront, Beginning, MoreText, EmptyBody, OneRecord};
-ghost use Rattle.model_examples.specs.Matches.{NoRecords, RecordWithSpace, NonceRead, LastNonce, LastNonceRead, ShortNonceText};
-ghost use Rattle.model_examples.specs.Matches.{LongNonceText, OtherAlphabet, TokenText, UnusedBits, Padding};
-ghost use Rattle.model_examples.specs.NameTexts.{Star, TwoStars, StarWithin, StarOfNothing, NoText, EmptyLabel, FinalDot, Address};
-ghost use Rattle.model_examples.specs.NameTexts.{FalsePunycode, OneLabel, WildcardOfLabel, HyphenInFront, HyphenAtEnd, LowLine};
-ghost use Rattle.model_examples.specs.NameTexts.{LongLabel, LongName, LongestLabel, LongestName, LongestWildcard, UpperCase};
-ghost use Rattle.model_examples.specs.NameTexts.{Books, IdeographicStop, InnerHyphens, DigitsInFront, WildcardShown};
-ghost use Rattle.model_examples.specs.Problems.{Malformed, NothingHere, WrongMethod, BadNonce, BadPublicKey, NoAccount};
-ghost use Rattle.model_examples.specs.Problems.{Unauthorized, UnsupportedContact, InvalidContact, UnsupportedIdentifier};
-ghost use Rattle.model_examples.specs.Problems.{RejectedIdentifier, OrderNotReady, BadCsr, UnfitReport, CouldNotAct, TooLarge};
-ghost use Rattle.model_examples.specs.Problems.{OneSubproblem};
+ghost use Rattle.model_examples.specs.Matches.{LineEnd, Blanks, SpaceInFront, Beginning, MoreText, EmptyBody, OneRecord, NoRecords, RecordWithSpace, NonceRead};
+ghost use Rattle.model_examples.specs.Matches.{LastNonce, LastNonceRead, ShortNonceText, LongNonceText, OtherAlphabet, TokenText, UnusedBits, Padding};
+ghost use Rattle.model_examples.specs.NameTexts.{Star, TwoStars, StarWithin, StarOfNothing, NoText, EmptyLabel, FinalDot, Address, FalsePunycode, OneLabel};
+ghost use Rattle.model_examples.specs.NameTexts.{WildcardOfLabel, HyphenInFront, HyphenAtEnd, LowLine, LongLabel, LongName, LongestLabel, LongestName};
+ghost use Rattle.model_examples.specs.NameTexts.{LongestWildcard, UpperCase, Books, IdeographicStop, InnerHyphens, DigitsInFront, WildcardShown};
+ghost use Rattle.model_examples.specs.Problems.{Malformed, NothingHere, WrongMethod, BadNonce, BadPublicKey, NoAccount, Unauthorized, UnsupportedContact};
+ghost use Rattle.model_examples.specs.Problems.{InvalidContact, UnsupportedIdentifier, RejectedIdentifier, OrderNotReady, BadCsr, UnfitReport, CouldNotAct};
+ghost use Rattle.model_examples.specs.Problems.{TooLarge, OneSubproblem};
 
 /// Thumbprints and the texts that challenges ask for (RFC 7638, 3.1; RFC 8555, 8.1, 8.4).
 pub fn keys_hold()

@@ -1,12 +1,10 @@
 //! The rows that a call touches.
-ghost use Rattle.model_examples.specs.TouchedRows.{Directory, ChallengeWork, OrderWork, NewNonce, NewAccount, BadKey};
-ghost use Rattle.model_examples.specs.TouchedRows.{GuessedNonce, UnknownNonce, NoNonceText, AccountEnds, AccountOfAnother};
-ghost use Rattle.model_examples.specs.TouchedRows.{AccountRevoked, OrdersOfAccount, OrdersOfAnother, KeyOfAccount, NewOrder};
-ghost use Rattle.model_examples.specs.TouchedRows.{NewKeyTaken, NewKeyFree, NewKeyAlone};
-ghost use Rattle.model_examples.specs.TouchedRows.{OneOrder, WholeRows, OrderOfAnother, UnknownOrder, Finalize, Certificate};
-ghost use Rattle.model_examples.specs.TouchedRows.{Certifies, Fails, OneAuthorization, OneChallenge, AuthorizationRevoked, Report};
-ghost use Rattle.model_examples.specs.TouchedRows.{SharedReport, SharedOrder, SharedAccount, NoOrders, LastSecond, OrdersEnd};
-ghost use Rattle.model_examples.specs.TouchedRows.{RequestAtEnd, EarlierMoment, FallenOnce, AuthorizationsLast, AuthorizationsEnd};
+ghost use Rattle.model_examples.specs.TouchedRows.{Directory, ChallengeWork, OrderWork, NewNonce, NewAccount, BadKey, GuessedNonce, UnknownNonce, NoNonceText};
+ghost use Rattle.model_examples.specs.TouchedRows.{AccountEnds, AccountOfAnother, AccountRevoked, OrdersOfAccount, OrdersOfAnother, KeyOfAccount, NewOrder};
+ghost use Rattle.model_examples.specs.TouchedRows.{NewKeyTaken, NewKeyFree, NewKeyAlone, OneOrder, WholeRows, OrderOfAnother, UnknownOrder, Finalize};
+ghost use Rattle.model_examples.specs.TouchedRows.{Certificate, Certifies, Fails, OneAuthorization, OneChallenge, AuthorizationRevoked, Report, SharedReport};
+ghost use Rattle.model_examples.specs.TouchedRows.{SharedOrder, SharedAccount, NoOrders, LastSecond, OrdersEnd, RequestAtEnd, EarlierMoment, FallenOnce};
+ghost use Rattle.model_examples.specs.TouchedRows.{AuthorizationsLast, AuthorizationsEnd};
 
 /// Which rows a call touches: what it names, what falls by the passing of time, and what hangs on these.
 pub fn rows_are_touched()

@@ -2,7 +2,8 @@
 use Rattle.std.proofs.Common.{ℕ, ◌+◌, List, [], ◌∷◌, length, arith, length-append}
 use Rattle.std.specs.Prelude.{IsTrue}
 use Rattle.desk_model.specs.Account.{accounts, opened_by}
-use Rattle.desk_model.specs.{Authorization.authorizations, Entry.History, Order.orders, declared.entry.Dated.Dated, declared.entry.Entry.Entry}
+use Rattle.desk_model.specs.{Authorization.authorizations, Entry.History, Order.orders}
+use Rattle.desk_model.specs.declared.entry.{Dated.Dated, Entry.Entry}
 use Rattle.desk_model.specs.History.{clock, record_all}
 use Rattle.desk_model.specs.Legal.{BeginsMade, Legal, numbers_fit}
 use Rattle.desk_model.specs.Nonce.{issued_by, nonces}

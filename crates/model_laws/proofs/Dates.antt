@@ -5,8 +5,9 @@ use Rattle.std.proofs.lemmas.Option.{IfSome_then}
 use Rattle.desk_model.specs.Account.{account_key, accounts, opened_by, ends as account_ends}
 use Rattle.desk_model.specs.Authorization.{answer, answer_by, answering, authorizations, count_challenges, ends, has_challenge, in_time, is_good, made_by}
 use Rattle.desk_model.specs.Authorization.{made_for, reporting}
-use Rattle.desk_model.specs.{Entry.History, Kept.EachOf, Legal.EachFollows, Limits.last_moment, declared.entry.Dated.Dated, declared.entry.Entry.Entry}
-use Rattle.desk_model.specs.{declared.entry.Wanted.Wanted, declared.objects.Authorization.Authorization, declared.objects.AuthorizationEnd.AuthorizationEnd}
+use Rattle.desk_model.specs.{Entry.History, Kept.EachOf, Legal.EachFollows, Limits.last_moment}
+use Rattle.desk_model.specs.declared.{entry.Dated.Dated, entry.Entry.Entry, entry.Wanted.Wanted, objects.Authorization.Authorization}
+use Rattle.desk_model.specs.declared.{objects.AuthorizationEnd.AuthorizationEnd}
 use Rattle.desk_model.specs.History.{clock, terms}
 use Rattle.desk_model.specs.Nonce.{is_open, issued_by, nonces}
 use Rattle.desk_model.specs.Order.{ordered_by, orders}

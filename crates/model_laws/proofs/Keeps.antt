@@ -20,8 +20,7 @@ use Rattle.desk_model.specs.declared.{entry.Dated.Dated, entry.Entry.Entry, entr
 use Rattle.desk_model.specs.declared.entry.Entry.TheVariants.{Made as made, Issued as issued, Opened as opened, KeyChanged as key_changed, Ordered as ordered}
 use Rattle.desk_model.specs.declared.entry.Entry.TheVariants.{Reported as reported}
 use Rattle.desk_model.specs.declared.entry.Wanted.TheVariants.{New, Reused}
-use Rattle.model_laws.specs.Distinct.{Distinct}
-use Rattle.model_laws.specs.Given.{counts}
+use Rattle.model_laws.specs.{Distinct.Distinct, Given.counts}
 use Rattle.model_laws.specs.LegalLaws.{CountersFit, EndsInTime, reports_on}
 use Rattle.model_laws.proofs.Basics.{each, each_both, each-append, each-map, earlier-some, none_earlier}
 use Rattle.model_laws.proofs.Distinctness.{ascends_distinct, distinct-append, distinct-map}

@@ -1,7 +1,8 @@
 -- Change after change, what is put has the children of what stands there by then.
 use Rattle.std.proofs.Common.{◌≡◌, ◌≤◌, ℕ, List, [], ◌∷◌, map, sym, subst}
 use Rattle.std.specs.Prelude.{IfSome}
-use Rattle.desk_model.specs.{Entry.History, Legal.EachFollows, Kept.EachOf, declared.entry.Entry.Entry}
+use Rattle.desk_model.specs.{Entry.History, Legal.EachFollows, Kept.EachOf}
+use Rattle.desk_model.specs.declared.entry.Entry.{Entry}
 use Rattle.desk_model.specs.History.{clock, record_all}
 use Rattle.desk_model.specs.Tables.{Tables, picture}
 use Rattle.desk_model.specs.Change.{spent_by, nonces_put, accounts_put, authorizations_put, orders_put, nonces_gone, authorizations_expired, orders_fallen}

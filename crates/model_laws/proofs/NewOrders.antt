@@ -3,7 +3,8 @@ use Rattle.std.proofs.Common.{◌≡◌, ℕ, List, map, true}
 use Rattle.std.specs.List.{list_all}
 use Rattle.std.proofs.lemmas.Bool.{and_parts}
 use Rattle.desk_model.specs.Account.{account_by_number, account_status, is_valid}
-use Rattle.desk_model.specs.{Entry.History, Limits.most_names, Lookup.holds, declared.entry.Entry.TheVariants.Ordered as ordered, declared.entry.Wanted.Wanted}
+use Rattle.desk_model.specs.{Entry.History, Limits.most_names, Lookup.holds}
+use Rattle.desk_model.specs.declared.entry.{Entry.TheVariants.Ordered as ordered, Wanted.Wanted}
 use Rattle.desk_model.specs.Legal.{all_different, has_length, is_wanted, may_follow, may_want, wanted_name}
 
 -- the tests that it passes

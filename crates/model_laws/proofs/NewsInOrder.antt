@@ -2,7 +2,8 @@
 use Rattle.std.proofs.Common.{◌≡◌, ◌≤◌, ◌<◌, ℕ, ◌+◌, List, [], ◌∷◌, Some, None, refl, sym, ap, ◌∙◌, true, false, Bool, cond, not}
 use Rattle.std.specs.Prelude.{find, nat_lt, ◌==◌}
 use Rattle.std.proofs.lemmas.Bool.{eqb-true}
-use Rattle.desk_model.specs.{Entry.History, Legal.EachFollows, Tables.picture, declared.entry.Entry.Entry}
+use Rattle.desk_model.specs.{Entry.History, Legal.EachFollows, Tables.picture}
+use Rattle.desk_model.specs.declared.entry.Entry.{Entry}
 use Rattle.desk_model.specs.History.{clock, record_all}
 use Rattle.desk_model.specs.Change.{put, remove, spent_by, recorded_changes}
 use Rattle.model_laws.specs.News.{AreNews, IsNews}

@@ -2,7 +2,8 @@
 use Rattle.std.proofs.Common.{◌≡◌, ℕ, List, [], ◌∷◌, Option, Some, None, refl, true}
 use Rattle.std.specs.List.{list_all}
 use Rattle.std.proofs.lemmas.Bool.{and_from}
-use Rattle.desk_model.specs.{Allowed.may_want_on, Name.Name, Tables.Tables, declared.rows.AuthorizationRow.AuthorizationRow}
+use Rattle.desk_model.specs.{Allowed.may_want_on, Name.Name, Tables.Tables}
+use Rattle.desk_model.specs.declared.rows.AuthorizationRow.{AuthorizationRow}
 use Rattle.desk_model.specs.Questions.{authorization_on, order_end, serves, serving_on}
 use Rattle.desk_model.specs.Rules.{left_by, wanted, wanted_by}
 use Rattle.model_laws.proofs.Finds.{each_found, found_passes}

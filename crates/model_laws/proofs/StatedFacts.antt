@@ -2,7 +2,8 @@
 use Rattle.std.proofs.Common.{◌≡◌, ◌≤◌, ℕ, refl, arith, [], ◌∷◌, Option, Some, None, true, false, Bool, cond}
 use Rattle.std.specs.Prelude.{IfSome, unwrap_or}
 use Rattle.std.proofs.lemmas.Option.{IfSome_then}
-use Rattle.desk_model.specs.{Change.is_gained, Entry.History, Kept.EachOf, declared.entry.Dated.Dated}
+use Rattle.desk_model.specs.{Change.is_gained, Entry.History, Kept.EachOf}
+use Rattle.desk_model.specs.declared.entry.Dated.{Dated}
 use Rattle.desk_model.specs.History.{clock, earlier, first, latest}
 use Rattle.model_laws.proofs.Basics.{each}
 

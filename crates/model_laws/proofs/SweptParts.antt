@@ -2,8 +2,9 @@
 use Rattle.std.proofs.Common.{◌≡◌, ℕ, List, [], ◌∷◌, map, Some, refl, sym, ap, ◌∙◌, subst, true, false, Bool, cond}
 use Rattle.std.specs.Prelude.{◌==◌, ◌||◌}
 use Rattle.desk_model.specs.declared.status.AuthzStatus.TheVariants as authz
-use Rattle.desk_model.specs.{Lookup.holds, Tables.Tables, declared.entry.Entry.Entry, declared.rows.AuthorizationRow.AuthorizationRow}
-use Rattle.desk_model.specs.{declared.rows.OrderRow.OrderRow, declared.entry.Entry.TheVariants.Answered as answered}
+use Rattle.desk_model.specs.{Lookup.holds, Tables.Tables}
+use Rattle.desk_model.specs.declared.{entry.Entry.Entry, rows.AuthorizationRow.AuthorizationRow, rows.OrderRow.OrderRow}
+use Rattle.desk_model.specs.declared.{entry.Entry.TheVariants.Answered as answered}
 use Rattle.desk_model.specs.Derived.{numbers_of, authorization_numbered}
 use Rattle.desk_model.specs.Effect.{touches_authorization, touches_order, names_order, lists_one, is_overdue, falls, swept, swept_authorization, swept_order}
 use Rattle.desk_model.specs.Kept.{Kept, EachOf, IsClosed, Covers}

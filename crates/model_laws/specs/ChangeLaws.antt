@@ -3,14 +3,10 @@ use Rattle.std.specs.Prelude.{ℕ, ◌≤◌, ◌≡◌, List, ◌∷◌}
 use Rattle.std.specs.List.{flat_map}
 use Rattle.desk_model.specs.Change.{applied, changes, recorded_changes, sweep_changes}
 use Rattle.desk_model.specs.Effect.{effect, swept}
-use Rattle.desk_model.specs.Entry.{History}
+use Rattle.desk_model.specs.{Entry.History, Legal.EachFollows, Kept.EachOf}
 use Rattle.desk_model.specs.History.{clock, record_all}
-use Rattle.desk_model.specs.Legal.{EachFollows}
 use Rattle.desk_model.specs.Tables.{Tables, tables_at, picture}
-use Rattle.desk_model.specs.Kept.{EachOf}
-use Rattle.desk_model.specs.declared.entry.Entry.{Entry}
-use Rattle.desk_model.specs.declared.rows.AuthorizationRow.{AuthorizationRow}
-use Rattle.desk_model.specs.declared.rows.Meta.{Meta}
+use Rattle.desk_model.specs.declared.{entry.Entry.Entry, rows.AuthorizationRow.AuthorizationRow, rows.Meta.Meta}
 use Rattle.model_laws.specs.News.{AreKept, AreNewChildren, AreNews, IsNews, KeepsChildren}
 use Rattle.model_laws.specs.Ordered.{Ascends, IsOrdered}
 

@@ -1,15 +1,8 @@
 -- When the rows of a history are dated.
 use Rattle.std.specs.Prelude.{ℕ, ◌≤◌, IfSome}
-use Rattle.desk_model.specs.Entry.{History}
-use Rattle.desk_model.specs.History.{clock}
-use Rattle.desk_model.specs.Kept.{EachOf}
-use Rattle.desk_model.specs.Legal.{EachFollows}
-use Rattle.desk_model.specs.Limits.{last_moment}
+use Rattle.desk_model.specs.{Entry.History, History.clock, Kept.EachOf, Legal.EachFollows, Limits.last_moment}
 use Rattle.desk_model.specs.Tables.{Tables, tables_at}
-use Rattle.desk_model.specs.declared.rows.AccountRow.{AccountRow}
-use Rattle.desk_model.specs.declared.rows.AuthorizationRow.{AuthorizationRow}
-use Rattle.desk_model.specs.declared.rows.ChallengeRow.{ChallengeRow}
-use Rattle.desk_model.specs.declared.rows.OrderRow.{OrderRow}
+use Rattle.desk_model.specs.declared.rows.{AccountRow.AccountRow, AuthorizationRow.AuthorizationRow, ChallengeRow.ChallengeRow, OrderRow.OrderRow}
 
 -- no date of the account is after this moment
 pub record IsAccountDatedBy (t : ℕ) (row : AccountRow) : Type 0 where

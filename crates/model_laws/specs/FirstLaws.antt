@@ -1,14 +1,8 @@
 -- Histories in which no account got another key: those of a file of format 1.
 use Rattle.std.specs.Prelude.{ℕ, List, ◌≡◌, IfSome}
-use Rattle.desk_model.specs.Effect.{key_numbered}
-use Rattle.desk_model.specs.Entry.{History}
-use Rattle.desk_model.specs.declared.entry.Entry.{Entry}
-use Rattle.desk_model.specs.declared.entry.Entry.TheVariants.{KeyChanged as key_changed}
-use Rattle.desk_model.specs.Keys.{thumbprint}
-use Rattle.desk_model.specs.Kept.{EachOf}
-use Rattle.desk_model.specs.Legal.{EachFollows}
+use Rattle.desk_model.specs.{Effect.key_numbered, Entry.History, Keys.thumbprint, Kept.EachOf, Legal.EachFollows}
+use Rattle.desk_model.specs.declared.{entry.Entry.Entry, entry.Entry.TheVariants.KeyChanged as key_changed, rows.ChallengeRow.ChallengeRow}
 use Rattle.desk_model.specs.Tables.{Tables, tables_at}
-use Rattle.desk_model.specs.declared.rows.ChallengeRow.{ChallengeRow}
 
 -- the entry gives no account another key
 abbrev pub IsNoKeyChange : Entry → Type 0

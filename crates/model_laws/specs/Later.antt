@@ -1,6 +1,5 @@
 -- Entries that do not make the desk.
-use Rattle.desk_model.specs.declared.entry.Entry.{Entry}
-use Rattle.desk_model.specs.declared.entry.Entry.TheVariants.{Made as made}
+use Rattle.desk_model.specs.declared.entry.{Entry.Entry, Entry.TheVariants.Made as made}
 
 -- the entry does not make the desk
 abbrev pub IsLater : Entry → Type 0

@@ -2,20 +2,11 @@
 use Rattle.std.specs.Prelude.{ℕ, ◌+◌, ◌≤◌, ◌≡◌, Bool, IsTrue, length, is_some}
 use Rattle.std.specs.List.{filter, list_any}
 use Rattle.desk_model.specs.Authorization.{is_good, report, reporting, when_proved}
-use Rattle.desk_model.specs.BaseName.{is_base_name}
-use Rattle.desk_model.specs.Entry.{History}
-use Rattle.desk_model.specs.History.{terms}
-use Rattle.desk_model.specs.Keys.{IsKeyText}
+use Rattle.desk_model.specs.{BaseName.is_base_name, Entry.History, History.terms, Keys.IsKeyText, Lookup.holds, Terms.are_terms, Texts.HoldTexts, Kept.EachOf}
 use Rattle.desk_model.specs.Legal.{EachFollows, Legal, numbers_fit}
 use Rattle.desk_model.specs.Limits.{last_end, last_number}
-use Rattle.desk_model.specs.Lookup.{holds}
 use Rattle.desk_model.specs.Tables.{Tables, tables_at}
-use Rattle.desk_model.specs.Terms.{are_terms}
-use Rattle.desk_model.specs.Texts.{HoldTexts}
-use Rattle.desk_model.specs.Kept.{EachOf}
-use Rattle.desk_model.specs.declared.entry.Dated.{Dated}
-use Rattle.desk_model.specs.declared.objects.Authorization.{Authorization}
-use Rattle.desk_model.specs.declared.rows.Counters.{Counters}
+use Rattle.desk_model.specs.declared.{entry.Dated.Dated, objects.Authorization.Authorization, rows.Counters.Counters}
 use Rattle.model_laws.specs.Distinct.{Distinct}
 use Rattle.model_laws.specs.Given.{counts, NamesGiven}
 

@@ -1,7 +1,6 @@
 -- Tables whose rows stand by number.
 use Rattle.std.specs.Prelude.{ℕ, ◌+◌, ◌≤◌, ◌<◌, List, [], ◌∷◌}
-use Rattle.desk_model.specs.Tables.{Tables}
-use Rattle.desk_model.specs.Kept.{EachOf}
+use Rattle.desk_model.specs.{Tables.Tables, Kept.EachOf}
 
 -- the numbers ascend, from n on
 abbrev pub Ascends : {X : Type 0} → (X → ℕ) → ℕ → List X → Type 0

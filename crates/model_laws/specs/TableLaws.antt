@@ -1,12 +1,9 @@
 -- How the tables follow the facts.
 use Rattle.std.specs.Prelude.{ℕ, ◌≤◌, ◌≡◌, IsTrue, List, [], ◌∷◌}
-use Rattle.desk_model.specs.Allowed.{may_on}
-use Rattle.desk_model.specs.Derived.{status_faults}
+use Rattle.desk_model.specs.{Allowed.may_on, Derived.status_faults, Entry.History, Limits.last_moment}
 use Rattle.desk_model.specs.Effect.{effect, effects, swept}
-use Rattle.desk_model.specs.Entry.{History}
 use Rattle.desk_model.specs.History.{clock, record_all}
 use Rattle.desk_model.specs.Legal.{EachFollows, IsFormed, may_follow}
-use Rattle.desk_model.specs.Limits.{last_moment}
 use Rattle.desk_model.specs.Tables.{tables_at, picture}
 use Rattle.desk_model.specs.declared.entry.Entry.{Entry}
 use Rattle.model_laws.specs.Later.{IsLater}

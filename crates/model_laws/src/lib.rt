@@ -1,14 +1,12 @@
 //! The laws that tie the tables of a desk to its history.
 #![tactic(auto)]
 
-ghost use Rattle.model_laws.specs.ChangeLaws.{TablesAreOrdered, ChallengesAreOrdered, SweepKeepsChildren, EntryKeepsChildren};
-ghost use Rattle.model_laws.specs.ChangeLaws.{SweepIsMade, EffectIsMade, PicturesAreMade, SweepPutsDiffer, EntryPutsDiffer};
-ghost use Rattle.model_laws.specs.ChangeLaws.{RecordsPutNews, RecordsKeepChildren, RecordsBringNewChildren};
+ghost use Rattle.model_laws.specs.ChangeLaws.{TablesAreOrdered, ChallengesAreOrdered, SweepKeepsChildren, EntryKeepsChildren, SweepIsMade, EffectIsMade};
+ghost use Rattle.model_laws.specs.ChangeLaws.{PicturesAreMade, SweepPutsDiffer, EntryPutsDiffer, RecordsPutNews, RecordsKeepChildren, RecordsBringNewChildren};
 ghost use Rattle.model_laws.specs.DateLaws.{ClockIsInTime, NoDateIsLater};
-ghost use Rattle.model_laws.specs.LegalLaws.{OnlyGivenAreNamed, ReportedOnce, ProvedByReports, KeysDiffer, NumbersFitCounters};
-ghost use Rattle.model_laws.specs.LegalLaws.{CountersFitNumbers, TermsAreInLimits, AllEndInTime, KeysAreFormed, NamesAreFormed};
+ghost use Rattle.model_laws.specs.LegalLaws.{OnlyGivenAreNamed, ReportedOnce, ProvedByReports, KeysDiffer, NumbersFitCounters, CountersFitNumbers};
+ghost use Rattle.model_laws.specs.LegalLaws.{TermsAreInLimits, AllEndInTime, KeysAreFormed, NamesAreFormed, TextsAreUtf8};
 ghost use Rattle.model_laws.specs.FirstLaws.{KeptKeysAnswer};
-ghost use Rattle.model_laws.specs.LegalLaws.{TextsAreUtf8};
 ghost use Rattle.model_laws.specs.PartLaws.{FindsAreLocal, FiltersAreLocal, MayFollowIsLocal, PartsAreSwept, PartsHaveEffect};
 ghost use Rattle.model_laws.specs.PartLaws.{PartsHaveEffects, SweepChangesAreLocal, ChangesAreLocal, PartsRecord};
 ghost use Rattle.model_laws.specs.TableLaws.{TablesAreSwept, EntryHasEffect, EntriesHaveEffects, PicturesGrow, TablesHaveNoFaults};

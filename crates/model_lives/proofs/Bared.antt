@@ -9,8 +9,9 @@ use Rattle.desk_model.specs.Derived.{and_status, authorization_numbered, numbers
 use Rattle.desk_model.specs.Effect.{authorizations_after, effect, effects, falls, fresh_authorization, fresh_order, is_live_order, is_overdue}
 use Rattle.desk_model.specs.Effect.{moved_authorization, moved_order, names_order, new_authorizations, noted_authorization, noted_order, swept}
 use Rattle.desk_model.specs.Effect.{touches_authorization, touches_order}
-use Rattle.desk_model.specs.{Kept.EachOf, Lookup.holds, Order.ordered_by, Tables.Tables, declared.entry.Entry.Entry, declared.rows.AccountRow.AccountRow}
-use Rattle.desk_model.specs.{declared.rows.AuthorizationRow.AuthorizationRow, declared.rows.ChallengeRow.ChallengeRow, declared.rows.OrderRow.OrderRow}
+use Rattle.desk_model.specs.{Kept.EachOf, Lookup.holds, Order.ordered_by, Tables.Tables}
+use Rattle.desk_model.specs.declared.{entry.Entry.Entry, rows.AccountRow.AccountRow, rows.AuthorizationRow.AuthorizationRow, rows.ChallengeRow.ChallengeRow}
+use Rattle.desk_model.specs.declared.{rows.OrderRow.OrderRow}
 use Rattle.desk_model.specs.declared.entry.Entry.TheVariants.{AccountEnded as account_ended, AuthorizationEnded as authorization_ended}
 use Rattle.desk_model.specs.declared.rows.Change.TheVariants.{PutAccount, PutAuthorization, PutMeta, PutNonce, PutOrder, RemoveNonce}
 use Rattle.desk_model.specs.declared.status.AuthzStatus.TheVariants as authz

@@ -1,6 +1,7 @@
 -- A history after a call is a longer one, and what is acknowledged stays in it.
 use Rattle.std.proofs.Common.{◌≡◌, ℕ, List, [], ◌∷◌, ◌++◌, Option, Some, refl, sym, ap, ◌∙◌, append_assoc, true, false}
-use Rattle.desk_model.specs.{Entry.History, declared.entry.Entry.Entry, declared.entry.Dated.Dated, declared.call.Call.Call}
+use Rattle.desk_model.specs.Entry.{History}
+use Rattle.desk_model.specs.declared.{entry.Entry.Entry, entry.Dated.Dated, call.Call.Call}
 use Rattle.desk_model.specs.History.{record_all, moment_of, first, earlier}
 use Rattle.desk_model.specs.Decide.{decide, after}
 use Rattle.desk_model.specs.Life.{Event, Replied, Faulted, Stopped, Reopened, history, kept_calls, made_by, IsLife, HistoriesAreLegal, HistoriesAreOfCalls}

@@ -3,7 +3,7 @@ use Rattle.std.proofs.Common.{◌≡◌, ℕ, List, [], ◌++◌, refl, ap, ◌�
 use Rattle.std.specs.Prelude.{◌==◌, ◌&&◌, ◌||◌, if◌then◌else◌}
 use Rattle.std.specs.List.{list_any}
 use Rattle.desk_model.specs.Asked.{asked_names, asks_authorizations, asks_orders}
-use Rattle.desk_model.specs.{Tables.Tables}
+use Rattle.desk_model.specs.Tables.{Tables}
 use Rattle.desk_model.specs.Touched.{is_named_account, is_named_order, is_past_order, is_touched_nonce, lists}
 use Rattle.desk_model.specs.declared.{call.Ask.Ask, rows.AccountRow.AccountRow, rows.AuthorizationRow.AuthorizationRow}
 use Rattle.model_laws.specs.Ordered.{IsOrdered}

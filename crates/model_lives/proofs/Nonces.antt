@@ -2,8 +2,9 @@
 use Rattle.std.proofs.Common.{◌≡◌, ℕ, List, ◌∷◌, ◌++◌, Option, Some, None, refl, sym, ap, ◌∙◌, subst, true, false, Bool, cond, drop}
 use Rattle.std.specs.Prelude.{◌==◌, is_none, is_some, bytes_eq, nat_le, ◌+◌}
 use Rattle.std.proofs.lemmas.Bool.{eqb-true, eq-eqb, and_parts}
-use Rattle.desk_model.specs.{Entry.History, declared.entry.Entry.TheVariants.Spent as spent, Lookup.holds, declared.objects.Nonce.Nonce, Questions.nonce_on}
-use Rattle.desk_model.specs.{declared.verdict.Verdict.Verdict, declared.call.Call.Call, declared.call.Ask.Ask, declared.call.Signed.Signed}
+use Rattle.desk_model.specs.{Entry.History, Lookup.holds, Questions.nonce_on}
+use Rattle.desk_model.specs.declared.{entry.Entry.TheVariants.Spent as spent, objects.Nonce.Nonce, verdict.Verdict.Verdict, call.Call.Call, call.Ask.Ask}
+use Rattle.desk_model.specs.declared.{call.Signed.Signed}
 use Rattle.desk_model.specs.History.{record_all, moment_of, first, terms}
 use Rattle.desk_model.specs.Nonce.{nonce, nonces, when_spent, spending, is_open}
 use Rattle.desk_model.specs.Tables.{Tables, tables_at}

@@ -5,7 +5,8 @@ use Rattle.std.specs.Ordering.{match_ordering}
 use Rattle.serde_json.specs.Data.{Data, string, array, object, Items, no_items, item, Members, no_members, member}
 use Rattle.serde_json.specs.Find.{as_array, as_bool, as_str, get, get_member}
 use Rattle.serde_json.specs.Read.{read}
-use Rattle.desk_model.specs.{Texts.AreTexts, declared.payload.AccountChange.AccountChange, declared.payload.NewAccount.NewAccount}
+use Rattle.desk_model.specs.Texts.{AreTexts}
+use Rattle.desk_model.specs.declared.payload.{AccountChange.AccountChange, NewAccount.NewAccount}
 use Rattle.desk_model.specs.Payload.{account_change, account_change_in, and_each, each_in, if_object, is_object, new_account, new_account_by, new_account_in}
 use Rattle.desk_model.specs.Payload.{object_in, optional, says_deactivated, texts_in}
 use Rattle.desk_model.specs.declared.payload.AccountChange.TheVariants as change

@@ -7,8 +7,9 @@ use Rattle.desk_model.specs.Json.{document, list}
 use Rattle.desk_model.specs.Derived.{numbers_of, restated_authorization, restated_order}
 use Rattle.desk_model.specs.Document.{and_row, is_listed, key_document, order_document, order_url, order_with_names, rows_of}
 use Rattle.desk_model.specs.Effect.{effect, fresh_authorization, fresh_order, has_row, moved_authorization, moved_order, new_authorizations, touches_order}
-use Rattle.desk_model.specs.{Order.ordered_by, Questions.order_on, Tables.Tables, declared.entry.Entry.Entry, declared.reply.Reply.Reply}
-use Rattle.desk_model.specs.{declared.rows.AccountRow.AccountRow, declared.rows.AuthorizationRow.AuthorizationRow, declared.rows.OrderRow.OrderRow}
+use Rattle.desk_model.specs.{Order.ordered_by, Questions.order_on, Tables.Tables}
+use Rattle.desk_model.specs.declared.{entry.Entry.Entry, reply.Reply.Reply, rows.AccountRow.AccountRow, rows.AuthorizationRow.AuthorizationRow}
+use Rattle.desk_model.specs.declared.{rows.OrderRow.OrderRow}
 use Rattle.desk_model.specs.Shown.{at, account_reply, authorization_reply, certificate_reply, challenge_in, client_challenge_in, located_account, made_account}
 use Rattle.desk_model.specs.Shown.{made_order, moved_reply, ok, reply_of, shown}
 use Rattle.desk_model.specs.Kept.{EachOf, IsClosed, Kept, restricted}

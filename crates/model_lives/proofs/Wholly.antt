@@ -5,11 +5,10 @@ use Rattle.std.specs.Prelude.{◌==◌, ◌&&◌, bytes_eq, codes, nat_le, lengt
 use Rattle.std.proofs.lemmas.Bool.{eqb-true, or_left}
 use Rattle.serde_json.specs.Data.{Data, string}
 use Rattle.desk_model.specs.{Account.is_valid as is_valid_account, Contact.contacts_fault, Entry.entry_of, Kept.EachOf, Lookup.holds, Name.Name, Tables.Tables}
-use Rattle.desk_model.specs.{Touched.is_named_account}
+use Rattle.desk_model.specs.{Touched.is_named_account, Derived.numbers_of}
 use Rattle.desk_model.specs.Asked.{asks_authorizations, names_authorization, names_owner}
 use Rattle.desk_model.specs.Authorization.{is_live, is_pending}
 use Rattle.desk_model.specs.Decide.{entries_of, verdict_reply}
-use Rattle.desk_model.specs.Derived.{numbers_of}
 use Rattle.desk_model.specs.Document.{account_url, expected, is_listed, order_document, order_url, order_with_names}
 use Rattle.desk_model.specs.Effect.{effect, effects, has_row, is_overdue, swept, swept_authorization, touches_authorization}
 use Rattle.desk_model.specs.Json.{document, list}
@@ -43,17 +42,15 @@ use Rattle.desk_model.specs.declared.verdict.Listing.TheVariants as listing
 use Rattle.desk_model.specs.declared.verdict.Shows.TheVariants as show
 use Rattle.desk_model.specs.declared.verdict.Verdict.TheVariants.{Answers as answers, Moves as moves, Opens as opens, Orders as orders}
 use Rattle.model_laws.proofs.Basics.{each, each_all, each-map, find-map}
-use Rattle.model_laws.proofs.{SweptParts.swept_account}
+use Rattle.model_laws.proofs.{SweptParts.swept_account, Local.swept_number}
 use Rattle.model_laws.proofs.Finds.{each_found, found_passes}
-use Rattle.model_laws.proofs.Local.{swept_number}
 use Rattle.model_laws.proofs.Plain.{issued_effect, spent_effect}
 use Rattle.model_lives.specs.AnswersAs.{AnswersAs, CarriesOutAs, IssuesAs, PassesAs, SettlesAs}
 use Rattle.model_lives.specs.Few.{is_end, restates}
 use Rattle.model_lives.specs.Thinned.{all_listed, with_challenges}
-use Rattle.model_lives.proofs.Replies.{owner_then}
+use Rattle.model_lives.proofs.{Replies.owner_then, Lists.same_number, Ready.swept_named}
 use Rattle.model_lives.proofs.Bared.{AllWhole, AreWhole, NewWhole, bared, effects_bared, find_changed, recorded_bared, row_whole, swept_bared, those}
 use Rattle.model_lives.proofs.Bared.{touches_bared}
-use Rattle.model_lives.proofs.{Lists.same_number, Ready.swept_named}
 use Rattle.model_lives.proofs.Steps.{check_keeps, either_keeps, given_keeps, no_fault_keeps}
 use Rattle.model_lives.proofs.Thin.{carries_thin, found_thin, rows_thin, whole_orders}
 use Rattle.model_lives.proofs.Verdicts.{is_key, verdict_by}

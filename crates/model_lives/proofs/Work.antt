@@ -5,9 +5,10 @@ use Rattle.std.specs.List.{flat_map, list_any}
 use Rattle.std.proofs.lemmas.Bool.{and_from, or_left}
 use Rattle.serde_json.specs.Data.{Data, number, string, unsigned}
 use Rattle.desk_model.specs.{Asked.asks_orders, Authorization.is_pending, Derived.numbers_of, Legal.is_processing_challenge, Names.shown_name}
-use Rattle.desk_model.specs.{Order.is_processing, Tables.Tables, Touched.lists, Tokens.base64url, declared.call.Ask.Ask, declared.call.Call.Call}
-use Rattle.desk_model.specs.{declared.call.OfficeAsk.OfficeAsk, declared.rows.AuthorizationRow.AuthorizationRow, declared.rows.ChallengeRow.ChallengeRow}
-use Rattle.desk_model.specs.{declared.rows.OrderRow.OrderRow, declared.verdict.Shows.Shows, declared.verdict.Verdict.TheVariants.Answers as answers}
+use Rattle.desk_model.specs.{Order.is_processing, Tables.Tables, Touched.lists, Tokens.base64url}
+use Rattle.desk_model.specs.declared.{call.Ask.Ask, call.Call.Call, call.OfficeAsk.OfficeAsk, rows.AuthorizationRow.AuthorizationRow}
+use Rattle.desk_model.specs.declared.{rows.ChallengeRow.ChallengeRow, rows.OrderRow.OrderRow, verdict.Shows.Shows}
+use Rattle.desk_model.specs.declared.{verdict.Verdict.TheVariants.Answers as answers}
 use Rattle.desk_model.specs.Document.{bytes_of, challenge_work, order_work, order_work_document, work_document, work_of}
 use Rattle.desk_model.specs.Effect.{falls, is_overdue, swept, swept_authorization, swept_order}
 use Rattle.desk_model.specs.Json.{document, list}

@@ -1,12 +1,8 @@
 -- The rows above a number: what a pass through a table still has before it.
 use Rattle.std.specs.Prelude.{ℕ, nat_lt, List, take}
 use Rattle.std.specs.List.{filter, flat_map}
-use Rattle.desk_model.specs.Derived.{sorted_challenges}
-use Rattle.desk_model.specs.Tables.{Tables}
-use Rattle.desk_model.specs.declared.rows.AccountRow.{AccountRow}
-use Rattle.desk_model.specs.declared.rows.AuthorizationRow.{AuthorizationRow}
-use Rattle.desk_model.specs.declared.rows.ChallengeRow.{ChallengeRow}
-use Rattle.desk_model.specs.declared.rows.OrderRow.{OrderRow}
+use Rattle.desk_model.specs.{Derived.sorted_challenges, Tables.Tables}
+use Rattle.desk_model.specs.declared.rows.{AccountRow.AccountRow, AuthorizationRow.AuthorizationRow, ChallengeRow.ChallengeRow, OrderRow.OrderRow}
 
 -- the rows whose number is above n
 abbrev pub above : {X : Type 0} → (X → ℕ) → ℕ → List X → List X

@@ -1,10 +1,9 @@
 -- What a call records, and the history after it.
 use Rattle.std.specs.Prelude.{◌*◌, ◌≤◌, ◌≡◌, None, IsTrue, length}
 use Rattle.desk_model.specs.Decide.{decide, after}
-use Rattle.desk_model.specs.Entry.{History}
+use Rattle.desk_model.specs.{Entry.History, Limits.last_moment}
 use Rattle.desk_model.specs.History.{clock, moment_of}
 use Rattle.desk_model.specs.Legal.{EachFollows, Legal, numbers_fit}
-use Rattle.desk_model.specs.Limits.{last_moment}
 use Rattle.desk_model.specs.Run.{count_pieces, fault, IsFormedCall}
 use Rattle.desk_model.specs.declared.call.Call.{Call}
 

@@ -4,10 +4,7 @@ use Rattle.std.specs.List.{flat_map}
 use Rattle.model_laws.specs.Placing.{puts}
 use Rattle.desk_model.specs.Asked.{asked_names, asks_authorizations, asks_orders}
 use Rattle.desk_model.specs.Tables.{Tables}
-use Rattle.desk_model.specs.declared.call.Ask.{Ask}
-use Rattle.desk_model.specs.declared.rows.AccountRow.{AccountRow}
-use Rattle.desk_model.specs.declared.rows.AuthorizationRow.{AuthorizationRow}
-use Rattle.desk_model.specs.declared.rows.OrderRow.{OrderRow}
+use Rattle.desk_model.specs.declared.{call.Ask.Ask, rows.AccountRow.AccountRow, rows.AuthorizationRow.AuthorizationRow, rows.OrderRow.OrderRow}
 use Rattle.model_lives.specs.Few.{needs_holders, needs_listed, restates}
 use Rattle.model_lives.specs.Loaded.{accounts_once, authorizations_asked_of, authorizations_once, found_nonces, listed_authorizations}
 use Rattle.model_lives.specs.Loaded.{listing_orders, named_accounts, named_authorizations, named_orders, orders_once, past_authorizations, past_orders}

@@ -1,9 +1,7 @@
 -- When rows are enough for a call, though they may lack what it touches.
 use Rattle.std.specs.Prelude.{◌≡◌, ◌&&◌, ℕ, max, [], Bool, map}
 use Rattle.std.specs.List.{filter, list_any}
-use Rattle.desk_model.specs.Legal.{is_processing_challenge}
-use Rattle.desk_model.specs.Order.{is_processing}
-use Rattle.desk_model.specs.Tables.{Tables}
+use Rattle.desk_model.specs.{Legal.is_processing_challenge, Order.is_processing, Tables.Tables}
 use Rattle.desk_model.specs.Touched.{lists, only_meta}
 use Rattle.desk_model.specs.declared.call.Ask.{Ask}
 use Rattle.desk_model.specs.declared.call.Ask.TheVariants as ask

@@ -2,26 +2,19 @@
 use Rattle.std.specs.Prelude.{ℕ, ◌-◌, max, List, [], ◌∷◌, ◌++◌, if◌then◌else◌, Option, Some, None, Ok, Err, option_and_then}
 use Rattle.std.specs.List.{filter, flat_map}
 use Rattle.model_laws.specs.Placing.{puts}
-use Rattle.desk_model.specs.Derived.{numbers_of}
+use Rattle.desk_model.specs.{Derived.numbers_of, Payload.key_change, Tables.Tables}
 use Rattle.desk_model.specs.Name.{Name, same_name}
-use Rattle.desk_model.specs.Payload.{key_change}
-use Rattle.desk_model.specs.Tables.{Tables}
 use Rattle.desk_model.specs.Tokens.{NonceText, nonce_in}
 use Rattle.desk_model.specs.declared.call.Ask.{Ask}
 use Rattle.desk_model.specs.declared.call.Ask.TheVariants as ask
 use Rattle.desk_model.specs.declared.call.OfficeAsk.TheVariants as office
-use Rattle.desk_model.specs.declared.call.Call.{Call}
-use Rattle.desk_model.specs.declared.call.Target.{Target}
+use Rattle.desk_model.specs.declared.call.{Call.Call, Target.Target}
 use Rattle.desk_model.specs.declared.call.Target.TheVariants as to
-use Rattle.desk_model.specs.declared.objects.Nonce.{Nonce}
-use Rattle.desk_model.specs.declared.rows.AccountRow.{AccountRow}
-use Rattle.desk_model.specs.declared.rows.AuthorizationRow.{AuthorizationRow}
-use Rattle.desk_model.specs.declared.rows.OrderRow.{OrderRow}
+use Rattle.desk_model.specs.declared.{objects.Nonce.Nonce, rows.AccountRow.AccountRow, rows.AuthorizationRow.AuthorizationRow, rows.OrderRow.OrderRow}
 use Rattle.desk_model.specs.declared.status.AuthzStatus.TheVariants as authz
 use Rattle.desk_model.specs.declared.status.OrderStatus.TheVariants as order
-use Rattle.model_lives.specs.LookUps.{accounts_numbered, accounts_with_key, authorizations_numbered, authorizations_of}
-use Rattle.model_lives.specs.LookUps.{authorizations_named, authorizations_past, nonces_before, nonces_numbered, orders_listing}
-use Rattle.model_lives.specs.LookUps.{orders_numbered, orders_of, orders_past, owners_of}
+use Rattle.model_lives.specs.LookUps.{accounts_numbered, accounts_with_key, authorizations_numbered, authorizations_of, authorizations_named}
+use Rattle.model_lives.specs.LookUps.{authorizations_past, nonces_before, nonces_numbered, orders_listing, orders_numbered, orders_of, orders_past, owners_of}
 use Rattle.desk_model.specs.Asked.{asked_names, asks_authorizations, asks_orders}
 use Rattle.desk_model.specs.Touched.{only_meta}
 

@@ -2,17 +2,9 @@
 use Rattle.std.specs.Prelude.{ℕ, ◌≡◌, ◌==◌, ◌&&◌, Bool, true, nat_lt, bytes_eq, List, map}
 use Rattle.std.specs.List.{filter, flat_map, list_any}
 use Rattle.desk_model.specs.Derived.{authz_code, numbers_of, order_code}
-use Rattle.desk_model.specs.Kept.{EachOf}
-use Rattle.desk_model.specs.Legal.{is_processing_challenge}
-use Rattle.desk_model.specs.Order.{is_processing}
-use Rattle.desk_model.specs.Tables.{Tables}
-use Rattle.desk_model.specs.declared.objects.Nonce.{Nonce}
-use Rattle.desk_model.specs.declared.rows.AccountRow.{AccountRow}
-use Rattle.desk_model.specs.declared.rows.AuthorizationRow.{AuthorizationRow}
-use Rattle.desk_model.specs.declared.rows.ChallengeRow.{ChallengeRow}
-use Rattle.desk_model.specs.declared.rows.OrderRow.{OrderRow}
-use Rattle.desk_model.specs.declared.status.AuthzStatus.{AuthzStatus}
-use Rattle.desk_model.specs.declared.status.OrderStatus.{OrderStatus}
+use Rattle.desk_model.specs.{Kept.EachOf, Legal.is_processing_challenge, Order.is_processing, Tables.Tables}
+use Rattle.desk_model.specs.declared.{objects.Nonce.Nonce, rows.AccountRow.AccountRow, rows.AuthorizationRow.AuthorizationRow, rows.ChallengeRow.ChallengeRow}
+use Rattle.desk_model.specs.declared.{rows.OrderRow.OrderRow, status.AuthzStatus.AuthzStatus, status.OrderStatus.OrderStatus}
 use Rattle.model_lives.specs.Thinned.{without_challenges, without_listed}
 use Rattle.model_lives.specs.declared.queries.AccountsWhere.{AccountsWhere}
 use Rattle.model_lives.specs.declared.queries.AccountsWhere.TheVariants as accounts

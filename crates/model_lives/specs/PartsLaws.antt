@@ -1,17 +1,13 @@
 -- That parts are enough for calls.
 use Rattle.std.specs.Prelude.{ℕ, max, ◌≡◌, ◌≤◌}
-use Rattle.desk_model.specs.Effect.{swept}
-use Rattle.desk_model.specs.Entry.{History}
-use Rattle.desk_model.specs.History.{clock}
-use Rattle.desk_model.specs.Legal.{EachFollows}
+use Rattle.desk_model.specs.{Effect.swept, Entry.History, History.clock, Legal.EachFollows}
 use Rattle.desk_model.specs.Tables.{Tables, picture}
 use Rattle.desk_model.specs.declared.call.Call.{Call}
 use Rattle.model_laws.specs.Ordered.{IsOrdered}
 use Rattle.model_lives.specs.AnswersAs.{AnswersAs}
 use Rattle.model_lives.specs.Few.{IsStated, IsStatedFor}
 use Rattle.model_lives.specs.IsEnough.{IsEnoughFor, enough}
-use Rattle.model_lives.specs.IsPart.{IsPartFor}
-use Rattle.model_lives.specs.Loaded.{loaded}
+use Rattle.model_lives.specs.{IsPart.IsPartFor, Loaded.loaded}
 use Rattle.desk_model.specs.Touched.{touched}
 
 -- the rows that a call touches are a part for it

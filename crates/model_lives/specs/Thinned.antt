@@ -2,11 +2,8 @@
 use Rattle.std.specs.Prelude.{ℕ, [], Bool, true, false, map, if◌then◌else◌}
 use Rattle.std.specs.List.{filter}
 use Rattle.desk_model.specs.Kept.{Kept, restricted}
-use Rattle.desk_model.specs.Legal.{is_processing_challenge}
-use Rattle.desk_model.specs.Tables.{Tables}
-use Rattle.desk_model.specs.declared.rows.AuthorizationRow.{AuthorizationRow}
-use Rattle.desk_model.specs.declared.rows.ChallengeRow.{ChallengeRow}
-use Rattle.desk_model.specs.declared.rows.OrderRow.{OrderRow}
+use Rattle.desk_model.specs.{Legal.is_processing_challenge, Tables.Tables}
+use Rattle.desk_model.specs.declared.rows.{AuthorizationRow.AuthorizationRow, ChallengeRow.ChallengeRow, OrderRow.OrderRow}
 
 -- an authorization with some of its challenges
 abbrev pub with_challenges : (ℕ → ChallengeRow → Bool) → AuthorizationRow → AuthorizationRow

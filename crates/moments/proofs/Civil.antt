@@ -3,12 +3,10 @@ use Rattle.std.proofs.Common.{◌≡◌, ℕ, refl, sym, subst, ◌∙◌, arith
 use Rattle.std.proofs.lemmas.Int.{by_lt_z}
 use Rattle.jiff_core.specs.declared.civil.datetime.DateTime.{DateTime}
 use Rattle.jiff_core.specs.Calendar.{days_from_civil, IsCivilDate}
-use Rattle.jiff_core.specs.Date.{epoch_day}
-use Rattle.jiff_core.specs.Time.{time_seconds}
+use Rattle.jiff_core.specs.{Date.epoch_day, Time.time_seconds}
 use Rattle.jiff_core.specs.DateTime.{civil_nanos, civil_seconds}
-use Rattle.jiff_core.proofs.SignedLemmas.{signed_arith}
+use Rattle.jiff_core.proofs.{SignedLemmas.signed_arith, DateLemmas.civil}
 use Rattle.jiff_core.proofs.CalendarLemmas.{days_from_civil-day_count, day_count-lt_year}
-use Rattle.jiff_core.proofs.DateLemmas.{civil}
 use Rattle.jiff_core.proofs.DateTimeLemmas.{civil_nanos-parts, civil_nanos-civil_seconds, time_nanos_bound}
 use Rattle.desk_model.specs.Moment.{IsCivil}
 

@@ -1,7 +1,6 @@
 -- The fields of a moment are those that the arithmetic gives.
 use Rattle.std.proofs.Common.{◌≡◌, ℕ, zero, suc, ◌+◌, ◌-◌, ◌*◌, ◌/◌, ◌%◌, ◌<◌, ◌≤◌, refl, sym, subst, ap, ⊎_elim, arith, pos}
-use Rattle.std.proofs.lemmas.Bool.{cases_lt}
-use Rattle.std.proofs.lemmas.Bool.Decides.{nat_tests}
+use Rattle.std.proofs.lemmas.{Bool.cases_lt, Bool.Decides.nat_tests}
 use Rattle.jiff_core.specs.Calendar.{IsCivilDate, day_count}
 use Rattle.jiff_core.specs.March.{march_days, march_months}
 use Rattle.jiff_core.proofs.SignedLemmas.{signed_arith}

@@ -1,7 +1,6 @@
 -- The months of a date, by arithmetic.
 use Rattle.std.proofs.Common.{◌≡◌, ℕ, zero, suc, ◌+◌, ◌-◌, ◌*◌, ◌/◌, ◌<◌, ◌≤◌, arith, ℤ}
-use Rattle.jiff_core.specs.Calendar.{days_in_month}
-use Rattle.jiff_core.specs.March.{march_months}
+use Rattle.jiff_core.specs.{Calendar.days_in_month, March.march_months}
 use Rattle.jiff_core.proofs.MarchLemmas.{leap_day}
 
 -- the month of a day, and that the day lies in a year that has the leap day of y

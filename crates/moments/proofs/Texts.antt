@@ -1,8 +1,7 @@
 -- The text of a moment is the one that the function gives, and tells its moment.
 use Rattle.std.proofs.Common.{◌≡◌, ℕ, ◌+◌, ◌/◌, ◌%◌, ◌<◌, List, refl, sym, ◌∙◌, arith, pos}
 use Rattle.jiff_core.specs.Calendar.{IsCivilDate}
-use Rattle.jiff_core.proofs.CalendarLemmas.{days_in_month_bounds}
-use Rattle.jiff_core.proofs.SignedLemmas.{signed_arith}
+use Rattle.jiff_core.proofs.{CalendarLemmas.days_in_month_bounds, SignedLemmas.signed_arith}
 use Rattle.desk_model.specs.Moment.{IsCivil, IsMomentText, civil_text, moment_text}
 use Rattle.moments.proofs.Dates.{AreFieldsOf, fields_of_civil}
 

@@ -1,9 +1,8 @@
 -- What readings of all tables, row by row, tell of the database.
 use Rattle.std.specs.Prelude.{◌⊎◌, ℕ, Bool, List, Result, IfErr, IfOk, IsTrue, OnOk, map}
-use Rattle.sqlite.specs.Effect.{Database}
+use Rattle.sqlite.specs.{Effect.Database, Store.Ghosts}
 use Rattle.sqlite.specs.Held.{Held, state}
 use Rattle.sqlite.specs.State.{HasCleanDisk, IsUnchanged}
-use Rattle.sqlite.specs.Store.{Ghosts}
 use Rattle.sqlite.specs.declared.error.Error.{Error}
 use Rattle.store_book.specs.BookRows.{AreAccounts, AreAuthorizations, AreChallenges, AreKeys, AreListed, AreOrders, answered_numbers}
 use Rattle.store_book.specs.Passing.{IsOnlyRow}
@@ -28,8 +27,7 @@ use Rattle.sql_schema.specs.declared.meta.TheConstants as meta
 use Rattle.sql_schema.specs.declared.nonces.TheConstants as nonce
 use Rattle.sql_schema.specs.declared.orders.TheConstants as ord
 use Rattle.sql_schema.specs.declared.listed.TheConstants as ord_authz
-use Rattle.sql_schema.specs.Failing.{IsFailure}
-use Rattle.sql_schema.specs.Stays.{Asks}
+use Rattle.sql_schema.specs.{Failing.IsFailure, Stays.Asks}
 use Rattle.sql_tables.specs.Holds.{Holds, HoldsFirst}
 
 -- the database holds these tables in this format

@@ -1,11 +1,7 @@
 -- What is known of a table whose rows were checked one after the other.
 use Rattle.std.specs.Prelude.{◌≡◌, ◌++◌, ℕ, List, [], map}
-use Rattle.sqlite.specs.Effect.{Database}
-use Rattle.sqlite.specs.Given.{HasGiven}
+use Rattle.sqlite.specs.{Effect.Database, Given.HasGiven, Order.Row, State.IsUnchanged, Store.Ghosts}
 use Rattle.sqlite.specs.Held.{Held, state}
-use Rattle.sqlite.specs.Order.{Row}
-use Rattle.sqlite.specs.State.{IsUnchanged}
-use Rattle.sqlite.specs.Store.{Ghosts}
 use Rattle.desk_model.specs.Kept.{EachOf}
 use Rattle.sql_read.specs.Shown.{IsShown}
 

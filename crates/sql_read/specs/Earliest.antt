@@ -3,10 +3,8 @@ use Rattle.std.specs.Prelude.{ℕ, ℤ, ◌≡◌, ◌≤◌, ◌==◌, List, []
 use Rattle.std.specs.List.{filter, list_any}
 use Rattle.sqlite.specs.Order.{Row, column}
 use Rattle.desk_model.specs.Derived.{authz_code, order_code}
-use Rattle.desk_model.specs.Kept.{EachOf}
-use Rattle.desk_model.specs.Tables.{Tables}
-use Rattle.desk_model.specs.declared.status.AuthzStatus.{AuthzStatus}
-use Rattle.desk_model.specs.declared.status.OrderStatus.{OrderStatus}
+use Rattle.desk_model.specs.{Kept.EachOf, Tables.Tables}
+use Rattle.desk_model.specs.declared.status.{AuthzStatus.AuthzStatus, OrderStatus.OrderStatus}
 use Rattle.sql_read.specs.Spelled.{number_in}
 
 -- it is one of them, and none is before it; or there is none

@@ -1,16 +1,12 @@
 -- Why a reading of a desk's tables fails.
 use Rattle.std.specs.Prelude.{◌≡◌, ◌⊎◌, ℕ, All, Bool, true, false, IsTrue, List, [], None}
 use Rattle.sqlite.specs.Held.{Held, state}
-use Rattle.sqlite.specs.Order.{Row}
+use Rattle.sqlite.specs.{Order.Row, Store.Ghosts}
 use Rattle.sqlite.specs.State.{State, FailsToQuery, Shown}
-use Rattle.sqlite.specs.Store.{Ghosts}
-use Rattle.sqlite.specs.declared.error.Error.{Error}
-use Rattle.sqlite.specs.declared.error.Error.TheVariants.{SqliteFailure}
+use Rattle.sqlite.specs.declared.error.{Error.Error, Error.TheVariants.SqliteFailure}
 use Rattle.sqlite.specs.declared.error.ErrorCode.TheVariants.{DatabaseCorrupt, DiskFull, OutOfMemory, SystemIoFailure, TooBig}
 use Rattle.sqlite_disk.specs.Disk.{MoreFaults}
-use Rattle.store_columns.specs.Columns.{rows_columns}
-use Rattle.store_columns.specs.Flat.{flat}
-use Rattle.store_columns.specs.TextColumns.{ColumnsAreTexts}
+use Rattle.store_columns.specs.{Columns.rows_columns, Flat.flat, TextColumns.ColumnsAreTexts}
 use Rattle.desk_model.specs.Tables.{Tables}
 use Rattle.sql_schema.specs.Failing.{IsFailure}
 

@@ -1,15 +1,11 @@
 -- Readings of a desk in format 1, whose rows count as those of today's format.
 use Rattle.std.specs.Prelude.{◌≡◌, ℤ, List, [], ◌∷◌, map, filter_map, if◌then◌else◌, Option, option_map}
 use Rattle.std.specs.Ordering.{int_eq}
-use Rattle.sqlite.specs.Held.{Held}
+use Rattle.sqlite.specs.{Held.Held, Store.Ghosts}
 use Rattle.sqlite.specs.State.{State, HasCleanDisk}
-use Rattle.sqlite.specs.Store.{Ghosts}
 use Rattle.store_columns.specs.Columns.{first_format, known_format, meta_columns}
 use Rattle.store_columns.specs.Limits.{IsStoredMeta}
-use Rattle.store_columns.specs.declared.columns.ChallColumns.{ChallColumns}
-use Rattle.store_columns.specs.declared.columns.ChallKeyColumns.{ChallKeyColumns}
-use Rattle.store_columns.specs.declared.columns.MetaColumns.{MetaColumns}
-use Rattle.store_columns.specs.declared.columns.StoredRows.{StoredRows}
+use Rattle.store_columns.specs.declared.columns.{ChallColumns.ChallColumns, ChallKeyColumns.ChallKeyColumns, MetaColumns.MetaColumns, StoredRows.StoredRows}
 use Rattle.desk_model.specs.Tables.{Tables}
 use Rattle.desk_model.specs.declared.rows.Meta.{Meta}
 use Rattle.sql_read.specs.Shown.{IsShown}

@@ -4,9 +4,7 @@ use Rattle.sqlite.specs.Held.{Held, state}
 use Rattle.sqlite.specs.Store.{Ghosts}
 use Rattle.desk_model.specs.Tables.{Tables}
 use Rattle.desk_model.specs.declared.rows.Meta.{Meta}
-use Rattle.sql_read.specs.BookShown.{ShowsNonces}
-use Rattle.sql_read.specs.Failures.{HasTexts}
-use Rattle.sql_read.specs.First.{ShowsFirstMeta}
+use Rattle.sql_read.specs.{BookShown.ShowsNonces, Failures.HasTexts, First.ShowsFirstMeta}
 use Rattle.sql_read.specs.declared.formats.Format.TheVariants.{First}
 use Rattle.sql_tables.specs.Holds.{HoldsFirst}
 

@@ -2,9 +2,8 @@
 use Rattle.std.specs.Prelude.{◌≡◌, ◌⊎◌, ℤ, ◌<ℤ◌, List, [], ◌∷◌}
 use Rattle.sqlite.specs.Effect.{Database}
 use Rattle.sqlite.specs.Order.{Row, column}
-use Rattle.sqlite.specs.declared.types.Value.TheVariants.{Int}
+use Rattle.sqlite.specs.declared.{types.Value.TheVariants.Int, error.Error.Error}
 use Rattle.sqlite.specs.State.{State, FailsToQuery, Shown}
-use Rattle.sqlite.specs.declared.error.Error.{Error}
 use Rattle.store_columns.specs.Columns.{known_format}
 use Rattle.desk_model.specs.declared.rows.Meta.{Meta}
 use Rattle.sql_schema.specs.declared.meta.TheConstants as meta

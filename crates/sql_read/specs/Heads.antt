@@ -1,9 +1,7 @@
 -- Queries of rows without what stands under them.
 use Rattle.std.specs.Prelude.{◌≡◌, ℕ, List, map}
 use Rattle.sqlite.specs.Held.{Held, state}
-use Rattle.sqlite.specs.Order.{Row}
-use Rattle.sqlite.specs.State.{Shown}
-use Rattle.sqlite.specs.Store.{Ghosts}
+use Rattle.sqlite.specs.{Order.Row, State.Shown, Store.Ghosts}
 use Rattle.desk_model.specs.Kept.{EachOf}
 
 -- the rows that a query shows are these, each without what stands under it

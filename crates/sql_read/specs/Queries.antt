@@ -1,7 +1,6 @@
 -- The statement of each query, and its parameters.
 use Rattle.std.specs.Prelude.{ℕ, List, [], ◌∷◌, pos}
-use Rattle.sqlite.specs.Order.{Row}
-use Rattle.sqlite.specs.Values.{bound}
+use Rattle.sqlite.specs.{Order.Row, Values.bound}
 use Rattle.sqlite.specs.declared.types.Value.TheVariants.{Int, Text}
 use Rattle.desk_model.specs.Document.{authorization_status_text, order_status_text}
 use Rattle.desk_model.specs.declared.status.OrderStatus.TheVariants as order

@@ -4,8 +4,7 @@ use Rattle.sqlite.specs.Held.{Held, state}
 use Rattle.sqlite.specs.State.{HasCleanDisk, IsUnchanged}
 use Rattle.sqlite.specs.Store.{Ghosts}
 use Rattle.sqlite.specs.declared.error.Error.{Error}
-use Rattle.sql_schema.specs.Failing.{IsFailure}
-use Rattle.sql_schema.specs.Stays.{Asks}
+use Rattle.sql_schema.specs.{Failing.IsFailure, Stays.Asks}
 use Rattle.sql_read.specs.Failures.{IsMet, MayRead}
 
 module _ {S : Type 0} (g : Ghosts S) where

@@ -2,8 +2,7 @@
 use Rattle.std.specs.Prelude.{◌≡◌, ℕ, List, Bool, true, false, Ok, Err}
 use Rattle.sqlite_ast.specs.declared.Statement.{Statement}
 use Rattle.sqlite_ast.specs.declared.Statement.TheVariants as written
-use Rattle.sqlite_resolve.specs.Compile.{first}
-use Rattle.sqlite_resolve.specs.Lowering.{Checked}
+use Rattle.sqlite_resolve.specs.{Compile.first, Lowering.Checked}
 use Rattle.sqlite_syntax.specs.declared.statement.Parsed.{Parsed}
 
 -- SELECT, and no other statement

@@ -2,9 +2,7 @@
 use Rattle.std.specs.Prelude.{◌≡◌, ℕ, List, [], ◌∷◌, map}
 use Rattle.std.specs.List.Sorted.{IsPermutation}
 use Rattle.sqlite.specs.Held.{Held, state}
-use Rattle.sqlite.specs.Order.{Row}
-use Rattle.sqlite.specs.State.{Shown}
-use Rattle.sqlite.specs.Store.{Ghosts}
+use Rattle.sqlite.specs.{Order.Row, State.Shown, Store.Ghosts}
 use Rattle.store_columns.specs.Columns.{account_columns, authorization_columns, challenge_columns, key_columns}
 use Rattle.store_columns.specs.Columns.{listed_columns, meta_columns, nonce_columns, order_columns}
 use Rattle.store_columns.specs.Flat.{bare_row, challenge_rows, key_rows, listed_rows}

@@ -3,14 +3,9 @@ use Rattle.std.specs.Prelude.{ℕ, ℤ, pos, List, [], Option, None, Some, ◌<�
 use Rattle.sqlite.specs.declared.types.Value.{Value}
 use Rattle.sqlite.specs.declared.types.Value.TheVariants.{Int, Text, Blob, Null}
 use Rattle.sqlite.specs.Order.{Row, column}
-use Rattle.store_columns.specs.declared.columns.AccountColumns.{AccountColumns}
-use Rattle.store_columns.specs.declared.columns.AuthzColumns.{AuthzColumns}
-use Rattle.store_columns.specs.declared.columns.ChallColumns.{ChallColumns}
-use Rattle.store_columns.specs.declared.columns.ChallKeyColumns.{ChallKeyColumns}
-use Rattle.store_columns.specs.declared.columns.MetaColumns.{MetaColumns}
-use Rattle.store_columns.specs.declared.columns.NonceColumns.{NonceColumns}
-use Rattle.store_columns.specs.declared.columns.OrderAuthzColumns.{OrderAuthzColumns}
-use Rattle.store_columns.specs.declared.columns.OrderColumns.{OrderColumns}
+use Rattle.store_columns.specs.declared.columns.{AccountColumns.AccountColumns, AuthzColumns.AuthzColumns, ChallColumns.ChallColumns}
+use Rattle.store_columns.specs.declared.columns.{ChallKeyColumns.ChallKeyColumns, MetaColumns.MetaColumns, NonceColumns.NonceColumns}
+use Rattle.store_columns.specs.declared.columns.{OrderAuthzColumns.OrderAuthzColumns, OrderColumns.OrderColumns}
 
 -- ---- values, read
 

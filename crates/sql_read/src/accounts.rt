@@ -5,10 +5,8 @@ ghost use Rattle.sqlite.specs.Held.{state};
 ghost use Rattle.model_lives.specs.Above.{accounts_above, first_of};
 ghost use Rattle.model_lives.specs.LookUps.{accounts_where};
 ghost use Rattle.sql_schema.specs.Stays.{Asks};
-ghost use Rattle.sql_read.specs.Failures.{MayRead};
+ghost use Rattle.sql_read.specs.{Failures.MayRead, Held.ForHeld, LookUpFaults.IsOfMemoryOrDisk};
 ghost use Rattle.sql_read.specs.Spelled.{FitsAccount, account_in};
-ghost use Rattle.sql_read.specs.Held.{ForHeld};
-ghost use Rattle.sql_read.specs.LookUpFaults.{IsOfMemoryOrDisk};
 ghost use Rattle.sql_read.specs.Queries.{account_params, account_text, bound_by};
 ghost use Rattle.store_book.specs.IsBook.{IsStoredBook};
 

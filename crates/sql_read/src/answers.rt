@@ -3,16 +3,13 @@ ghost use Rattle.std.specs.Prelude.{◌≡◌, [], ◌∷◌, List, Some, IfErr,
 ghost use Rattle.sqlite.specs.State.{HasCleanDisk, IsUnchanged};
 ghost use Rattle.sqlite.specs.Held.{state};
 ghost use Rattle.store_columns.specs.Flat.{bare, bare_row};
-ghost use Rattle.store_columns.specs.declared.flat_rows.AnswerKey.{AnswerKey as KeyRow};
-ghost use Rattle.store_columns.specs.declared.flat_rows.Owned.{Owned as OwnedRow};
+ghost use Rattle.store_columns.specs.declared.flat_rows.{AnswerKey.AnswerKey as KeyRow, Owned.Owned as OwnedRow};
 ghost use Rattle.desk_model.specs.Kept.{EachOf};
 ghost use Rattle.desk_model.specs.declared.rows.ChallengeRow.{ChallengeRow as Challenge};
 ghost use Rattle.sql_schema.specs.Stays.{Asks};
-ghost use Rattle.sql_read.specs.Failures.{MayRead};
+ghost use Rattle.sql_read.specs.{Failures.MayRead, Held.ForHeld, LookUpFaults.IsOfMemoryOrDisk};
 ghost use Rattle.sql_read.specs.Spelled.{FitsKey, key_in};
-ghost use Rattle.sql_read.specs.Held.{ForHeld};
 ghost use Rattle.sql_read.specs.Keys.{HasItsKey, answered_as, keys_of};
-ghost use Rattle.sql_read.specs.LookUpFaults.{IsOfMemoryOrDisk};
 ghost use Rattle.store_book.specs.IsBook.{IsStoredBook};
 
 use crate::columns::Selected;

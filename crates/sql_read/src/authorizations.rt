@@ -7,13 +7,10 @@ ghost use Rattle.model_lives.specs.Above.{authorizations_above, challenges_above
 ghost use Rattle.model_lives.specs.LookUps.{AreWaiting, authorizations_where, bare_authorizations, owners_of};
 ghost use Rattle.sql_schema.specs.Stays.{Asks};
 ghost use Rattle.sql_read.specs.Earliest.{IsEarliest, authorization_ends};
-ghost use Rattle.sql_read.specs.Failures.{MayRead};
+ghost use Rattle.sql_read.specs.{Failures.MayRead, Held.ForHeld, LookUpFaults.IsOfMemoryOrDisk, Under.HasItsChallenges};
 ghost use Rattle.sql_read.specs.Spelled.{FitsAuthorization, FitsChallenge, authorization_in, challenge_in};
-ghost use Rattle.sql_read.specs.Held.{ForHeld};
-ghost use Rattle.sql_read.specs.LookUpFaults.{IsOfMemoryOrDisk};
 ghost use Rattle.sql_read.specs.Queries.{authorization_params, authorization_text, bound_by};
 ghost use Rattle.store_book.specs.IsBook.{IsStoredBook};
-ghost use Rattle.sql_read.specs.Under.{HasItsChallenges};
 
 use crate::answers::{with_answers, with_owned_answers};
 use crate::columns::Selected;

@@ -4,15 +4,12 @@ ghost use Rattle.sqlite.specs.State.{HasCleanDisk, IsUnchanged};
 ghost use Rattle.sqlite.specs.Held.{state};
 ghost use Rattle.store_columns.specs.declared.columns.StoredRows.{StoredRows};
 ghost use Rattle.desk_model.specs.Tables.{Tables};
-ghost use Rattle.sql_read.specs.AllTables.{FailsAtTable};
+ghost use Rattle.sql_read.specs.{AllTables.FailsAtTable, Held.ForHeld, Shown.AreShown};
 ghost use Rattle.sql_read.specs.BookShown.{Checks, ShowsAccounts, ShowsAuthorizations, ShowsBookRows, ShowsChallenges};
 ghost use Rattle.sql_read.specs.BookShown.{ShowsKeys, ShowsListed, ShowsNonces, ShowsOrders};
 ghost use Rattle.sql_read.specs.declared.formats.Format.TheVariants.{Second as second};
 ghost use Rattle.sql_read.specs.Failures.{HasTexts, IsMet, IsOutOfMemory, MayRead};
-ghost use Rattle.sql_read.specs.Held.{ForHeld};
-ghost use Rattle.sql_read.specs.Shown.{AreShown};
-ghost use Rattle.sql_schema.specs.Failing.{IsFailure};
-ghost use Rattle.sql_schema.specs.Stays.{Asks};
+ghost use Rattle.sql_schema.specs.{Failing.IsFailure, Stays.Asks};
 ghost use Rattle.store_book.specs.IsBook.{IsBookOfStored};
 
 use crate::checking::check_table;

@@ -2,8 +2,7 @@
 ghost use Rattle.std.specs.Prelude.{◌≡◌, ◌⊎◌, [], ◌∷◌, IfErr, IfOk, IfSome, IsTrue, OnOk};
 ghost use Rattle.sqlite.specs.State.{HasCleanDisk, IsUnchanged};
 ghost use Rattle.sqlite.specs.Held.{state};
-ghost use Rattle.sql_schema.specs.Failing.{IsFailure};
-ghost use Rattle.sql_schema.specs.Stays.{Asks};
+ghost use Rattle.sql_schema.specs.{Failing.IsFailure, Stays.Asks};
 ghost use Rattle.sql_read.specs.Checking.{GoesOn, ShowsTable};
 ghost use Rattle.sql_read.specs.Failures.{FailsHere, IsMet, IsOutOfMemory, IsReadable, MayRead};
 ghost use Rattle.sql_read.specs.Selecting.{IsQuery};

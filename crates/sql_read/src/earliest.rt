@@ -1,13 +1,10 @@
 //! The earliest moment that a query shows.
 ghost use Rattle.std.specs.Prelude.{◌≡◌, ◌≢◌, ℕ, List, option_map, pos, IfErr, IfOk, OnOk};
-ghost use Rattle.sqlite.specs.Order.{Row as SqlRow};
+ghost use Rattle.sqlite.specs.{Order.Row as SqlRow, Values.bound, Held.state};
 ghost use Rattle.sqlite.specs.State.{HasCleanDisk, IsUnchanged, Shown};
-ghost use Rattle.sqlite.specs.Values.{bound};
-ghost use Rattle.sqlite.specs.Held.{state};
 ghost use Rattle.sql_schema.specs.Stays.{Asks};
-ghost use Rattle.sql_read.specs.Earliest.{first_number};
+ghost use Rattle.sql_read.specs.{Earliest.first_number, Selecting.IsQuery};
 ghost use Rattle.sql_read.specs.LookUpFaults.{BeginWithMoment, IsOfMemory, IsOfMemoryOrDisk, IsSureQuery};
-ghost use Rattle.sql_read.specs.Selecting.{IsQuery};
 
 use crate::fault::ReadFault;
 use crate::query::all_rows;

@@ -27,8 +27,7 @@ impl From<sqlite::Error> for ReadFault {
 
 impl From<AllocError> for ReadFault {
     ghost use Rattle.std.specs.Prelude.{◌≡◌};
-    ghost use Rattle.sqlite.specs.declared.error.ErrorCode.TheVariants.{OutOfMemory};
-    ghost use Rattle.sqlite.specs.declared.error.Error.TheVariants.{SqliteFailure};
+    ghost use Rattle.sqlite.specs.declared.error.{ErrorCode.TheVariants.OutOfMemory, Error.TheVariants.SqliteFailure};
     ghost use Rattle.sql_read.specs.declared.fault.ReadFault.TheVariants.{Engine};
 
     ghost from_gives = { λ _ fault. fault ≡ Engine (SqliteFailure OutOfMemory) };
@@ -40,8 +39,7 @@ impl From<AllocError> for ReadFault {
 
 impl<T: Drop> From<AllocFailed<T>> for ReadFault {
     ghost use Rattle.std.specs.Prelude.{◌≡◌};
-    ghost use Rattle.sqlite.specs.declared.error.ErrorCode.TheVariants.{OutOfMemory};
-    ghost use Rattle.sqlite.specs.declared.error.Error.TheVariants.{SqliteFailure};
+    ghost use Rattle.sqlite.specs.declared.error.{ErrorCode.TheVariants.OutOfMemory, Error.TheVariants.SqliteFailure};
     ghost use Rattle.sql_read.specs.declared.fault.ReadFault.TheVariants.{Engine};
 
     ghost from_gives = { λ _ fault. fault ≡ Engine (SqliteFailure OutOfMemory) };

@@ -3,20 +3,15 @@ ghost use Rattle.std.specs.Prelude.{◌≡◌, ◌⊎◌, ◌++◌, [], ◌∷�
 ghost use Rattle.sqlite.specs.State.{HasCleanDisk, IsUnchanged};
 ghost use Rattle.sqlite.specs.Held.{state};
 ghost use Rattle.desk_model.specs.Tables.{Tables};
-ghost use Rattle.store_columns.specs.Columns.{meta_columns};
-ghost use Rattle.store_columns.specs.Limits.{IsStoredMeta};
+ghost use Rattle.store_columns.specs.{Columns.meta_columns, Limits.IsStoredMeta};
 ghost use Rattle.store_columns.specs.declared.columns.StoredRows.{StoredRows};
 ghost use Rattle.store_book.specs.IsBook.{IsBookOfStored, IsStoredBook};
 ghost use Rattle.sql_schema.specs.declared.meta.TheConstants.{SELECT};
-ghost use Rattle.sql_schema.specs.Failing.{IsFailure};
-ghost use Rattle.sql_schema.specs.Stays.{Asks};
-ghost use Rattle.sql_read.specs.AllTables.{FailsAtFirst};
+ghost use Rattle.sql_schema.specs.{Failing.IsFailure, Stays.Asks};
+ghost use Rattle.sql_read.specs.{AllTables.FailsAtFirst, Spelled.FitsMeta, Reads.Reads, Shown.AreColumnsOf};
 ghost use Rattle.sql_read.specs.Failures.{FailsHere, HasTexts, IsMet, IsOutOfMemory, IsReadable, MayRead};
 ghost use Rattle.sql_read.specs.First.{AreFirstShown, ForFirst, ShowsFirstMeta, blank_key, raised, raised_meta};
 ghost use Rattle.sql_read.specs.FirstRows.{IsFirstMeta, IsFirstReadable, IsWithRows};
-ghost use Rattle.sql_read.specs.Spelled.{FitsMeta};
-ghost use Rattle.sql_read.specs.Reads.{Reads};
-ghost use Rattle.sql_read.specs.Shown.{AreColumnsOf};
 ghost use Rattle.store_laws.specs.Blank.{blank, zeros};
 
 use crate::checked::check_nonces;

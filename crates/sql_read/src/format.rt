@@ -1,15 +1,12 @@
 //! The format of the tables.
 ghost use Rattle.std.specs.Prelude.{◌≡◌, ◌↔◌, IfOk, OnOk, IsTrue, false, ◌≢◌, ℤ, MatchOption, IfErr};
-ghost use Rattle.sqlite.specs.Order.{column};
+ghost use Rattle.sqlite.specs.{Order.column, Held.state};
 ghost use Rattle.sqlite.specs.declared.types.Value.TheVariants.{Int};
 ghost use Rattle.sqlite.specs.State.{HasCleanDisk, IsUnchanged};
-ghost use Rattle.sqlite.specs.Held.{state};
-ghost use Rattle.sql_schema.specs.Failing.{IsFailure};
-ghost use Rattle.sql_schema.specs.Stays.{Asks};
+ghost use Rattle.sql_schema.specs.{Failing.IsFailure, Stays.Asks};
 ghost use Rattle.sql_read.specs.Failures.{IsMet, MayRead};
-ghost use Rattle.sql_read.specs.First.{ForFirst};
+ghost use Rattle.sql_read.specs.{First.ForFirst, Held.ForHeld};
 ghost use Rattle.sql_read.specs.Format.{FailsToShowFormat, IsNewer, IsOfLaterFormat, ShowsFormats};
-ghost use Rattle.sql_read.specs.Held.{ForHeld};
 
 use crate::query::all_rows;
 use sql_schema::meta;

@@ -4,10 +4,8 @@ ghost use Rattle.sqlite.specs.State.{HasCleanDisk, IsUnchanged};
 ghost use Rattle.sqlite.specs.Held.{state};
 ghost use Rattle.desk_model.specs.declared.rows.Meta.{Meta as MetaRow};
 ghost use Rattle.sql_schema.specs.Stays.{Asks};
-ghost use Rattle.sql_read.specs.Failures.{MayRead};
+ghost use Rattle.sql_read.specs.{Failures.MayRead, Held.ForHeld, LookUpFaults.IsOfMemoryOrDisk};
 ghost use Rattle.sql_read.specs.Spelled.{FitsMeta, meta_in};
-ghost use Rattle.sql_read.specs.Held.{ForHeld};
-ghost use Rattle.sql_read.specs.LookUpFaults.{IsOfMemoryOrDisk};
 ghost use Rattle.store_book.specs.IsBook.{IsStoredBook};
 
 use crate::columns::Selected;

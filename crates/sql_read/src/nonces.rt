@@ -5,10 +5,8 @@ ghost use Rattle.sqlite.specs.Held.{state};
 ghost use Rattle.model_lives.specs.LookUps.{nonces_where};
 ghost use Rattle.sql_schema.specs.Stays.{Asks};
 ghost use Rattle.sql_read.specs.Earliest.{IsEarliest, issues};
-ghost use Rattle.sql_read.specs.Failures.{MayRead};
+ghost use Rattle.sql_read.specs.{Failures.MayRead, Held.ForHeld, LookUpFaults.IsOfMemoryOrDisk};
 ghost use Rattle.sql_read.specs.Spelled.{FitsNonce, nonce_in};
-ghost use Rattle.sql_read.specs.Held.{ForHeld};
-ghost use Rattle.sql_read.specs.LookUpFaults.{IsOfMemoryOrDisk};
 ghost use Rattle.sql_read.specs.Queries.{bound_by, nonce_params, nonce_text};
 ghost use Rattle.store_book.specs.IsBook.{IsStoredBook};
 

@@ -7,13 +7,10 @@ ghost use Rattle.model_lives.specs.Above.{first_of, orders_above};
 ghost use Rattle.model_lives.specs.LookUps.{bare_orders_of, orders_listing, orders_where};
 ghost use Rattle.sql_schema.specs.Stays.{Asks};
 ghost use Rattle.sql_read.specs.Earliest.{IsEarliest, order_ends};
-ghost use Rattle.sql_read.specs.Failures.{MayRead};
+ghost use Rattle.sql_read.specs.{Failures.MayRead, Held.ForHeld, LookUpFaults.IsOfMemoryOrDisk, Under.HasItsListed};
 ghost use Rattle.sql_read.specs.Spelled.{FitsListed, FitsOrder, listed_in, order_in};
-ghost use Rattle.sql_read.specs.Held.{ForHeld};
-ghost use Rattle.sql_read.specs.LookUpFaults.{IsOfMemoryOrDisk};
 ghost use Rattle.sql_read.specs.Queries.{bound_by, order_params, order_text};
 ghost use Rattle.store_book.specs.IsBook.{IsStoredBook};
-ghost use Rattle.sql_read.specs.Under.{HasItsListed};
 
 use crate::columns::Selected;
 use crate::earliest::earliest;

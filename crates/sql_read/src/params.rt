@@ -2,8 +2,7 @@
 ghost use Rattle.std.specs.Prelude.{◌≡◌, pos, [], ◌∷◌};
 ghost use Rattle.sqlite.specs.declared.types.Value.TheVariants.{Int, Text as SqlText};
 ghost use Rattle.sqlite.specs.Values.{bound};
-ghost use Rattle.sql_read.specs.Bounded.{bounded};
-ghost use Rattle.sql_read.specs.Queries.{bound_by};
+ghost use Rattle.sql_read.specs.{Bounded.bounded, Queries.bound_by};
 
 use sqlite::types::ValueRef;
 

@@ -1,21 +1,13 @@
 //! Rows that are looked up, each with its children.
 ghost use Rattle.std.specs.Prelude.{◌≡◌, ◌∷◌, [], List, IfErr, IfOk, OnOk, map, pos};
-ghost use Rattle.sqlite.specs.Order.{Row as SqlRow};
+ghost use Rattle.sqlite.specs.{Order.Row as SqlRow, Values.bound, Held.state};
 ghost use Rattle.sqlite.specs.State.{HasCleanDisk, IsUnchanged, Shown};
-ghost use Rattle.sqlite.specs.Values.{bound};
-ghost use Rattle.sqlite.specs.Held.{state};
 ghost use Rattle.sqlite.specs.declared.types.Value.TheVariants.{Int};
 ghost use Rattle.store_columns.specs.declared.flat_rows.Owned.{Owned as OwnedRow};
-ghost use Rattle.desk_model.specs.Kept.{EachOf};
-ghost use Rattle.desk_model.specs.Tables.{Tables};
+ghost use Rattle.desk_model.specs.{Kept.EachOf, Tables.Tables};
 ghost use Rattle.sql_schema.specs.Stays.{Asks};
-ghost use Rattle.sql_read.specs.Bounded.{bounded};
-ghost use Rattle.sql_read.specs.Failures.{MayRead};
-ghost use Rattle.sql_read.specs.Heads.{ShowsHeads};
-ghost use Rattle.sql_read.specs.Held.{ForHeld};
+ghost use Rattle.sql_read.specs.{Bounded.bounded, Failures.MayRead, Heads.ShowsHeads, Held.ForHeld, Queries.bound_by, Selecting.IsQuery};
 ghost use Rattle.sql_read.specs.LookUpFaults.{AreTableRows, IsOfMemoryOrDisk, IsSureQuery};
-ghost use Rattle.sql_read.specs.Queries.{bound_by};
-ghost use Rattle.sql_read.specs.Selecting.{IsQuery};
 ghost use Rattle.store_book.specs.IsBook.{IsStoredBook};
 
 use crate::columns::Selected;

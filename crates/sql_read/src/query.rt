@@ -1,9 +1,7 @@
 //! Queries, and the columns of their rows.
 ghost use Rattle.std.specs.Prelude.{◌≡◌, map, IfErr, IfOk, OnOk, List};
-ghost use Rattle.sqlite.specs.Order.{Row as SqlRow};
+ghost use Rattle.sqlite.specs.{Order.Row as SqlRow, Values.bound, Held.state};
 ghost use Rattle.sqlite.specs.State.{FailsToQuery, HasCleanDisk, IsUnchanged, Shown};
-ghost use Rattle.sqlite.specs.Values.{bound};
-ghost use Rattle.sqlite.specs.Held.{state};
 ghost use Rattle.sql_schema.specs.Stays.{Asks};
 ghost use Rattle.sql_read.specs.Failures.{FailsToRead, IsMet};
 ghost use Rattle.sql_read.specs.Selecting.{IsQuery};

@@ -1,14 +1,11 @@
 //! The rows of a desk that an answer spells.
 ghost use Rattle.std.specs.Prelude.{◌≡◌, ◌≢◌, map, List, IfErr, IfOk, MatchResult, OnOk};
-ghost use Rattle.sqlite.specs.Order.{Row as SqlRow};
+ghost use Rattle.sqlite.specs.{Order.Row as SqlRow, Values.bound, Held.state};
 ghost use Rattle.sqlite.specs.State.{HasCleanDisk, IsUnchanged, Shown};
-ghost use Rattle.sqlite.specs.Values.{bound};
-ghost use Rattle.sqlite.specs.Held.{state};
 ghost use Rattle.desk_model.specs.Kept.{EachOf};
 ghost use Rattle.sql_schema.specs.Stays.{Asks};
 ghost use Rattle.sql_read.specs.LookUpFaults.{AreTableRows, IsOfMemoryOrDisk, IsOfMemoryOrRows, IsSureQuery};
-ghost use Rattle.sql_read.specs.Queries.{bound_by};
-ghost use Rattle.sql_read.specs.Selecting.{IsQuery};
+ghost use Rattle.sql_read.specs.{Queries.bound_by, Selecting.IsQuery};
 ghost use Rattle.sql_read.specs.declared.fault.ReadFault.TheVariants.{NotARow};
 
 use crate::columns::Selected;

@@ -2,12 +2,10 @@
 ghost use Rattle.std.specs.Prelude.{IfErr, IfOk, OnOk};
 ghost use Rattle.sqlite.specs.State.{HasCleanDisk, IsUnchanged};
 ghost use Rattle.sqlite.specs.Held.{state};
-ghost use Rattle.sql_schema.specs.Failing.{IsFailure};
-ghost use Rattle.sql_schema.specs.Stays.{Asks};
+ghost use Rattle.sql_schema.specs.{Failing.IsFailure, Stays.Asks};
 ghost use Rattle.sql_read.specs.Failures.{HasTexts, IsMet, MayRead};
-ghost use Rattle.sql_read.specs.Held.{ForHeld};
+ghost use Rattle.sql_read.specs.{Held.ForHeld, Reads.Reads};
 ghost use Rattle.sql_read.specs.AllTables.{AreAllShown, AreFirstReadable, AreFirstTablesShown, AreReadable, FailsAtFirst, FailsAtTable};
-ghost use Rattle.sql_read.specs.Reads.{Reads};
 ghost use Rattle.sql_read.specs.Shown.{AreColumnsOf, AreShown};
 
 use crate::query::read_query;

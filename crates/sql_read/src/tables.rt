@@ -2,11 +2,9 @@
 ghost use Rattle.std.specs.Prelude.{◌≡◌, ◌⊎◌, [], Err, IfErr, IfOk, IsOk, Ok, OnOk};
 ghost use Rattle.sqlite.specs.State.{HasCleanDisk, IsUnchanged};
 ghost use Rattle.sqlite.specs.Held.{state};
-ghost use Rattle.sql_schema.specs.Failing.{IsFailure};
-ghost use Rattle.sql_schema.specs.Stays.{Asks};
+ghost use Rattle.sql_schema.specs.{Failing.IsFailure, Stays.Asks};
 ghost use Rattle.sql_read.specs.Failures.{FailsToRead, IsMet, IsReadable, MayRead};
-ghost use Rattle.sql_read.specs.Selecting.{IsQuery};
-ghost use Rattle.sql_read.specs.Shown.{IsShown};
+ghost use Rattle.sql_read.specs.{Selecting.IsQuery, Shown.IsShown};
 
 use crate::columns::Selected;
 use crate::query::read_query;

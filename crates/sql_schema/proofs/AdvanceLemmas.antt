@@ -1,7 +1,6 @@
 -- Calls inside a transaction, one after the other.
 use Rattle.std.proofs.Common.{◌≡◌, ◌⊎◌, inl, inr, ℕ, List, Ok, Err, OnErr, Result, ◌∙◌, arith}
-use Rattle.sqlite.specs.Order.{Row}
-use Rattle.sqlite.specs.Effect.{Database}
+use Rattle.sqlite.specs.{Order.Row, Effect.Database}
 use Rattle.sqlite.specs.declared.error.Error.{Error}
 use Rattle.sqlite.specs.State.{State, IsRolledBack, IsUnchanged, Survives, Executes, ExecutesInside}
 use Rattle.sql_schema.specs.Advances.{Advances, Declines, KeepsLast, Performs}

@@ -1,12 +1,10 @@
 -- What each of the statements means, computed from its text.
 use Rattle.std.proofs.Common.{◌≡◌, ℕ, zero, suc, ◌+◌, ◌<◌, Some, Ok, slice_get, false, inl, inr, [], ◌∷◌, codes, refl, arith}
-use Rattle.sqlite_schema.specs.declared.schema.Table.{Table}
-use Rattle.sqlite_schema.specs.declared.schema.Index.{Index}
+use Rattle.sqlite_schema.specs.declared.schema.{Table.Table, Index.Index}
 use Rattle.sqlite_schema.specs.declared.command.Command.TheVariants.{CreateTable, CreateIndex}
 use Rattle.sqlite.specs.Compile.{table_defined_by, index_defined_by}
 use Rattle.sqlite.specs.Change.{created, indexed}
-use Rattle.sqlite.specs.Does.{lacks_sequence}
-use Rattle.sqlite.specs.Listing.{understood}
+use Rattle.sqlite.specs.{Does.lacks_sequence, Listing.understood}
 use Rattle.sqlite.proofs.Callers.{IsPlain, command_of, statement_of}
 use Rattle.sqlite_tied.specs.Compute.{everything}
 use Rattle.sql_schema.specs.Definitions.{definition_at}

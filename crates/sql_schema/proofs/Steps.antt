@@ -5,8 +5,7 @@ use Rattle.sqlite.specs.State.{State, Survives}
 use Rattle.sql_schema.specs.Advances.{Advances, Performs}
 use Rattle.sql_schema.specs.Defined.{AddsKeyTable, Defines}
 use Rattle.sql_schema.specs.declared.keys.TheConstants as chall_key
-use Rattle.sql_schema.specs.Definitions.{definition_at}
-use Rattle.sql_schema.specs.Schema.{schema_at}
+use Rattle.sql_schema.specs.{Definitions.definition_at, Schema.schema_at}
 use Rattle.sql_schema.proofs.AdvanceLemmas.{advances_then, performs_advances}
 use Rattle.sql_schema.proofs.Making.{MovesOn, makes, widens}
 use Rattle.sql_schema.proofs.Meanings.{create_chall_key_makes, each_makes}

@@ -1,9 +1,8 @@
 -- The names of the tables and indexes.
 use Rattle.std.specs.Prelude.{ℕ, Bool, List, [], ◌∷◌, codes, ◌||◌, is_some}
 use Rattle.std.specs.List.{list_all, list_any}
-use Rattle.sqlite.specs.Schema.{Schema}
+use Rattle.sqlite.specs.{Schema.Schema, Change.is_used}
 use Rattle.sqlite_schema.specs.Names.{index_named}
-use Rattle.sqlite.specs.Change.{is_used}
 
 -- the table that format 1 lacks
 abbrev pub key_table_name : List ℕ

@@ -1,14 +1,11 @@
 -- The keys of answers differ in number where the challenges do.
-use Rattle.std.specs.Prelude.{option_map}
-use Rattle.std.specs.List.{cons_option}
+use Rattle.std.specs.{Prelude.option_map, List.cons_option}
 use Rattle.std.proofs.Common.{◌≢◌, ℕ, List, [], ◌∷◌, Option, Some, None}
 use Rattle.store_columns.specs.Flat.{key_rows}
-use Rattle.store_columns.specs.declared.flat_rows.AnswerKey.{AnswerKey}
-use Rattle.store_columns.specs.declared.flat_rows.Owned.{Owned}
+use Rattle.store_columns.specs.declared.flat_rows.{AnswerKey.AnswerKey, Owned.Owned}
 use Rattle.model_laws.specs.Distinct.{Distinct}
 use Rattle.desk_model.specs.Kept.{EachOf}
-use Rattle.desk_model.specs.declared.objects.Answer.{Answer}
-use Rattle.desk_model.specs.declared.rows.ChallengeRow.{ChallengeRow}
+use Rattle.desk_model.specs.declared.{objects.Answer.Answer, rows.ChallengeRow.ChallengeRow}
 use Rattle.sql_tables.specs.Layouts.{challenge_layout, key_layout}
 
 -- the key of an answer, where there is one

@@ -4,8 +4,7 @@ use Rattle.sqlite.specs.declared.types.Value.{Value}
 use Rattle.sqlite.specs.declared.types.Value.TheVariants.{Null, Int}
 use Rattle.sqlite_value.specs.Order.{Row}
 use Rattle.sqlite_sql.specs.Ops.{unary}
-use Rattle.sqlite_schema.specs.declared.schema.Column.{Column}
-use Rattle.sqlite_schema.specs.declared.schema.Table.{Table}
+use Rattle.sqlite_schema.specs.declared.schema.{Column.Column, Table.Table}
 use Rattle.sqlite_rules.specs.Cast.{cast, cast_all, cast_row}
 use Rattle.sqlite.specs.Kind.TheVariants.{Integer, Text}
 use Rattle.sql_tables.specs.Images.{int_or_null, text_or_null}

@@ -6,8 +6,7 @@ use Rattle.sqlite_value.proofs.KeyLemmas.{first_key-plain}
 use Rattle.sqlite_trees.specs.Tree.{rowid}
 use Rattle.sqlite_rules.specs.Keys.{conflicts}
 use Rattle.sql_tables.specs.Layouts.{Layout}
-use Rattle.sql_tables.proofs.Found.{equal_is}
-use Rattle.sql_tables.proofs.Keyed.{three}
+use Rattle.sql_tables.proofs.{Found.equal_is, Keyed.three}
 
 alone : (b : Bool) → ((b && true) || false) ≡ b
 alone true = refl

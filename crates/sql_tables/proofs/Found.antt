@@ -1,23 +1,19 @@
 -- A query of one table by its key.
 use Rattle.std.proofs.Common.{◌≡◌, ℕ, ℤ, pos, negsuc, ◌&&◌, ◌++◌, if◌then◌else◌, List, [], ◌∷◌, map, flat_map, Bool, true, false}
 use Rattle.std.proofs.Common.{None, Some, refl, ap, subst, ◌∙◌, cond, int_cmp}
-use Rattle.std.specs.Ordering.{is_eq}
-use Rattle.std.specs.List.{list_all}
-use Rattle.std.specs.List.Sorted.{IsPermutation}
-use Rattle.std.proofs.lemmas.List.Sorted.{length_permutation}
+use Rattle.std.specs.{Ordering.is_eq, List.list_all, List.Sorted.IsPermutation}
+use Rattle.std.proofs.lemmas.{List.Sorted.length_permutation, List.nil_from_length}
 use Rattle.sqlite.specs.declared.types.Value.TheVariants.{Int}
 use Rattle.sqlite_value.specs.declared.keys.Collation.TheVariants.{Binary}
 use Rattle.sqlite_value.specs.Order.{Row, column}
 use Rattle.sqlite_value.proofs.OrderLemmas.{value_cmp-Int}
 use Rattle.sqlite_trees.specs.Tree.{Trees, rowid}
-use Rattle.sqlite_sql.specs.declared.ops.BinaryOp.TheVariants.{Compare}
-use Rattle.sqlite_sql.specs.declared.ops.CompareOp.TheVariants.{Eq}
+use Rattle.sqlite_sql.specs.declared.ops.{BinaryOp.TheVariants.Compare, CompareOp.TheVariants.Eq}
 use Rattle.sqlite_sql.specs.Ops.{binary, is_true, from_truth}
 use Rattle.sqlite_sql.specs.Term.{Term, Env, lit, col, op2, eval_all, holds}
 use Rattle.sqlite_sql.specs.Query.{Query, Output, inner, end, IsAnswer, output, page}
 use Rattle.sqlite.proofs.Callers.{one_permutation}
 use Rattle.sql_tables.proofs.Keyed.{with_key, three}
-use Rattle.std.proofs.lemmas.List.{nil_from_length}
 
 -- the rows of a table whose key is the parameter at a place
 abbrev pub by_key : ℕ → ℕ → List Term → Query

@@ -2,26 +2,23 @@
 use Rattle.std.proofs.Common.{◌≡◌, ℕ, List, [], ◌∷◌, map, Bool, true, false, refl, sym, subst, ◌∙◌, arith}
 use Rattle.std.specs.Prelude.{MatchBool}
 use Rattle.std.proofs.lemmas.List.Sorted.{IsPermutation-refl}
-use Rattle.desk_model.specs.declared.rows.Listed.{Listed}
+use Rattle.desk_model.specs.declared.rows.{Listed.Listed, Meta.Meta}
 use Rattle.store_columns.specs.declared.flat_rows.Owned.{Owned}
 use Rattle.sqlite.specs.Order.{Row}
 use Rattle.sqlite.specs.Effect.{Database, IsDatabase}
 use Rattle.sqlite.specs.State.{State, IsUnchanged}
-use Rattle.sqlite_trees.specs.Objects.{catalog_tree}
-use Rattle.sqlite_trees.specs.Tree.{Trees}
+use Rattle.sqlite_trees.specs.{Objects.catalog_tree, Tree.Trees}
 use Rattle.sqlite_catalog.specs.Listing.{Lists}
 use Rattle.sqlite_catalog.proofs.ReadLemmas.{lists_once}
 use Rattle.desk_model.specs.Tables.{Tables}
-use Rattle.desk_model.specs.declared.rows.Meta.{Meta}
 use Rattle.sql_schema.specs.Defined.{Defines}
 use Rattle.sql_schema.specs.Schema.{desk_schema, no_schema}
 use Rattle.store_columns.specs.Flat.{challenge_rows, key_rows, listed_rows}
-use Rattle.sql_tables.specs.Effects.{Puts}
+use Rattle.sql_tables.specs.{Effects.Puts, Sorted.sorted_by}
 use Rattle.sql_tables.specs.Holds.{AreRising, Holds, HoldsListed}
 use Rattle.sql_tables.specs.Images.{account_image, authorization_image, challenge_image, key_image, meta_image, nonce_image, order_image}
 use Rattle.sql_tables.specs.Layouts.{HasRows, account_layout, authorization_layout, challenge_layout, key_layout, listed_layout, meta_layout}
 use Rattle.sql_tables.specs.Layouts.{nonce_layout, order_layout}
-use Rattle.sql_tables.specs.Sorted.{sorted_by}
 use Rattle.sql_tables.proofs.NoIndexes.{KeepsBut, beside, kept_at}
 use Rattle.sql_tables.proofs.Sorting.{sorted_rises}
 

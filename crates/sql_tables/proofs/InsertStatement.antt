@@ -1,13 +1,11 @@
 -- What a text that inserts a row does, beside the one that puts it, from what the texts mean.
 use Rattle.std.specs.Prelude.{find, ◌==◌}
-use Rattle.std.proofs.Common.{◌≡◌, ℕ, ℤ, pos, ◌+◌, ◌&&◌, List, [], ◌∷◌, map, length, ◌/◌, not, Bool, true, false, None, Ok, refl, sym, ap, subst, ◌∙◌}
-use Rattle.std.proofs.Common.{arith}
+use Rattle.std.proofs.Common.{◌≡◌, ℕ, ℤ, pos, ◌+◌, ◌&&◌, List, [], ◌∷◌, map, length, ◌/◌, not, Bool, true, false, None, Ok, refl, sym, ap, subst, ◌∙◌, arith}
 use Rattle.sqlite.specs.declared.types.Value.TheVariants.{Int}
 use Rattle.sqlite_value.specs.Order.{Row}
 use Rattle.sqlite_trees.specs.Tree.{Trees, put_row, rowid}
 use Rattle.sqlite_sql.specs.Term.{Term}
-use Rattle.sqlite_schema.specs.declared.command.Command.TheVariants.{Insert}
-use Rattle.sqlite_schema.specs.declared.command.Source.TheVariants.{Values}
+use Rattle.sqlite_schema.specs.declared.command.{Command.TheVariants.Insert, Source.TheVariants.Values}
 use Rattle.sqlite_rules.specs.Cast.{cast_row}
 use Rattle.sqlite_rules.specs.Edit.{are_fresh, edit_of, edited, is_taken, put_all, taken_by, with_rowid}
 use Rattle.sqlite.specs.Effect.{Database, value_rows}

@@ -3,12 +3,9 @@ use Rattle.std.specs.Prelude.{flat_map, filter_map, length, ◌==◌}
 use Rattle.std.proofs.Common.{◌≡◌, ◌≢◌, ℕ, ℤ, List, [], ◌∷◌, map, Bool, true, false, None, Ok, refl, sym, ap, subst, ◌∙◌}
 use Rattle.sqlite_value.specs.Order.{Row}
 use Rattle.sqlite_trees.specs.Tree.{Trees, put_row}
-use Rattle.sqlite_schema.specs.declared.command.Command.{Command}
-use Rattle.sqlite_schema.specs.declared.schema.Keys.TheVariants.{Enforced}
-use Rattle.sqlite_schema.specs.declared.schema.Table.{Table}
+use Rattle.sqlite_schema.specs.declared.{command.Command.Command, schema.Keys.TheVariants.Enforced, schema.Table.Table}
 use Rattle.sqlite_schema.specs.Rules.{parent_key}
-use Rattle.sqlite_rules.specs.declared.error.Rowids.{Rowids}
-use Rattle.sqlite_rules.specs.declared.error.Rowids.TheVariants.{Given}
+use Rattle.sqlite_rules.specs.declared.error.{Rowids.Rowids, Rowids.TheVariants.Given}
 use Rattle.sqlite_rules.specs.Edit.{IsNoIndex, edit_of, taken_by, Applies}
 use Rattle.sqlite_rules.specs.Cast.{cast_row}
 use Rattle.sqlite_rules.specs.Action.{works, work_by, deed_for, pairs}

@@ -3,15 +3,13 @@ use Rattle.std.proofs.Common.{◌≡◌, ◌⊎◌, inl, inr, ℕ, pos, ◌+◌,
 use Rattle.std.proofs.Common.{sym, ap, subst, ◌∙◌, arith, cond, None, Ordering, Less, Equal, Greater, int_cmp, nat_cmp}
 use Rattle.std.specs.Prelude.{◌==◌, find, nat_lt}
 use Rattle.std.specs.Ordering.{is_eq, MatchOrdering}
-use Rattle.std.proofs.lemmas.Cmp.{ranked as nat_ranked}
-use Rattle.std.proofs.lemmas.Bool.Decides.{nat_tests}
+use Rattle.std.proofs.lemmas.{Cmp.ranked as nat_ranked, Bool.Decides.nat_tests}
 use Rattle.std.proofs.lemmas.Bool.{eq-eqb, le-ltb, lt-ltb}
 use Rattle.sqlite.specs.declared.types.Value.TheVariants.{Int}
 use Rattle.sqlite_value.specs.Order.{Row, value_cmp}
 use Rattle.sqlite_value.proofs.OrderLemmas.{value_cmp-Int}
 use Rattle.sqlite_trees.specs.Tree.{rowid, put_row, without_rowid, has_rowid}
-use Rattle.sqlite_rules.specs.Edit.{is_taken}
-use Rattle.sqlite_rules.specs.Lists.{Has}
+use Rattle.sqlite_rules.specs.{Edit.is_taken, Lists.Has}
 use Rattle.model_laws.specs.Ordered.{Ascends}
 use Rattle.model_laws.proofs.RowLists.{ascends_above, ascends_from, put_first, put_instead, put_past, remove_none}
 use Rattle.desk_model.specs.Change.{put, remove}

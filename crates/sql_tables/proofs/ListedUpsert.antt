@@ -5,17 +5,14 @@ use Rattle.sqlite.specs.declared.types.Value.TheVariants.{Int, Null}
 use Rattle.sqlite_value.specs.Order.{Row}
 use Rattle.sqlite_value.proofs.KeyLemmas.{first_key-plain}
 use Rattle.sqlite_schema.specs.declared.command.Command.TheVariants.{Insert, InsertOr}
-use Rattle.sqlite_schema.specs.declared.command.Conflict.TheVariants.{Abort}
-use Rattle.sqlite_schema.specs.declared.command.Source.TheVariants.{Values}
+use Rattle.sqlite_schema.specs.declared.command.{Conflict.TheVariants.Abort, Source.TheVariants.Values}
 use Rattle.sqlite_sql.specs.Term.{Term, lit, col}
-use Rattle.sqlite_rules.specs.Cast.{cast_row}
-use Rattle.sqlite_rules.specs.Keys.{conflicts}
+use Rattle.sqlite_rules.specs.{Cast.cast_row, Keys.conflicts}
 use Rattle.sqlite_tied.specs.Compute.{everything}
 use Rattle.sqlite.specs.Listing.{understood}
 use Rattle.sqlite.specs.State.{State, Executes}
 use Rattle.store_columns.specs.Columns.{listed_columns}
-use Rattle.store_columns.specs.declared.columns.OrderAuthzColumns.{OrderAuthzColumns}
-use Rattle.store_columns.specs.declared.flat_rows.Owned.{Owned}
+use Rattle.store_columns.specs.declared.{columns.OrderAuthzColumns.OrderAuthzColumns, flat_rows.Owned.Owned}
 use Rattle.desk_model.specs.declared.rows.Listed.{Listed}
 use Rattle.sql_schema.specs.Advances.{Advances, Performs}
 use Rattle.sql_schema.specs.Schema.{desk_schema, ord_authz_table}
@@ -25,9 +22,8 @@ use Rattle.sql_tables.specs.Images.{listed_cells, listed_params}
 use Rattle.sql_tables.specs.Layouts.{IsRising, listed_layout}
 use Rattle.sql_schema.specs.declared.listed.TheConstants as ord_authz
 use Rattle.sql_tables.proofs.Casts.{cast_int, new_kept, row_kept}
-use Rattle.sql_tables.proofs.Found.{equal_is}
+use Rattle.sql_tables.proofs.{Found.equal_is, InsertStatement.inserts_row}
 use Rattle.sql_tables.proofs.HiddenUpsert.{clause_on, numbered_next, puts_hidden}
-use Rattle.sql_tables.proofs.InsertStatement.{inserts_row}
 use Rattle.sql_tables.proofs.Inserts.{Means, advances_of, becomes, has_done, no_works, ran, task_of}
 use Rattle.sql_tables.proofs.Keyed.{eq_is, put_ascends, same_of_eq}
 use Rattle.sql_schema.proofs.Making.{went}

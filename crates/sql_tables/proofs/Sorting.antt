@@ -6,13 +6,9 @@ use Rattle.std.proofs.lemmas.Bool.{eqb-true, ne_eqb}
 use Rattle.std.proofs.lemmas.List.Sorted.{IsPermutation-cons, IsPermutation-refl, IsPermutation-swap, IsPermutation-trans}
 use Rattle.model_laws.proofs.Basics.{each}
 use Rattle.model_laws.proofs.RowLists.{ascends_above, ascends_filter, put_before, put_first, put_instead, put_past}
-use Rattle.model_laws.specs.Distinct.{Distinct}
-use Rattle.model_laws.specs.Ordered.{Ascends}
-use Rattle.model_laws.specs.Placing.{puts}
-use Rattle.desk_model.specs.Change.{put}
-use Rattle.desk_model.specs.Kept.{EachOf}
-use Rattle.sql_tables.specs.Layouts.{IsRising}
-use Rattle.sql_tables.specs.Sorted.{sorted_by}
+use Rattle.model_laws.specs.{Distinct.Distinct, Ordered.Ascends, Placing.puts}
+use Rattle.desk_model.specs.{Change.put, Kept.EachOf}
+use Rattle.sql_tables.specs.{Layouts.IsRising, Sorted.sorted_by}
 use Rattle.sql_tables.proofs.Keyed.{put_ascends, ranked}
 
 module _ {X : Type 0} (key : X → ℕ) where

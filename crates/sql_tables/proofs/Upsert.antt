@@ -7,16 +7,12 @@ use Rattle.sqlite_value.specs.Order.{Row, column}
 use Rattle.sqlite_trees.specs.Tree.{Trees, rowid}
 use Rattle.sqlite_sql.specs.Term.{Term, eval_all}
 use Rattle.sqlite_sql.specs.Program.{overlay}
-use Rattle.sqlite_schema.specs.declared.command.Upsert.{Upsert}
-use Rattle.sqlite_schema.specs.declared.command.Conflict.TheVariants.{Abort}
-use Rattle.sqlite_schema.specs.declared.command.Source.TheVariants.{Values}
+use Rattle.sqlite_schema.specs.declared.command.{Upsert.Upsert, Conflict.TheVariants.Abort, Source.TheVariants.Values}
 use Rattle.sqlite_rules.specs.declared.error.Rowids.{Rowids}
 use Rattle.sqlite_rules.specs.declared.error.Rowids.TheVariants.{Given, Chosen, Above}
 use Rattle.sqlite_rules.specs.Edit.{edit_of, edited, with_rowid, IsNoIndex}
 use Rattle.sqlite_rules.specs.Keys.{AreConflicts, conflicts}
-use Rattle.sqlite_rules.specs.Cast.{cast_row}
-use Rattle.sqlite_rules.specs.Calls.{ids_of}
-use Rattle.sqlite_rules.specs.Lists.{Has}
+use Rattle.sqlite_rules.specs.{Cast.cast_row, Calls.ids_of, Lists.Has}
 use Rattle.sqlite.specs.Rows.{Task, Written, Puts, Clears, Meets, Updates, Upserts, Tries, TriesEach, InsertsOr, stamped}
 use Rattle.sqlite.specs.Rows.{count_of, nothing, rowids_for, Counts, shown}
 use Rattle.sqlite.specs.Effect.{value_rows}

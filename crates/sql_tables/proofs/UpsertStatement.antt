@@ -6,11 +6,8 @@ use Rattle.sqlite_value.specs.Order.{Row, column}
 use Rattle.sqlite_trees.specs.Tree.{Trees, rowid}
 use Rattle.sqlite_sql.specs.Term.{Term, col, lit, eval_all}
 use Rattle.sqlite_sql.specs.Program.{overlay}
-use Rattle.sqlite_schema.specs.declared.command.Command.TheVariants.{InsertOr}
-use Rattle.sqlite_schema.specs.declared.command.Conflict.TheVariants.{Abort}
-use Rattle.sqlite_schema.specs.declared.command.Source.TheVariants.{Values}
-use Rattle.sqlite_rules.specs.Cast.{cast_row}
-use Rattle.sqlite_rules.specs.Keys.{conflicts}
+use Rattle.sqlite_schema.specs.declared.command.{Command.TheVariants.InsertOr, Conflict.TheVariants.Abort, Source.TheVariants.Values}
+use Rattle.sqlite_rules.specs.{Cast.cast_row, Keys.conflicts}
 use Rattle.sqlite.specs.Effect.{value_rows}
 use Rattle.sqlite.specs.Rows.{shown, stamped}
 use Rattle.sqlite.specs.State.{State, Executes}

@@ -1,10 +1,9 @@
 -- The texts that put, insert and renew the rows of each table whose key is its row number.
 use Rattle.std.proofs.Common.{pos, List, [], ◌∷◌, ◌++◌, drop, take, refl, arith}
-use Rattle.sqlite.specs.Effect.{Database}
+use Rattle.sqlite.specs.{Effect.Database, Listing.understood}
 use Rattle.sqlite.specs.declared.types.Value.TheVariants.{Int, Null}
 use Rattle.sqlite_sql.specs.Term.{lit, col}
 use Rattle.sqlite_tied.specs.Compute.{everything}
-use Rattle.sqlite.specs.Listing.{understood}
 use Rattle.desk_model.specs.Change.{put}
 use Rattle.desk_model.specs.declared.rows.Meta.{Meta}
 use Rattle.store_columns.specs.Columns.{account_columns, authorization_columns, challenge_columns, key_columns, known_format, nonce_columns, order_columns}
@@ -24,9 +23,7 @@ use Rattle.sql_tables.specs.Images.{meta_params, nonce_params, order_kept, order
 use Rattle.sql_tables.specs.Layouts.{HasRows, account_layout, authorization_layout, challenge_layout, formatted_layout, key_layout, meta_layout}
 use Rattle.sql_tables.specs.Layouts.{nonce_layout, order_layout}
 use Rattle.sql_tables.proofs.Casts.{cast_int, cast_int_or_null, cast_null, cast_text_or_null, row_kept}
-use Rattle.sql_tables.proofs.Clashes.{clash_by_key}
-use Rattle.sql_tables.proofs.InsertStatement.{IsInsert}
-use Rattle.sql_tables.proofs.UpdateStatement.{IsUpdate}
+use Rattle.sql_tables.proofs.{Clashes.clash_by_key, InsertStatement.IsInsert, UpdateStatement.IsUpdate}
 use Rattle.sql_tables.proofs.UpsertStatement.{IsUpsert, sets_key}
 
 -- ---- `meta`, in any format

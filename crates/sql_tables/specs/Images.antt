@@ -2,28 +2,16 @@
 use Rattle.std.specs.Prelude.{ℕ, ℤ, List, Option, [], ◌∷◌}
 use Rattle.sqlite.specs.declared.types.Value.{Value}
 use Rattle.sqlite.specs.declared.types.Value.TheVariants.{Null, Int, Text, Blob}
-use Rattle.sqlite.specs.Order.{Row}
-use Rattle.sqlite.specs.Values.{or_null}
+use Rattle.sqlite.specs.{Order.Row, Values.or_null}
 use Rattle.store_columns.specs.Columns.{account_columns, authorization_columns, challenge_columns, key_columns}
 use Rattle.store_columns.specs.Columns.{listed_columns, meta_columns, nonce_columns, order_columns}
 use Rattle.store_columns.specs.Flat.{bare_row}
-use Rattle.store_columns.specs.declared.columns.AccountColumns.{AccountColumns}
-use Rattle.store_columns.specs.declared.columns.AuthzColumns.{AuthzColumns}
-use Rattle.store_columns.specs.declared.columns.ChallColumns.{ChallColumns}
-use Rattle.store_columns.specs.declared.columns.ChallKeyColumns.{ChallKeyColumns}
-use Rattle.store_columns.specs.declared.columns.MetaColumns.{MetaColumns}
-use Rattle.store_columns.specs.declared.columns.NonceColumns.{NonceColumns}
-use Rattle.store_columns.specs.declared.columns.OrderAuthzColumns.{OrderAuthzColumns}
-use Rattle.store_columns.specs.declared.columns.OrderColumns.{OrderColumns}
-use Rattle.store_columns.specs.declared.flat_rows.AnswerKey.{AnswerKey}
-use Rattle.store_columns.specs.declared.flat_rows.Owned.{Owned}
-use Rattle.desk_model.specs.declared.objects.Nonce.{Nonce}
-use Rattle.desk_model.specs.declared.rows.AccountRow.{AccountRow}
-use Rattle.desk_model.specs.declared.rows.AuthorizationRow.{AuthorizationRow}
-use Rattle.desk_model.specs.declared.rows.ChallengeRow.{ChallengeRow}
-use Rattle.desk_model.specs.declared.rows.Listed.{Listed}
-use Rattle.desk_model.specs.declared.rows.Meta.{Meta}
-use Rattle.desk_model.specs.declared.rows.OrderRow.{OrderRow}
+use Rattle.store_columns.specs.declared.{columns.AccountColumns.AccountColumns, columns.AuthzColumns.AuthzColumns, columns.ChallColumns.ChallColumns}
+use Rattle.store_columns.specs.declared.{columns.ChallKeyColumns.ChallKeyColumns, columns.MetaColumns.MetaColumns, columns.NonceColumns.NonceColumns}
+use Rattle.store_columns.specs.declared.{columns.OrderAuthzColumns.OrderAuthzColumns, columns.OrderColumns.OrderColumns, flat_rows.AnswerKey.AnswerKey}
+use Rattle.store_columns.specs.declared.{flat_rows.Owned.Owned}
+use Rattle.desk_model.specs.declared.{objects.Nonce.Nonce, rows.AccountRow.AccountRow, rows.AuthorizationRow.AuthorizationRow, rows.ChallengeRow.ChallengeRow}
+use Rattle.desk_model.specs.declared.{rows.Listed.Listed, rows.Meta.Meta, rows.OrderRow.OrderRow}
 
 -- ---- values
 

@@ -1,18 +1,11 @@
 -- How the rows of each table are kept.
 use Rattle.std.specs.Prelude.{◌≡◌, ℕ, ℤ, List, map}
-use Rattle.sqlite.specs.Effect.{Database}
-use Rattle.sqlite.specs.Order.{Row}
+use Rattle.sqlite.specs.{Effect.Database, Order.Row}
 use Rattle.sqlite_schema.specs.declared.schema.Table.{Table}
-use Rattle.store_columns.specs.declared.flat_rows.AnswerKey.{AnswerKey}
-use Rattle.store_columns.specs.declared.flat_rows.Owned.{Owned}
+use Rattle.store_columns.specs.declared.flat_rows.{AnswerKey.AnswerKey, Owned.Owned}
 use Rattle.model_laws.specs.Ordered.{Ascends}
-use Rattle.desk_model.specs.declared.objects.Nonce.{Nonce}
-use Rattle.desk_model.specs.declared.rows.AccountRow.{AccountRow}
-use Rattle.desk_model.specs.declared.rows.AuthorizationRow.{AuthorizationRow}
-use Rattle.desk_model.specs.declared.rows.ChallengeRow.{ChallengeRow}
-use Rattle.desk_model.specs.declared.rows.Listed.{Listed}
-use Rattle.desk_model.specs.declared.rows.Meta.{Meta}
-use Rattle.desk_model.specs.declared.rows.OrderRow.{OrderRow}
+use Rattle.desk_model.specs.declared.{objects.Nonce.Nonce, rows.AccountRow.AccountRow, rows.AuthorizationRow.AuthorizationRow, rows.ChallengeRow.ChallengeRow}
+use Rattle.desk_model.specs.declared.{rows.Listed.Listed, rows.Meta.Meta, rows.OrderRow.OrderRow}
 use Rattle.sql_schema.specs.Schema.{account_table, authz_table, chall_key_table, chall_table, desk_schema, meta_table, nonce_table, ord_authz_table, ord_table}
 use Rattle.sql_tables.specs.Hidden.{hidden, number}
 use Rattle.sql_tables.specs.Images.{account_image, authorization_image, challenge_image, formatted_image, key_image}

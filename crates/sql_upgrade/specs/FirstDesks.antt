@@ -1,14 +1,10 @@
 -- Desks in a file of format 1, and what becomes of them.
 use Rattle.std.specs.Prelude.{◌≡◌, false, None, IsTrue}
-use Rattle.sqlite.specs.Effect.{Database}
-use Rattle.sqlite.specs.State.{State}
-use Rattle.sqlite.specs.Tree.{Trees}
+use Rattle.sqlite.specs.{Effect.Database, State.State, Tree.Trees}
 use Rattle.model_laws.specs.FirstLaws.{AreUnderKeysNow, KeepsKeys}
-use Rattle.desk_model.specs.Entry.{History}
-use Rattle.desk_model.specs.Legal.{Legal}
+use Rattle.desk_model.specs.{Entry.History, Legal.Legal}
 use Rattle.desk_model.specs.Tables.{Tables, picture}
-use Rattle.sql_write.specs.Committing.{IsLeft}
-use Rattle.sql_write.specs.Upgrading.{AreKeysOf}
+use Rattle.sql_write.specs.{Committing.IsLeft, Upgrading.AreKeysOf}
 use Rattle.sql_tables.specs.Holds.{Holds, HoldsFirst}
 use Rattle.sql_upgrade.specs.FirstKeys.{first_keys}
 use Rattle.sql_upgrade.specs.declared.additions.Additions.{Additions}

@@ -2,12 +2,8 @@
 use Rattle.std.specs.Prelude.{ℕ, List, Option, filter_map, option_map}
 use Rattle.std.specs.List.{flat_map}
 use Rattle.store_columns.specs.declared.flat_rows.AnswerKey.{AnswerKey}
-use Rattle.desk_model.specs.Effect.{key_numbered}
-use Rattle.desk_model.specs.Keys.{thumbprint}
-use Rattle.desk_model.specs.Tables.{Tables}
-use Rattle.desk_model.specs.declared.rows.AccountRow.{AccountRow}
-use Rattle.desk_model.specs.declared.rows.AuthorizationRow.{AuthorizationRow}
-use Rattle.desk_model.specs.declared.rows.ChallengeRow.{ChallengeRow}
+use Rattle.desk_model.specs.{Effect.key_numbered, Keys.thumbprint, Tables.Tables}
+use Rattle.desk_model.specs.declared.rows.{AccountRow.AccountRow, AuthorizationRow.AuthorizationRow, ChallengeRow.ChallengeRow}
 
 -- that of a challenge's answer, under this key
 abbrev pub key_under : List ℕ → ChallengeRow → Option AnswerKey

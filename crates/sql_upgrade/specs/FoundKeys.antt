@@ -1,25 +1,20 @@
 -- The keys of answers, found by rows as they come.
 use Rattle.std.specs.Prelude.{◌≡◌, ◌==◌, ℕ, List, [], map, find, filter_map, Option, option_and_then, option_map}
-use Rattle.sqlite.specs.Effect.{Database}
-use Rattle.sqlite.specs.Store.{Ghosts}
+use Rattle.sqlite.specs.{Effect.Database, Store.Ghosts}
 use Rattle.store_columns.specs.Columns.{account_columns, authorization_columns, challenge_columns}
 use Rattle.store_columns.specs.Limits.{IsStoredAccount, IsStoredAuthorization, IsStoredChallenge}
-use Rattle.store_columns.specs.declared.flat_rows.AnswerKey.{AnswerKey}
-use Rattle.store_columns.specs.declared.flat_rows.BareChallenge.{BareChallenge}
-use Rattle.store_columns.specs.declared.flat_rows.Owned.{Owned}
+use Rattle.store_columns.specs.declared.flat_rows.{AnswerKey.AnswerKey, BareChallenge.BareChallenge, Owned.Owned}
 use Rattle.model_laws.specs.Placing.{puts}
 use Rattle.desk_model.specs.Keys.{thumbprint}
-use Rattle.desk_model.specs.declared.rows.AccountRow.{AccountRow}
-use Rattle.desk_model.specs.declared.rows.AuthorizationRow.{AuthorizationRow}
+use Rattle.desk_model.specs.declared.rows.{AccountRow.AccountRow, AuthorizationRow.AuthorizationRow}
 use Rattle.sql_read.specs.Checking.{ShowsTable}
 use Rattle.sql_read.specs.Spelled.{account_in, authorization_in, challenge_in}
 use Rattle.sql_schema.specs.declared.accounts.TheConstants as account
 use Rattle.sql_schema.specs.declared.authorizations.TheConstants as authz
 use Rattle.sql_schema.specs.declared.challenges.TheConstants as chall
 use Rattle.desk_model.specs.declared.rows.Meta.{Meta}
-use Rattle.sql_upgrade.specs.declared.additions.Additions.{Additions}
-use Rattle.sql_upgrade.specs.declared.key_checks.AccountThumb.{AccountThumb}
-use Rattle.sql_upgrade.specs.declared.key_checks.AuthorizationAccount.{AuthorizationAccount}
+use Rattle.sql_upgrade.specs.declared.{additions.Additions.Additions, key_checks.AccountThumb.AccountThumb}
+use Rattle.sql_upgrade.specs.declared.{key_checks.AuthorizationAccount.AuthorizationAccount}
 
 -- the thumbprint of an account's key
 abbrev pub thumb_of : AccountRow → AccountThumb

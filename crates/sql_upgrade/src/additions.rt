@@ -3,16 +3,12 @@ ghost use Rattle.std.specs.Prelude.{◌≡◌, ◌⊎◌, IfErr, IfOk, IfSome, I
 ghost use Rattle.sqlite.specs.State.{HasCleanDisk, IsUnchanged};
 ghost use Rattle.sqlite.specs.Held.{state};
 ghost use Rattle.desk_model.specs.Tables.{Tables};
-ghost use Rattle.sql_read.specs.AllTables.{FailsAtFirst};
+ghost use Rattle.sql_read.specs.{AllTables.FailsAtFirst, FirstRows.IsFirstReadable, Reads.Reads};
 ghost use Rattle.sql_read.specs.Failures.{HasTexts, IsMet, IsOutOfMemory, MayRead};
 ghost use Rattle.sql_read.specs.First.{AreFirstShown, ForFirst};
-ghost use Rattle.sql_read.specs.FirstRows.{IsFirstReadable};
-ghost use Rattle.sql_read.specs.Reads.{Reads};
-ghost use Rattle.sql_schema.specs.Failing.{IsFailure};
-ghost use Rattle.sql_schema.specs.Stays.{Asks};
-ghost use Rattle.sql_upgrade.specs.Checked.{AreChecked};
+ghost use Rattle.sql_schema.specs.{Failing.IsFailure, Stays.Asks};
+ghost use Rattle.sql_upgrade.specs.{Checked.AreChecked, FoundKeys.HasKeys};
 ghost use Rattle.sql_upgrade.specs.FirstDesks.{AreOfDesks, IsOfBook};
-ghost use Rattle.sql_upgrade.specs.FoundKeys.{HasKeys};
 ghost use Rattle.store_book.specs.IsBook.{IsBookOfStored};
 ghost use Rattle.store_columns.specs.declared.columns.StoredRows.{StoredRows};
 

@@ -1,10 +1,7 @@
 //! The keys of all answers in format 1, by rows that are read one after the other.
 ghost use Rattle.std.specs.Prelude.{◌≡◌, ◌⊎◌, IfSome};
 ghost use Rattle.sqlite.specs.Held.{state};
-ghost use Rattle.sql_read.specs.AllTables.{FailsAtFirst};
-ghost use Rattle.sql_read.specs.Failures.{IsOutOfMemory};
-ghost use Rattle.sql_read.specs.FirstRows.{IsFirstReadable};
-ghost use Rattle.sql_read.specs.Reads.{Reads};
+ghost use Rattle.sql_read.specs.{AllTables.FailsAtFirst, Failures.IsOutOfMemory, FirstRows.IsFirstReadable, Reads.Reads};
 ghost use Rattle.sql_upgrade.specs.FoundKeys.{ShowsAnswers, ShowsOwners, ShowsThumbs};
 
 use crate::key_checks::{AccountThumb, AnswerCheck, AuthorizationAccount, OwnerCheck, ThumbCheck};

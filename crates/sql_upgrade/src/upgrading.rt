@@ -3,9 +3,7 @@ ghost use Rattle.std.specs.Prelude.{◌≡◌, false, OnOk, OnErr, IfErr};
 ghost use Rattle.sqlite.specs.State.{HasCleanDisk, Survives};
 ghost use Rattle.sqlite.specs.Held.{state};
 ghost use Rattle.sql_write.specs.Committing.{GoesBack, HasCommitted, IsBeforeCommit, IsLeft};
-ghost use Rattle.sql_write.specs.Numbers.{FitsUpgrade};
-ghost use Rattle.sql_write.specs.Refusals.{IsCause};
-ghost use Rattle.sql_write.specs.Statements.{upgrade_statements};
+ghost use Rattle.sql_write.specs.{Numbers.FitsUpgrade, Refusals.IsCause, Statements.upgrade_statements};
 ghost use Rattle.sql_upgrade.specs.FirstDesks.{BringsDesk, UpgradesDesk};
 
 use crate::additions::Additions;

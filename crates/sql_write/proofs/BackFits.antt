@@ -5,18 +5,14 @@ use Rattle.std.proofs.lemmas.List.{append_assoc}
 use Rattle.sqlite.specs.Effect.{Database}
 use Rattle.store_columns.specs.Flat.{challenge_rows, listed_rows, owned_by}
 use Rattle.store_columns.specs.declared.flat_rows.Owned.{Owned}
-use Rattle.model_laws.proofs.Basics.{each_parts}
-use Rattle.model_laws.proofs.NewChildren.{kept_bring_new}
+use Rattle.model_laws.proofs.{Basics.each_parts, NewChildren.kept_bring_new}
 use Rattle.model_laws.proofs.RowLists.{ascends_filter, put_before, put_past}
 use Rattle.model_laws.specs.Distinct.{Distinct}
 use Rattle.model_laws.specs.News.{AreKept, KeepsChildren}
 use Rattle.desk_model.specs.Change.{applied, applied_one, put}
-use Rattle.desk_model.specs.Kept.{EachOf}
-use Rattle.desk_model.specs.Tables.{Tables}
-use Rattle.desk_model.specs.declared.rows.Change.{Change}
+use Rattle.desk_model.specs.{Kept.EachOf, Tables.Tables}
+use Rattle.desk_model.specs.declared.rows.{Change.Change, Listed.Listed, OrderRow.OrderRow}
 use Rattle.desk_model.specs.declared.rows.Change.TheVariants.{PutMeta, PutNonce, RemoveNonce, PutAccount, PutAuthorization, PutOrder}
-use Rattle.desk_model.specs.declared.rows.Listed.{Listed}
-use Rattle.desk_model.specs.declared.rows.OrderRow.{OrderRow}
 use Rattle.sql_write.specs.Fitting.{AreFit, InOrder, Saves}
 use Rattle.sql_write.specs.Makes.{MakesAll}
 use Rattle.sql_write.proofs.ListedAfter.{apart_parts, found_in}

@@ -5,8 +5,7 @@ use Rattle.std.proofs.lemmas.List.{map-append}
 use Rattle.store_columns.specs.Flat.{challenge_rows, owned_by}
 use Rattle.model_laws.proofs.Distinctness.{distinct-map, map-distinct}
 use Rattle.model_laws.specs.Distinct.{Distinct}
-use Rattle.desk_model.specs.declared.rows.AuthorizationRow.{AuthorizationRow}
-use Rattle.desk_model.specs.declared.rows.ChallengeRow.{ChallengeRow}
+use Rattle.desk_model.specs.declared.rows.{AuthorizationRow.AuthorizationRow, ChallengeRow.ChallengeRow}
 use Rattle.sql_tables.specs.Layouts.{challenge_layout}
 
 -- those of one authorization's

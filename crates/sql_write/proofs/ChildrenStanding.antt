@@ -4,23 +4,18 @@ use Rattle.std.specs.List.{cons_option}
 use Rattle.std.proofs.Common.{◌≡◌, inl, inr, ℕ, List, [], ◌∷◌, Option, Some, None, refl, sym, ap, subst, ◌∙◌}
 use Rattle.sqlite_rules.specs.Lists.{Has}
 use Rattle.store_columns.specs.Flat.{answer_key, challenge_rows, key_rows, owned_by}
-use Rattle.store_columns.specs.declared.flat_rows.AnswerKey.{AnswerKey}
-use Rattle.store_columns.specs.declared.flat_rows.Owned.{Owned}
+use Rattle.store_columns.specs.declared.flat_rows.{AnswerKey.AnswerKey, Owned.Owned}
 use Rattle.model_laws.proofs.Basics.{each-map, each_all}
 use Rattle.model_laws.specs.Distinct.{Distinct}
 use Rattle.desk_model.specs.Kept.{EachOf}
-use Rattle.desk_model.specs.declared.objects.Answer.{Answer}
-use Rattle.desk_model.specs.declared.rows.AuthorizationRow.{AuthorizationRow}
-use Rattle.desk_model.specs.declared.rows.ChallengeRow.{ChallengeRow}
+use Rattle.desk_model.specs.declared.{objects.Answer.Answer, rows.AuthorizationRow.AuthorizationRow, rows.ChallengeRow.ChallengeRow}
 use Rattle.sql_write.specs.Makes.{StandUnder, challenge_under, key_under}
 use Rattle.sql_write.specs.Standing.{known_challenge}
-use Rattle.sql_write.proofs.Over.{has_sorted}
+use Rattle.sql_write.proofs.{Over.has_sorted, KnownRows.found_has}
 use Rattle.sql_write.proofs.PlacedRows.{each_at, has_left, has_right}
-use Rattle.sql_write.proofs.KnownRows.{found_has}
 use Rattle.sql_tables.specs.Layouts.{challenge_layout, key_layout}
 use Rattle.sql_tables.specs.Sorted.{sorted_by}
-use Rattle.sql_tables.proofs.AnswerKeys.{keys_apart}
-use Rattle.sql_tables.proofs.HiddenUpsert.{has_map}
+use Rattle.sql_tables.proofs.{AnswerKeys.keys_apart, HiddenUpsert.has_map}
 
 -- the row of this number stands among these, with these challenges and maybe more
 abbrev pub IsThere : List AuthorizationRow → ℕ → AuthorizationRow → Type 0

@@ -7,26 +7,18 @@ use Rattle.sqlite.specs.Order.{Row}
 use Rattle.sqlite.specs.declared.types.Value.TheVariants.{Int, Text, Blob, Null}
 use Rattle.store_columns.specs.Columns.{account_columns, authorization_columns, challenge_columns, known_format, order_columns, wildcard_column}
 use Rattle.store_columns.specs.Flat.{bare_row}
-use Rattle.store_columns.specs.declared.flat_rows.AnswerKey.{AnswerKey}
-use Rattle.store_columns.specs.declared.flat_rows.Owned.{Owned}
+use Rattle.store_columns.specs.declared.flat_rows.{AnswerKey.AnswerKey, Owned.Owned}
 use Rattle.desk_model.specs.Document.{authorization_status_text, challenge_status_text, kind_text}
 use Rattle.desk_model.specs.Facts.{end_kind_text, outcome_text}
 use Rattle.desk_model.specs.Name.{same_bool, same_name}
-use Rattle.desk_model.specs.declared.objects.Answer.{Answer}
-use Rattle.desk_model.specs.declared.objects.AuthorizationEnd.{AuthorizationEnd}
-use Rattle.desk_model.specs.declared.objects.Report.{Report}
-use Rattle.desk_model.specs.declared.rows.AccountRow.{AccountRow}
-use Rattle.desk_model.specs.declared.rows.AuthorizationRow.{AuthorizationRow}
-use Rattle.desk_model.specs.declared.rows.ChallengeRow.{ChallengeRow}
-use Rattle.desk_model.specs.declared.rows.Meta.{Meta}
-use Rattle.desk_model.specs.declared.rows.OrderRow.{OrderRow}
+use Rattle.desk_model.specs.declared.{objects.Answer.Answer, objects.AuthorizationEnd.AuthorizationEnd, objects.Report.Report, rows.AccountRow.AccountRow}
+use Rattle.desk_model.specs.declared.{rows.AuthorizationRow.AuthorizationRow, rows.ChallengeRow.ChallengeRow, rows.Meta.Meta, rows.OrderRow.OrderRow}
 use Rattle.sql_write.specs.Differences.{account_difference, authorization_difference, challenge_difference, key_difference, meta_difference}
 use Rattle.sql_write.specs.Differences.{is_same_authorization, is_same_challenge, is_same_date, is_same_end, is_same_report}
 use Rattle.sql_write.specs.Differences.{keeps_authorization, keeps_challenge, keeps_order, keeps_policy, order_difference}
 use Rattle.sql_write.specs.Write.{difference, write}
-use Rattle.sql_write.specs.declared.write.Write.{Write}
+use Rattle.sql_write.specs.declared.write.{Write.Write, Difference.Difference}
 use Rattle.sql_write.specs.declared.write.Write.TheVariants.{Upsert, Insert, Update}
-use Rattle.sql_write.specs.declared.write.Difference.{Difference}
 use Rattle.sql_write.specs.declared.write.Difference.TheVariants.{Same, Moved, Other}
 use Rattle.sql_tables.specs.Images.{account_kept, authorization_image, authorization_kept, challenge_image, challenge_kept, formatted_columns}
 use Rattle.sql_tables.specs.Images.{int_or_null, key_image, meta_kept, order_kept, text_or_null}

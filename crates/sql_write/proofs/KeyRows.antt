@@ -4,12 +4,9 @@ use Rattle.std.specs.List.{cons_option, flat_map}
 use Rattle.std.proofs.Common.{◌≡◌, inl, ℕ, ◌++◌, List, [], ◌∷◌, map, Option, Some, None, refl, ap, subst, ◌∙◌}
 use Rattle.std.proofs.lemmas.List.Elements.{filter_map-append}
 use Rattle.store_columns.specs.Flat.{answer_key, challenge_rows, key_rows, owned_by}
-use Rattle.store_columns.specs.declared.flat_rows.AnswerKey.{AnswerKey}
-use Rattle.store_columns.specs.declared.flat_rows.Owned.{Owned}
+use Rattle.store_columns.specs.declared.flat_rows.{AnswerKey.AnswerKey, Owned.Owned}
 use Rattle.model_laws.specs.News.{KeepChallenges}
-use Rattle.desk_model.specs.declared.objects.Answer.{Answer}
-use Rattle.desk_model.specs.declared.rows.AuthorizationRow.{AuthorizationRow}
-use Rattle.desk_model.specs.declared.rows.ChallengeRow.{ChallengeRow}
+use Rattle.desk_model.specs.declared.{objects.Answer.Answer, rows.AuthorizationRow.AuthorizationRow, rows.ChallengeRow.ChallengeRow}
 use Rattle.sql_write.proofs.Numbered.{AreWithin, within_more}
 use Rattle.sql_tables.specs.Layouts.{key_layout}
 use Rattle.sql_write.specs.Fits.{FitsChallenge, FitsKey}

@@ -1,6 +1,5 @@
 -- What is known to stand in the tables, behind changes.
-use Rattle.std.specs.Bool.{then_some}
-use Rattle.std.specs.Option.{option_or}
+use Rattle.std.specs.{Bool.then_some, Option.option_or}
 use Rattle.std.specs.Prelude.{find, cond, option_copied, option_map, IfSome, ◌==◌}
 use Rattle.std.proofs.Common.{◌≡◌, ◌≢◌, inl, inr, ℕ, ◌+◌, ◌<◌, ◌≤◌, ◌++◌, List, [], ◌∷◌, Option, Some, None, Bool, true, false, Bor, refl, sym, ap, subst}
 use Rattle.std.proofs.Common.{◌∙◌, arith, add-one, get_or, length, take}
@@ -11,16 +10,11 @@ use Rattle.model_laws.proofs.RowLists.{put_before, put_instead, put_past}
 use Rattle.model_laws.proofs.Basics.{each, each-append}
 use Rattle.model_laws.proofs.Recorded.{applied-append}
 use Rattle.desk_model.specs.Change.{applied, applied_one, put}
-use Rattle.desk_model.specs.Kept.{EachOf}
+use Rattle.desk_model.specs.{Kept.EachOf, Tables.Tables}
 use Rattle.desk_model.specs.Questions.{account_on, authorization_on, order_on}
-use Rattle.desk_model.specs.Tables.{Tables}
-use Rattle.desk_model.specs.declared.rows.AccountRow.{AccountRow}
-use Rattle.desk_model.specs.declared.rows.AuthorizationRow.{AuthorizationRow}
-use Rattle.desk_model.specs.declared.rows.ChallengeRow.{ChallengeRow}
-use Rattle.desk_model.specs.declared.rows.Change.{Change}
+use Rattle.desk_model.specs.declared.rows.{AccountRow.AccountRow, AuthorizationRow.AuthorizationRow, ChallengeRow.ChallengeRow, Change.Change, Meta.Meta}
+use Rattle.desk_model.specs.declared.rows.{OrderRow.OrderRow}
 use Rattle.desk_model.specs.declared.rows.Change.TheVariants.{PutMeta, PutNonce, RemoveNonce, PutAccount, PutAuthorization, PutOrder}
-use Rattle.desk_model.specs.declared.rows.Meta.{Meta}
-use Rattle.desk_model.specs.declared.rows.OrderRow.{OrderRow}
 use Rattle.sql_write.specs.Highest.{IsAbove, PutsNone}
 use Rattle.sql_write.specs.declared.standing.Highest.{Highest}
 use Rattle.sql_write.specs.Standing.{HasSome, IsPartIn, IsRow, IsWithout, Stand, StandsIn, known_account, known_after, known_authorization, known_order}

@@ -1,11 +1,9 @@
 -- What a transaction leaves behind.
 use Rattle.std.proofs.Common.{◌≡◌, Result, Ok, Err, IfErr, IsOk, IsTrue, OnErr, OnOk, refl, sym, subst, ◌∙◌, arith}
-use Rattle.sqlite.specs.Effect.{Database}
+use Rattle.sqlite.specs.{Effect.Database, Store.Ghosts}
 use Rattle.sqlite.specs.Held.{Held, state}
 use Rattle.sqlite.specs.State.{HasCleanDisk, IsRolledBack, Survives}
-use Rattle.sqlite.specs.Store.{Ghosts}
-use Rattle.sqlite.proofs.Callers.{survives_begin}
-use Rattle.sqlite.proofs.StateLemmas.{survives_then}
+use Rattle.sqlite.proofs.{Callers.survives_begin, StateLemmas.survives_then}
 use Rattle.sql_schema.specs.Advances.{Advances, KeepsLast}
 use Rattle.sql_write.specs.Committing.{GoesBack, HasCommitted, IsBeforeCommit, IsLeft}
 use Rattle.sql_write.specs.Refusals.{begun}

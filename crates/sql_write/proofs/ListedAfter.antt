@@ -11,18 +11,14 @@ use Rattle.store_columns.specs.declared.flat_rows.Owned.{Owned}
 use Rattle.model_laws.proofs.RowLists.{ascends_above, put_before, put_instead, put_past}
 use Rattle.model_laws.specs.Ordered.{Ascends}
 use Rattle.desk_model.specs.Change.{put}
-use Rattle.desk_model.specs.declared.rows.Listed.{Listed}
-use Rattle.desk_model.specs.declared.rows.OrderRow.{OrderRow}
+use Rattle.desk_model.specs.declared.rows.{Listed.Listed, OrderRow.OrderRow}
 use Rattle.sql_write.specs.Makes.{ArePlaced}
 use Rattle.sql_write.proofs.Numbered.{find_here, find_later, find_none}
 use Rattle.sql_write.proofs.PlacedRows.{has_left, has_parts, has_right, has_through, image_of, new_rows, owners_apart, stays}
-use Rattle.sql_tables.specs.Effects.{is_same_place}
+use Rattle.sql_tables.specs.{Effects.is_same_place, Holds.AreApart, Layouts.IsRising}
 use Rattle.sql_tables.specs.Hidden.{number, row_of}
-use Rattle.sql_tables.specs.Holds.{AreApart}
-use Rattle.sql_tables.specs.Layouts.{IsRising}
-use Rattle.sql_tables.proofs.Keyed.{ranked}
+use Rattle.sql_tables.proofs.{Keyed.ranked, HiddenUpsert.has_map}
 use Rattle.model_laws.proofs.Basics.{each_parts}
-use Rattle.sql_tables.proofs.HiddenUpsert.{has_map}
 
 -- the number of an order
 abbrev number_of : OrderRow → ℕ

@@ -3,42 +3,29 @@ use Rattle.std.specs.Prelude.{IfSome, find, option_map, ◌==◌}
 use Rattle.std.specs.List.Sorted.{IsPermutation}
 use Rattle.std.proofs.Common.{◌≡◌, inl, ℕ, ℤ, List, [], ◌∷◌, map, Option, Some, None, Result, refl, sym, ap, subst, ◌∙◌, arith}
 use Rattle.std.proofs.lemmas.List.Sorted.{IsPermutation-append_left, IsPermutation-trans}
-use Rattle.sqlite.specs.Effect.{Database}
+use Rattle.sqlite.specs.{Effect.Database, Store.Ghosts}
 use Rattle.sqlite.specs.Held.{Held, state}
-use Rattle.sqlite.specs.Store.{Ghosts}
 use Rattle.sqlite_rules.specs.Lists.{Has}
 use Rattle.store_columns.specs.Columns.{known_format, order_columns}
 use Rattle.store_columns.specs.Flat.{challenge_rows, key_rows, listed_rows, owned_by}
-use Rattle.model_laws.specs.Distinct.{Distinct}
+use Rattle.model_laws.specs.{Distinct.Distinct, Placing.puts}
 use Rattle.model_laws.specs.News.{KeepChallenges, KeepsChildren}
-use Rattle.model_laws.specs.Placing.{puts}
 use Rattle.desk_model.specs.Change.{applied_one, put}
 use Rattle.desk_model.specs.Tables.{Tables}
-use Rattle.desk_model.specs.declared.objects.Nonce.{Nonce}
-use Rattle.desk_model.specs.declared.rows.AccountRow.{AccountRow}
-use Rattle.desk_model.specs.declared.rows.AuthorizationRow.{AuthorizationRow}
-use Rattle.desk_model.specs.declared.rows.Meta.{Meta}
-use Rattle.desk_model.specs.declared.rows.OrderRow.{OrderRow}
-use Rattle.desk_model.specs.declared.rows.Change.{Change}
-use Rattle.desk_model.specs.declared.rows.Counters.{Counters}
+use Rattle.desk_model.specs.declared.{objects.Nonce.Nonce, rows.AccountRow.AccountRow, rows.AuthorizationRow.AuthorizationRow, rows.Meta.Meta}
+use Rattle.desk_model.specs.declared.{rows.OrderRow.OrderRow, rows.Change.Change, rows.Counters.Counters}
 use Rattle.desk_model.specs.declared.rows.Change.TheVariants.{PutMeta, PutNonce, RemoveNonce, PutAccount, PutAuthorization, PutOrder}
 use Rattle.sql_write.specs.Makes.{AppendsAll, Makes, PlacesAll, PutsOver, SetsAuthorization, SetsMeta, SetsOrder, WritesOrder, appended}
-use Rattle.sql_write.specs.Refusals.{HasWritten}
+use Rattle.sql_write.specs.{Refusals.HasWritten, Statements.statements_of}
 use Rattle.sql_write.specs.Standing.{HasSome, IsPartIn, IsWithout, known_account, known_authorization, known_meta, known_order}
-use Rattle.sql_write.specs.Statements.{statements_of}
-use Rattle.sql_write.specs.declared.fault.SaveFault.{SaveFault}
-use Rattle.sql_write.specs.declared.write.Write.{Write}
+use Rattle.sql_write.specs.declared.{fault.SaveFault.SaveFault, write.Write.Write}
 use Rattle.sql_write.specs.declared.write.Write.TheVariants.{Upsert, Insert, Update}
-use Rattle.sql_write.proofs.ChallengeNumbers.{keys_owned}
+use Rattle.sql_write.proofs.{ChallengeNumbers.keys_owned, InPlace.put_alike, Over.has_own, PlacedRows.appended_rows, Written.written_as}
 use Rattle.sql_write.proofs.ChildrenStanding.{IsThere, challenges_stand, keys_stand}
-use Rattle.sql_write.proofs.InPlace.{put_alike}
-use Rattle.sql_write.proofs.Over.{has_own}
 use Rattle.sql_write.proofs.KeyRows.{keys_flat, keys_within}
 use Rattle.sql_write.proofs.ListedAfter.{added as added_listed, found_in, listed_after}
 use Rattle.sql_write.proofs.NestedRows.{children_put, own_apart}
 use Rattle.sql_write.proofs.Numbered.{AreWithin, within_same}
-use Rattle.sql_write.proofs.PlacedRows.{appended_rows}
-use Rattle.sql_write.proofs.Written.{written_as}
 use Rattle.sql_write.proofs.KnownRows.{account_stands, authorization_stands, found_has, order_stands}
 use Rattle.sql_tables.specs.Effects.{Adds, BecomesRows, Puts, Removes, Renews}
 use Rattle.sql_tables.specs.Holds.{AreRising, Holds}
@@ -46,9 +33,8 @@ use Rattle.sql_tables.specs.Images.{challenge_image, key_image, order_kept}
 use Rattle.sql_tables.specs.Layouts.{HasRows, account_layout, authorization_layout, challenge_layout, formatted_layout}
 use Rattle.sql_tables.specs.Layouts.{key_layout, listed_layout, nonce_layout, order_layout}
 use Rattle.sql_tables.specs.Sorted.{sorted_by}
-use Rattle.sql_tables.proofs.Keyed.{put_ascends}
+use Rattle.sql_tables.proofs.{Keyed.put_ascends, AnswerKeys.keys_apart}
 use Rattle.sql_tables.proofs.Holding.{accounts_held, authorizations_held, holds_on, meta_held, nonces_held, orders_held}
-use Rattle.sql_tables.proofs.AnswerKeys.{keys_apart}
 use Rattle.sql_tables.proofs.NoIndexes.{keeps_both, kept_at}
 use Rattle.sql_tables.proofs.Sorting.{put_over, sorted_rises}
 

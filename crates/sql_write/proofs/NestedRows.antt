@@ -5,10 +5,8 @@ use Rattle.std.proofs.Common.{◌≡◌, ◌≢◌, inl, inr, ℕ, List, [], ◌
 use Rattle.model_laws.proofs.Basics.{each, each_parts}
 use Rattle.model_laws.proofs.Distinctness.{distinct_parts}
 use Rattle.model_laws.proofs.RowLists.{put_before, put_instead, put_past}
-use Rattle.model_laws.specs.Distinct.{Distinct}
-use Rattle.model_laws.specs.Placing.{puts}
-use Rattle.desk_model.specs.Change.{put}
-use Rattle.desk_model.specs.Kept.{EachOf}
+use Rattle.model_laws.specs.{Distinct.Distinct, Placing.puts}
+use Rattle.desk_model.specs.{Change.put, Kept.EachOf}
 use Rattle.sql_write.proofs.Numbered.{AreWithin, find_here, find_later, put_each_within}
 use Rattle.sql_tables.specs.Sorted.{sorted_by}
 use Rattle.sql_tables.proofs.Keyed.{ranked}

@@ -7,15 +7,11 @@ use Rattle.store_columns.specs.declared.flat_rows.Owned.{Owned}
 use Rattle.model_laws.proofs.Basics.{each, each-append, each-map, each_all}
 use Rattle.model_laws.proofs.RowLists.{ascends_above}
 use Rattle.model_laws.specs.Ordered.{Ascends}
-use Rattle.desk_model.specs.Kept.{EachOf}
-use Rattle.desk_model.specs.Change.{applied}
-use Rattle.desk_model.specs.declared.rows.Listed.{Listed}
-use Rattle.desk_model.specs.declared.rows.OrderRow.{OrderRow}
+use Rattle.desk_model.specs.{Kept.EachOf, Change.applied}
+use Rattle.desk_model.specs.declared.rows.{Listed.Listed, OrderRow.OrderRow}
 use Rattle.sql_write.specs.Fitting.{OrderedChangesFit}
-use Rattle.sql_write.proofs.ChallengeNumbers.{challenges_differ_under}
-use Rattle.sql_write.proofs.PlacedRows.{owners_apart}
-use Rattle.sql_tables.specs.Effects.{is_same_place}
-use Rattle.sql_tables.specs.Holds.{AreApart}
+use Rattle.sql_write.proofs.{ChallengeNumbers.challenges_differ_under, PlacedRows.owners_apart}
+use Rattle.sql_tables.specs.{Effects.is_same_place, Holds.AreApart}
 
 -- ---- places
 

@@ -1,32 +1,23 @@
 -- Rows put over those that are known to stand in their places.
 use Rattle.std.specs.Prelude.{option_map, IfSome}
-use Rattle.std.proofs.Common.{◌≡◌, ◌≢◌, inl, inr, ℕ, ◌++◌, List, [], ◌∷◌, Option, Some, None, Bool, true, false, Result, Ok, refl, sym, ap, subst}
-use Rattle.std.proofs.Common.{◌∙◌, arith}
-use Rattle.sqlite.specs.Effect.{Database}
-use Rattle.sqlite.specs.Order.{Row}
+use Rattle.std.proofs.Common.{◌≡◌, ◌≢◌, inl, inr, ℕ, ◌++◌, List, [], ◌∷◌, Option, Some, None, Bool, true, false, Result, Ok, refl, sym, ap, subst, ◌∙◌, arith}
+use Rattle.sqlite.specs.{Effect.Database, Order.Row, Store.Ghosts}
 use Rattle.sqlite_rules.specs.Lists.{Has}
 use Rattle.store_columns.specs.declared.flat_rows.Owned.{Owned}
 use Rattle.model_laws.proofs.Basics.{each, each_parts}
 use Rattle.model_laws.proofs.Distinctness.{distinct_parts}
 use Rattle.model_laws.proofs.RowLists.{put_before, put_instead, put_past, puts_append}
-use Rattle.model_laws.specs.Distinct.{Distinct}
-use Rattle.model_laws.specs.Placing.{puts}
-use Rattle.desk_model.specs.Change.{put}
-use Rattle.desk_model.specs.Kept.{EachOf}
+use Rattle.model_laws.specs.{Distinct.Distinct, Placing.puts}
+use Rattle.desk_model.specs.{Change.put, Kept.EachOf}
 use Rattle.sqlite.specs.Held.{Held, state}
-use Rattle.sqlite.specs.Store.{Ghosts}
 use Rattle.sql_write.proofs.Written.{nothing_written, written_as, written_with}
 use Rattle.sql_write.specs.Makes.{PutsAllOver, PutsOver, Sets, StandUnder, Writes}
-use Rattle.sql_write.specs.Write.{write}
-use Rattle.sql_write.specs.Refusals.{HasWritten}
+use Rattle.sql_write.specs.{Write.write, Refusals.HasWritten}
 use Rattle.sql_write.specs.Statements.{Sql, of_some}
-use Rattle.sql_write.specs.declared.fault.SaveFault.{SaveFault}
-use Rattle.sql_write.specs.declared.write.Write.{Write}
-use Rattle.sql_write.specs.declared.write.Difference.{Difference}
+use Rattle.sql_write.specs.declared.{fault.SaveFault.SaveFault, write.Write.Write, write.Difference.Difference}
 use Rattle.sql_write.specs.declared.write.Difference.TheVariants.{Same, Moved, Other}
-use Rattle.sql_tables.specs.Effects.{BecomesRows}
+use Rattle.sql_tables.specs.{Effects.BecomesRows, Sorted.sorted_by}
 use Rattle.sql_tables.specs.Layouts.{HasRows, Layout}
-use Rattle.sql_tables.specs.Sorted.{sorted_by}
 use Rattle.sql_tables.proofs.Keyed.{put_ascends, ranked}
 use Rattle.sql_tables.proofs.Unmoved.{put_as_it_is}
 

@@ -1,7 +1,6 @@
 -- Rows under hidden numbers, told apart by order and place.
 use Rattle.std.specs.Prelude.{◌==◌}
-use Rattle.std.specs.List.{AllByRecursion}
-use Rattle.std.specs.List.Sorted.{IsPermutation}
+use Rattle.std.specs.{List.AllByRecursion, List.Sorted.IsPermutation}
 use Rattle.std.proofs.Common.{◌≡◌, ◌≢◌, ◌⊎◌, inl, inr, ℕ, ◌+◌, ◌<◌, ◌≤◌, ◌++◌, List, [], ◌∷◌, map, fold, Bool, true, false, ◌&&◌}
 use Rattle.std.proofs.Common.{refl, sym, ap, subst, ◌∙◌, arith, append-nil}
 use Rattle.std.proofs.lemmas.Bool.{eq-eqb, ne_eqb}
@@ -13,16 +12,12 @@ use Rattle.store_columns.specs.declared.flat_rows.Owned.{Owned}
 use Rattle.model_laws.proofs.Basics.{eq_turn}
 use Rattle.model_laws.proofs.RowLists.{ascends_above, ascends_from, put_instead, put_past, puts_last}
 use Rattle.model_laws.specs.Ordered.{Ascends, Below}
-use Rattle.desk_model.specs.Change.{put}
-use Rattle.desk_model.specs.Kept.{EachOf}
+use Rattle.desk_model.specs.{Change.put, Kept.EachOf}
 use Rattle.desk_model.specs.declared.rows.Listed.{Listed}
 use Rattle.sql_write.specs.Makes.{ArePlaced, appended}
-use Rattle.sql_tables.specs.Effects.{is_same_place}
+use Rattle.sql_tables.specs.{Effects.is_same_place, Holds.AreApart, Layouts.IsRising}
 use Rattle.sql_tables.specs.Hidden.{IsPlaced, next, number, row_of}
-use Rattle.sql_tables.specs.Holds.{AreApart}
-use Rattle.sql_tables.specs.Layouts.{IsRising}
-use Rattle.sql_tables.proofs.Keyed.{put_ascends}
-use Rattle.sql_tables.proofs.HiddenUpsert.{has_map}
+use Rattle.sql_tables.proofs.{Keyed.put_ascends, HiddenUpsert.has_map}
 
 -- ---- members of lists
 

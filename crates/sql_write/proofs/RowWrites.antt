@@ -1,9 +1,7 @@
 -- What a call wrote of a row, by the texts of its table.
 use Rattle.std.proofs.Common.{◌≡◌, ℕ, List, [], ◌∷◌, Result, Ok, Err, refl, sym, subst}
-use Rattle.sqlite.specs.Effect.{Database}
+use Rattle.sqlite.specs.{Effect.Database, Order.Row, Store.Ghosts}
 use Rattle.sqlite.specs.Held.{Held, state}
-use Rattle.sqlite.specs.Order.{Row}
-use Rattle.sqlite.specs.Store.{Ghosts}
 use Rattle.store_columns.specs.Columns.{account_columns, authorization_columns, challenge_columns, order_columns}
 use Rattle.store_columns.specs.Flat.{bare_row}
 use Rattle.sql_schema.specs.Advances.{Advances, Performs}
@@ -16,8 +14,7 @@ use Rattle.sql_write.specs.Refusals.{HasWritten, IsRun}
 use Rattle.sql_write.specs.Statements.{Sql, account_sql, authorization_sql, challenge_sql, order_sql}
 use Rattle.sql_write.specs.declared.fault.SaveFault.{SaveFault}
 use Rattle.sql_write.specs.declared.fault.SaveFault.TheVariants as save
-use Rattle.sql_write.specs.declared.fault.WriteFault.{WriteFault}
-use Rattle.sql_write.specs.declared.write.Write.{Write}
+use Rattle.sql_write.specs.declared.{fault.WriteFault.WriteFault, write.Write.Write}
 use Rattle.sql_write.specs.declared.write.Write.TheVariants.{Upsert, Insert, Update}
 use Rattle.sql_write.proofs.Written.{none_written, run_written, written_as}
 use Rattle.sql_tables.specs.Effects.{AddsColumns, PutsColumns, RenewsColumns}

@@ -3,23 +3,15 @@ use Rattle.std.proofs.Common.{zero, suc, arith, ◌≡◌, ◌≢◌, Result, Ok
 use Rattle.std.proofs.Common.{length, refl, sym, ap, subst, ◌∙◌, add-one, append-nil}
 use Rattle.std.specs.List.{cons_option}
 use Rattle.std.specs.Prelude.{ℤ, IfErr, IsOk, option_map, option_to_list, pos}
-use Rattle.std.proofs.Math.Seq.{take-suc}
+use Rattle.std.proofs.{Math.Seq.take-suc, lemmas.List.Elements.filter_map-append}
 use Rattle.std.proofs.lemmas.List.{append_assoc, map-append, take-append-drop}
-use Rattle.std.proofs.lemmas.List.Elements.{filter_map-append}
-use Rattle.sqlite.specs.Effect.{Database}
-use Rattle.sqlite.specs.State.{State}
+use Rattle.sqlite.specs.{Effect.Database, State.State}
 use Rattle.store_columns.specs.Columns.{known_format, listed_columns}
 use Rattle.store_columns.specs.Flat.{answer_key, key_rows, owned_by}
-use Rattle.store_columns.specs.declared.flat_rows.AnswerKey.{AnswerKey}
-use Rattle.store_columns.specs.declared.flat_rows.Owned.{Owned}
+use Rattle.store_columns.specs.declared.flat_rows.{AnswerKey.AnswerKey, Owned.Owned}
 use Rattle.desk_model.specs.Change.{applied, applied_one, put}
-use Rattle.desk_model.specs.Kept.{EachOf}
-use Rattle.desk_model.specs.Tables.{Tables}
-use Rattle.desk_model.specs.declared.rows.ChallengeRow.{ChallengeRow}
-use Rattle.desk_model.specs.declared.rows.Change.{Change}
-use Rattle.desk_model.specs.declared.rows.Counters.{Counters}
-use Rattle.desk_model.specs.declared.rows.Listed.{Listed}
-use Rattle.desk_model.specs.declared.rows.Meta.{Meta}
+use Rattle.desk_model.specs.{Kept.EachOf, Tables.Tables}
+use Rattle.desk_model.specs.declared.rows.{ChallengeRow.ChallengeRow, Change.Change, Counters.Counters, Listed.Listed, Meta.Meta}
 use Rattle.sql_schema.proofs.AdvanceLemmas.{advances_as}
 use Rattle.sql_schema.specs.Advances.{Advances}
 use Rattle.sql_write.specs.Fitting.{AreFit, IsFit}
@@ -30,7 +22,7 @@ use Rattle.sql_write.specs.Standing.{known_after, last_given}
 use Rattle.sql_write.specs.Statements.{save_statements, statements_from, statements_of}
 use Rattle.sql_write.specs.declared.write.Write.{Write}
 use Rattle.sql_write.specs.declared.write.Write.TheVariants.{Upsert, Insert, Update}
-use Rattle.model_laws.proofs.RowLists.{puts_append}
+use Rattle.model_laws.proofs.{RowLists.puts_append, Recorded.applied-append}
 use Rattle.sql_write.proofs.Over.{over_both, over_one}
 use Rattle.sql_write.proofs.KnownRows.{known_first, known_next, known_stands}
 use Rattle.sql_tables.specs.Effects.{Appends, Places, Puts, Removes, RemovesNumbered, is_same_place}
@@ -39,7 +31,6 @@ use Rattle.sql_tables.specs.Holds.{Holds}
 use Rattle.sql_tables.specs.Images.{formatted_columns, meta_kept}
 use Rattle.sql_tables.specs.Layouts.{HasRows, Layout, formatted_layout, key_layout, listed_layout, nonce_layout}
 use Rattle.sql_tables.proofs.InsertStatement.{added_puts}
-use Rattle.model_laws.proofs.Recorded.{applied-append}
 
 -- ---- one row
 

@@ -2,23 +2,18 @@
 use Rattle.std.proofs.Common.{◌≡◌, ℕ, zero, suc, ◌+◌, ◌-◌, ◌<◌, List, [], ◌∷◌, ◌++◌, Result, Ok, Err, IfErr, IsOk, refl, sym, ap, subst, ◌∙◌, arith}
 use Rattle.std.proofs.Common.{◌⊎◌, inl, inr, add-one, append-nil, drop, get_or, length, take}
 use Rattle.std.specs.Prelude.{IsErrAnd, MatchResult}
-use Rattle.std.specs.List.{flat_map}
-use Rattle.std.specs.Result.{result_and}
-use Rattle.std.proofs.Math.Seq.{take-suc}
-use Rattle.std.proofs.lemmas.Grind.{flat_map-append}
+use Rattle.std.specs.{List.flat_map, Result.result_and}
+use Rattle.std.proofs.{Math.Seq.take-suc, lemmas.Grind.flat_map-append}
 use Rattle.std.proofs.lemmas.List.{append_assoc, take-append-drop}
 use Rattle.sqlite.specs.Held.{Held, state}
-use Rattle.sqlite.specs.Order.{Row}
+use Rattle.sqlite.specs.{Order.Row, Steps.FailsToCommit, Store.Ghosts}
 use Rattle.sqlite.specs.State.{HasCleanDisk, Survives}
-use Rattle.sqlite.specs.Steps.{FailsToCommit}
-use Rattle.sqlite.specs.Store.{Ghosts}
 use Rattle.sqlite.specs.declared.error.Error.{Error}
 use Rattle.sql_schema.specs.Definitions.{definition_at}
 use Rattle.sql_schema.proofs.StaysLemmas.{asks_nothing}
 use Rattle.sql_write.proofs.Exits.{survives_both}
 use Rattle.sql_write.specs.Refusals.{FailedCommit, HaveBegun, HaveRun, IsCause, IsRun, Ran, Refuses, Runs, Stops, begun}
-use Rattle.sql_write.specs.Committing.{IsBeforeCommit}
-use Rattle.sql_write.specs.Numbers.{IsNotTooLarge}
+use Rattle.sql_write.specs.{Committing.IsBeforeCommit, Numbers.IsNotTooLarge}
 use Rattle.sql_write.specs.Statements.{Sql, defines, defines_before}
 use Rattle.sql_write.specs.declared.fault.SaveFault.{SaveFault}
 use Rattle.sql_write.specs.declared.fault.SaveFault.TheVariants as save

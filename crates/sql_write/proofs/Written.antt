@@ -1,10 +1,8 @@
 -- Calls that write, one after the other.
 use Rattle.std.specs.List.{flat_map}
 use Rattle.std.proofs.Common.{◌≡◌, ℕ, ◌+◌, ◌<◌, List, [], ◌∷◌, ◌++◌, Result, Ok, Err, OnOk, get_or, length, refl, sym, subst, take}
-use Rattle.sqlite.specs.Effect.{Database}
+use Rattle.sqlite.specs.{Effect.Database, Order.Row, Store.Ghosts}
 use Rattle.sqlite.specs.Held.{Held, state}
-use Rattle.sqlite.specs.Order.{Row}
-use Rattle.sqlite.specs.Store.{Ghosts}
 use Rattle.sql_schema.proofs.AdvanceLemmas.{advances_as, performs_keeps}
 use Rattle.sql_schema.proofs.StaysLemmas.{asks_nothing}
 use Rattle.sql_schema.specs.Advances.{Advances, Performs}

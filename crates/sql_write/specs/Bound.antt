@@ -1,15 +1,9 @@
 -- What of a row is bound as a number.
 use Rattle.std.specs.Prelude.{◌≡◌}
-use Rattle.store_columns.specs.declared.columns.AccountColumns.{AccountColumns}
-use Rattle.store_columns.specs.declared.columns.AuthzColumns.{AuthzColumns}
-use Rattle.store_columns.specs.declared.columns.ChallColumns.{ChallColumns}
-use Rattle.store_columns.specs.declared.columns.MetaColumns.{MetaColumns}
-use Rattle.store_columns.specs.declared.columns.OrderColumns.{OrderColumns}
-use Rattle.sql_write.specs.declared.accounts.AccountNumbers.{AccountNumbers}
-use Rattle.sql_write.specs.declared.authorizations.AuthorizationNumbers.{AuthorizationNumbers}
-use Rattle.sql_write.specs.declared.challenges.ChallengeNumbers.{ChallengeNumbers}
-use Rattle.sql_write.specs.declared.meta.MetaNumbers.{MetaNumbers}
-use Rattle.sql_write.specs.declared.orders.OrderNumbers.{OrderNumbers}
+use Rattle.store_columns.specs.declared.columns.{AccountColumns.AccountColumns, AuthzColumns.AuthzColumns, ChallColumns.ChallColumns, MetaColumns.MetaColumns}
+use Rattle.store_columns.specs.declared.columns.{OrderColumns.OrderColumns}
+use Rattle.sql_write.specs.declared.{accounts.AccountNumbers.AccountNumbers, authorizations.AuthorizationNumbers.AuthorizationNumbers}
+use Rattle.sql_write.specs.declared.{challenges.ChallengeNumbers.ChallengeNumbers, meta.MetaNumbers.MetaNumbers, orders.OrderNumbers.OrderNumbers}
 
 -- the numbers of the row of `meta` with these columns
 pub record AreMetaNumbers (columns : MetaColumns) (numbers : MetaNumbers) : Type 0 where

@@ -4,14 +4,8 @@ use Rattle.store_columns.specs.declared.flat_rows.AnswerKey.{AnswerKey}
 use Rattle.desk_model.specs.Document.{authorization_status_text, challenge_status_text, kind_text}
 use Rattle.desk_model.specs.Facts.{end_kind_text, outcome_text}
 use Rattle.desk_model.specs.Name.{same_name}
-use Rattle.desk_model.specs.declared.objects.Answer.{Answer}
-use Rattle.desk_model.specs.declared.objects.AuthorizationEnd.{AuthorizationEnd}
-use Rattle.desk_model.specs.declared.objects.Report.{Report}
-use Rattle.desk_model.specs.declared.rows.AccountRow.{AccountRow}
-use Rattle.desk_model.specs.declared.rows.AuthorizationRow.{AuthorizationRow}
-use Rattle.desk_model.specs.declared.rows.ChallengeRow.{ChallengeRow}
-use Rattle.desk_model.specs.declared.rows.Meta.{Meta}
-use Rattle.desk_model.specs.declared.rows.OrderRow.{OrderRow}
+use Rattle.desk_model.specs.declared.{objects.Answer.Answer, objects.AuthorizationEnd.AuthorizationEnd, objects.Report.Report, rows.AccountRow.AccountRow}
+use Rattle.desk_model.specs.declared.{rows.AuthorizationRow.AuthorizationRow, rows.ChallengeRow.ChallengeRow, rows.Meta.Meta, rows.OrderRow.OrderRow}
 use Rattle.sql_write.specs.Write.{difference}
 use Rattle.sql_write.specs.declared.write.Difference.{Difference}
 

@@ -1,15 +1,9 @@
 -- Which rows an INTEGER column can take: each number is at most 2^63 - 1.
 use Rattle.std.specs.Prelude.{ℕ, ◌<◌, ◌^◌}
-use Rattle.desk_model.specs.declared.objects.Nonce.{Nonce}
-use Rattle.desk_model.specs.declared.rows.AccountRow.{AccountRow}
-use Rattle.desk_model.specs.declared.rows.AuthorizationRow.{AuthorizationRow}
-use Rattle.desk_model.specs.declared.rows.ChallengeRow.{ChallengeRow}
-use Rattle.desk_model.specs.declared.rows.Listed.{Listed}
-use Rattle.desk_model.specs.declared.rows.Meta.{Meta}
-use Rattle.desk_model.specs.declared.rows.OrderRow.{OrderRow}
+use Rattle.desk_model.specs.declared.{objects.Nonce.Nonce, rows.AccountRow.AccountRow, rows.AuthorizationRow.AuthorizationRow, rows.ChallengeRow.ChallengeRow}
+use Rattle.desk_model.specs.declared.{rows.Listed.Listed, rows.Meta.Meta, rows.OrderRow.OrderRow}
 use Rattle.store_columns.specs.Limits.{IfRecorded}
-use Rattle.store_columns.specs.declared.flat_rows.AnswerKey.{AnswerKey}
-use Rattle.store_columns.specs.declared.flat_rows.Owned.{Owned}
+use Rattle.store_columns.specs.declared.flat_rows.{AnswerKey.AnswerKey, Owned.Owned}
 
 -- a number
 abbrev pub Fits : ℕ → Type 0

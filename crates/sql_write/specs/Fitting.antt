@@ -3,12 +3,10 @@ use Rattle.std.specs.Prelude.{List, [], ◌∷◌, Option}
 use Rattle.std.specs.List.{flat_map}
 use Rattle.sqlite.specs.Effect.{Database}
 use Rattle.store_columns.specs.Flat.{challenge_rows, listed_rows}
-use Rattle.model_laws.specs.Distinct.{Distinct}
+use Rattle.model_laws.specs.{Distinct.Distinct, Ordered.Ascends}
 use Rattle.model_laws.specs.News.{AreKept, KeepsChildren}
-use Rattle.model_laws.specs.Ordered.{Ascends}
 use Rattle.desk_model.specs.Change.{applied, applied_one}
-use Rattle.desk_model.specs.Kept.{EachOf}
-use Rattle.desk_model.specs.Tables.{Tables}
+use Rattle.desk_model.specs.{Kept.EachOf, Tables.Tables}
 use Rattle.desk_model.specs.declared.rows.Change.{Change}
 use Rattle.sql_write.specs.Standing.{IsPartIn}
 use Rattle.sql_tables.specs.Holds.{AreApart, AreRising, Holds}

@@ -1,9 +1,7 @@
 -- Above which numbers changes put no row.
 use Rattle.std.specs.Prelude.{◌≡◌, ◌<◌, ℕ, List, Option}
-use Rattle.desk_model.specs.Change.{applied_one}
-use Rattle.desk_model.specs.Kept.{EachOf}
+use Rattle.desk_model.specs.{Change.applied_one, Kept.EachOf, Tables.Tables}
 use Rattle.desk_model.specs.Questions.{account_on, authorization_on, order_on}
-use Rattle.desk_model.specs.Tables.{Tables}
 use Rattle.desk_model.specs.declared.rows.Change.{Change}
 use Rattle.sql_write.specs.declared.standing.Highest.{Highest}
 

@@ -5,20 +5,12 @@ use Rattle.sqlite.specs.Order.{Row}
 use Rattle.sqlite_rules.specs.Lists.{Has}
 use Rattle.store_columns.specs.Columns.{known_format, order_columns}
 use Rattle.store_columns.specs.Flat.{key_rows, owned_by}
-use Rattle.store_columns.specs.declared.columns.OrderAuthzColumns.{OrderAuthzColumns}
-use Rattle.store_columns.specs.declared.flat_rows.AnswerKey.{AnswerKey}
-use Rattle.store_columns.specs.declared.flat_rows.Owned.{Owned}
-use Rattle.model_laws.specs.Distinct.{Distinct}
-use Rattle.model_laws.specs.Placing.{puts}
+use Rattle.store_columns.specs.declared.{columns.OrderAuthzColumns.OrderAuthzColumns, flat_rows.AnswerKey.AnswerKey, flat_rows.Owned.Owned}
+use Rattle.model_laws.specs.{Distinct.Distinct, Placing.puts}
 use Rattle.desk_model.specs.Change.{applied, applied_one, put}
-use Rattle.desk_model.specs.Kept.{EachOf}
-use Rattle.desk_model.specs.Tables.{Tables}
-use Rattle.desk_model.specs.declared.rows.AuthorizationRow.{AuthorizationRow}
-use Rattle.desk_model.specs.declared.rows.ChallengeRow.{ChallengeRow}
-use Rattle.desk_model.specs.declared.rows.Change.{Change}
-use Rattle.desk_model.specs.declared.rows.Listed.{Listed}
-use Rattle.desk_model.specs.declared.rows.Meta.{Meta}
-use Rattle.desk_model.specs.declared.rows.OrderRow.{OrderRow}
+use Rattle.desk_model.specs.{Kept.EachOf, Tables.Tables}
+use Rattle.desk_model.specs.declared.rows.{AuthorizationRow.AuthorizationRow, ChallengeRow.ChallengeRow, Change.Change, Listed.Listed, Meta.Meta}
+use Rattle.desk_model.specs.declared.rows.{OrderRow.OrderRow}
 use Rattle.sql_write.specs.Fitting.{AreFit, IsFit}
 use Rattle.sql_write.specs.Standing.{IsPartIn, known_challenge, known_key}
 use Rattle.sql_write.specs.declared.write.Write.{Write}
@@ -26,8 +18,7 @@ use Rattle.sql_write.specs.declared.write.Write.TheVariants.{Upsert, Insert, Upd
 use Rattle.sql_tables.specs.Effects.{Adds, AddsColumns, AppendsColumns, Becomes, BecomesRows, PlacesColumns, Puts, PutsColumns, Renews, RenewsColumns}
 use Rattle.sql_tables.specs.Effects.{is_same_place}
 use Rattle.sql_tables.specs.Hidden.{IsPlaced, next, number}
-use Rattle.sql_tables.specs.Holds.{Holds}
-use Rattle.sql_tables.specs.Images.{order_kept}
+use Rattle.sql_tables.specs.{Holds.Holds, Images.order_kept}
 use Rattle.sql_tables.specs.Layouts.{HasRows, Layout, authorization_layout, challenge_layout, formatted_layout, key_layout, listed_layout, order_layout}
 
 -- ---- several rows of one table

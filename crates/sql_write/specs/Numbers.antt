@@ -3,13 +3,10 @@ use Rattle.std.specs.Prelude.{◌≢◌, List}
 use Rattle.store_columns.specs.Flat.{owned_by}
 use Rattle.store_columns.specs.declared.flat_rows.AnswerKey.{AnswerKey}
 use Rattle.desk_model.specs.Kept.{EachOf}
-use Rattle.desk_model.specs.declared.rows.Change.{Change}
-use Rattle.desk_model.specs.declared.rows.Meta.{Meta}
+use Rattle.desk_model.specs.declared.rows.{Change.Change, Meta.Meta}
 use Rattle.desk_model.specs.declared.rows.Change.TheVariants.{PutMeta, PutNonce, RemoveNonce, PutAccount, PutAuthorization, PutOrder}
-use Rattle.sql_write.specs.declared.fault.SaveFault.{SaveFault}
-use Rattle.sql_write.specs.declared.fault.SaveFault.TheVariants.{Row}
+use Rattle.sql_write.specs.declared.fault.{SaveFault.SaveFault, SaveFault.TheVariants.Row, WriteFault.TheVariants.TooLarge}
 use Rattle.sql_write.specs.Fits.{Fits, FitsAccount, FitsAuthorization, FitsChallenge, FitsKey, FitsListed, FitsMeta, FitsNonce, FitsOrder}
-use Rattle.sql_write.specs.declared.fault.WriteFault.TheVariants.{TooLarge}
 
 -- each number of the change is at most 2^63 - 1
 abbrev pub FitsColumns : Change → Type 0

@@ -1,16 +1,13 @@
 -- What a transaction ran, and what it was refused.
 use Rattle.std.specs.Prelude.{◌≡◌, ℕ, true, List, [], ◌∷◌, ◌++◌, Result, Ok, Err, MatchResult, OnOk}
-use Rattle.sqlite.specs.Effect.{Database}
+use Rattle.sqlite.specs.{Effect.Database, Steps.FailsToCommit, Store.Ghosts}
 use Rattle.sqlite.specs.Held.{Held, state}
 use Rattle.sqlite.specs.State.{HasCleanDisk, Survives}
-use Rattle.sqlite.specs.Steps.{FailsToCommit}
-use Rattle.sqlite.specs.Store.{Ghosts}
 use Rattle.sqlite.specs.declared.error.Error.{Error}
 use Rattle.sql_write.specs.Statements.{Sql}
-use Rattle.sql_write.specs.declared.fault.SaveFault.{SaveFault}
+use Rattle.sql_write.specs.declared.fault.{SaveFault.SaveFault, WriteFault.TheVariants.TooLarge}
 use Rattle.sql_write.specs.declared.fault.SaveFault.TheVariants.{Row, Statement, Commit}
 use Rattle.sql_schema.specs.Advances.{Advances, KeepsLast, Performs}
-use Rattle.sql_write.specs.declared.fault.WriteFault.TheVariants.{TooLarge}
 
 -- the connection inside a transaction that was just begun
 abbrev pub begun : {S : Type 0} → Held S → Held S

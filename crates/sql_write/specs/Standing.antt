@@ -1,20 +1,12 @@
 -- What is known to stand in the tables: rows of a part, and what changes made of them.
-use Rattle.std.specs.Prelude.{◌≡◌, ◌==◌, ◌-◌, ◌^◌, ℕ, List, Option, Some, None, IfSome, find, option_map}
-use Rattle.std.specs.Prelude.{option_and_then}
+use Rattle.std.specs.Prelude.{◌≡◌, ◌==◌, ◌-◌, ◌^◌, ℕ, List, Option, Some, None, IfSome, find, option_map, option_and_then}
 use Rattle.sqlite_rules.specs.Lists.{Has}
 use Rattle.store_columns.specs.Flat.{answer_key}
 use Rattle.store_columns.specs.declared.flat_rows.AnswerKey.{AnswerKey}
-use Rattle.desk_model.specs.Change.{applied}
-use Rattle.desk_model.specs.Kept.{EachOf}
+use Rattle.desk_model.specs.{Change.applied, Kept.EachOf, Tables.Tables}
 use Rattle.desk_model.specs.Questions.{account_on, authorization_on, order_on}
-use Rattle.desk_model.specs.Tables.{Tables}
-use Rattle.desk_model.specs.declared.rows.AccountRow.{AccountRow}
-use Rattle.desk_model.specs.declared.rows.AuthorizationRow.{AuthorizationRow}
-use Rattle.desk_model.specs.declared.rows.ChallengeRow.{ChallengeRow}
-use Rattle.desk_model.specs.declared.rows.Change.{Change}
-use Rattle.desk_model.specs.declared.rows.Counters.{Counters}
-use Rattle.desk_model.specs.declared.rows.Meta.{Meta}
-use Rattle.desk_model.specs.declared.rows.OrderRow.{OrderRow}
+use Rattle.desk_model.specs.declared.rows.{AccountRow.AccountRow, AuthorizationRow.AuthorizationRow, ChallengeRow.ChallengeRow, Change.Change}
+use Rattle.desk_model.specs.declared.rows.{Counters.Counters, Meta.Meta, OrderRow.OrderRow}
 
 -- ---- what it is
 

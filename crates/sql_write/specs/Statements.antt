@@ -6,27 +6,13 @@ use Rattle.sqlite.specs.declared.types.Value.TheVariants.{Int}
 use Rattle.store_columns.specs.Columns.{account_columns, authorization_columns, challenge_columns, key_columns, known_format}
 use Rattle.store_columns.specs.Columns.{listed_columns, nonce_columns, order_columns}
 use Rattle.store_columns.specs.Flat.{answer_key, bare_row}
-use Rattle.store_columns.specs.declared.columns.AccountColumns.{AccountColumns}
-use Rattle.store_columns.specs.declared.columns.AuthzColumns.{AuthzColumns}
-use Rattle.store_columns.specs.declared.columns.ChallColumns.{ChallColumns}
-use Rattle.store_columns.specs.declared.columns.ChallKeyColumns.{ChallKeyColumns}
-use Rattle.store_columns.specs.declared.columns.MetaColumns.{MetaColumns}
-use Rattle.store_columns.specs.declared.columns.NonceColumns.{NonceColumns}
-use Rattle.store_columns.specs.declared.columns.OrderAuthzColumns.{OrderAuthzColumns}
-use Rattle.store_columns.specs.declared.columns.OrderColumns.{OrderColumns}
-use Rattle.store_columns.specs.declared.flat_rows.AnswerKey.{AnswerKey}
-use Rattle.desk_model.specs.declared.objects.Nonce.{Nonce}
-use Rattle.desk_model.specs.declared.rows.AccountRow.{AccountRow}
-use Rattle.desk_model.specs.declared.rows.AuthorizationRow.{AuthorizationRow}
-use Rattle.desk_model.specs.declared.rows.ChallengeRow.{ChallengeRow}
-use Rattle.desk_model.specs.declared.rows.Change.{Change}
+use Rattle.store_columns.specs.declared.{columns.AccountColumns.AccountColumns, columns.AuthzColumns.AuthzColumns, columns.ChallColumns.ChallColumns}
+use Rattle.store_columns.specs.declared.{columns.ChallKeyColumns.ChallKeyColumns, columns.MetaColumns.MetaColumns, columns.NonceColumns.NonceColumns}
+use Rattle.store_columns.specs.declared.{columns.OrderAuthzColumns.OrderAuthzColumns, columns.OrderColumns.OrderColumns, flat_rows.AnswerKey.AnswerKey}
+use Rattle.desk_model.specs.declared.{objects.Nonce.Nonce, rows.AccountRow.AccountRow, rows.AuthorizationRow.AuthorizationRow, rows.ChallengeRow.ChallengeRow}
+use Rattle.desk_model.specs.declared.{rows.Change.Change, rows.Listed.Listed, rows.Meta.Meta, rows.OrderRow.OrderRow, rows.Counters.Counters}
 use Rattle.desk_model.specs.declared.rows.Change.TheVariants.{PutMeta, PutNonce, RemoveNonce, PutAccount, PutAuthorization, PutOrder}
-use Rattle.desk_model.specs.declared.rows.Listed.{Listed}
-use Rattle.desk_model.specs.declared.rows.Meta.{Meta}
-use Rattle.desk_model.specs.declared.rows.OrderRow.{OrderRow}
-use Rattle.desk_model.specs.Change.{applied_one}
-use Rattle.desk_model.specs.Tables.{Tables}
-use Rattle.desk_model.specs.declared.rows.Counters.{Counters}
+use Rattle.desk_model.specs.{Change.applied_one, Tables.Tables}
 use Rattle.sql_write.specs.Differences.{account_difference, authorization_difference, challenge_difference, key_difference, meta_difference, order_difference}
 use Rattle.sql_write.specs.Write.{write}
 use Rattle.sql_write.specs.Standing.{known_account, known_authorization, known_challenge, known_key, known_meta, known_order, last_given}

@@ -8,10 +8,9 @@ use Rattle.model_laws.specs.Placing.{puts}
 use Rattle.desk_model.specs.Tables.{Tables}
 use Rattle.desk_model.specs.declared.rows.Meta.{Meta}
 use Rattle.sql_write.specs.Makes.{PutsAll}
-use Rattle.sql_tables.specs.Effects.{Puts}
+use Rattle.sql_tables.specs.{Effects.Puts, Sorted.sorted_by}
 use Rattle.sql_tables.specs.Holds.{Holds, HoldsFirst}
 use Rattle.sql_tables.specs.Layouts.{formatted_layout, key_layout}
-use Rattle.sql_tables.specs.Sorted.{sorted_by}
 
 -- the keys of answers are put, then the row of `meta` in the format of a desk
 abbrev pub Fills : Meta → List AnswerKey → Database → Database → Type 0

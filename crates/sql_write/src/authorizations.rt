@@ -4,12 +4,8 @@ ghost use Rattle.sqlite.specs.Values.{bound, bound_value};
 ghost use Rattle.sqlite_value.specs.Value.{owned};
 ghost use Rattle.store_columns.specs.Columns.{authorization_columns, authorization_end_columns};
 ghost use Rattle.store_columns.specs.Limits.{IfRecorded};
-ghost use Rattle.sql_write.specs.Bound.{AreAuthorizationNumbers};
+ghost use Rattle.sql_write.specs.{Bound.AreAuthorizationNumbers, Makes.Writes, Numbers.IsNotTooLarge, Refusals.HasWritten, Statements.writes_authorization};
 ghost use Rattle.sql_write.specs.Fits.{Fits, FitsAuthorization};
-ghost use Rattle.sql_write.specs.Makes.{Writes};
-ghost use Rattle.sql_write.specs.Numbers.{IsNotTooLarge};
-ghost use Rattle.sql_write.specs.Refusals.{HasWritten};
-ghost use Rattle.sql_write.specs.Statements.{writes_authorization};
 ghost use Rattle.sql_tables.specs.Images.{authorization_kept, authorization_moved, authorization_params, text_or_null};
 ghost use Rattle.sql_tables.specs.Layouts.{authorization_layout};
 

@@ -3,14 +3,9 @@ ghost use Rattle.std.specs.Prelude.{ℕ, ◌≡◌, pos, IfErr, IfOk, IsOk, opti
 ghost use Rattle.sqlite.specs.Values.{bound, bound_value};
 ghost use Rattle.sqlite_value.specs.Value.{owned};
 ghost use Rattle.store_columns.specs.Columns.{challenge_columns, report_columns};
-ghost use Rattle.store_columns.specs.Flat.{bare_row};
-ghost use Rattle.store_columns.specs.Limits.{IfRecorded};
-ghost use Rattle.sql_write.specs.Bound.{AreChallengeNumbers};
+ghost use Rattle.store_columns.specs.{Flat.bare_row, Limits.IfRecorded};
+ghost use Rattle.sql_write.specs.{Bound.AreChallengeNumbers, Makes.Writes, Numbers.IsNotTooLarge, Refusals.HasWritten, Statements.writes_challenge};
 ghost use Rattle.sql_write.specs.Fits.{Fits, FitsChallenge};
-ghost use Rattle.sql_write.specs.Makes.{Writes};
-ghost use Rattle.sql_write.specs.Numbers.{IsNotTooLarge};
-ghost use Rattle.sql_write.specs.Refusals.{HasWritten};
-ghost use Rattle.sql_write.specs.Statements.{writes_challenge};
 ghost use Rattle.sql_tables.specs.Images.{challenge_kept, challenge_moved, challenge_params, text_or_null};
 ghost use Rattle.sql_tables.specs.Layouts.{challenge_layout};
 

@@ -2,10 +2,9 @@
 ghost use Rattle.std.specs.Prelude.{◌≡◌, ◌++◌, IfErr, option_copied};
 ghost use Rattle.desk_model.specs.Kept.{EachOf};
 ghost use Rattle.desk_model.specs.declared.rows.Change.TheVariants.{PutAuthorization, PutOrder};
-ghost use Rattle.sql_write.specs.Highest.{IsAbove};
+ghost use Rattle.sql_write.specs.{Highest.IsAbove, Refusals.HasWritten};
 ghost use Rattle.sql_write.specs.Makes.{Makes, MakesAll, PutsOver, SetsAuthorization, SetsMeta, SetsOrder, WritesOrder};
 ghost use Rattle.sql_write.specs.Numbers.{FitsColumns, IsNotTooLarge};
-ghost use Rattle.sql_write.specs.Refusals.{HasWritten};
 ghost use Rattle.sql_write.specs.Standing.{known_account, known_after, known_authorization, known_meta, known_order};
 ghost use Rattle.sql_write.specs.Statements.{lists, sets_account, sets_authorization, sets_bare_authorization, sets_meta, sets_nonce, sets_order};
 ghost use Rattle.sql_write.specs.Statements.{statements_from, statements_of, writes_order};

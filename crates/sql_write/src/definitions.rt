@@ -1,12 +1,10 @@
 //! The statements that make the tables and indexes of an empty database.
 ghost use Rattle.std.specs.Prelude.{◌≡◌, ◌<◌, IfErr, OnOk};
-ghost use Rattle.sqlite.specs.State.{Survives};
-ghost use Rattle.sqlite.specs.Held.{state};
+ghost use Rattle.sqlite.specs.{State.Survives, Held.state};
 ghost use Rattle.sql_schema.specs.Advances.{Advances, KeepsLast};
 ghost use Rattle.sql_schema.specs.Defined.{AddsKeyTable, Defines};
 ghost use Rattle.sql_schema.specs.Definitions.{definition_at};
-ghost use Rattle.sql_write.specs.Numbers.{IsNotTooLarge};
-ghost use Rattle.sql_write.specs.Refusals.{Ran};
+ghost use Rattle.sql_write.specs.{Numbers.IsNotTooLarge, Refusals.Ran};
 ghost use Rattle.sql_write.specs.Statements.{defines, defines_before};
 
 use crate::fault::SaveFault;

@@ -3,8 +3,7 @@ ghost use Rattle.std.specs.Prelude.{◌≡◌, ◌⊎◌, false, Err, IsOk, OnOk
 ghost use Rattle.sqlite.specs.State.{HasCleanDisk, IsRolledBack, Survives};
 ghost use Rattle.sqlite.specs.Held.{state};
 ghost use Rattle.sql_write.specs.Committing.{HasCommitted, IsBeforeCommit};
-ghost use Rattle.sql_write.specs.Numbers.{IsNotTooLarge};
-ghost use Rattle.sql_write.specs.Refusals.{FailedCommit};
+ghost use Rattle.sql_write.specs.{Numbers.IsNotTooLarge, Refusals.FailedCommit};
 
 use crate::fault::SaveFault;
 use sqlite::{Alter, Transaction};

@@ -1,11 +1,7 @@
 //! Keys of answers, written into their table.
 ghost use Rattle.std.specs.Prelude.{◌≡◌, IfErr};
 ghost use Rattle.store_columns.specs.Columns.{key_columns};
-ghost use Rattle.sql_write.specs.Fits.{FitsKey};
-ghost use Rattle.sql_write.specs.Makes.{AddsOrPuts};
-ghost use Rattle.sql_write.specs.Numbers.{IsNotTooLarge};
-ghost use Rattle.sql_write.specs.Refusals.{HasWritten};
-ghost use Rattle.sql_write.specs.Statements.{writes_key};
+ghost use Rattle.sql_write.specs.{Fits.FitsKey, Makes.AddsOrPuts, Numbers.IsNotTooLarge, Refusals.HasWritten, Statements.writes_key};
 ghost use Rattle.sql_tables.specs.Layouts.{key_layout};
 
 use crate::fault::SaveFault;

@@ -1,6 +1,5 @@
 //! Which changes may be saved, and what a stop leaves.
-ghost use Rattle.sql_write.specs.Committing.{LeftTablesAreFound};
-ghost use Rattle.sql_write.specs.Fitting.{OrderedChangesFit};
+ghost use Rattle.sql_write.specs.{Committing.LeftTablesAreFound, Fitting.OrderedChangesFit};
 
 /// Changes that keep children may be saved where the tables with all of them stand by number.
 pub fn ordered_changes_fit()

@@ -1,11 +1,7 @@
 //! What orders list, written into its table.
 ghost use Rattle.std.specs.Prelude.{◌≡◌, IfErr};
 ghost use Rattle.store_columns.specs.Columns.{listed_columns};
-ghost use Rattle.sql_write.specs.Fits.{FitsListed};
-ghost use Rattle.sql_write.specs.Makes.{AppendsOrPlaces};
-ghost use Rattle.sql_write.specs.Numbers.{IsNotTooLarge};
-ghost use Rattle.sql_write.specs.Refusals.{HasWritten};
-ghost use Rattle.sql_write.specs.Statements.{writes_listed};
+ghost use Rattle.sql_write.specs.{Fits.FitsListed, Makes.AppendsOrPlaces, Numbers.IsNotTooLarge, Refusals.HasWritten, Statements.writes_listed};
 
 use crate::fault::SaveFault;
 use crate::numbers::number_column;

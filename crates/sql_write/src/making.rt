@@ -4,11 +4,8 @@ ghost use Rattle.sqlite.specs.State.{HasCleanDisk, Survives};
 ghost use Rattle.sqlite.specs.Held.{state};
 ghost use Rattle.sql_schema.specs.Advances.{Advances, KeepsLast};
 ghost use Rattle.sql_write.specs.Committing.{GoesBack, HasCommitted, IsBeforeCommit, IsLeft};
-ghost use Rattle.sql_write.specs.Making.{MakesDesk};
-ghost use Rattle.sql_write.specs.Numbers.{IsNotTooLarge};
+ghost use Rattle.sql_write.specs.{Making.MakesDesk, Numbers.IsNotTooLarge, Statements.make_statements, Fits.FitsMeta};
 ghost use Rattle.sql_write.specs.Refusals.{IsCause, Ran};
-ghost use Rattle.sql_write.specs.Statements.{make_statements};
-ghost use Rattle.sql_write.specs.Fits.{FitsMeta};
 
 use crate::definitions::define_all;
 use crate::ending::end;

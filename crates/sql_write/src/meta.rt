@@ -2,12 +2,7 @@
 ghost use Rattle.std.specs.Prelude.{◌≡◌, IfErr, IfOk, IsOk};
 ghost use Rattle.sqlite.specs.Values.{bound};
 ghost use Rattle.store_columns.specs.Columns.{known_format, meta_columns};
-ghost use Rattle.sql_write.specs.Bound.{AreMetaNumbers};
-ghost use Rattle.sql_write.specs.Fits.{FitsMeta};
-ghost use Rattle.sql_write.specs.Makes.{RenewsOrPuts};
-ghost use Rattle.sql_write.specs.Numbers.{IsNotTooLarge};
-ghost use Rattle.sql_write.specs.Refusals.{HasWritten};
-ghost use Rattle.sql_write.specs.Statements.{writes_meta};
+ghost use Rattle.sql_write.specs.{Bound.AreMetaNumbers, Fits.FitsMeta, Makes.RenewsOrPuts, Numbers.IsNotTooLarge, Refusals.HasWritten, Statements.writes_meta};
 ghost use Rattle.sql_tables.specs.Images.{formatted_columns, meta_kept, meta_moved, meta_params};
 ghost use Rattle.sql_tables.specs.Layouts.{formatted_layout};
 

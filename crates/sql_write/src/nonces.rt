@@ -2,13 +2,9 @@
 ghost use Rattle.std.specs.Prelude.{◌≡◌, pos, IfErr};
 ghost use Rattle.sqlite.specs.Values.{bound};
 ghost use Rattle.store_columns.specs.Columns.{nonce_columns};
-ghost use Rattle.sql_write.specs.Makes.{AddsOrPuts};
-ghost use Rattle.sql_write.specs.Numbers.{IsNotTooLarge};
-ghost use Rattle.sql_write.specs.Refusals.{HasWritten};
+ghost use Rattle.sql_write.specs.{Makes.AddsOrPuts, Numbers.IsNotTooLarge, Refusals.HasWritten};
 ghost use Rattle.sql_write.specs.Statements.{removes_nonce, writes_nonce};
-ghost use Rattle.sql_tables.specs.Effects.{Removes};
-ghost use Rattle.sql_tables.specs.Images.{nonce_params};
-ghost use Rattle.sql_tables.specs.Layouts.{nonce_layout};
+ghost use Rattle.sql_tables.specs.{Effects.Removes, Images.nonce_params, Layouts.nonce_layout};
 ghost use Rattle.sql_write.specs.Fits.{Fits, FitsNonce};
 
 use crate::fault::SaveFault;

@@ -4,10 +4,8 @@ ghost use Rattle.sqlite.specs.State.{HasCleanDisk, Survives};
 ghost use Rattle.sqlite.specs.Held.{state};
 ghost use Rattle.desk_model.specs.Kept.{EachOf};
 ghost use Rattle.sql_write.specs.Committing.{GoesBack, HasCommitted, IsBeforeCommit, IsLeft};
-ghost use Rattle.sql_write.specs.Fitting.{Saves};
+ghost use Rattle.sql_write.specs.{Fitting.Saves, Refusals.IsCause, Statements.save_statements};
 ghost use Rattle.sql_write.specs.Numbers.{FitsColumns, IsNotTooLarge};
-ghost use Rattle.sql_write.specs.Refusals.{IsCause};
-ghost use Rattle.sql_write.specs.Statements.{save_statements};
 
 use crate::changes::make_changes;
 use crate::ending::end;

@@ -2,10 +2,8 @@
 //! what the changes before made of them.
 ghost use Rattle.std.specs.Prelude.{◌≡◌, ◌<◌, ◌==◌, ◌++◌, ◌∷◌, [], ℕ, List, Option, Some, find, option_and_then, option_copied};
 ghost use Rattle.std.specs.Option.{option_or};
-ghost use Rattle.desk_model.specs.Change.{applied_one};
+ghost use Rattle.desk_model.specs.{Change.applied_one, Kept.EachOf, Tables.Tables};
 ghost use Rattle.desk_model.specs.Questions.{account_on, authorization_on, order_on};
-ghost use Rattle.desk_model.specs.Kept.{EachOf};
-ghost use Rattle.desk_model.specs.Tables.{Tables};
 ghost use Rattle.desk_model.specs.declared.rows.Change.{Change};
 ghost use Rattle.sql_write.specs.Highest.{IsAbove, PutsNone};
 ghost use Rattle.sql_write.specs.Standing.{known_account, known_after, known_authorization, known_challenge, known_meta, known_order, last_given};

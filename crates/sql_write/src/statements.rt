@@ -1,8 +1,6 @@
 //! Statements inside a transaction.
 ghost use Rattle.std.specs.Prelude.{◌≡◌, IfErr, OnErr};
-ghost use Rattle.sqlite.specs.State.{Survives};
-ghost use Rattle.sqlite.specs.Values.{bound};
-ghost use Rattle.sqlite.specs.Held.{state};
+ghost use Rattle.sqlite.specs.{State.Survives, Values.bound, Held.state};
 ghost use Rattle.sql_write.specs.Numbers.{IsNotTooLarge};
 ghost use Rattle.sql_write.specs.Refusals.{IsRun, Runs};
 ghost use Rattle.sql_schema.specs.Advances.{Declines, KeepsLast, Performs};

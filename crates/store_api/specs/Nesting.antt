@@ -1,7 +1,6 @@
 -- Challenges put under their authorizations, each behind the number of its own.
 use Rattle.std.specs.Prelude.{ℕ, ◌==◌, List, [], ◌∷◌, ◌++◌, map, if◌then◌else◌}
-use Rattle.desk_model.specs.declared.rows.AuthorizationRow.{AuthorizationRow}
-use Rattle.desk_model.specs.declared.rows.ChallengeRow.{ChallengeRow}
+use Rattle.desk_model.specs.declared.rows.{AuthorizationRow.AuthorizationRow, ChallengeRow.ChallengeRow}
 
 -- an authorization with the challenge, where it is its own
 abbrev pub joined : ℕ × ChallengeRow → AuthorizationRow → AuthorizationRow

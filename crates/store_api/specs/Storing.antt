@@ -1,11 +1,8 @@
 -- What a store promises of loading a part for a call, and of saving changes.
 use Rattle.std.specs.Prelude.{◌≡◌, ◌⊎◌, List, Option, Result, OnOk, IfOk, IfErr}
-use Rattle.desk_model.specs.Entry.{History}
-use Rattle.desk_model.specs.Legal.{Legal}
+use Rattle.desk_model.specs.{Entry.History, Legal.Legal, Change.applied}
 use Rattle.desk_model.specs.Tables.{Tables, picture}
-use Rattle.desk_model.specs.Change.{applied}
-use Rattle.desk_model.specs.declared.call.Call.{Call}
-use Rattle.desk_model.specs.declared.rows.Change.{Change}
+use Rattle.desk_model.specs.declared.{call.Call.Call, rows.Change.Change}
 use Rattle.model_laws.specs.News.{AreKept}
 use Rattle.model_lives.specs.IsEnough.{IsEnoughFor}
 use Rattle.model_lives.specs.Thinned.{Thinning, thinned}

@@ -2,12 +2,10 @@
 ghost use Rattle.std.specs.Prelude.{◌≡◌, [], filter, map, IfOk};
 ghost use Rattle.model_laws.specs.Ordered.{IsOrdered};
 ghost use Rattle.desk_model.specs.Touched.{only_meta};
-ghost use Rattle.store_api.specs.Finding.{Finds};
+ghost use Rattle.store_api.specs.{Finding.Finds, Storing.Loads};
 ghost use Rattle.model_lives.specs.IsEnough.{challenge_work_rows, enough, is_worked_on, order_work_rows};
-ghost use Rattle.model_lives.specs.LookUps.{orders_processing};
-ghost use Rattle.model_lives.specs.Thinned.{without_challenges};
+ghost use Rattle.model_lives.specs.{LookUps.orders_processing, Thinned.without_challenges};
 ghost use Rattle.store_api.specs.Sight.{ForTables, Reads};
-ghost use Rattle.store_api.specs.Storing.{Loads};
 
 use crate::fault::StorageFault;
 use crate::few::few_book;

@@ -1,15 +1,13 @@
 //! The rows that are enough for a call, the directory and the lists of work apart.
 ghost use Rattle.std.specs.Prelude.{◌≡◌, ◌++◌, [], IfOk, if◌then◌else◌, map, max, option_map, option_to_list};
-ghost use Rattle.model_laws.specs.Ordered.{IsOrdered};
-ghost use Rattle.model_laws.specs.Placing.{puts};
+ghost use Rattle.model_laws.specs.{Ordered.IsOrdered, Placing.puts};
 ghost use Rattle.store_api.specs.Finding.{AreNone, AreRowsOf, Finds};
 ghost use Rattle.store_api.specs.Needing.{NeedsFor, holders_by, lacking, listed_with, missings, moved_by, named_alone, opened_with};
 ghost use Rattle.store_api.specs.Needing.{orders_by, restated_by, with_named};
-ghost use Rattle.model_lives.specs.Few.{needed_rows};
+ghost use Rattle.model_lives.specs.{Few.needed_rows, Loaded.authorizations_asked_of};
 ghost use Rattle.model_lives.specs.LookUps.{accounts_numbered, bare_authorizations, bare_orders_of};
 ghost use Rattle.std.specs.List.{flat_map};
 ghost use Rattle.desk_model.specs.Derived.{numbers_of};
-ghost use Rattle.model_lives.specs.Loaded.{authorizations_asked_of};
 ghost use Rattle.store_api.specs.Sight.{ForTables, Reads};
 
 use crate::asked::add_asked_names;

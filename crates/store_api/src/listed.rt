@@ -3,8 +3,7 @@ ghost use Rattle.std.specs.Prelude.{◌≡◌};
 ghost use Rattle.std.specs.List.{flat_map};
 ghost use Rattle.desk_model.specs.Derived.{numbers_of};
 ghost use Rattle.model_lives.specs.LookUps.{bare_authorizations};
-ghost use Rattle.store_api.specs.Finding.{Finds};
-ghost use Rattle.store_api.specs.Needing.{missings};
+ghost use Rattle.store_api.specs.{Finding.Finds, Needing.missings};
 
 use crate::fault::StorageFault;
 use crate::gathering::{LeadsTo, add_found, add_missing};

@@ -1,10 +1,8 @@
 //! The book of the rows that a call touches.
 ghost use Rattle.std.specs.Prelude.{◌≡◌, IfOk, option_map};
-ghost use Rattle.model_laws.specs.Ordered.{IsOrdered};
-ghost use Rattle.model_laws.specs.Placing.{puts};
+ghost use Rattle.model_laws.specs.{Ordered.IsOrdered, Placing.puts};
 ghost use Rattle.store_api.specs.Finding.{AreNone, AreRowsOf, Finds};
-ghost use Rattle.desk_model.specs.Asked.{asked_names};
-ghost use Rattle.desk_model.specs.Touched.{touched};
+ghost use Rattle.desk_model.specs.{Asked.asked_names, Touched.touched};
 ghost use Rattle.model_lives.specs.Loaded.{found_nonces, loaded_at, loaded_rows};
 ghost use Rattle.store_api.specs.Sight.{ForTables, Reads};
 ghost use Rattle.store_api.specs.Storing.{Loads};

@@ -1,19 +1,11 @@
 -- Which rows, table by table in the order of their keys, are those of a book.
 use Rattle.std.specs.Prelude.{◌≡◌, ◌==◌, ◌<◌, ℕ, List, [], ◌∷◌, map, find, filter_map, IsSome, Option, option_map}
 use Rattle.store_columns.specs.Limits.{AreStored}
-use Rattle.store_columns.specs.declared.flat_rows.AnswerKey.{AnswerKey}
-use Rattle.store_columns.specs.declared.flat_rows.BareChallenge.{BareChallenge}
-use Rattle.store_columns.specs.declared.flat_rows.FlatRows.{FlatRows}
-use Rattle.store_columns.specs.declared.flat_rows.Owned.{Owned}
+use Rattle.store_columns.specs.declared.flat_rows.{AnswerKey.AnswerKey, BareChallenge.BareChallenge, FlatRows.FlatRows, Owned.Owned}
 use Rattle.model_laws.specs.Distinct.{Distinct}
 use Rattle.model_laws.specs.Ordered.{Ascends, IsTable}
-use Rattle.desk_model.specs.Kept.{EachOf}
-use Rattle.desk_model.specs.Tables.{Tables}
-use Rattle.desk_model.specs.declared.rows.AccountRow.{AccountRow}
-use Rattle.desk_model.specs.declared.rows.AuthorizationRow.{AuthorizationRow}
-use Rattle.desk_model.specs.declared.rows.Listed.{Listed}
-use Rattle.desk_model.specs.declared.rows.Meta.{Meta}
-use Rattle.desk_model.specs.declared.rows.OrderRow.{OrderRow}
+use Rattle.desk_model.specs.{Kept.EachOf, Tables.Tables}
+use Rattle.desk_model.specs.declared.rows.{AccountRow.AccountRow, AuthorizationRow.AuthorizationRow, Listed.Listed, Meta.Meta, OrderRow.OrderRow}
 use Rattle.store_book.specs.IsBook.{IsBookOf}
 
 -- this number is one of these

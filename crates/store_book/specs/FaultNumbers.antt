@@ -1,9 +1,7 @@
 -- What a check goes by: the numbers of the rows that it finds, and all challenges.
 use Rattle.std.specs.Prelude.{ℕ, List}
 use Rattle.std.specs.List.{flat_map}
-use Rattle.desk_model.specs.declared.rows.StatusFault.{StatusFault}
-use Rattle.desk_model.specs.declared.rows.AuthorizationRow.{AuthorizationRow}
-use Rattle.desk_model.specs.declared.rows.ChallengeRow.{ChallengeRow}
+use Rattle.desk_model.specs.declared.rows.{StatusFault.StatusFault, AuthorizationRow.AuthorizationRow, ChallengeRow.ChallengeRow}
 use Rattle.desk_model.specs.declared.rows.StatusFault.TheVariants as fault
 
 -- the number of the row with the fault

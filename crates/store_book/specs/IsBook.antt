@@ -1,18 +1,14 @@
 -- Which tables are a book.
 use Rattle.std.specs.Prelude.{◌+◌, ◌≡◌, IsSome}
 use Rattle.desk_model.specs.Questions.{account_on, authorization_on}
-use Rattle.desk_model.specs.Tables.{Tables}
-use Rattle.desk_model.specs.Kept.{EachOf}
+use Rattle.desk_model.specs.{Tables.Tables, Kept.EachOf}
 use Rattle.desk_model.specs.declared.rows.OrderRow.{OrderRow}
 use Rattle.model_laws.specs.Distinct.{Distinct}
 use Rattle.model_laws.specs.Ordered.{Ascends, Below}
 use Rattle.store_book.specs.FaultNumbers.{challenges_of}
 use Rattle.store_columns.specs.Flat.{AreReordered, flat}
-use Rattle.store_columns.specs.Columns.{rows_columns}
-use Rattle.store_columns.specs.Limits.{AreStored}
-use Rattle.store_columns.specs.TextColumns.{ColumnsAreTexts}
-use Rattle.store_columns.specs.declared.columns.StoredRows.{StoredRows}
-use Rattle.store_columns.specs.declared.flat_rows.FlatRows.{FlatRows}
+use Rattle.store_columns.specs.{Columns.rows_columns, Limits.AreStored, TextColumns.ColumnsAreTexts}
+use Rattle.store_columns.specs.declared.{columns.StoredRows.StoredRows, flat_rows.FlatRows.FlatRows}
 
 -- the numbers of each table ascend, those of each authorization's challenges, and the places of what each order lists
 pub record AreInOrder (T : Tables) : Type 0 where

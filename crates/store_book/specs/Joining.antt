@@ -2,12 +2,9 @@
 use Rattle.std.specs.Prelude.{◌==◌, ℕ, List, [], ◌∷◌, Option, None, Some, cond, map, option_map}
 use Rattle.std.specs.List.Sorted.{IsPermutation}
 use Rattle.store_columns.specs.Flat.{bare_row, key_rows}
-use Rattle.store_columns.specs.declared.flat_rows.AnswerKey.{AnswerKey}
-use Rattle.store_columns.specs.declared.flat_rows.BareChallenge.{BareChallenge}
-use Rattle.store_columns.specs.declared.flat_rows.Owned.{Owned}
+use Rattle.store_columns.specs.declared.flat_rows.{AnswerKey.AnswerKey, BareChallenge.BareChallenge, Owned.Owned}
 use Rattle.model_laws.specs.Distinct.{Distinct}
-use Rattle.desk_model.specs.declared.objects.Answer.{Answer}
-use Rattle.desk_model.specs.declared.rows.ChallengeRow.{ChallengeRow}
+use Rattle.desk_model.specs.declared.{objects.Answer.Answer, rows.ChallengeRow.ChallengeRow}
 
 -- the answer of the challenge of this number, answered at this moment or not, and the keys behind its own
 abbrev pub split_by : ℕ → Option ℕ → List AnswerKey → Option (Option Answer × List AnswerKey)

@@ -1,7 +1,6 @@
 -- Rows under the rows that they belong to.
 use Rattle.std.specs.Prelude.{ℕ, ◌+◌, ◌≡◌, ◌==◌, ◌&&◌, List, [], ◌∷◌, Bool, true, nat_le, cond, map}
-use Rattle.std.specs.List.{flat_map}
-use Rattle.std.specs.List.Sorted.{IsPermutation}
+use Rattle.std.specs.{List.flat_map, List.Sorted.IsPermutation}
 use Rattle.std.specs.Ordering.{nat_cmp, ordering_then}
 use Rattle.std.specs.declared.cmp.Ordering.{Ordering}
 use Rattle.desk_model.specs.Kept.{EachOf}

@@ -2,9 +2,7 @@
 use Rattle.std.specs.Prelude.{◌≡◌, ◌+◌, ◌<◌, ◌≤◌, ◌⊎◌, ◌++◌, ℕ, List, [], ◌∷◌, Option, None, Some}
 use Rattle.model_laws.specs.Ordered.{Ascends, Below}
 use Rattle.store_columns.specs.declared.flat_rows.Owned.{Owned}
-use Rattle.desk_model.specs.declared.rows.Counters.{Counters}
-use Rattle.desk_model.specs.declared.rows.Listed.{Listed}
-use Rattle.desk_model.specs.declared.rows.Meta.{Meta}
+use Rattle.desk_model.specs.declared.rows.{Counters.Counters, Listed.Listed, Meta.Meta}
 use Rattle.store_book.specs.BookRows.{AreListed, Rise}
 use Rattle.store_book.specs.declared.counter.Counter.{Counter}
 

@@ -1,9 +1,7 @@
 //! The rows of `account`.
 ghost use Rattle.std.specs.Prelude.{◌≡◌, ◌↔◌, [], IfOk, IsTrue, map};
-ghost use Rattle.model_laws.specs.Distinct.{Distinct};
-ghost use Rattle.model_laws.specs.Ordered.{IsTable};
-ghost use Rattle.store_book.specs.BookRows.{AreAccounts};
-ghost use Rattle.store_book.specs.Passing.{IsUpTo};
+ghost use Rattle.model_laws.specs.{Distinct.Distinct, Ordered.IsTable};
+ghost use Rattle.store_book.specs.{BookRows.AreAccounts, Passing.IsUpTo};
 
 use crate::counter::Counter;
 use crate::numbers::Numbers;

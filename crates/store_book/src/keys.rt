@@ -1,7 +1,6 @@
 //! The rows of `chall_key`.
 ghost use Rattle.std.specs.Prelude.{◌≡◌, ◌++◌, map};
-ghost use Rattle.store_book.specs.BookRows.{AreKeys};
-ghost use Rattle.store_book.specs.Passing.{Begin};
+ghost use Rattle.store_book.specs.{BookRows.AreKeys, Passing.Begin};
 
 use crate::numbers::Numbers;
 use crate::row_check::RowCheck;

@@ -3,11 +3,9 @@ ghost use Rattle.std.specs.Prelude.{◌≡◌, ◌++◌, ◌∷◌, [], List, If
 ghost use Rattle.std.specs.List.{flat_map};
 ghost use Rattle.desk_model.specs.Derived.{account_faults, authorization_faults, challenge_faults};
 ghost use Rattle.desk_model.specs.Derived.{numbers_of, order_faults, sorted_challenges, status_faults, stored_statuses};
-ghost use Rattle.desk_model.specs.Entry.{History};
-ghost use Rattle.desk_model.specs.Legal.{Legal};
+ghost use Rattle.desk_model.specs.{Entry.History, Legal.Legal};
 ghost use Rattle.desk_model.specs.Tables.{Tables, picture};
-ghost use Rattle.desk_model.specs.declared.rows.ChallengeRow.{ChallengeRow as Challenge};
-ghost use Rattle.desk_model.specs.declared.rows.StatusFault.{StatusFault as Fault};
+ghost use Rattle.desk_model.specs.declared.rows.{ChallengeRow.ChallengeRow as Challenge, StatusFault.StatusFault as Fault};
 ghost use Rattle.store_book.specs.FaultNumbers.{challenges_of, fault_number};
 ghost use Rattle.store_book.specs.RowFaults.{listed_fault};
 

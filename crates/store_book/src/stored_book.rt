@@ -1,8 +1,7 @@
 //! The book of rows that stand in any order.
 ghost use Rattle.std.specs.Prelude.{◌≡◌, [], ◌∷◌, IfOk, IfErr, MatchResult};
 ghost use Rattle.desk_model.specs.Tables.{Tables};
-ghost use Rattle.store_columns.specs.Columns.{rows_columns};
-ghost use Rattle.store_columns.specs.Limits.{AreStored};
+ghost use Rattle.store_columns.specs.{Columns.rows_columns, Limits.AreStored};
 ghost use Rattle.store_columns.specs.declared.flat_rows.FlatRows.{FlatRows as Rows};
 ghost use Rattle.store_book.specs.Both.{both};
 ghost use Rattle.store_book.specs.IsBook.{AreInOrder, IsBookOf, IsBookOfStored, IsSound};

@@ -1,12 +1,9 @@
 -- The JSON texts of columns are read back as what they write.
 use Rattle.std.proofs.Common.{◌≡◌, ◌≤◌, ℕ, List, [], ◌∷◌, map, Option, Some, option_and_then, refl, sym, ap, ◌∙◌, arith, append-nil}
-use Rattle.json.specs.Token.{Token}
-use Rattle.json.specs.Lex.{tokens}
-use Rattle.json.specs.Print.{ArePrintable}
+use Rattle.json.specs.{Token.Token, Lex.tokens, Print.ArePrintable}
 use Rattle.json.specs.Json as json
 use Rattle.json.specs.Tree as tree
-use Rattle.json.proofs.Printed.Tokens.{tokens-print}
-use Rattle.json.proofs.Printed.Trees.{value-json_tokens}
+use Rattle.json.proofs.Printed.{Tokens.tokens-print, Trees.value-json_tokens}
 use Rattle.serde_json.specs.Data.{Data, string, Items}
 use Rattle.serde_json.specs.Read.{read, of_json, of_items, max_depth}
 use Rattle.serde_json.specs.Written.{compact_text, outline, items_outline}

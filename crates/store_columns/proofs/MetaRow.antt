@@ -2,8 +2,7 @@
 use Rattle.std.proofs.Common.{◌≡◌}
 use Rattle.std.specs.Prelude.{pos}
 use Rattle.desk_model.specs.Terms.{Terms}
-use Rattle.desk_model.specs.declared.rows.Counters.{Counters}
-use Rattle.desk_model.specs.declared.rows.Meta.{Meta}
+use Rattle.desk_model.specs.declared.rows.{Counters.Counters, Meta.Meta}
 use Rattle.store_columns.specs.Columns.{known_format, meta_columns}
 use Rattle.store_columns.specs.Limits.{IsStoredMeta}
 use Rattle.store_columns.specs.MetaParts.{AreCounters, IsPolicy}

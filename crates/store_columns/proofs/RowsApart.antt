@@ -1,17 +1,10 @@
 -- Different rows have different columns.
 use Rattle.std.proofs.Common.{◌≡◌, ℕ, pos, List, [], ◌∷◌, map, Option, Some, None, option_map, refl, sym, ap, ◌∙◌}
 use Rattle.std.proofs.lemmas.Option.{same_Some}
-use Rattle.serde_json.specs.Data.{string}
-use Rattle.serde_json.specs.Read.{read}
-use Rattle.serde_json.specs.View.{items_of}
-use Rattle.desk_model.specs.Json.{list}
-use Rattle.desk_model.specs.Kept.{EachOf}
-use Rattle.desk_model.specs.declared.call.OrderProblem.{OrderProblem}
-use Rattle.desk_model.specs.declared.objects.AccountEnd.{AccountEnd}
-use Rattle.desk_model.specs.declared.objects.AuthorizationEnd.{AuthorizationEnd}
-use Rattle.desk_model.specs.declared.objects.Report.{Report}
-use Rattle.desk_model.specs.declared.rows.DatedBytes.{DatedBytes}
-use Rattle.desk_model.specs.declared.rows.DatedProblem.{DatedProblem}
+use Rattle.serde_json.specs.{Data.string, Read.read, View.items_of}
+use Rattle.desk_model.specs.{Json.list, Kept.EachOf}
+use Rattle.desk_model.specs.declared.{call.OrderProblem.OrderProblem, objects.AccountEnd.AccountEnd, objects.AuthorizationEnd.AuthorizationEnd}
+use Rattle.desk_model.specs.declared.{objects.Report.Report, rows.DatedBytes.DatedBytes, rows.DatedProblem.DatedProblem}
 use Rattle.store_columns.specs.Columns.{account_columns, account_end_columns, authorization_columns, authorization_end_columns}
 use Rattle.store_columns.specs.Columns.{challenge_columns, dated_bytes_columns, dated_columns, dated_problem_columns, key_columns, listed_columns}
 use Rattle.store_columns.specs.Columns.{meta_columns, nonce_columns, order_columns, report_columns, rows_columns}
@@ -20,8 +13,7 @@ use Rattle.store_columns.specs.Limits.{AreStored, IsStoredAccount, IsStoredAutho
 use Rattle.store_columns.specs.Limits.{IsStoredMeta, IsStoredNonce, IsStoredOrder}
 use Rattle.desk_model.specs.Facts.{ending_text, end_kind_text, outcome_text}
 use Rattle.store_columns.specs.Spelling.{contacts_text, problem_text}
-use Rattle.store_columns.proofs.JsonTexts.{read-contacts_text}
-use Rattle.store_columns.proofs.ProblemTexts.{spelled}
+use Rattle.store_columns.proofs.{JsonTexts.read-contacts_text, ProblemTexts.spelled}
 use Rattle.desk_model.specs.Document.{account_status_text, authorization_status_text, challenge_status_text, kind_text, order_status_text}
 use Rattle.store_columns.proofs.SpellingApart.{account_statuses, authorization_statuses, challenge_statuses, end_kinds, endings, kinds}
 use Rattle.store_columns.proofs.SpellingApart.{order_statuses, outcomes, told_apart, wildcard_column-apart}

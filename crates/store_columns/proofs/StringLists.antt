@@ -1,8 +1,7 @@
 -- The texts of a list of strings, and the list that they are.
 use Rattle.std.proofs.Common.{◌≡◌, ℕ, List, [], ◌∷◌, map, Option, Some, None, refl, sym, ap, ◌∙◌}
 use Rattle.serde_json.specs.Data.{Data, null, boolean, number, string, array, object, Items, no_items, item}
-use Rattle.serde_json.specs.Find.{as_str}
-use Rattle.serde_json.specs.View.{items_of}
+use Rattle.serde_json.specs.{Find.as_str, View.items_of}
 use Rattle.desk_model.specs.Json.{list}
 use Rattle.desk_model.specs.Payload.{and_each, each_in, texts_in}
 use Rattle.store_columns.specs.Reading.{IsRead, Unlimited}

@@ -1,10 +1,8 @@
 -- Each TEXT column of rows that hold texts is UTF-8.
-use Rattle.std.proofs.Common.{ℕ, List, [], ◌∷◌, map, Option, Some, None, option_map, Bool, false, IsUtf8, IfSome, subst, refl}
-use Rattle.std.proofs.Common.{◌≡◌, true, cond}
+use Rattle.std.proofs.Common.{ℕ, List, [], ◌∷◌, map, Option, Some, None, option_map, Bool, false, IsUtf8, IfSome, subst, refl, ◌≡◌, true, cond}
 use Rattle.std.specs.List.{list_all}
 use Rattle.std.specs.Prelude.{bytes_eq, codes}
-use Rattle.std.proofs.lemmas.Bool.{and_parts}
-use Rattle.std.proofs.lemmas.Option.{same_Some}
+use Rattle.std.proofs.lemmas.{Bool.and_parts, Option.same_Some}
 use Rattle.store_columns.proofs.SpellingApart.{AreSpelled, found_by, account_statuses, authorization_statuses, challenge_statuses}
 use Rattle.store_columns.proofs.SpellingApart.{end_kinds, endings, kinds, order_statuses, outcomes}
 use Rattle.std.proofs.lemmas.Str.{IsUtf8-append, IsUtf8-nil}
@@ -17,22 +15,16 @@ use Rattle.serde_json.specs.View.{items_of}
 use Rattle.serde_json.specs.Written.{compact_text, items_outline, outline}
 use Rattle.serde_json.proofs.Texts.{print-outline}
 use Rattle.desk_model.specs.Document.{account_status_text, authorization_status_text, challenge_status_text, kind_text, order_status_text}
-use Rattle.desk_model.specs.Json.{list}
-use Rattle.desk_model.specs.Kept.{EachOf}
+use Rattle.desk_model.specs.{Json.list, Kept.EachOf}
 use Rattle.desk_model.specs.Texts.{AreTexts, HoldsTextAccount, HoldsTextAuthorization, HoldsTextMeta, HoldsTextOrder, IsTextProblem}
-use Rattle.desk_model.specs.declared.call.OrderProblem.{OrderProblem}
-use Rattle.desk_model.specs.declared.rows.AccountRow.{AccountRow}
-use Rattle.desk_model.specs.declared.rows.AuthorizationRow.{AuthorizationRow}
-use Rattle.desk_model.specs.declared.rows.DatedProblem.{DatedProblem}
-use Rattle.desk_model.specs.declared.rows.OrderRow.{OrderRow}
+use Rattle.desk_model.specs.declared.{call.OrderProblem.OrderProblem, rows.AccountRow.AccountRow, rows.AuthorizationRow.AuthorizationRow}
+use Rattle.desk_model.specs.declared.{rows.DatedProblem.DatedProblem, rows.OrderRow.OrderRow}
 use Rattle.store_columns.specs.Columns.{account_columns, authorization_columns, challenge_columns, meta_columns, order_columns, rows_columns}
 use Rattle.store_columns.specs.Laws.{TextsAreWritten}
 use Rattle.desk_model.specs.Facts.{ending_text, end_kind_text, outcome_text}
 use Rattle.store_columns.specs.Spelling.{contacts_text, problem_document, problem_text}
 use Rattle.store_columns.specs.TextColumns.{HasTextAccount, HasTextAuthorization, HasTextChallenge, HasTextMeta, HasTextOrder, ColumnsAreTexts, RowsHoldTexts}
-use Rattle.store_columns.specs.declared.flat_rows.BareChallenge.{BareChallenge}
-use Rattle.store_columns.specs.declared.flat_rows.FlatRows.{FlatRows}
-use Rattle.store_columns.specs.declared.flat_rows.Owned.{Owned}
+use Rattle.store_columns.specs.declared.flat_rows.{BareChallenge.BareChallenge, FlatRows.FlatRows, Owned.Owned}
 
 -- ---- JSON
 

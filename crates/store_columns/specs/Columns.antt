@@ -3,31 +3,15 @@
 use Rattle.std.specs.Prelude.{ℕ, ℤ, pos, List, map, Bool, if◌then◌else◌, Option, option_map}
 use Rattle.desk_model.specs.Document.{account_status_text, authorization_status_text, challenge_status_text, kind_text, order_status_text}
 use Rattle.desk_model.specs.Facts.{ending_text, end_kind_text, outcome_text}
-use Rattle.desk_model.specs.declared.objects.AccountEnd.{AccountEnd}
-use Rattle.desk_model.specs.declared.objects.AuthorizationEnd.{AuthorizationEnd}
-use Rattle.desk_model.specs.declared.objects.Nonce.{Nonce}
-use Rattle.desk_model.specs.declared.objects.Report.{Report}
-use Rattle.desk_model.specs.declared.rows.AccountRow.{AccountRow}
-use Rattle.desk_model.specs.declared.rows.AuthorizationRow.{AuthorizationRow}
-use Rattle.desk_model.specs.declared.rows.DatedBytes.{DatedBytes}
-use Rattle.desk_model.specs.declared.rows.DatedProblem.{DatedProblem}
-use Rattle.desk_model.specs.declared.rows.Listed.{Listed}
-use Rattle.desk_model.specs.declared.rows.Meta.{Meta}
-use Rattle.desk_model.specs.declared.rows.OrderRow.{OrderRow}
+use Rattle.desk_model.specs.declared.{objects.AccountEnd.AccountEnd, objects.AuthorizationEnd.AuthorizationEnd, objects.Nonce.Nonce, objects.Report.Report}
+use Rattle.desk_model.specs.declared.{rows.AccountRow.AccountRow, rows.AuthorizationRow.AuthorizationRow, rows.DatedBytes.DatedBytes}
+use Rattle.desk_model.specs.declared.{rows.DatedProblem.DatedProblem, rows.Listed.Listed, rows.Meta.Meta, rows.OrderRow.OrderRow}
 use Rattle.store_columns.specs.Spelling.{contacts_text, problem_text}
-use Rattle.store_columns.specs.declared.columns.AccountColumns.{AccountColumns}
-use Rattle.store_columns.specs.declared.columns.AuthzColumns.{AuthzColumns}
-use Rattle.store_columns.specs.declared.columns.ChallColumns.{ChallColumns}
-use Rattle.store_columns.specs.declared.columns.ChallKeyColumns.{ChallKeyColumns}
-use Rattle.store_columns.specs.declared.columns.MetaColumns.{MetaColumns}
-use Rattle.store_columns.specs.declared.columns.NonceColumns.{NonceColumns}
-use Rattle.store_columns.specs.declared.columns.OrderAuthzColumns.{OrderAuthzColumns}
-use Rattle.store_columns.specs.declared.columns.OrderColumns.{OrderColumns}
-use Rattle.store_columns.specs.declared.columns.StoredRows.{StoredRows}
-use Rattle.store_columns.specs.declared.flat_rows.AnswerKey.{AnswerKey}
-use Rattle.store_columns.specs.declared.flat_rows.BareChallenge.{BareChallenge}
-use Rattle.store_columns.specs.declared.flat_rows.FlatRows.{FlatRows}
-use Rattle.store_columns.specs.declared.flat_rows.Owned.{Owned}
+use Rattle.store_columns.specs.declared.{columns.AccountColumns.AccountColumns, columns.AuthzColumns.AuthzColumns, columns.ChallColumns.ChallColumns}
+use Rattle.store_columns.specs.declared.{columns.ChallKeyColumns.ChallKeyColumns, columns.MetaColumns.MetaColumns, columns.NonceColumns.NonceColumns}
+use Rattle.store_columns.specs.declared.{columns.OrderAuthzColumns.OrderAuthzColumns, columns.OrderColumns.OrderColumns, columns.StoredRows.StoredRows}
+use Rattle.store_columns.specs.declared.{flat_rows.AnswerKey.AnswerKey, flat_rows.BareChallenge.BareChallenge, flat_rows.FlatRows.FlatRows}
+use Rattle.store_columns.specs.declared.{flat_rows.Owned.Owned}
 
 -- ---- the columns of one fact
 

@@ -1,27 +1,11 @@
 -- What a stored row keeps: its numbers are in their limits, and its texts have their forms.
 use Rattle.std.specs.Prelude.{◌≡◌, ◌≤◌, ℕ, List, [], length, Option, None, Some, ⊤, IsTrue}
-use Rattle.desk_model.specs.Legal.{is_problem_kind}
+use Rattle.desk_model.specs.{Legal.is_problem_kind, Terms.are_terms, Keys.IsKeyText, Kept.EachOf, BaseName.is_base_name}
 use Rattle.desk_model.specs.Limits.{last_end, last_moment, last_number}
-use Rattle.desk_model.specs.Terms.{are_terms}
-use Rattle.desk_model.specs.Keys.{IsKeyText}
-use Rattle.desk_model.specs.Kept.{EachOf}
-use Rattle.desk_model.specs.BaseName.{is_base_name}
-use Rattle.desk_model.specs.declared.call.OrderProblem.{OrderProblem}
-use Rattle.desk_model.specs.declared.objects.AccountEnd.{AccountEnd}
-use Rattle.desk_model.specs.declared.objects.AuthorizationEnd.{AuthorizationEnd}
-use Rattle.desk_model.specs.declared.objects.Nonce.{Nonce}
-use Rattle.desk_model.specs.declared.objects.Report.{Report}
-use Rattle.desk_model.specs.declared.rows.AccountRow.{AccountRow}
-use Rattle.desk_model.specs.declared.rows.AuthorizationRow.{AuthorizationRow}
-use Rattle.desk_model.specs.declared.rows.DatedBytes.{DatedBytes}
-use Rattle.desk_model.specs.declared.rows.DatedProblem.{DatedProblem}
-use Rattle.desk_model.specs.declared.rows.Listed.{Listed}
-use Rattle.desk_model.specs.declared.rows.Meta.{Meta}
-use Rattle.desk_model.specs.declared.rows.OrderRow.{OrderRow}
-use Rattle.store_columns.specs.declared.flat_rows.AnswerKey.{AnswerKey}
-use Rattle.store_columns.specs.declared.flat_rows.BareChallenge.{BareChallenge}
-use Rattle.store_columns.specs.declared.flat_rows.FlatRows.{FlatRows}
-use Rattle.store_columns.specs.declared.flat_rows.Owned.{Owned}
+use Rattle.desk_model.specs.declared.{call.OrderProblem.OrderProblem, objects.AccountEnd.AccountEnd, objects.AuthorizationEnd.AuthorizationEnd}
+use Rattle.desk_model.specs.declared.{objects.Nonce.Nonce, objects.Report.Report, rows.AccountRow.AccountRow, rows.AuthorizationRow.AuthorizationRow}
+use Rattle.desk_model.specs.declared.{rows.DatedBytes.DatedBytes, rows.DatedProblem.DatedProblem, rows.Listed.Listed, rows.Meta.Meta, rows.OrderRow.OrderRow}
+use Rattle.store_columns.specs.declared.flat_rows.{AnswerKey.AnswerKey, BareChallenge.BareChallenge, FlatRows.FlatRows, Owned.Owned}
 
 -- the number of an object
 abbrev pub IsNumber : ℕ → Type 0

@@ -1,16 +1,12 @@
 -- The parts of rows that are read first, over columns that are lent.
 use Rattle.std.specs.Prelude.{◌≡◌, ◌≢◌, Option, None, Some, pos}
-use Rattle.desk_model.specs.declared.rows.AccountRow.{AccountRow}
-use Rattle.desk_model.specs.declared.rows.AuthorizationRow.{AuthorizationRow}
+use Rattle.desk_model.specs.declared.rows.{AccountRow.AccountRow, AuthorizationRow.AuthorizationRow}
 use Rattle.desk_model.specs.Document.{account_status_text, authorization_status_text, order_status_text}
 use Rattle.store_columns.specs.Columns.{account_columns, account_end_columns, authorization_columns, authorization_end_columns, wildcard_column}
 use Rattle.store_columns.specs.Limits.{IfRecorded, IsAccountEnd, IsAuthorizationEnd, IsExpiry, IsMoment, IsNumber, IsStoredAccount, IsStoredAuthorization}
-use Rattle.store_columns.specs.declared.accounts.AccountHead.{AccountHead}
-use Rattle.store_columns.specs.declared.authorizations.AuthorizationHead.{AuthorizationHead}
-use Rattle.store_columns.specs.declared.columns.AccountColumns.{AccountColumns}
-use Rattle.store_columns.specs.declared.columns.AuthzColumns.{AuthzColumns}
-use Rattle.store_columns.specs.declared.columns.OrderColumns.{OrderColumns}
-use Rattle.store_columns.specs.declared.orders.OrderHead.{OrderHead}
+use Rattle.store_columns.specs.declared.{accounts.AccountHead.AccountHead, authorizations.AuthorizationHead.AuthorizationHead}
+use Rattle.store_columns.specs.declared.{columns.AccountColumns.AccountColumns, columns.AuthzColumns.AuthzColumns, columns.OrderColumns.OrderColumns}
+use Rattle.store_columns.specs.declared.{orders.OrderHead.OrderHead}
 
 -- the columns of an account hold these
 pub record IsAccountHead (columns : AccountColumns) (head : AccountHead) : Type 0 where

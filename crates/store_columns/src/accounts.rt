@@ -1,10 +1,7 @@
 //! Rows of the table `account`.
 ghost use Rattle.std.specs.Prelude.{◌≡◌, IfOk};
-ghost use Rattle.store_columns.specs.Columns.{account_columns};
-ghost use Rattle.store_columns.specs.Limits.{IsStoredAccount};
+ghost use Rattle.store_columns.specs.{Columns.account_columns, Limits.IsStoredAccount, RowHeads.IsAccountHeadRead, Spelling.contacts_text};
 ghost use Rattle.store_columns.specs.Reading.{IsRead, Unlimited};
-ghost use Rattle.store_columns.specs.RowHeads.{IsAccountHeadRead};
-ghost use Rattle.store_columns.specs.Spelling.{contacts_text};
 ghost use Rattle.store_columns.specs.declared.columns.AccountColumns.{AccountColumns as ColumnsOf};
 
 use crate::columns::AccountColumns;

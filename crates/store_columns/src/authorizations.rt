@@ -1,9 +1,6 @@
 //! Rows of the table `authz`.
 ghost use Rattle.std.specs.Prelude.{◌≡◌};
-ghost use Rattle.store_columns.specs.Columns.{authorization_columns};
-ghost use Rattle.store_columns.specs.Limits.{IsStoredAuthorization};
-ghost use Rattle.store_columns.specs.Reading.{IsRead};
-ghost use Rattle.store_columns.specs.RowHeads.{IsAuthorizationHeadRead};
+ghost use Rattle.store_columns.specs.{Columns.authorization_columns, Limits.IsStoredAuthorization, Reading.IsRead, RowHeads.IsAuthorizationHeadRead};
 ghost use Rattle.store_columns.specs.declared.columns.AuthzColumns.{AuthzColumns as ColumnsOf};
 
 use crate::columns::AuthzColumns;

@@ -1,7 +1,6 @@
 //! The column `contacts`: a compact JSON list of strings.
 ghost use Rattle.std.specs.Prelude.{◌≡◌, [], ◌∷◌, Some, IfOk};
-ghost use Rattle.serde_json.specs.Read.{read};
-ghost use Rattle.serde_json.specs.View.{view};
+ghost use Rattle.serde_json.specs.{Read.read, View.view};
 ghost use Rattle.store_columns.specs.Reading.{IsRead, Unlimited};
 ghost use Rattle.store_columns.specs.Spelling.{contacts_text};
 

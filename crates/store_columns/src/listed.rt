@@ -1,7 +1,5 @@
 //! Rows of the table `ord_authz`.
-ghost use Rattle.store_columns.specs.Columns.{listed_columns};
-ghost use Rattle.store_columns.specs.Limits.{IsStoredListed};
-ghost use Rattle.store_columns.specs.Reading.{IsRead};
+ghost use Rattle.store_columns.specs.{Columns.listed_columns, Limits.IsStoredListed, Reading.IsRead};
 
 use crate::columns::OrderAuthzColumns;
 use crate::flat_rows::Owned;

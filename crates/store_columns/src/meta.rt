@@ -2,9 +2,8 @@
 ghost use Rattle.std.specs.Prelude.{◌≡◌, ◌≢◌, ◌↔◌, pos, IfOk, IsTrue, MatchOption};
 ghost use Rattle.desk_model.specs.declared.rows.Meta.{Meta as MetaRow};
 ghost use Rattle.store_columns.specs.Columns.{known_format, meta_columns};
-ghost use Rattle.store_columns.specs.Limits.{IsStoredMeta};
+ghost use Rattle.store_columns.specs.{Limits.IsStoredMeta, Reading.IsRead};
 ghost use Rattle.store_columns.specs.MetaParts.{AreCounters, IsPolicy};
-ghost use Rattle.store_columns.specs.Reading.{IsRead};
 
 use crate::columns::{FORMAT, MetaColumns};
 use crate::numbers::{read_counter, read_moment, read_natural};

@@ -1,7 +1,5 @@
 //! Rows of the table `nonce`.
-ghost use Rattle.store_columns.specs.Columns.{nonce_columns};
-ghost use Rattle.store_columns.specs.Limits.{IsStoredNonce};
-ghost use Rattle.store_columns.specs.Reading.{IsRead};
+ghost use Rattle.store_columns.specs.{Columns.nonce_columns, Limits.IsStoredNonce, Reading.IsRead};
 
 use crate::columns::NonceColumns;
 use crate::facts::read_sixteen;

@@ -1,11 +1,9 @@
 //! Rows of the table `ord`.
 ghost use Rattle.std.specs.Prelude.{◌≡◌, ◌≢◌, Option, Some, MatchOption};
-ghost use Rattle.desk_model.specs.declared.rows.DatedBytes.{DatedBytes as Bytes};
-ghost use Rattle.desk_model.specs.declared.rows.OrderRow.{OrderRow as Row};
+ghost use Rattle.desk_model.specs.declared.rows.{DatedBytes.DatedBytes as Bytes, OrderRow.OrderRow as Row};
 ghost use Rattle.store_columns.specs.Columns.{dated_bytes_columns, dated_problem_columns, order_columns};
 ghost use Rattle.store_columns.specs.Limits.{AreDatedBytes, IfRecorded, IsDatedProblem, IsStoredOrder};
-ghost use Rattle.store_columns.specs.Reading.{IsRead};
-ghost use Rattle.store_columns.specs.RowHeads.{IsOrderHead};
+ghost use Rattle.store_columns.specs.{Reading.IsRead, RowHeads.IsOrderHead};
 
 use crate::columns::OrderColumns;
 use crate::facts::{read_dated_bytes, read_dated_problem};

@@ -1,8 +1,7 @@
 //! The column `problem`: a compact JSON object of a detail and a type.
 ghost use Rattle.std.specs.Prelude.{◌≡◌, ◌↔◌, string_bytes, IfOk, IsTrue};
 ghost use Rattle.serde_json.specs.View.{view};
-ghost use Rattle.store_columns.specs.Limits.{IsProblem};
-ghost use Rattle.store_columns.specs.Reading.{IsRead};
+ghost use Rattle.store_columns.specs.{Limits.IsProblem, Reading.IsRead};
 ghost use Rattle.store_columns.specs.Spelling.{problem_document, problem_text};
 
 use desk_model::{OrderProblem, is_same_text};

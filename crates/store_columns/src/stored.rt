@@ -1,9 +1,7 @@
 //! The rows of all tables.
 ghost use Rattle.std.specs.Prelude.{IfOk, map};
 ghost use Rattle.desk_model.specs.Kept.{EachOf};
-ghost use Rattle.store_columns.specs.Columns.{rows_columns};
-ghost use Rattle.store_columns.specs.Limits.{AreStored};
-ghost use Rattle.store_columns.specs.Reading.{IsRead};
+ghost use Rattle.store_columns.specs.{Columns.rows_columns, Limits.AreStored, Reading.IsRead};
 
 use crate::columns::StoredRows;
 use crate::flat_rows::FlatRows;

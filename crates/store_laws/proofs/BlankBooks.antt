@@ -5,20 +5,12 @@ use Rattle.std.proofs.Common.{◌≡◌, ℕ, ◌++◌, List, [], ◌∷◌, map
 use Rattle.std.proofs.lemmas.List.{map-append}
 use Rattle.store_columns.specs.Flat.{bare_row, challenge_rows, flat, key_rows, owned_by, without_challenges}
 use Rattle.store_columns.specs.Limits.{AreStored, IsStoredAuthorization, IsStoredChallenge, IsStoredKey}
-use Rattle.store_columns.specs.declared.flat_rows.AnswerKey.{AnswerKey}
-use Rattle.store_columns.specs.declared.flat_rows.BareChallenge.{BareChallenge}
-use Rattle.store_columns.specs.declared.flat_rows.Owned.{Owned}
+use Rattle.store_columns.specs.declared.flat_rows.{AnswerKey.AnswerKey, BareChallenge.BareChallenge, Owned.Owned}
 use Rattle.model_laws.proofs.Basics.{each, each-map, find-map}
-use Rattle.model_laws.proofs.Distinctness.{distinct-map}
-use Rattle.model_laws.proofs.Recorded.{below_map}
-use Rattle.model_laws.proofs.RowLists.{ascends_map}
+use Rattle.model_laws.proofs.{Distinctness.distinct-map, Recorded.below_map, RowLists.ascends_map}
 use Rattle.model_laws.specs.Distinct.{Distinct}
-use Rattle.desk_model.specs.Kept.{EachOf}
-use Rattle.desk_model.specs.Questions.{authorization_on}
-use Rattle.desk_model.specs.Tables.{Tables}
-use Rattle.desk_model.specs.declared.objects.Answer.{Answer}
-use Rattle.desk_model.specs.declared.rows.AuthorizationRow.{AuthorizationRow}
-use Rattle.desk_model.specs.declared.rows.ChallengeRow.{ChallengeRow}
+use Rattle.desk_model.specs.{Kept.EachOf, Questions.authorization_on, Tables.Tables}
+use Rattle.desk_model.specs.declared.{objects.Answer.Answer, rows.AuthorizationRow.AuthorizationRow, rows.ChallengeRow.ChallengeRow}
 use Rattle.store_laws.specs.Blank.{BlankBooks, blank, blank_answer, blank_authorization, blank_challenge, zeros}
 use Rattle.store_book.specs.FaultNumbers.{challenges_of}
 use Rattle.store_book.specs.IsBook.{AreInOrder, HaveReferences, IsBook, KeepCounters}

@@ -3,26 +3,17 @@ use Rattle.std.proofs.Common.{◌≤◌, ◌<◌, ℕ, ◌+◌, List, [], ◌∷
 use Rattle.std.specs.Prelude.{◌==◌, IsSome, find}
 use Rattle.std.specs.List.{flat_map}
 use Rattle.model_laws.proofs.Basics.{each, each-map, each_all}
-use Rattle.model_laws.proofs.Keeps.{row_keys_differ}
+use Rattle.model_laws.proofs.{Keeps.row_keys_differ, RowLists.ascends_from, Distinctness.ascends_distinct}
 use Rattle.model_laws.proofs.Numbers.{AreNumbered, challenges_count}
-use Rattle.model_laws.proofs.OrderFacts.{IsFound, listed_found}
+use Rattle.model_laws.proofs.OrderFacts.{IsFound, listed_found, places_ascend}
 use Rattle.model_laws.proofs.Recorded.{below_map, challenges_ordered, numbered_below, tables_ordered}
 use Rattle.model_laws.proofs.References.{authorizations_have_accounts, orders_have_accounts}
-use Rattle.model_laws.proofs.RowLists.{ascends_from}
 use Rattle.model_laws.specs.Ordered.{Ascends, Below}
-use Rattle.desk_model.specs.Account.{accounts}
+use Rattle.desk_model.specs.{Account.accounts, Entry.History, Kept.EachOf, Legal.EachFollows, Order.orders}
 use Rattle.desk_model.specs.Authorization.{authorizations, count_challenges}
-use Rattle.desk_model.specs.Entry.{History}
-use Rattle.desk_model.specs.Kept.{EachOf}
-use Rattle.desk_model.specs.Legal.{EachFollows}
-use Rattle.desk_model.specs.Order.{orders}
 use Rattle.desk_model.specs.Tables.{account_row, authorization_row, challenge_row, listed_from, order_row, tables_at}
-use Rattle.desk_model.specs.declared.objects.Authorization.{Authorization}
-use Rattle.desk_model.specs.declared.rows.AuthorizationRow.{AuthorizationRow}
-use Rattle.desk_model.specs.declared.rows.ChallengeRow.{ChallengeRow}
+use Rattle.desk_model.specs.declared.{objects.Authorization.Authorization, rows.AuthorizationRow.AuthorizationRow, rows.ChallengeRow.ChallengeRow}
 use Rattle.store_book.specs.IsBook.{AreInOrder, HaveReferences, IsBook, KeepCounters}
-use Rattle.model_laws.proofs.Distinctness.{ascends_distinct}
-use Rattle.model_laws.proofs.OrderFacts.{places_ascend}
 
 -- ---- in order
 

@@ -11,13 +11,9 @@ use Rattle.store_columns.specs.Columns.{nonce_columns, order_columns, rows_colum
 use Rattle.store_columns.specs.Limits.{AreStored, IsStoredAccount, IsStoredAuthorization, IsStoredChallenge, IsStoredKey, IsStoredListed}
 use Rattle.store_columns.specs.Limits.{IsStoredMeta, IsStoredNonce, IsStoredOrder}
 use Rattle.store_columns.specs.declared.columns.StoredRows.{StoredRows}
-use Rattle.desk_model.specs.Entry.{History}
-use Rattle.desk_model.specs.History.{clock}
-use Rattle.desk_model.specs.Kept.{EachOf}
-use Rattle.desk_model.specs.Legal.{Legal}
+use Rattle.desk_model.specs.{Entry.History, History.clock, Kept.EachOf, Legal.Legal}
 use Rattle.desk_model.specs.Tables.{picture, Tables}
-use Rattle.store_laws.proofs.Books.{tables_book}
-use Rattle.store_laws.proofs.Rows.{picture_stored}
+use Rattle.store_laws.proofs.{Books.tables_book, Rows.picture_stored}
 use Rattle.store_laws.specs.Told.{AreReorderedColumns, IsOnlyBookOf}
 use Rattle.store_book.proofs.SoundBooks.{same-books, stored-told}
 use Rattle.store_columns.specs.Flat.{flat}

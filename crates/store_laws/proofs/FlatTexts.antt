@@ -1,13 +1,10 @@
 -- The rows of tables that hold texts hold them table by table, and so do their columns.
-use Rattle.desk_model.specs.Texts.{HoldTexts}
-use Rattle.model_laws.proofs.Basics.{each-map}
+use Rattle.desk_model.specs.{Texts.HoldTexts, History.clock}
+use Rattle.model_laws.proofs.{Basics.each-map, TextFacts.hold_texts}
 use Rattle.store_columns.specs.TextColumns.{RowsHoldTexts}
 use Rattle.store_columns.proofs.Utf8Columns.{texts_are_written}
-use Rattle.model_laws.proofs.TextFacts.{hold_texts}
-use Rattle.desk_model.specs.History.{clock}
 use Rattle.desk_model.specs.Tables.{Tables, tables_at}
-use Rattle.store_laws.proofs.Books.{tables_book}
-use Rattle.store_laws.proofs.Rows.{picture_stored}
+use Rattle.store_laws.proofs.{Books.tables_book, Rows.picture_stored}
 use Rattle.store_laws.specs.Laws.{PicturesAreStoredBooks, TablesAreTexts}
 use Rattle.store_columns.specs.Flat.{flat, without_challenges, without_listed}
 

@@ -4,26 +4,18 @@ use Rattle.std.specs.Prelude.{◌&&◌}
 use Rattle.std.proofs.lemmas.Bool.{and_parts}
 use Rattle.store_columns.specs.Limits.{IsNumber, IsStoredAccount, IsStoredMeta, IsStoredNonce}
 use Rattle.model_laws.proofs.Basics.{each, each_parts, each-append, each-map, each_after}
-use Rattle.model_laws.proofs.Beginnings.{legal_between}
-use Rattle.model_laws.proofs.Dates.{clock_in_time}
-use Rattle.model_laws.proofs.Keeps.{each-filter}
+use Rattle.model_laws.proofs.{Beginnings.legal_between, Dates.clock_in_time, Keeps.each-filter}
 use Rattle.model_laws.proofs.PutsDiffer.{each_change, each_sweep}
 use Rattle.model_laws.proofs.Step.{picture_more, step, sweep}
 use Rattle.desk_model.specs.Change.{account_differs, all_changes, authorization_differs, changes, moved_rows, order_differs}
 use Rattle.desk_model.specs.Change.{recorded_changes, spent_by, sweep_changes}
 use Rattle.desk_model.specs.Derived.{restated_authorization, restated_order}
-use Rattle.desk_model.specs.Effect.{authorizations_after, effect, effects, falls, is_overdue, lasts, not_spent, noted_account}
-use Rattle.desk_model.specs.Effect.{noted_authorization, noted_order, swept, touches_account, touches_authorization}
-use Rattle.desk_model.specs.Effect.{touches_order}
-use Rattle.desk_model.specs.Entry.{History}
+use Rattle.desk_model.specs.Effect.{authorizations_after, effect, effects, falls, is_overdue, lasts, not_spent, noted_account, noted_authorization, noted_order}
+use Rattle.desk_model.specs.Effect.{swept, touches_account, touches_authorization, touches_order}
+use Rattle.desk_model.specs.{Entry.History, Kept.EachOf, Legal.Legal, Limits.last_moment}
 use Rattle.desk_model.specs.History.{clock, record_all}
-use Rattle.desk_model.specs.Kept.{EachOf}
-use Rattle.desk_model.specs.Legal.{Legal}
-use Rattle.desk_model.specs.Limits.{last_moment}
 use Rattle.desk_model.specs.Tables.{picture, Tables, tables_at}
-use Rattle.desk_model.specs.declared.entry.Entry.{Entry}
-use Rattle.desk_model.specs.declared.rows.AuthorizationRow.{AuthorizationRow}
-use Rattle.desk_model.specs.declared.rows.OrderRow.{OrderRow}
+use Rattle.desk_model.specs.declared.{entry.Entry.Entry, rows.AuthorizationRow.AuthorizationRow, rows.OrderRow.OrderRow}
 use Rattle.desk_model.specs.declared.status.AuthzStatus.TheVariants as authz
 use Rattle.desk_model.specs.declared.status.OrderStatus.TheVariants as order
 use Rattle.store_laws.proofs.Rows.{spent_in_limits, tables_in_limits}

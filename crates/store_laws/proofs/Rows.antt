@@ -8,37 +8,25 @@ use Rattle.std.proofs.lemmas.Bool.{and_parts, eqb-true}
 use Rattle.store_columns.specs.Limits.{AreStored, IfRecorded, IsDatedProblem, IsMoment, IsNumber, IsStoredAccount}
 use Rattle.store_columns.specs.Limits.{IsStoredChallenge, IsStoredKey, IsStoredListed, IsStoredMeta, IsStoredNonce}
 use Rattle.store_columns.specs.declared.flat_rows.Owned.{Owned}
-use Rattle.desk_model.specs.Account.{account_key}
-use Rattle.desk_model.specs.declared.objects.Answer.{Answer}
-use Rattle.model_laws.proofs.Basics.{each, each-append, each-map, each_all, each_both}
+use Rattle.desk_model.specs.{Account.account_key, BaseName.is_base_name, Change.spent_by, Entry.History, Order.orders}
+use Rattle.desk_model.specs.declared.{objects.Answer.Answer, entry.Entry.Entry, entry.Entry.TheVariants.Spent as spent, rows.AuthorizationRow.AuthorizationRow}
+use Rattle.desk_model.specs.declared.{rows.ChallengeRow.ChallengeRow, rows.DatedProblem.DatedProblem, rows.Listed.Listed, rows.OrderRow.OrderRow}
+use Rattle.model_laws.proofs.Basics.{each, each-append, each-map, each_all, each_both, there}
 use Rattle.model_laws.proofs.Dates.{clock_in_time, no_date_later}
 use Rattle.model_laws.proofs.Forms.{HasTokens, nonces_drawn, problem_formed, tokens_drawn}
 use Rattle.model_laws.proofs.Keeps.{all_end, counters_fit, each-filter, row_keys_formed, row_names_formed, terms_in_limits}
-use Rattle.model_laws.proofs.Numbers.{nonces_numbered}
-use Rattle.model_laws.proofs.Recorded.{numbered_below}
-use Rattle.model_laws.proofs.Basics.{there}
+use Rattle.model_laws.proofs.{Numbers.nonces_numbered, Recorded.numbered_below}
 use Rattle.model_laws.proofs.RowLists.{ascends_above, numbered_ascends}
 use Rattle.model_laws.specs.DateLaws.{IsAuthorizationDatedBy, IsChallengeDatedBy, IsOrderDatedBy}
 use Rattle.model_laws.specs.Ordered.{Ascends, Below}
 use Rattle.desk_model.specs.Authorization.{answer, answer_by, answering, authorizations}
-use Rattle.desk_model.specs.BaseName.{is_base_name}
-use Rattle.desk_model.specs.Change.{spent_by}
-use Rattle.desk_model.specs.Entry.{History}
 use Rattle.desk_model.specs.History.{clock, earlier}
 use Rattle.desk_model.specs.Kept.{EachOf, Kept, restricted}
 use Rattle.desk_model.specs.Legal.{has_length, is_problem, is_problem_kind, Legal, may_follow}
 use Rattle.desk_model.specs.Limits.{last_end, last_moment, last_number, longest_detail}
 use Rattle.desk_model.specs.Nonce.{is_open, nonce, nonces}
-use Rattle.desk_model.specs.Order.{orders}
 use Rattle.desk_model.specs.Questions.{account_on, authorization_on}
 use Rattle.desk_model.specs.Tables.{authorization_row, challenge_row, order_row, picture, Tables, tables_at}
-use Rattle.desk_model.specs.declared.entry.Entry.{Entry}
-use Rattle.desk_model.specs.declared.entry.Entry.TheVariants.{Spent as spent}
-use Rattle.desk_model.specs.declared.rows.AuthorizationRow.{AuthorizationRow}
-use Rattle.desk_model.specs.declared.rows.ChallengeRow.{ChallengeRow}
-use Rattle.desk_model.specs.declared.rows.DatedProblem.{DatedProblem}
-use Rattle.desk_model.specs.declared.rows.Listed.{Listed}
-use Rattle.desk_model.specs.declared.rows.OrderRow.{OrderRow}
 use Rattle.store_laws.proofs.Books.{tables_book}
 use Rattle.store_laws.specs.InLimits.{AreInLimits, IsAuthorizationInLimits, IsOrderInLimits}
 use Rattle.store_columns.specs.Flat.{answer_key, bare_row, challenge_rows, flat, key_rows, owned_by, without_challenges, without_listed}

@@ -1,11 +1,8 @@
 -- Tables whose answers tell no keys: what the rows of a file of format 1 make, where the keys of answers are zeros.
 use Rattle.std.specs.Prelude.{◌≡◌, ℕ, List, map, option_map, replicate}
-use Rattle.store_columns.specs.Flat.{flat}
-use Rattle.store_columns.specs.Limits.{AreStored}
+use Rattle.store_columns.specs.{Flat.flat, Limits.AreStored}
 use Rattle.desk_model.specs.Tables.{Tables}
-use Rattle.desk_model.specs.declared.objects.Answer.{Answer}
-use Rattle.desk_model.specs.declared.rows.AuthorizationRow.{AuthorizationRow}
-use Rattle.desk_model.specs.declared.rows.ChallengeRow.{ChallengeRow}
+use Rattle.desk_model.specs.declared.{objects.Answer.Answer, rows.AuthorizationRow.AuthorizationRow, rows.ChallengeRow.ChallengeRow}
 use Rattle.store_book.specs.IsBook.{IsBook}
 
 -- in the place of a thumbprint

@@ -1,12 +1,9 @@
 -- Rows in the limits of their columns, each with the rows that belong to it, and changes that put such rows.
 use Rattle.store_columns.specs.Limits.{IsNumber, IsStoredAccount, IsStoredAuthorization, IsStoredChallenge, IsStoredKey, IsStoredListed}
 use Rattle.store_columns.specs.Limits.{IsStoredMeta, IsStoredNonce, IsStoredOrder}
-use Rattle.desk_model.specs.Kept.{EachOf}
-use Rattle.desk_model.specs.Tables.{Tables}
-use Rattle.desk_model.specs.declared.rows.AuthorizationRow.{AuthorizationRow}
-use Rattle.desk_model.specs.declared.rows.Change.{Change}
+use Rattle.desk_model.specs.{Kept.EachOf, Tables.Tables}
+use Rattle.desk_model.specs.declared.rows.{AuthorizationRow.AuthorizationRow, Change.Change, OrderRow.OrderRow}
 use Rattle.desk_model.specs.declared.rows.Change.TheVariants.{PutMeta, PutNonce, RemoveNonce, PutAccount, PutAuthorization, PutOrder}
-use Rattle.desk_model.specs.declared.rows.OrderRow.{OrderRow}
 use Rattle.store_columns.specs.Flat.{bare_row, key_rows, owned_by, without_challenges, without_listed}
 
 -- an authorization, its challenges, and the keys of their answers

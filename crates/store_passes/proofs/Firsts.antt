@@ -1,10 +1,9 @@
 -- The first of the rows that were looked up.
 use Rattle.std.proofs.Common.{◌≡◌, ℕ, List, [], ◌∷◌, Some, None, Bool, true, false, cond, refl, sym, ap, ◌∙◌, filter, map}
-use Rattle.std.specs.Prelude.{find, slice_get, ◌==◌}
+use Rattle.std.specs.Prelude.{find, slice_get, ◌==◌, Option}
 use Rattle.desk_model.specs.Derived.{and_status, authorization_numbered, stored_statuses}
 use Rattle.desk_model.specs.Document.{and_row, rows_of}
 use Rattle.desk_model.specs.declared.rows.AuthorizationRow.{AuthorizationRow}
-use Rattle.std.specs.Prelude.{Option}
 
 -- the first of the rows that pass a test is the one that is found
 first_passes : {X : Type 0} (test : X → Bool) (xs : List X) → slice_get (filter test xs) 0 ≡ find test xs

@@ -6,8 +6,7 @@ use Rattle.std.specs.List.{flat_map}
 use Rattle.std.proofs.lemmas.Bool.{ltb-true, lt-ltb, le-ltb, ltb-false}
 use Rattle.model_laws.specs.Ordered.{Ascends}
 use Rattle.model_lives.specs.Above.{above, first_of}
-use Rattle.store_passes.specs.Left.{IsRowAfter}
-use Rattle.store_passes.specs.Stepping.{IsFirst}
+use Rattle.store_passes.specs.{Left.IsRowAfter, Stepping.IsFirst}
 
 -- rows that ascend from above a number are all above it
 pub all_above : {X : Type 0} (number : X → ℕ) (n m : ℕ) (xs : List X) → n < m → Ascends number m xs → above number n xs ≡ xs

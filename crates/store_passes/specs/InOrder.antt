@@ -1,7 +1,6 @@
 -- Tables in which a pass meets each row once.
 use Rattle.std.specs.List.{flat_map}
-use Rattle.desk_model.specs.Derived.{sorted_challenges}
-use Rattle.desk_model.specs.Tables.{Tables}
+use Rattle.desk_model.specs.{Derived.sorted_challenges, Tables.Tables}
 use Rattle.model_laws.specs.Ordered.{Ascends, IsOrdered}
 
 -- each table stands by number, and no two challenges of all authorizations have one number, so that sorted they ascend

@@ -1,11 +1,9 @@
 -- What passes rest on, and what they give together.
 use Rattle.std.specs.Prelude.{◌≡◌, [], ◌∷◌}
 use Rattle.std.specs.List.{flat_map}
-use Rattle.desk_model.specs.Derived.{status_faults}
-use Rattle.desk_model.specs.Tables.{Tables}
+use Rattle.desk_model.specs.{Derived.status_faults, Tables.Tables}
 use Rattle.store_book.specs.IsBook.{IsBook}
-use Rattle.store_passes.specs.InOrder.{IsInOrder}
-use Rattle.store_passes.specs.Left.{faults_of}
+use Rattle.store_passes.specs.{InOrder.IsInOrder, Left.faults_of}
 use Rattle.store_passes.specs.declared.fault_kind.FaultKind.TheVariants.{Account, Order, Authorization, Challenge}
 
 -- each book is in order, whatever statuses its rows store

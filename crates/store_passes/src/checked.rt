@@ -3,13 +3,10 @@ ghost use Rattle.std.specs.Prelude.{◌≡◌, ◌<◌, ℕ, List, Err, IfErr, I
 ghost use Rattle.std.specs.List.{flat_map};
 ghost use Rattle.model_laws.specs.Ordered.{Ascends};
 ghost use Rattle.desk_model.specs.Derived.{account_faults, authorization_faults, challenge_faults, numbers_of, order_faults, stored_statuses};
-ghost use Rattle.desk_model.specs.declared.rows.AuthorizationRow.{AuthorizationRow as Authorization};
-ghost use Rattle.desk_model.specs.declared.rows.StatusFault.{StatusFault as Fault};
+ghost use Rattle.desk_model.specs.declared.rows.{AuthorizationRow.AuthorizationRow as Authorization, StatusFault.StatusFault as Fault};
 ghost use Rattle.model_lives.specs.Above.{above as rows_above, first_of};
 ghost use Rattle.store_api.specs.Sight.{ForTables, Reads};
-ghost use Rattle.store_passes.specs.InOrder.{IsInOrder};
-ghost use Rattle.store_passes.specs.Left.{faults_above};
-ghost use Rattle.store_passes.specs.Stepping.{Steps};
+ghost use Rattle.store_passes.specs.{InOrder.IsInOrder, Left.faults_above, Stepping.Steps};
 ghost use Rattle.store_book.specs.RowFaults.{listed_fault};
 
 use crate::fault_kind::FaultKind;

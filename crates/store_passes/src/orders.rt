@@ -4,8 +4,7 @@ ghost use Rattle.model_lives.specs.Above.{orders_above};
 ghost use Rattle.store_api.specs.Sight.{ForTables, IsCaused, LeavesStanding, Reads};
 ghost use Rattle.store_api.specs.declared.fault.StorageFault.{StorageFault as Fault};
 ghost use Rattle.desk_model.specs.Tables.{Tables};
-ghost use Rattle.store_passes.specs.InOrder.{IsInOrder};
-ghost use Rattle.store_passes.specs.Left.{IsNext};
+ghost use Rattle.store_passes.specs.{InOrder.IsInOrder, Left.IsNext};
 
 use crate::passed::row_after;
 use desk_model::OrderRow;

@@ -3,9 +3,8 @@ ghost use Rattle.std.specs.Prelude.{◌≡◌, ◌<◌, ◌^◌, IfOk, IfErr, If
 ghost use Rattle.desk_model.specs.Tables.{Tables};
 ghost use Rattle.store_api.specs.Sight.{ForTables, IsCaused, LeavesStanding, Reads};
 ghost use Rattle.store_api.specs.declared.fault.StorageFault.{StorageFault as Fault};
-ghost use Rattle.store_passes.specs.InOrder.{IsInOrder};
+ghost use Rattle.store_passes.specs.{InOrder.IsInOrder, Stepping.Steps};
 ghost use Rattle.store_passes.specs.Left.{IsNext, faults_above, faults_of};
-ghost use Rattle.store_passes.specs.Stepping.{Steps};
 
 use crate::checked::{Checked, check_after};
 use crate::fault_kind::FaultKind;

@@ -1,8 +1,7 @@
 use Rattle.std.proofs.Common.{sym, subst, ◌∙◌}
 use Rattle.std.proofs.lemmas.Result.{IfOk-weaker}
 use Rattle.desk_model.specs.Moment.{IsMomentText}
-use Rattle.moments.proofs.Texts.{moment_text-IsMomentText}
-use Rattle.moments.proofs.Written.{datetime_written}
+use Rattle.moments.proofs.{Texts.moment_text-IsMomentText, Written.datetime_written}
 use Rattle.moments.proofs.moment_text.Goals as goal
 
 pub returns-clause-civil : goal.returns-clause-civil

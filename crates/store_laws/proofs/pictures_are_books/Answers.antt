@@ -1,8 +1,6 @@
-use Rattle.store_laws.proofs.BlankBooks.{blank_books}
-use Rattle.store_laws.proofs.Books.{tables_book}
+use Rattle.store_laws.proofs.{BlankBooks.blank_books, Books.tables_book, Records.records_in_limits}
 use Rattle.store_laws.proofs.Columns.{book_told, picture_told}
 use Rattle.store_laws.proofs.FlatTexts.{picture_is_stored_book, tables_are_texts}
-use Rattle.store_laws.proofs.Records.{records_in_limits}
 use Rattle.store_laws.proofs.Rows.{flat_stored, parts_in_limits, picture_stored, tables_in_limits}
 use Rattle.store_laws.proofs.pictures_are_books.Goals as goal
 

@@ -1,5 +1,4 @@
-use Rattle.app_batch.proofs.Acting.{line_acts}
-use Rattle.app_batch.proofs.Turning.{line_answered}
+use Rattle.app_batch.proofs.{Acting.line_acts, Turning.line_answered}
 use Rattle.app_batch.proofs.lines.answer_line.Goals as goal
 
 pub returns-clause-answered : goal.returns-clause-answered

@@ -1,6 +1,7 @@
 use mathlib.Core.List.{map-id}
 use Rattle.std.proofs.Common.{OnOk, ◌≡◌, ◌++◌, ◌∙◌, map, filter, subst}
-use Rattle.desk_model.specs.{Entry.entry_of, declared.rows.Change.TheVariants.PutAccount}
+use Rattle.desk_model.specs.Entry.{entry_of}
+use Rattle.desk_model.specs.declared.rows.Change.TheVariants.{PutAccount}
 use Rattle.desk_model.specs.Change.{account_differs, moved_rows}
 use Rattle.desk_model.specs.Effect.{noted_account, touches_account}
 use Rattle.core_changes.proofs.moved.record_accounts.Goals as goal

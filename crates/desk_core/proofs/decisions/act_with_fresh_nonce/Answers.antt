@@ -7,8 +7,7 @@ use Rattle.core_changes.proofs.Moving.{untouched_nonces}
 use Rattle.core_changes.specs.Recorded.{IsAt}
 use Rattle.core_replies.proofs.Results.{ok_so}
 use Rattle.desk_core.specs.Outcomes.{IsShort}
-use Rattle.desk_core.proofs.{ActingRows.at_issued, Faults.fault_so}
-use Rattle.desk_core.proofs.decisions.act_with_fresh_nonce.Goals.{After-outcome_of}
+use Rattle.desk_core.proofs.{ActingRows.at_issued, Faults.fault_so, decisions.act_with_fresh_nonce.Goals.After-outcome_of}
 use Rattle.desk_core.proofs.ShownTexts.{ok_both, ok_if, ok_on}
 use Rattle.desk_core.proofs.decisions.act_with_fresh_nonce.Goals as goal
 

@@ -1,5 +1,6 @@
 use Rattle.std.proofs.Common.{◌≡◌, ◌∙◌, ap, max, subst, arith}
-use Rattle.desk_model.specs.{Run.IsFormedCall, declared.call.Call.Call, declared.rows.Meta.Meta}
+use Rattle.desk_model.specs.Run.{IsFormedCall}
+use Rattle.desk_model.specs.declared.{call.Call.Call, rows.Meta.Meta}
 use Rattle.desk_core.proofs.DecidingAsks.{code_decides, ok_part, err_part}
 use Rattle.desk_core.proofs.Faults.{late_only}
 use Rattle.desk_core.specs.Outcomes.{MeetsAsk, IsAskFault}

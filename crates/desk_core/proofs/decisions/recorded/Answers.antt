@@ -2,8 +2,7 @@ use Rattle.std.proofs.Common.{[], ap, sym, ◌∙◌}
 use Rattle.desk_model.specs.{Change.recorded_changes, Decide.entries_of}
 use Rattle.desk_model.specs.Effect.{effects, swept}
 use Rattle.core_changes.specs.Recorded.{IsAt}
-use Rattle.desk_core.proofs.Acting.{linked}
-use Rattle.desk_core.proofs.decisions.recorded.Goals.{After-outcome_of}
+use Rattle.desk_core.proofs.{Acting.linked, decisions.recorded.Goals.After-outcome_of}
 use Rattle.desk_core.proofs.ActingRows.{at_begun, same_entries}
 use Rattle.core_changes.proofs.Moving.{untouched_none}
 use Rattle.core_replies.proofs.Results.{ok_so}

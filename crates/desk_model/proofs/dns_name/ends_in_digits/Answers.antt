@@ -1,7 +1,6 @@
 use Rattle.std.proofs.Common.{◌≡◌, lit<, List, ℕ, Option, Some, None, refl}
 use Rattle.std.specs.Prelude.{option_map, unwrap_or, []}
-use Rattle.std.specs.List.{last_or}
-use Rattle.std.specs.Borrow.{Bor}
+use Rattle.std.specs.{List.last_or, Borrow.Bor}
 use Rattle.std.proofs.lemmas.Iterator.Splits.{YieldsList-from_str_split}
 use Rattle.desk_model.specs.BaseName.{labels_of, last_label}
 use Rattle.desk_model.proofs.Labels.{last-from_run}

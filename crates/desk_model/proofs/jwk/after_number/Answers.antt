@@ -1,5 +1,4 @@
-use Rattle.std.proofs.Common.{lit<}
-use Rattle.std.proofs.lemmas.Str.Pattern.{split_parts}
+use Rattle.std.proofs.{Common.lit<, lemmas.Str.Pattern.split_parts}
 use Rattle.desk_model.proofs.Numbers.{no_mark_no_number, number_is_first}
 use Rattle.desk_model.proofs.jwk.after_number.Goals as goal
 

@@ -1,15 +1,11 @@
 use Rattle.std.proofs.Common.{◌≡◌, ◌∙◌, ap, subst, arith}
-use Rattle.sqlite.specs.Held.{state}
-use Rattle.sqlite.specs.State.{HasCleanDisk}
+use Rattle.sqlite.specs.{Held.state, State.HasCleanDisk}
 use Rattle.sqlite.proofs.StateLemmas.{survives_then, survives_weaker}
 use Rattle.desk_model.specs.declared.rows.Meta.{Meta}
 use Rattle.sql_write.specs.Committing.{HasCommitted, IsLeft}
-use Rattle.sql_write.specs.Making.{MakesDesk}
-use Rattle.sql_write.specs.Refusals.{IsCause}
-use Rattle.sql_write.specs.Statements.{make_statements}
+use Rattle.sql_write.specs.{Making.MakesDesk, Refusals.IsCause, Statements.make_statements, Fits.FitsMeta}
 use Rattle.desk_model.specs.Tables.{Tables}
 use Rattle.desk_store.specs.Making.{new_meta}
-use Rattle.sql_write.specs.Fits.{FitsMeta}
 use Rattle.desk_store.proofs.NewDesks.{desk_left, desk_made}
 use Rattle.desk_store.proofs.Standing.{back_then, same_fault}
 use Rattle.desk_store.proofs.Failing.{failed_to_save}

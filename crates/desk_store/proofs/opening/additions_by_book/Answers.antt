@@ -1,9 +1,7 @@
 use Rattle.std.proofs.Common.{inl}
 use Rattle.sqlite.specs.Held.{state}
-use Rattle.desk_store.proofs.Books.{always_ok}
-use Rattle.desk_store.proofs.EitherFormat.{of_faults}
+use Rattle.desk_store.proofs.{Books.always_ok, EitherFormat.of_faults, Upgrading.added_by_book}
 use Rattle.desk_store.proofs.RowReadings.{reading_made, reading_passed}
-use Rattle.desk_store.proofs.Upgrading.{added_by_book}
 use Rattle.desk_store.proofs.opening.additions_by_book.Goals as goal
 
 pub returns-in-Ok-clause-added : goal.returns-in-Ok-clause-added

@@ -1,11 +1,8 @@
 use Rattle.std.proofs.Common.{arith, inr}
-use Rattle.sqlite.specs.Held.{state}
-use Rattle.sqlite.specs.State.{HasCleanDisk}
+use Rattle.sqlite.specs.{Held.state, State.HasCleanDisk}
 use Rattle.sql_schema.proofs.StaysLemmas.{asks_then}
-use Rattle.desk_store.proofs.Books.{may_read}
-use Rattle.desk_store.proofs.FirstBooks.{first_may_read}
+use Rattle.desk_store.proofs.{Books.may_read, FirstBooks.first_may_read, Standing.same_fault}
 use Rattle.desk_store.proofs.OpeningFaults.{failure_is_storage, no_desk_is_other, opening_met, reading_is_known}
-use Rattle.desk_store.proofs.Standing.{same_fault}
 use Rattle.desk_store.specs.Causes.{cause_of}
 use Rattle.desk_store.proofs.opening.check_format.Goals as goal
 

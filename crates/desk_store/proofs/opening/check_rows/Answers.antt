@@ -1,8 +1,7 @@
 use Rattle.std.proofs.Common.{inl}
 use Rattle.sql_read.specs.AllTables.{FailsAtTable}
 use Rattle.sqlite.specs.Held.{state}
-use Rattle.desk_store.proofs.Books.{may_read}
-use Rattle.desk_store.proofs.OpeningFaults.{refused_reading}
+use Rattle.desk_store.proofs.{Books.may_read, OpeningFaults.refused_reading}
 use Rattle.desk_store.proofs.RowReadings.{desk_kept, reading_failed, reading_made, reads_later}
 use Rattle.desk_store.proofs.opening.check_rows.Goals as goal
 

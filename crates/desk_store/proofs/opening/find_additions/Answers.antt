@@ -1,12 +1,9 @@
 use Rattle.std.proofs.Common.{arith, inl, refl, subst, sym}
 use Rattle.std.specs.Prelude.{IsSome}
-use Rattle.sqlite.specs.Held.{state}
-use Rattle.sqlite.specs.State.{HasCleanDisk}
+use Rattle.sqlite.specs.{Held.state, State.HasCleanDisk}
 use Rattle.sql_read.specs.AllTables.{FailsAtFirst}
-use Rattle.desk_store.proofs.FirstBooks.{first_may_read}
-use Rattle.desk_store.proofs.OpeningFaults.{refused_reading}
+use Rattle.desk_store.proofs.{FirstBooks.first_may_read, OpeningFaults.refused_reading, Upgrading.added_behind}
 use Rattle.desk_store.proofs.RowReadings.{first_kept, reading_failed, reading_made, reads_later}
-use Rattle.desk_store.proofs.Upgrading.{added_behind}
 use Rattle.desk_store.proofs.opening.find_additions.Goals as goal
 
 pub returns-in-Ok-Some-clause-added : goal.returns-in-Ok-Some-clause-added

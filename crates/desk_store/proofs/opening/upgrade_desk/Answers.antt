@@ -1,7 +1,6 @@
 use Rattle.std.proofs.Common.{ap, arith, inr}
 use Rattle.sqlite.proofs.StateLemmas.{survives_then}
-use Rattle.sqlite.specs.Held.{state}
-use Rattle.sqlite.specs.State.{HasCleanDisk}
+use Rattle.sqlite.specs.{Held.state, State.HasCleanDisk}
 use Rattle.desk_store.proofs.OpeningFaults.{same_storage}
 use Rattle.desk_store.proofs.Standing.{failed, same_fault}
 use Rattle.desk_store.proofs.Upgrading.{first_unchanged, upgrade_left}

@@ -1,6 +1,5 @@
 use Rattle.std.proofs.Common.{◌≡◌, ◌≢◌, ◌++◌, List, ℕ, codes, true, sym, ◌∙◌}
-use Rattle.std.proofs.lemmas.Slice.Eq.{bytes_eq-Decides}
-use Rattle.std.proofs.lemmas.Str.Pattern.{split_text_parts}
+use Rattle.std.proofs.lemmas.{Slice.Eq.bytes_eq-Decides, Str.Pattern.split_text_parts}
 use Rattle.http_routes.specs.Routes.{text_of}
 use Rattle.http_routes.proofs.Parts.{between_parts, other_path, whole_path}
 use Rattle.http_routes.proofs.paths.number_at.Goals as goal

@@ -1,6 +1,5 @@
 use Rattle.std.proofs.Common.{◌≡◌, map, take}
-use Rattle.serde_json.specs.Data.{string}
-use Rattle.serde_json.specs.View.{view}
+use Rattle.serde_json.specs.{Data.string, View.view}
 use Rattle.json_texts.proofs.lists.text_list.Given as goal
 
 abbrev pub invariant-loop-text : goal.invariant-loop-text

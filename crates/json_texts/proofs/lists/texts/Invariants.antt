@@ -1,6 +1,5 @@
 use Rattle.std.proofs.Common.{◌≡◌, Some, take}
-use Rattle.serde_json.specs.Find.{as_str}
-use Rattle.serde_json.specs.View.{items_view}
+use Rattle.serde_json.specs.{Find.as_str, View.items_view}
 use Rattle.desk_model.specs.Payload.{each_in}
 use Rattle.json_texts.proofs.lists.texts.Given as goal
 

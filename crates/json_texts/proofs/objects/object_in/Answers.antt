@@ -1,6 +1,5 @@
 use Rattle.std.proofs.Common.{Some, ap, sym, ◌∙◌}
-use Rattle.json.specs.Json.{value}
-use Rattle.json.specs.Value.{value_view}
+use Rattle.json.specs.{Json.value, Value.value_view}
 use Rattle.serde_json.specs.Read.{max_depth}
 use Rattle.json_texts.proofs.ReadObjects.{whole_read}
 use Rattle.json_texts.proofs.objects.object_in.Goals as goal

@@ -1,8 +1,7 @@
 use Rattle.std.proofs.Common.{◌≡◌, [], ◌∙◌, ap, subst, codes, arith}
 use Rattle.std.specs.Prelude.{OnOk}
 use Rattle.std.proofs.lemmas.Grind.{common_steps}
-use Rattle.serde_json.specs.Data.{put}
-use Rattle.serde_json.specs.View.{members_view}
+use Rattle.serde_json.specs.{Data.put, View.members_view}
 use Rattle.json_texts.proofs.Plain.{some_put}
 use Rattle.json_texts.proofs.refused.insert_subproblems.Goals as goal
 

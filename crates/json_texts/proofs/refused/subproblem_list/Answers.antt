@@ -1,7 +1,6 @@
 use Rattle.std.proofs.Common.{◌≡◌, ap, ◌∙◌, map, take, arith}
 use Rattle.std.proofs.lemmas.Grind.{common_steps}
-use Rattle.serde_json.specs.Data.{array}
-use Rattle.serde_json.specs.View.{items_of}
+use Rattle.serde_json.specs.{Data.array, View.items_of}
 use Rattle.serde_json.proofs.Views.{view-Array}
 use Rattle.desk_model.specs.Refusals.{subproblem_document}
 use Rattle.json_texts.proofs.refused.subproblem_list.Goals as goal

@@ -1,7 +1,5 @@
 use Rattle.std.proofs.Common.{Some, sym, ap, ◌∙◌}
-use Rattle.serde_json.specs.Data.{object}
-use Rattle.serde_json.specs.Read.{read}
-use Rattle.serde_json.specs.View.{members_view}
+use Rattle.serde_json.specs.{Data.object, Read.read, View.members_view}
 use Rattle.serde_json.proofs.Views.{view-Object}
 use Rattle.json_texts.proofs.ShortTexts.{read-nothing, read-empty_object}
 use Rattle.json_texts.proofs.values.value_of.Goals as goal

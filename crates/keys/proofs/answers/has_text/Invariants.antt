@@ -1,6 +1,5 @@
 use Rattle.std.proofs.Common.{◌≡◌, drop}
-use Rattle.std.specs.List.{list_any}
-use Rattle.std.specs.Prelude.{bytes_eq}
+use Rattle.std.specs.{List.list_any, Prelude.bytes_eq}
 use Rattle.keys.proofs.answers.has_text.Given as goal
 
 abbrev pub invariant-loop-text : goal.invariant-loop-text

@@ -2,8 +2,7 @@ use Rattle.std.proofs.Common.{sym, ◌∙◌, subst, ap, List, ℕ}
 use Rattle.std.specs.Prelude.{bytes_eq}
 use Rattle.std.proofs.lemmas.Slice.Eq.{bytes_eq-Decides}
 use Rattle.desk_model.specs.Tokens.{IsBodyMatch, body_matches}
-use Rattle.keys.proofs.Blanks.{body_match_unique}
-use Rattle.keys.proofs.Matches.{without_blanks-matched}
+use Rattle.keys.proofs.{Blanks.body_match_unique, Matches.without_blanks-matched}
 use Rattle.keys.proofs.answers.http_matches.Goals as goal
 
 pub returns-clause-matching : goal.returns-clause-matching

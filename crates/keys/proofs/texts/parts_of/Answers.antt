@@ -1,7 +1,6 @@
 use Rattle.std.proofs.Common.{sym, ◌∙◌, ap}
 use Rattle.desk_model.specs.Tokens.{number_from}
-use Rattle.keys.proofs.Nonces.{parts_whole}
-use Rattle.keys.proofs.NonceTexts.{number_from-from_be_bytes}
+use Rattle.keys.proofs.{Nonces.parts_whole, NonceTexts.number_from-from_be_bytes}
 use Rattle.keys.proofs.texts.parts_of.Goals as goal
 
 pub returns-clause-whole : goal.returns-clause-whole

@@ -1,6 +1,5 @@
 use Rattle.std.proofs.Common.{ℕ, sym, ◌∙◌, ap, arith}
-use Rattle.std.specs.declared.result.Result.{Result}
-use Rattle.std.specs.declared.result.Result.TheVariants.{Ok}
+use Rattle.std.specs.declared.result.{Result.Result, Result.TheVariants.Ok}
 use Rattle.base64.specs.declared.decode.DecodeSliceError.{DecodeSliceError}
 use Rattle.keys.proofs.Nonces.{nonce_of_decoded, nonce_of_decodes}
 use Rattle.keys.proofs.NonceTexts.{nonce_in-written, no_nonce_in}

@@ -1,7 +1,6 @@
 use Rattle.std.specs.Prelude.{refl}
 use Rattle.model_examples.proofs.lives.identifiers_are_counted.Goals as goal
-use Rattle.model_examples.proofs.Computing.{computing}
-use Rattle.model_examples.proofs.Naming.{naming}
+use Rattle.model_examples.proofs.{Computing.computing, Naming.naming}
 
 pub returns : goal.returns
 unfolding computing naming

@@ -1,7 +1,6 @@
 use Rattle.std.specs.Prelude.{refl}
 use Rattle.model_examples.proofs.lives.offices_are_served.Goals as goal
-use Rattle.model_examples.proofs.Computing.{computing}
-use Rattle.model_examples.proofs.Hashing.{hashing}
+use Rattle.model_examples.proofs.{Computing.computing, Hashing.hashing}
 
 pub returns : goal.returns
 unfolding computing hashing

@@ -1,7 +1,6 @@
 use Rattle.std.specs.Prelude.{refl}
 use Rattle.model_examples.proofs.texts.names_are_read.Goals as goal
-use Rattle.model_examples.proofs.Naming.{naming}
-use Rattle.model_examples.proofs.PlainNames.{plain_name}
+use Rattle.model_examples.proofs.{Naming.naming, PlainNames.plain_name}
 
 pub returns : goal.returns
 returns c =

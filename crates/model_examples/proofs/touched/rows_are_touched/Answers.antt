@@ -1,7 +1,6 @@
 use Rattle.std.specs.Prelude.{refl}
 use Rattle.model_examples.proofs.touched.rows_are_touched.Goals as goal
-use Rattle.model_examples.proofs.Computing.{computing}
-use Rattle.model_examples.proofs.TouchedRows.{new_order}
+use Rattle.model_examples.proofs.{Computing.computing, TouchedRows.new_order}
 
 pub returns : goal.returns
 unfolding computing

@@ -1,6 +1,5 @@
 use Rattle.std.proofs.Common.{◌≡◌, drop}
-use Rattle.std.specs.List.{list_all}
-use Rattle.std.specs.Prelude.{is_some}
+use Rattle.std.specs.{List.list_all, Prelude.is_some}
 use Rattle.sqlite_schema.specs.Names.{index_named}
 use Rattle.sql_schema.proofs.names.has_each.Given as goal
 

@@ -1,9 +1,7 @@
 use Rattle.std.proofs.Common.{subst}
 use Rattle.std.specs.Prelude.{option_copied}
 use Rattle.sql_write.specs.Makes.{PutsOver, SetsAuthorization, SetsMeta, SetsOrder}
-use Rattle.sql_write.specs.Numbers.{FitsColumns}
-use Rattle.sql_write.specs.Refusals.{HasWritten}
-use Rattle.sql_write.specs.Standing.{known_after}
+use Rattle.sql_write.specs.{Numbers.FitsColumns, Refusals.HasWritten, Standing.known_after}
 use Rattle.sql_write.specs.Statements.{sets_account, sets_authorization, sets_meta, sets_order}
 use Rattle.sql_write.proofs.MadeChanges.{makes_account, makes_authorization, makes_meta, makes_nonce, makes_removal, makes_set_order, writes_change}
 use Rattle.sql_write.proofs.changes.make_change.Goals as goal

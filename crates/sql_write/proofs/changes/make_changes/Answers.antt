@@ -4,11 +4,8 @@ use Rattle.desk_model.specs.declared.rows.Change.{Change}
 use Rattle.sql_write.proofs.KnownRows.{take_more}
 use Rattle.sql_write.proofs.RowsInTurn.{each_at, from_begins, from_more, made_more}
 use Rattle.sql_write.proofs.Written.{written_then, written_through, written_with}
-use Rattle.sql_write.specs.Highest.{IsAbove}
+use Rattle.sql_write.specs.{Highest.IsAbove, Numbers.FitsColumns, Refusals.HasWritten, Standing.known_after}
 use Rattle.sql_write.specs.Makes.{Makes, MakesAll}
-use Rattle.sql_write.specs.Numbers.{FitsColumns}
-use Rattle.sql_write.specs.Refusals.{HasWritten}
-use Rattle.sql_write.specs.Standing.{known_after}
 use Rattle.sql_write.specs.Statements.{statements_from, statements_of}
 use Rattle.sql_write.proofs.changes.make_changes.Goals as goal
 

@@ -1,9 +1,6 @@
 use Rattle.std.proofs.Common.{◌≡◌, Ok, take}
 use Rattle.std.specs.Prelude.{option_copied}
-use Rattle.sql_write.specs.Highest.{IsAbove}
-use Rattle.sql_write.specs.Makes.{MakesAll}
-use Rattle.sql_write.specs.Refusals.{HasWritten}
-use Rattle.sql_write.specs.Statements.{statements_from}
+use Rattle.sql_write.specs.{Highest.IsAbove, Makes.MakesAll, Refusals.HasWritten, Statements.statements_from}
 use Rattle.sql_write.proofs.changes.make_changes.Given as goal
 
 abbrev pub invariant-loop-place : goal.invariant-loop-place

@@ -3,10 +3,8 @@ use Rattle.std.specs.Prelude.{option_copied}
 use Rattle.store_columns.specs.Columns.{known_format}
 use Rattle.sql_write.proofs.Differing.{meta_differs, not_inserted}
 use Rattle.sql_write.proofs.Over.{differs_beside, set_none, set_some}
-use Rattle.sql_write.proofs.RowsInTurn.{writes_meta_row}
-use Rattle.sql_write.proofs.Written.{written_as}
-use Rattle.sql_write.specs.Differences.{meta_difference}
-use Rattle.sql_write.specs.Statements.{writes_meta}
+use Rattle.sql_write.proofs.{RowsInTurn.writes_meta_row, Written.written_as}
+use Rattle.sql_write.specs.{Differences.meta_difference, Statements.writes_meta}
 use Rattle.sql_write.proofs.changes.set_meta.Goals as goal
 
 pub returns-in-Some-clause-writes : goal.returns-in-Some-clause-writes

@@ -1,8 +1,7 @@
 use Rattle.std.proofs.Common.{◌∙◌, ap, sym}
 use Rattle.std.specs.Prelude.{nat_lt}
 use Rattle.store_columns.specs.Columns.{nonce_columns}
-use Rattle.sql_write.proofs.Differing.{always_written}
-use Rattle.sql_write.proofs.RowsInTurn.{puts_added}
+use Rattle.sql_write.proofs.{Differing.always_written, RowsInTurn.puts_added}
 use Rattle.sql_write.proofs.Written.{written_as, written_with}
 use Rattle.sql_write.specs.Statements.{of_some, writes_nonce}
 use Rattle.sql_write.proofs.changes.set_nonce.Goals as goal

@@ -1,8 +1,7 @@
 use Rattle.std.proofs.Common.{Ok, refl, rules, subst, sym}
 use Rattle.std.specs.List.{flat_map}
 use Rattle.sqlite.specs.Held.{state}
-use Rattle.store_columns.specs.Columns.{order_columns}
-use Rattle.store_columns.specs.Flat.{owned_by}
+use Rattle.store_columns.specs.{Columns.order_columns, Flat.owned_by}
 use Rattle.sql_write.proofs.Exits.{in_either}
 use Rattle.sql_write.proofs.Written.{nothing_written, written_first, written_then}
 use Rattle.sql_write.specs.Makes.{Lists, Writes, WritesListed, WritesOrder}
@@ -10,8 +9,7 @@ use Rattle.sql_write.specs.Refusals.{HasWritten}
 use Rattle.sql_write.specs.Statements.{lists, writes_listed, writes_order}
 use Rattle.sql_write.specs.declared.write.Write.TheVariants.{Upsert, Insert, Update}
 use Rattle.sql_write.proofs.changes.write_with_listed.Goals as goal
-use Rattle.sql_tables.specs.Images.{order_kept}
-use Rattle.sql_tables.specs.Layouts.{order_layout}
+use Rattle.sql_tables.specs.{Images.order_kept, Layouts.order_layout}
 
 pub returns-in-Upsert-clause-writes : goal.returns-in-Upsert-clause-writes
 returns-in-Upsert-clause-writes g c =

@@ -1,15 +1,12 @@
 use Rattle.std.proofs.Common.{◌∙◌, ◌+◌, [], Ok, arith, refl, rules, subst, take, take_all}
-use Rattle.std.specs.List.{flat_map}
-use Rattle.std.specs.Prelude.{option_copied}
-use Rattle.sql_write.specs.Refusals.{HasWritten}
+use Rattle.std.specs.{List.flat_map, Prelude.option_copied}
+use Rattle.sql_write.specs.{Refusals.HasWritten, Statements.sets_answer, Fits.FitsChallenge}
 use Rattle.sql_write.proofs.Written.{nothing_written, written_more, written_until}
 use Rattle.store_columns.specs.Flat.{key_rows, owned_by}
 use Rattle.sql_write.specs.Makes.{PutsAllOver, key_under}
-use Rattle.sql_write.specs.Statements.{sets_answer}
 use Rattle.sql_write.proofs.Over.{over_none}
 use Rattle.sql_write.proofs.RowsInTurn.{each_owned, keys_more}
 use Rattle.sql_tables.specs.Layouts.{key_layout}
-use Rattle.sql_write.specs.Fits.{FitsChallenge}
 use Rattle.sql_write.proofs.children.set_answers.Goals as goal
 
 pub loop-row-init : goal.loop-row-init

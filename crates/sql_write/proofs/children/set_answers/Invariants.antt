@@ -1,10 +1,8 @@
 use Rattle.std.proofs.Common.{◌≡◌, Ok, take}
-use Rattle.std.specs.List.{flat_map}
-use Rattle.std.specs.Prelude.{option_copied}
-use Rattle.sql_write.specs.Refusals.{HasWritten}
+use Rattle.std.specs.{List.flat_map, Prelude.option_copied}
+use Rattle.sql_write.specs.{Refusals.HasWritten, Statements.sets_answer}
 use Rattle.store_columns.specs.Flat.{key_rows, owned_by}
 use Rattle.sql_write.specs.Makes.{PutsAllOver, key_under}
-use Rattle.sql_write.specs.Statements.{sets_answer}
 use Rattle.sql_tables.specs.Layouts.{key_layout}
 use Rattle.sql_write.proofs.children.set_answers.Given as goal
 

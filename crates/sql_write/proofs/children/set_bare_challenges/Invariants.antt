@@ -1,10 +1,8 @@
 use Rattle.std.proofs.Common.{◌≡◌, Ok, take}
-use Rattle.std.specs.List.{flat_map}
-use Rattle.std.specs.Prelude.{option_copied}
-use Rattle.sql_write.specs.Refusals.{HasWritten}
+use Rattle.std.specs.{List.flat_map, Prelude.option_copied}
+use Rattle.sql_write.specs.{Refusals.HasWritten, Statements.sets_challenge}
 use Rattle.store_columns.specs.Flat.{owned_by}
 use Rattle.sql_write.specs.Makes.{PutsAllOver, challenge_under}
-use Rattle.sql_write.specs.Statements.{sets_challenge}
 use Rattle.sql_tables.specs.Layouts.{challenge_layout}
 use Rattle.sql_write.proofs.children.set_bare_challenges.Given as goal
 

@@ -2,9 +2,7 @@ use Rattle.std.proofs.Common.{◌∙◌, ap}
 use Rattle.std.specs.Prelude.{option_copied, option_map, nat_lt}
 use Rattle.sql_write.proofs.Differing.{challenge_differs}
 use Rattle.sql_write.proofs.Over.{differs_under, set_none, set_some}
-use Rattle.sql_write.specs.Differences.{challenge_difference}
-use Rattle.sql_write.specs.Standing.{known_challenge}
-use Rattle.sql_write.specs.Statements.{writes_challenge}
+use Rattle.sql_write.specs.{Differences.challenge_difference, Standing.known_challenge, Statements.writes_challenge}
 use Rattle.sql_write.proofs.children.set_challenge.Goals as goal
 
 pub returns-in-Some-clause-writes : goal.returns-in-Some-clause-writes

@@ -1,6 +1,5 @@
 use Rattle.std.proofs.Common.{rules}
-use Rattle.std.specs.List.{flat_map}
-use Rattle.std.specs.Prelude.{option_copied}
+use Rattle.std.specs.{List.flat_map, Prelude.option_copied}
 use Rattle.sqlite.specs.Held.{state}
 use Rattle.store_columns.specs.Flat.{key_rows, owned_by}
 use Rattle.sql_write.proofs.Written.{written_first, written_then}

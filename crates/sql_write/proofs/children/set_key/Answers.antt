@@ -1,14 +1,9 @@
 use Rattle.std.proofs.Common.{◌∙◌, ap, refl}
 use Rattle.std.specs.Prelude.{option_copied, option_map}
 use Rattle.store_columns.specs.Columns.{key_columns}
-use Rattle.sql_write.proofs.Differing.{key_differs}
+use Rattle.sql_write.proofs.{Differing.key_differs, RowsInTurn.writes_added, Written.written_as}
 use Rattle.sql_write.proofs.Over.{set_none, set_some}
-use Rattle.sql_write.proofs.RowsInTurn.{writes_added}
-use Rattle.sql_write.proofs.Written.{written_as}
-use Rattle.sql_write.specs.Differences.{key_difference}
-use Rattle.sql_write.specs.Makes.{key_under}
-use Rattle.sql_write.specs.Write.{write}
-use Rattle.sql_write.specs.Standing.{known_challenge}
+use Rattle.sql_write.specs.{Differences.key_difference, Makes.key_under, Write.write, Standing.known_challenge}
 use Rattle.sql_write.specs.Statements.{lacks_key, writes_key}
 use Rattle.sql_tables.specs.Layouts.{key_layout}
 use Rattle.sql_write.proofs.children.set_key.Goals as goal

@@ -1,12 +1,9 @@
 use Rattle.std.proofs.Common.{◌∙◌, ◌+◌, [], Ok, arith, refl, rules, subst, take, take_all}
 use Rattle.std.specs.List.{flat_map}
-use Rattle.sql_write.specs.Refusals.{HasWritten}
+use Rattle.sql_write.specs.{Refusals.HasWritten, Makes.WritesListed, Statements.writes_listed, Fits.FitsListed}
 use Rattle.sql_write.proofs.Written.{nothing_written, written_more, written_until}
 use Rattle.store_columns.specs.Flat.{owned_by}
-use Rattle.sql_write.specs.Makes.{WritesListed}
-use Rattle.sql_write.specs.Statements.{writes_listed}
 use Rattle.sql_write.proofs.RowsInTurn.{each_owned, listed_more, listed_none}
-use Rattle.sql_write.specs.Fits.{FitsListed}
 use Rattle.sql_write.proofs.children.write_all_listed.Goals as goal
 
 pub loop-row-init : goal.loop-row-init

@@ -1,9 +1,7 @@
 use Rattle.std.proofs.Common.{◌≡◌, Ok, take}
 use Rattle.std.specs.List.{flat_map}
-use Rattle.sql_write.specs.Refusals.{HasWritten}
+use Rattle.sql_write.specs.{Refusals.HasWritten, Makes.WritesListed, Statements.writes_listed}
 use Rattle.store_columns.specs.Flat.{owned_by}
-use Rattle.sql_write.specs.Makes.{WritesListed}
-use Rattle.sql_write.specs.Statements.{writes_listed}
 use Rattle.sql_write.proofs.children.write_all_listed.Given as goal
 
 abbrev pub invariant-loop-row : goal.invariant-loop-row

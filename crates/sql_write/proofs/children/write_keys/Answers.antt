@@ -1,13 +1,10 @@
 use Rattle.std.proofs.Common.{◌∙◌, ◌+◌, [], Ok, arith, refl, rules, subst, take, take_all}
 use Rattle.std.specs.List.{flat_map}
-use Rattle.sql_write.specs.Refusals.{HasWritten}
+use Rattle.sql_write.specs.{Refusals.HasWritten, Makes.PutsAll, Statements.writes_key, Fits.FitsKey}
 use Rattle.sql_write.proofs.Written.{nothing_written, written_more, written_until}
-use Rattle.sql_write.specs.Makes.{PutsAll}
-use Rattle.sql_write.specs.Statements.{writes_key}
 use Rattle.sql_write.specs.declared.write.Write.TheVariants.{Upsert}
 use Rattle.sql_write.proofs.RowsInTurn.{each_at, put_more, put_none}
 use Rattle.sql_tables.specs.Layouts.{key_layout}
-use Rattle.sql_write.specs.Fits.{FitsKey}
 use Rattle.sql_write.proofs.children.write_keys.Goals as goal
 
 pub loop-row-init : goal.loop-row-init

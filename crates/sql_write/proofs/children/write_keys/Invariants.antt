@@ -1,8 +1,6 @@
 use Rattle.std.proofs.Common.{◌≡◌, Ok, take}
 use Rattle.std.specs.List.{flat_map}
-use Rattle.sql_write.specs.Refusals.{HasWritten}
-use Rattle.sql_write.specs.Makes.{PutsAll}
-use Rattle.sql_write.specs.Statements.{writes_key}
+use Rattle.sql_write.specs.{Refusals.HasWritten, Makes.PutsAll, Statements.writes_key}
 use Rattle.sql_write.specs.declared.write.Write.TheVariants.{Upsert}
 use Rattle.sql_tables.specs.Layouts.{key_layout}
 use Rattle.sql_write.proofs.children.write_keys.Given as goal

@@ -1,13 +1,10 @@
-use Rattle.std.proofs.Common.{◌∙◌, arith, subst, [], Ok}
+use Rattle.std.proofs.Common.{◌∙◌, arith, subst, [], Ok, Err, rules, ◌≡◌}
 use Rattle.sqlite.specs.Held.{state}
 use Rattle.sqlite.proofs.StateLemmas.{survives_then}
 use Rattle.sql_schema.specs.Advances.{Performs}
 use Rattle.sql_schema.proofs.Steps.{defines_more}
-use Rattle.std.proofs.Common.{Err, rules}
 use Rattle.sql_write.proofs.Told.{run_defined, stops_defining}
-use Rattle.sql_write.specs.Refusals.{Runs}
-use Rattle.std.proofs.Common.{◌≡◌}
-use Rattle.sql_write.specs.Refusals.{HaveRun}
+use Rattle.sql_write.specs.Refusals.{Runs, HaveRun}
 use Rattle.sql_write.specs.Statements.{defines_before}
 use Rattle.sql_write.proofs.definitions.define_all.Goals as goal
 

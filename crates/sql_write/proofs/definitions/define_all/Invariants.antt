@@ -1,10 +1,7 @@
 use Rattle.std.proofs.Common.{◌≡◌}
-use Rattle.sqlite.specs.State.{Survives}
-use Rattle.sqlite.specs.Held.{state}
-use Rattle.sql_schema.specs.Advances.{Advances}
-use Rattle.sql_schema.specs.Defined.{Defines}
-use Rattle.sql_write.specs.Refusals.{HaveRun}
-use Rattle.sql_write.specs.Statements.{defines_before}
+use Rattle.sqlite.specs.{State.Survives, Held.state}
+use Rattle.sql_schema.specs.{Advances.Advances, Defined.Defines}
+use Rattle.sql_write.specs.{Refusals.HaveRun, Statements.defines_before}
 use Rattle.sql_write.proofs.definitions.define_all.Given as goal
 
 abbrev pub invariant-loop-step : goal.invariant-loop-step

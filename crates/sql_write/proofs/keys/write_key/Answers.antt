@@ -1,14 +1,11 @@
 use Rattle.std.proofs.Common.{rules, subst, sym}
 use Rattle.store_columns.specs.Columns.{key_columns}
 use Rattle.sql_write.specs.Makes.{AddsOrPuts}
-use Rattle.sql_tables.specs.Images.{key_params}
-use Rattle.sql_tables.specs.Layouts.{key_layout}
-use Rattle.sql_tables.proofs.InsertStatement.{advances_inserted}
+use Rattle.sql_tables.specs.{Images.key_params, Layouts.key_layout}
+use Rattle.sql_tables.proofs.{InsertStatement.advances_inserted, UpsertStatement.advances_by}
 use Rattle.sql_tables.proofs.Upserts.{key_insert, key_upsert}
-use Rattle.sql_tables.proofs.UpsertStatement.{advances_by}
 use Rattle.sql_schema.specs.declared.keys.TheConstants as chall_key
-use Rattle.sql_write.specs.Refusals.{HasWritten}
-use Rattle.sql_write.specs.Statements.{writes_key}
+use Rattle.sql_write.specs.{Refusals.HasWritten, Statements.writes_key}
 use Rattle.sql_write.specs.declared.write.Write.TheVariants.{Upsert, Update}
 use Rattle.sql_write.proofs.Exits.{in_either}
 use Rattle.sql_write.proofs.Written.{none_written, run_written}

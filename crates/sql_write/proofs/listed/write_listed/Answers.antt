@@ -4,8 +4,7 @@ use Rattle.sql_write.specs.Makes.{AppendsOrPlaces}
 use Rattle.sql_tables.specs.Images.{listed_params}
 use Rattle.sql_tables.proofs.ListedUpsert.{advances_appended, advances_listed}
 use Rattle.sql_schema.specs.declared.listed.TheConstants as ord_authz
-use Rattle.sql_write.specs.Refusals.{HasWritten}
-use Rattle.sql_write.specs.Statements.{writes_listed}
+use Rattle.sql_write.specs.{Refusals.HasWritten, Statements.writes_listed}
 use Rattle.sql_write.specs.declared.write.Write.TheVariants.{Upsert, Update}
 use Rattle.sql_write.proofs.Exits.{in_either}
 use Rattle.sql_write.proofs.Written.{none_written, run_written}

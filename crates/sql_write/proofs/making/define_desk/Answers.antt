@@ -11,8 +11,7 @@ use Rattle.sql_write.specs.Makes.{RenewsOrPuts}
 use Rattle.sql_write.specs.declared.write.Write.TheVariants.{Upsert}
 use Rattle.sql_tables.specs.Images.{formatted_columns, meta_kept}
 use Rattle.sql_tables.specs.Layouts.{formatted_layout}
-use Rattle.sql_tables.proofs.Holding.{holds_first}
-use Rattle.sql_tables.proofs.Upserts.{puts_known}
+use Rattle.sql_tables.proofs.{Holding.holds_first, Upserts.puts_known}
 use Rattle.store_columns.specs.Columns.{known_format}
 
 pub returns-clause-ok : goal.returns-clause-ok

@@ -4,11 +4,9 @@ use Rattle.sql_write.specs.Makes.{RenewsOrPuts}
 use Rattle.sql_tables.specs.Images.{formatted_columns, meta_kept, meta_moved, meta_params}
 use Rattle.sql_tables.specs.Layouts.{formatted_layout}
 use Rattle.sql_tables.proofs.Upserts.{meta_update, meta_upsert}
-use Rattle.sql_tables.proofs.UpdateStatement.{advances_renewed}
-use Rattle.sql_tables.proofs.UpsertStatement.{advances_by}
+use Rattle.sql_tables.proofs.{UpdateStatement.advances_renewed, UpsertStatement.advances_by}
 use Rattle.sql_schema.specs.declared.meta.TheConstants as meta
-use Rattle.sql_write.specs.Refusals.{HasWritten}
-use Rattle.sql_write.specs.Statements.{writes_meta}
+use Rattle.sql_write.specs.{Refusals.HasWritten, Statements.writes_meta}
 use Rattle.sql_write.specs.declared.write.Write.TheVariants.{Upsert, Insert}
 use Rattle.sql_write.proofs.Exits.{in_either}
 use Rattle.sql_write.proofs.Written.{none_written, run_written}

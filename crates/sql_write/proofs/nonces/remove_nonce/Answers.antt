@@ -4,8 +4,7 @@ use Rattle.sql_write.proofs.Written.{none_written, run_written}
 use Rattle.sql_write.specs.Statements.{removes_nonce}
 use Rattle.sql_schema.specs.declared.nonces.TheConstants as nonce
 use Rattle.sql_write.proofs.nonces.remove_nonce.Goals as goal
-use Rattle.sql_tables.specs.Effects.{Removes}
-use Rattle.sql_tables.specs.Layouts.{nonce_layout}
+use Rattle.sql_tables.specs.{Effects.Removes, Layouts.nonce_layout}
 use Rattle.sql_tables.proofs.Removal.{advances_removal}
 
 pub returns-clause-writes : goal.returns-clause-writes

@@ -1,17 +1,13 @@
 use Rattle.std.proofs.Common.{subst, sym, rules}
 use Rattle.store_columns.specs.Columns.{nonce_columns}
 use Rattle.sql_schema.specs.declared.nonces.TheConstants as nonce
-use Rattle.sql_write.specs.Makes.{AddsOrPuts}
-use Rattle.sql_write.specs.Refusals.{HasWritten}
-use Rattle.sql_write.specs.Statements.{writes_nonce}
+use Rattle.sql_write.specs.{Makes.AddsOrPuts, Refusals.HasWritten, Statements.writes_nonce}
 use Rattle.sql_write.specs.declared.write.Write.TheVariants.{Upsert, Update}
 use Rattle.sql_write.proofs.Exits.{in_either}
 use Rattle.sql_write.proofs.Written.{none_written, run_written}
-use Rattle.sql_tables.specs.Images.{nonce_params}
-use Rattle.sql_tables.specs.Layouts.{nonce_layout}
-use Rattle.sql_tables.proofs.InsertStatement.{advances_inserted}
+use Rattle.sql_tables.specs.{Images.nonce_params, Layouts.nonce_layout}
+use Rattle.sql_tables.proofs.{InsertStatement.advances_inserted, UpsertStatement.advances_by}
 use Rattle.sql_tables.proofs.Upserts.{nonce_insert, nonce_upsert}
-use Rattle.sql_tables.proofs.UpsertStatement.{advances_by}
 use Rattle.sql_write.proofs.nonces.write_nonce.Goals as goal
 
 pub returns-in-Upsert-clause-writes : goal.returns-in-Upsert-clause-writes

@@ -1,17 +1,12 @@
 use Rattle.std.proofs.Common.{◌∙◌, ap, rules, subst}
 use Rattle.std.specs.Prelude.{option_copied}
 use Rattle.sqlite.specs.Held.{state}
-use Rattle.sql_write.specs.Fitting.{Saves}
-use Rattle.sql_write.specs.Makes.{MakesAll}
-use Rattle.sql_write.proofs.BackFits.{saves_by}
+use Rattle.sql_write.specs.{Fitting.Saves, Makes.MakesAll, Refusals.Ran, Numbers.FitsColumns}
+use Rattle.sql_write.proofs.{BackFits.saves_by, RowsInTurn.of_save, Told.caused}
 use Rattle.sql_write.proofs.Leaving.{committed_by, left_by, spared_by, undone_by}
-use Rattle.sql_write.proofs.RowsInTurn.{of_save}
-use Rattle.sql_write.proofs.Told.{caused}
-use Rattle.sql_write.specs.Refusals.{Ran}
 use Rattle.sql_write.specs.Statements.{save_statements, statements_from}
 use Rattle.desk_model.specs.declared.rows.Counters.{Counters}
 use Rattle.desk_model.specs.Kept.{EachOf}
-use Rattle.sql_write.specs.Numbers.{FitsColumns}
 use Rattle.sql_write.proofs.saving.save_all.Goals as goal
 
 pub returns-clause-ok : goal.returns-clause-ok

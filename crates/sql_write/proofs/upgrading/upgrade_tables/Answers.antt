@@ -1,9 +1,7 @@
 use Rattle.std.proofs.Common.{rules}
-use Rattle.sql_write.specs.Upgrading.{Upgrades}
+use Rattle.sql_write.specs.{Upgrading.Upgrades, Statements.upgrade_statements, Numbers.FitsUpgrade}
 use Rattle.sql_write.proofs.Leaving.{committed_by, left_by, spared_by, undone_by}
 use Rattle.sql_write.proofs.Told.{caused}
-use Rattle.sql_write.specs.Statements.{upgrade_statements}
-use Rattle.sql_write.specs.Numbers.{FitsUpgrade}
 use Rattle.sql_write.proofs.upgrading.upgrade_tables.Goals as goal
 
 pub returns-clause-ok : goal.returns-clause-ok

@@ -1,8 +1,7 @@
 use Rattle.std.proofs.Common.{◌≢◌, Option, None, Some, MatchOption, ap}
 use Rattle.std.specs.Option.{option_zip}
 use Rattle.desk_model.specs.declared.rows.OrderRow.{OrderRow}
-use Rattle.store_columns.specs.Columns.{order_columns}
-use Rattle.store_columns.specs.Limits.{IsStoredOrder}
+use Rattle.store_columns.specs.{Columns.order_columns, Limits.IsStoredOrder}
 use Rattle.store_columns.proofs.orders.read_unfailed.Goals as goal
 
 -- what holds of both, or of none where one is missing

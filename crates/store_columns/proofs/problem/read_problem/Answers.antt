@@ -3,9 +3,7 @@ use Rattle.std.specs.Bool.{then_some}
 use Rattle.desk_model.specs.Legal.{is_problem_kind}
 use Rattle.desk_model.specs.declared.call.OrderProblem.{OrderProblem}
 use Rattle.json_texts.specs.Problems.{order_problem}
-use Rattle.store_columns.specs.Limits.{IsProblem}
-use Rattle.store_columns.specs.Reading.{IsRead}
-use Rattle.store_columns.specs.Spelling.{problem_text}
+use Rattle.store_columns.specs.{Limits.IsProblem, Reading.IsRead, Spelling.problem_text}
 use Rattle.store_columns.proofs.ProblemTexts.{none_of_none, same_problem}
 use Rattle.store_columns.proofs.problem.read_problem.Goals as goal
 

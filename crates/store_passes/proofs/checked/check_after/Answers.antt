@@ -2,14 +2,10 @@ use Rattle.std.proofs.Common.{IfOk, subst, sym}
 use Rattle.std.specs.List.{flat_map}
 use Rattle.store_api.proofs.Readings.{reads_of_tables}
 use Rattle.desk_model.specs.Derived.{sorted_challenges}
-use Rattle.desk_model.specs.declared.rows.AccountRow.{AccountRow}
-use Rattle.desk_model.specs.declared.rows.AuthorizationRow.{AuthorizationRow}
-use Rattle.desk_model.specs.declared.rows.ChallengeRow.{ChallengeRow}
+use Rattle.desk_model.specs.declared.rows.{AccountRow.AccountRow, AuthorizationRow.AuthorizationRow, ChallengeRow.ChallengeRow}
 use Rattle.model_lives.specs.Above.{above, first_of}
-use Rattle.store_passes.specs.Left.{faults_above}
-use Rattle.store_passes.specs.Stepping.{Steps}
-use Rattle.store_passes.proofs.Passing.{not_refused}
-use Rattle.store_passes.proofs.Rows.{made_when_found}
+use Rattle.store_passes.specs.{Left.faults_above, Stepping.Steps}
+use Rattle.store_passes.proofs.{Passing.not_refused, Rows.made_when_found}
 use Rattle.store_passes.proofs.checked.check_after.Goals as goal
 
 pub returns-in-Account-clause-reads : goal.returns-in-Account-clause-reads

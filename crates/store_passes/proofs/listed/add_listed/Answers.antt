@@ -1,9 +1,7 @@
 use Rattle.std.proofs.Common.{suc, ◌++◌, ◌∙◌, add-one, ap, append-nil, arith, drop, drop-cons, map, refl, sym}
-use Rattle.std.proofs.lemmas.List.{drop_all}
-use Rattle.std.proofs.lemmas.Result.{IfOk-from_err}
+use Rattle.std.proofs.lemmas.{List.drop_all, Result.IfOk-from_err}
 use Rattle.store_api.proofs.Readings.{reads_standing, stands_here, stands_then}
-use Rattle.desk_model.specs.Derived.{numbers_of}
-use Rattle.desk_model.specs.Document.{rows_of}
+use Rattle.desk_model.specs.{Derived.numbers_of, Document.rows_of}
 use Rattle.store_passes.proofs.Passing.{fails_then}
 use Rattle.store_passes.proofs.listed.add_listed.Goals as goal
 

@@ -1,6 +1,5 @@
 use Rattle.std.proofs.Common.{◌≡◌, ◌++◌, drop, map}
-use Rattle.desk_model.specs.Derived.{numbers_of}
-use Rattle.desk_model.specs.Document.{rows_of}
+use Rattle.desk_model.specs.{Derived.numbers_of, Document.rows_of}
 use Rattle.store_api.specs.Sight.{ForTables, Stands}
 use Rattle.store_passes.proofs.listed.add_listed.Given as goal
 

@@ -1,8 +1,7 @@
 use Rattle.store_api.proofs.Readings.{reads_of_tables}
 use Rattle.model_lives.specs.Above.{above, first_of}
 use Rattle.store_passes.specs.Left.{IsRowAfter}
-use Rattle.store_passes.proofs.Alls.{books_in_order}
-use Rattle.store_passes.proofs.Passing.{not_refused}
+use Rattle.store_passes.proofs.{Alls.books_in_order, Passing.not_refused}
 use Rattle.store_passes.proofs.Rows.{made_when_found, row_is_after}
 use Rattle.store_passes.proofs.passed.row_after.Goals as goal
 

@@ -3,8 +3,7 @@ use Rattle.desk_model.specs.declared.rows.Change.TheVariants.{PutAuthorization, 
 use Rattle.desk_model.specs.declared.{rows.Counters.Counters, entry.Entry.TheVariants.Ordered as ordered}
 use Rattle.core_changes.specs.Made.{made_order, next_order, ordered_counters}
 use Rattle.core_changes.proofs.Recordings.{and_gives, and_ok, both_ok, recorded_as}
-use Rattle.core_changes.proofs.Moving.{and_ordered}
-use Rattle.core_changes.proofs.recording.Recording.order.Goals.{After-and}
+use Rattle.core_changes.proofs.{Moving.and_ordered, recording.Recording.order.Goals.After-and}
 use Rattle.core_changes.proofs.recording.Recording.order.Goals as goal
 
 -- the order, by the counters before its rows were made

@@ -1,5 +1,6 @@
 use Rattle.std.proofs.Common.{◌∙◌, ap, map, subst, List, ℕ, Bor}
-use Rattle.std.specs.{Prelude.◌==◌, List.slice_split}
+use Rattle.std.specs.Prelude.{◌==◌}
+use Rattle.std.specs.List.{slice_split}
 use Rattle.desk_model.specs.Document.{key_members}
 use Rattle.core_replies.specs.Texts.{HasMembers}
 use Rattle.core_replies.proofs.{Results.on_ok, KeyMembers.key_members-put}

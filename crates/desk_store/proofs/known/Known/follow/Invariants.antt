@@ -1,6 +1,5 @@
 use Rattle.std.proofs.Common.{drop}
-use Rattle.desk_model.specs.Change.{applied}
-use Rattle.desk_model.specs.Tables.{Tables}
+use Rattle.desk_model.specs.{Change.applied, Tables.Tables}
 use Rattle.desk_store.specs.Known.{IsKnownOf}
 use Rattle.desk_store.proofs.Knowing.{Follows}
 use Rattle.desk_store.proofs.known.Known.follow.Given as goal

@@ -3,8 +3,7 @@ use Rattle.std.specs.Prelude.{IfErr, false, ◌≡◌}
 use Rattle.desk_model.specs.declared.rows.Change.{Change}
 use Rattle.sql_write.specs.Standing.{IsPartIn}
 use Rattle.store_api.specs.Storing.{IsCutFrom, SavesOf}
-use Rattle.desk_store.specs.Causes.{FailedToChange}
-use Rattle.desk_store.specs.Desks.{store_sight}
+use Rattle.desk_store.specs.{Causes.FailedToChange, Desks.store_sight}
 use Rattle.desk_store.proofs.SavedDesks.{part_stands, saves_of}
 use Rattle.desk_store.proofs.storage.StoreStorage.save.Goals as goal
 

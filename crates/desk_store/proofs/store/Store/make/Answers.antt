@@ -1,11 +1,9 @@
 use Rattle.std.proofs.Common.{ap, refl, subst, sym}
 use Rattle.sqlite.specs.Held.{state}
-use Rattle.desk_model.specs.History.{first_history}
-use Rattle.desk_model.specs.Tables.{picture}
+use Rattle.desk_model.specs.{History.first_history, Tables.picture}
 use Rattle.desk_store.specs.Known.{IsKnownOf}
-use Rattle.desk_store.proofs.Knowing.{nothing_known}
+use Rattle.desk_store.proofs.{Knowing.nothing_known, Standing.failed}
 use Rattle.desk_store.proofs.OpeningFaults.{not_free, same_storage}
-use Rattle.desk_store.proofs.Standing.{failed}
 use Rattle.desk_store.proofs.store.Store.make.Goals as goal
 
 pub returns-then-uses_names-clause-left : goal.returns-then-uses_names-clause-left

@@ -1,8 +1,6 @@
 use Rattle.std.proofs.Common.{ap, subst, sym}
-use Rattle.sqlite.specs.Effect.{Database}
-use Rattle.sqlite.specs.Held.{state}
-use Rattle.desk_store.specs.Desks.{IsDesk}
-use Rattle.desk_store.specs.Known.{IsKnownOf}
+use Rattle.sqlite.specs.{Effect.Database, Held.state}
+use Rattle.desk_store.specs.{Desks.IsDesk, Known.IsKnownOf}
 use Rattle.desk_store.proofs.EitherFormat.{keeps_second, uses_keys}
 use Rattle.desk_store.proofs.Knowing.{nothing_known}
 use Rattle.desk_store.proofs.Standing.{desk_unchanged, failed}

@@ -2,8 +2,7 @@ use Rattle.std.proofs.Common.{subst, sym}
 use Rattle.std.specs.Prelude.{option_copied}
 use Rattle.sqlite.specs.Held.{state}
 use Rattle.desk_store.specs.Known.{IsKnownOf}
-use Rattle.desk_store.proofs.Failing.{failed_to_save}
-use Rattle.desk_store.proofs.Knowing.{nothing_known}
+use Rattle.desk_store.proofs.{Failing.failed_to_save, Knowing.nothing_known}
 use Rattle.desk_store.proofs.SavedDesks.{saves_err, saves_ok}
 use Rattle.desk_store.proofs.store.Store.save_known.Goals as goal
 

@@ -3,8 +3,7 @@ use Rattle.std.specs.Prelude.{IfErr, OnOk}
 use Rattle.sqlite.specs.Held.{state}
 use Rattle.sqlite.specs.State.{HasCleanDisk, IsUnchanged}
 use Rattle.sql_read.specs.LookUpFaults.{IsOfMemoryOrDisk}
-use Rattle.desk_store.proofs.Books.{may_read}
-use Rattle.desk_store.proofs.OpeningFaults.{device_met}
+use Rattle.desk_store.proofs.{Books.may_read, OpeningFaults.device_met}
 use Rattle.desk_store.proofs.Standing.{reads_err, reads_ok}
 use Rattle.desk_store.proofs.store.Store.told.Goals as goal
 

@@ -1,6 +1,5 @@
 use Rattle.std.proofs.Common.{◌∙◌, ap}
-use Rattle.desk_model.specs.Change.{applied_one}
-use Rattle.desk_model.specs.Questions.{account_on}
+use Rattle.desk_model.specs.{Change.applied_one, Questions.account_on}
 use Rattle.desk_model.specs.declared.rows.AccountRow.{AccountRow}
 use Rattle.sql_write.proofs.KnownRows.{leaves, put_lent}
 use Rattle.sql_write.proofs.standing.AccountRowStanding.put_by.Goals as goal

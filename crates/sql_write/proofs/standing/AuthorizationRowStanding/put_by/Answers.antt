@@ -1,6 +1,5 @@
 use Rattle.std.proofs.Common.{◌∙◌, ap}
-use Rattle.desk_model.specs.Change.{applied_one}
-use Rattle.desk_model.specs.Questions.{authorization_on}
+use Rattle.desk_model.specs.{Change.applied_one, Questions.authorization_on}
 use Rattle.desk_model.specs.declared.rows.AuthorizationRow.{AuthorizationRow}
 use Rattle.sql_write.proofs.KnownRows.{leaves, put_lent}
 use Rattle.sql_write.proofs.standing.AuthorizationRowStanding.put_by.Goals as goal

@@ -1,6 +1,5 @@
 use Rattle.std.proofs.Common.{◌∙◌, ap}
-use Rattle.desk_model.specs.Change.{applied_one}
-use Rattle.desk_model.specs.Questions.{order_on}
+use Rattle.desk_model.specs.{Change.applied_one, Questions.order_on}
 use Rattle.desk_model.specs.declared.rows.OrderRow.{OrderRow}
 use Rattle.sql_write.proofs.KnownRows.{leaves, put_lent}
 use Rattle.sql_write.proofs.standing.OrderRowStanding.put_by.Goals as goal

@@ -1,7 +1,6 @@
 use Rattle.std.proofs.Common.{◌≡◌, ◌≤◌, ◌-◌, ◌^◌}
 use Rattle.store_api.specs.Sight.{ForTables, Stands}
-use Rattle.store_passes.specs.InOrder.{IsInOrder}
-use Rattle.store_passes.specs.Left.{faults_above}
+use Rattle.store_passes.specs.{InOrder.IsInOrder, Left.faults_above}
 use Rattle.store_passes.proofs.status_faults.StatusFaults.advance.Given as goal
 
 abbrev pub invariant-loop-checked : goal.invariant-loop-checked
