@@ -1,6 +1,6 @@
 -- What a query of one table answers: its rows that pass tests, in the order of a number.
 use Rattle.std.proofs.Common.{◌≡◌, ℕ, ◌<◌, ◌+◌, pos, negsuc, ◌++◌, if◌then◌else◌, Bool, true, false, cond, List, [], ◌∷◌, map}
-use Rattle.std.proofs.Common.{filter, flat_map, Option, None, Some, Ordering, Less, Equal, Result, Ok, Err, refl, sym, ap, subst, ◌∙◌, arith, inl, inr}
+use Rattle.std.proofs.Common.{length, filter, flat_map, Option, None, Some, Ordering, Less, Equal, Result, Ok, Err, refl, sym, ap, subst, ◌∙◌, arith, inl, inr}
 use Rattle.std.specs.List.{AllByRecursion, list_all}
 use Rattle.std.specs.List.Sorted.{IsPermutation, IsSorted, IsStrictlySortedBy}
 use Rattle.std.specs.Ordering.{ordering_then}
@@ -22,12 +22,12 @@ use Rattle.sqlite_schema.specs.declared.command.Returning.{Returning}
 use Rattle.sqlite_resolve.specs.Compile.{compiled}
 use Rattle.sqlite_resolve.specs.declared.compiled.Compiled.{Compiled}
 use Rattle.sqlite_resolve.specs.declared.error.CompileError.{CompileError}
+use Rattle.sqlite_typing.specs.Types.{accepts_program}
 use Rattle.sqlite.specs.Listing.{understood, misses_table, reads_listing}
 use Rattle.sqlite.specs.State.{State, Shown}
 use Rattle.sqlite.proofs.Callers.{IsPlain, command_of, reads_as}
 use Rattle.store_book.proofs.SortedLists.{same_sorted}
 use Rattle.model_laws.specs.Ordered.{Ascends}
-use Rattle.sql_schema.specs.Schema.{desk_schema, first_schema}
 use Rattle.sqlite.specs.Schema.{Schema}
 use Rattle.sql_tables.proofs.Keyed.{ranked, three}
 use Rattle.sql_read.specs.Selecting.{IsQuery}
@@ -99,23 +99,28 @@ compiled_alone {schema} text command means = go (compiled schema text) refl mean
         }
     go (Err e) is made = absurd (let x = made in cc)
 
--- what a text means over a schema
-pub record IsReadingIn (schema : Schema) (limit : Term) (text : List ℕ) (tree : ℕ) (tests project : List Term) (order : List (Term × Key)) : Type 0 where
+-- how long the statement is that was understood
+abbrev pub tail_of : Result Compiled CompileError → ℕ
+tail_of (Ok c) = c.tail
+tail_of (Err e) = 0
+
+-- the names of its parameters
+abbrev pub names_of : Result Compiled CompileError → List (List ℕ)
+names_of (Ok c) = c.names
+names_of (Err e) = []
+
+-- how long the statement is that was understood, and how many parameters it has
+abbrev pub sizes_of : Result Compiled CompileError → ℕ × ℕ
+sizes_of r = (tail_of r, length (names_of r))
+
+-- what a text means over a schema: one statement with as many parameters as are given, which compares no values of other kinds
+pub record IsReading (schema : Schema) (limit : Term) (text : List ℕ) (tree : ℕ) (tests project : List Term) (order : List (Term × Key)) (params : Row)
+    : Type 0 where
   pub names : List (List ℕ)
   pub means : made_of (compiled schema text) ≡ Some (Select (record { lets = []; body = picked_up_to limit tree tests project order }) names, None, [])
   pub selecting : IsQuery text
-
--- over that of a desk
-abbrev pub IsReadingUpTo : Term → List ℕ → ℕ → List Term → List Term → List (Term × Key) → Type 0
-IsReadingUpTo = IsReadingIn desk_schema
-
--- a text that reads all rows
-abbrev pub IsReading : List ℕ → ℕ → List Term → List Term → List (Term × Key) → Type 0
-IsReading = IsReadingUpTo all_rows
-
--- and reads them in format 1
-abbrev pub IsFirstReading : List ℕ → ℕ → List Term → List Term → List (Term × Key) → Type 0
-IsFirstReading = IsReadingIn first_schema all_rows
+  pub sizes : sizes_of (understood schema text) ≡ (length text, length params)
+  pub typed : accepts_program schema [] (picked_up_to limit tree tests project order) params ≡ true
 
 -- a row passes the tests
 abbrev pub passes : List Term → Row → Row → Bool
@@ -165,7 +170,7 @@ module _ {X Y : Type 0} (image : X → Row) (part : X → Y) (tree : ℕ) (tests
       go false more = more
 
   -- the answer is cut from that of the rows which pass the model's test
-  pub answers_up_to : {schema : Schema} (limit : Term) (text : List ℕ) → IsReadingIn schema limit text tree tests project order
+  pub answers_up_to : {schema : Schema} (limit : Term) (text : List ℕ) → IsReading schema limit text tree tests project order params
       → ((db : Trees) → overlay db [] tree ≡ db tree)
       → (old new : State) (xs : List X) (rows : List Row) → old.now.schema ≡ schema → old.now.trees tree ≡ map image xs
       → Shown text params old new rows
@@ -189,7 +194,7 @@ module _ {X Y : Type 0} (image : X → Row) (part : X → Y) (tree : ℕ) (tests
       )
 
   -- of all rows
-  pub answers : {schema : Schema} (text : List ℕ) → IsReadingIn schema all_rows text tree tests project order → ((db : Trees) → overlay db [] tree ≡ db tree)
+  pub answers : {schema : Schema} (text : List ℕ) → IsReading schema all_rows text tree tests project order params → ((db : Trees) → overlay db [] tree ≡ db tree)
       → (old new : State) (xs : List X) (rows : List Row) → old.now.schema ≡ schema → old.now.trees tree ≡ map image xs
       → Shown text params old new rows
       → IsOrderedAs (picked tree tests project order) (map shown (filter test (map part xs))) rows

@@ -12,7 +12,7 @@ use Rattle.desk_model.specs.Tables.{Tables}
 use Rattle.sql_read.specs.AllTables.{FailsAtFirst, FailsAtTable}
 use Rattle.sql_read.specs.BookShown.{Checks, FailsIn, HoldsIn}
 use Rattle.sql_read.specs.Checking.{ShowsTable}
-use Rattle.sql_read.specs.Failures.{FailsHere, HasTexts, IsMet, IsOutOfMemory, MayRead}
+use Rattle.sql_read.specs.Failures.{FailsHere, HasTexts, IsMet, IsOutOfMemory, IsReadable, MayRead}
 use Rattle.sql_read.specs.declared.formats.Format.{Format}
 use Rattle.sql_read.specs.declared.formats.Format.TheVariants.{First, Second}
 use Rattle.sql_read.proofs.Failing.{may_read_still}
@@ -53,46 +53,43 @@ module _ {S : Type 0} (g : Ghosts S) where
   in_format First here e fails = fails
   in_format Second here e fails = inl fails
 
-  -- a reading that failed so failed at its table
-  pub at_table : (format : Format) (here : Held S) (text : List ℕ) (Fits : Row → Type 0) (e : Error)
-      → (FailsHere g here text Fits e → FailsIn format g here e)
-      → IsOutOfMemory e ⊎ FailsHere g here text Fits e → IsOutOfMemory e ⊎ FailsIn format g here e
-  at_table format here text Fits e is (inl memory) = inl memory
-  at_table format here text Fits e is (inr fails) = inr (is fails)
+  module _ {format : Format} {P : Database → Type 0} {old new : Held S} where
+    -- the reading of a table failed
+    pub checks_failed : {e : Error} {r : Result Bool Error} {text : List ℕ} {Fits : Row → Type 0}
+        → ((T : Tables) → HoldsIn format (state g old).now T → HasTexts T → IsReadable g old text Fits)
+        → (FailsHere g old text Fits e → FailsIn format g old e) → IsErr r → IsErrAnd r (λ x. x ≡ e)
+        → (HasCleanDisk (state g new) → MayRead (state g old) → IsReadable g old text Fits → IsFailure e)
+        → (HasCleanDisk (state g new) → IsOutOfMemory e ⊎ FailsHere g old text Fits e)
+        → (HasCleanDisk (state g new) → IsMet (state g old) (state g new) e) → Asks (state g old) (state g new) → Checks g format old new P r
+    checks_failed {e} {r} readable at is_err same fails refused met asks = record {
+      known = λ clean. IfOk-from_err r _ is_err;
+      fails = λ clean T has may texts. failed_as r e IsFailure (fails clean may (readable T has texts)) same;
+      refused = λ clean. failed_as r e (λ e. IsOutOfMemory e ⊎ FailsIn format g old e) (elim (refused clean) [
+        | inl memory ↦ inl memory
+        | inr here ↦ inr (at here)
+      ]) same;
+      met = λ clean. failed_as r e (IsMet (state g old) (state g new)) (met clean) same;
+      unchanged = λ clean. IfOk-from_err r _ is_err;
+      asks = asks;
+    }
 
-  -- the reading of a table failed
-  pub checks_failed : (format : Format) (Readable : Type 0) (P : Database → Type 0) (old new : Held S) (e : Error) (r : Result Bool Error) → IsErr r
-      → IsErrAnd r (λ x. x ≡ e)
-      → ((T : Tables) → HoldsIn format (state g old).now T → HasTexts T → Readable)
-      → (HasCleanDisk (state g new) → MayRead (state g old) → Readable → IsFailure e)
-      → (HasCleanDisk (state g new) → IsOutOfMemory e ⊎ FailsIn format g old e)
-      → (HasCleanDisk (state g new) → IsMet (state g old) (state g new) e) → Asks (state g old) (state g new) → Checks g format old new P r
-  checks_failed format Readable P old new e r is_err same readable fails refused met asks = record {
-    known = λ clean. IfOk-from_err r _ is_err;
-    fails = λ clean T has may texts. failed_as r e IsFailure (fails clean may (readable T has texts)) same;
-    refused = λ clean. failed_as r e (λ e. IsOutOfMemory e ⊎ FailsIn format g old e) (refused clean) same;
-    met = λ clean. failed_as r e (IsMet (state g old) (state g new)) (met clean) same;
-    unchanged = λ clean. IfOk-from_err r _ is_err;
-    asks = asks;
-  }
-
-  -- a row did not pass
-  pub checks_stopped : (format : Format) (P : Database → Type 0) (old new : Held S) → (HasCleanDisk (state g new) → IsUnchanged (state g old) (state g new))
-      → Asks (state g old) (state g new) → Checks g format old new P (Ok false)
-  checks_stopped format P old new same asks = record {
-    known = λ clean is. absurd (cc is);
-    fails = λ clean T has may texts. tt;
-    refused = λ clean. tt;
-    met = λ clean. tt;
-    unchanged = same;
-    asks = asks;
-  }
+    -- a row did not pass
+    pub checks_stopped : (HasCleanDisk (state g new) → IsUnchanged (state g old) (state g new)) → Asks (state g old) (state g new)
+        → Checks g format old new P (Ok false)
+    checks_stopped same asks = record {
+      known = λ clean is. absurd (cc is);
+      fails = λ clean T has may texts. tt;
+      refused = λ clean. tt;
+      met = λ clean. tt;
+      unchanged = same;
+      asks = asks;
+    }
 
   -- all rows of the last table passed
-  pub checks_last : (format : Format) (P : Database → Type 0) (old new : Held S) → (HasCleanDisk (state g new) → P (state g old).now)
+  pub checks_last : {format : Format} {P : Database → Type 0} {old new : Held S} → (HasCleanDisk (state g new) → P (state g old).now)
       → (HasCleanDisk (state g new) → IsUnchanged (state g old) (state g new)) → Asks (state g old) (state g new)
       → Checks g format old new P (Ok true)
-  checks_last format P old new known same asks = record {
+  checks_last known same asks = record {
     known = λ clean _. known clean;
     fails = λ clean T has may texts. tt;
     refused = λ clean. tt;
@@ -102,11 +99,10 @@ module _ {S : Type 0} (g : Ghosts S) where
   }
 
   -- all rows of this table passed, and then those below it are checked
-  pub checks_then : (format : Format) (P Q : Database → Type 0) (old mid new : Held S) (r : Result Bool Error)
-      → (HasCleanDisk (state g mid) → Q (state g old).now → P (state g old).now)
-      → (HasCleanDisk (state g mid) → IsUnchanged (state g old) (state g mid)) → Asks (state g old) (state g mid) → Checks g format mid new Q r
-      → Checks g format old new P r
-  checks_then format P Q old mid new r so same asks rest = record {
+  pub checks_then : {format : Format} {P Q : Database → Type 0} {old mid new : Held S} {r : Result Bool Error}
+      → Checks g format mid new Q r → (HasCleanDisk (state g mid) → Q (state g old).now → P (state g old).now)
+      → (HasCleanDisk (state g mid) → IsUnchanged (state g old) (state g mid)) → Asks (state g old) (state g mid) → Checks g format old new P r
+  checks_then {format} {P} {Q} {old} {mid} {new} {r} rest so same asks = record {
     known = λ clean. told r (honest clean) (rest.known clean);
     fails = λ clean T has may texts.
         let still = same (honest clean) in

@@ -1,6 +1,6 @@
 -- The moment that is shown first is the earliest of the table's rows.
 use Rattle.std.proofs.Common.{◌≡◌, ◌≤◌, ◌||◌, ℕ, pos, Bool, true, false, List, [], ◌∷◌, map, filter, Option, None, Some, Ordering, Less, Equal, Greater}
-use Rattle.std.proofs.Common.{refl, sym, ap, subst, ◌∙◌, arith, codes, zero-le}
+use Rattle.std.proofs.Common.{refl, sym, ap, subst, ◌∙◌, arith, zero-le}
 use Rattle.std.specs.Prelude.{◌==◌, nat_lt, option_map}
 use Rattle.std.specs.List.{All, AllByRecursion, list_any}
 use Rattle.std.specs.List.Sorted.{IsPermutation, IsSorted}
@@ -12,8 +12,10 @@ use Rattle.std.proofs.lemmas.List.Elements.{recursion_from_All}
 use Rattle.std.proofs.lemmas.List.Sorted.{IsPermutation-sym, list_any-IsPermutation, ranks_by, sorted_far}
 use Rattle.std.proofs.lemmas.Option.{same_Some}
 use Rattle.std.proofs.lemmas.Simd.{map-map}
-use Rattle.sqlite.specs.declared.types.Value.TheVariants.{Int, Text}
+use Rattle.sqlite.specs.declared.types.Value.TheVariants.{Int}
+use Rattle.sqlite.specs.Held.{Held, state}
 use Rattle.sqlite.specs.State.{State, Shown}
+use Rattle.sqlite.specs.Store.{Ghosts}
 use Rattle.sqlite_value.specs.Order.{Row}
 use Rattle.sqlite_value.proofs.OrderLemmas.{value_cmp-Int}
 use Rattle.sqlite_trees.specs.Tree.{Trees}
@@ -22,7 +24,6 @@ use Rattle.sqlite_sql.specs.Program.{overlay}
 use Rattle.sqlite_sql.specs.Query.{Output, Query, output, output_cmp}
 use Rattle.sqlite_sql.specs.Term.{Term, col}
 use Rattle.sqlite_sql.proofs.QueryLemmas.{output_cmp_total}
-use Rattle.sqlite_tied.specs.Compute.{everything}
 use Rattle.model_laws.proofs.Basics.{list_any-map, list_any-same}
 use Rattle.desk_model.specs.Derived.{authz_code, order_code}
 use Rattle.desk_model.specs.Document.{authorization_status_text, order_status_text}
@@ -37,33 +38,19 @@ use Rattle.sql_tables.specs.Layouts.{HasRows, Layout, authorization_layout, nonc
 use Rattle.sql_tables.proofs.Holding.{authorizations_held, nonces_held, orders_held}
 use Rattle.sql_tables.proofs.Keyed.{three}
 use Rattle.sql_read.specs.Earliest.{IsEarliest, authorization_ends, first_number, issues, order_ends}
-use Rattle.sql_read.specs.LookUpFaults.{BeginWithMoment}
+use Rattle.sql_read.specs.Failures.{MayRead}
+use Rattle.sql_read.specs.LookUpFaults.{BeginWithMoment, IsSureQuery}
+use Rattle.sql_schema.specs.Schema.{desk_schema}
 use Rattle.sql_schema.specs.declared.authorizations.TheConstants as authz
 use Rattle.sql_schema.specs.declared.nonces.TheConstants as nonce
 use Rattle.sql_schema.specs.declared.orders.TheConstants as ord
-use Rattle.sql_read.proofs.Answered.{IsReadingUpTo, answers_up_to, by, first_row, passes, picked}
+use Rattle.sql_read.proofs.Answered.{IsOrderedAs, IsReading, answers_up_to, by, first_row, passes, picked}
+use Rattle.sql_read.proofs.Failing.{query_fails}
 use Rattle.sql_read.proofs.Lists.{filter-all}
-use Rattle.sql_read.proofs.LookUpReadings.{is_equal}
+use Rattle.sql_read.proofs.LookUpReadings.{authorization_end_reading, is_equal, issue_reading, order_end_reading, text}
 use Rattle.sql_read.proofs.StatusTests.{authorization_status_test, order_status_test}
 use Rattle.sql_read.proofs.Tests.{eq_as, lt_as, text_test}
 use Rattle.sql_read.proofs.TableColumns.{order_status_at, authorization_status_at}
-
--- ---- texts
-
--- of nonces
-pub issue_reading : IsReadingUpTo first_row nonce.SELECT_EARLIEST.now 1 [] (col 1 3 ∷ []) (by 3 ∷ [])
-unfolding everything
-issue_reading = record { names = codes "issued" ∷ []; means = refl; selecting = refl }
-
--- of orders
-pub order_end_reading : IsReadingUpTo first_row ord.SELECT_EARLIEST.now 4 (is_equal order_status_at) (col 1 4 ∷ []) (by 4 ∷ [])
-unfolding everything
-order_end_reading = record { names = codes "expires" ∷ []; means = refl; selecting = refl }
-
--- of authorizations
-pub authorization_end_reading : IsReadingUpTo first_row authz.SELECT_EARLIEST.now 5 (is_equal authorization_status_at) (col 1 6 ∷ []) (by 6 ∷ [])
-unfolding everything
-authorization_end_reading = record { names = codes "expires" ∷ []; means = refl; selecting = refl }
 
 -- ---- moments in their order
 
@@ -159,62 +146,73 @@ begin_with_moment : (os : List Output) (rows : List Row) → AllByRecursion IsMo
 begin_with_moment [] rows all are = subst BeginWithMoment (sym are) tt
 begin_with_moment (o ∷ os) rows all are = subst BeginWithMoment (sym are) (all.0.0, ap (λ (p : Output). p.1) all.0.1)
 
--- whatever rows the query leaves
-pub shows_moment : {X : Type 0} (L : Layout X) (end : X → ℕ) (text : List ℕ) (tests : List Term) (place : ℕ) (params : Row)
-    → IsReadingUpTo first_row text L.table.tree tests (col 1 place ∷ []) (by place ∷ []) → ((db : Trees) → overlay db [] L.table.tree ≡ db L.table.tree)
-    → ((x : X) → output (picked L.table.tree tests (col 1 place ∷ []) (by place ∷ [])) (params ∷ L.image x ∷ []) ≡ twice (end x))
-    → (old new : State) (xs : List X) (rows : List Row) → HasRows L old.now xs → Shown text params old new rows → BeginWithMoment rows
-shows_moment {X} L end text tests place params reading low shows old new xs rows has h =
-    let test = λ (x : X). passes tests params (L.image x) in
-    let answered = answers_up_to L.image (λ (x : X). x) L.table.tree tests (col 1 place ∷ []) (by place ∷ []) params test (λ x. twice (end x)) (λ _. refl)
-    shows first_row text reading low old new xs rows has.schema has.rows_are h in
-    let it = answered.1 in
-    let ys = filter test (map (λ (x : X). x) xs) in
-    begin_with_moment it.ordered rows (all-permutation IsMoment (map (λ x. twice (end x)) ys) it.ordered it.same (all_moments end ys))
-    (answered.2 ∙ ap first_of it.shown)
+-- whatever a query shows, the first moment is the earliest of these, and it is sure
+pub record FindsEarliest {S : Type 0} (g : Ghosts S) (text : List ℕ) (params : Row) (old : Held S) (ms : List ℕ) : Type 0 where
+  pub shows : (new : Held S) (rows : List Row) (found : Option ℕ) → Shown text params (state g old) (state g new) rows
+      → option_map (λ m. pos m) found ≡ first_number rows → IsEarliest ms found
+  pub sure : MayRead (state g old) → IsSureQuery g text params old BeginWithMoment
 
--- of the rows that pass a test
-pub earliest_found : {X : Type 0} (L : Layout X) (end : X → ℕ) (text : List ℕ) (tests : List Term) (place : ℕ) (params : Row) (test : X → Bool)
-    → IsReadingUpTo first_row text L.table.tree tests (col 1 place ∷ []) (by place ∷ []) → ((db : Trees) → overlay db [] L.table.tree ≡ db L.table.tree)
-    → ((x : X) → passes tests params (L.image x) ≡ test x)
-    → ((x : X) → output (picked L.table.tree tests (col 1 place ∷ []) (by place ∷ [])) (params ∷ L.image x ∷ []) ≡ twice (end x))
-    → (old new : State) (values : Row) (xs : List X) (rows : List Row) (found : Option ℕ) → HasRows L old.now xs → values ≡ params
-    → Shown text values old new rows → option_map (λ m. pos m) found ≡ first_number rows → IsEarliest (map end (filter test xs)) found
-earliest_found {X} L end text tests place params test reading low tests_are shows old new values xs rows found has given h first =
-    let project = col 1 place ∷ [] in
-    let order = by place ∷ [] in
-    let shown = subst (λ v. Shown text v old new rows) given h in
-    let answered = answers_up_to L.image (λ (x : X). x) L.table.tree tests project order params test (λ x. twice (end x)) tests_are shows first_row text
-    reading low old new xs rows has.schema has.rows_are shown in
-    let moments : map (λ x. twice (end x)) (filter test (map (λ (x : X). x) xs)) ≡ map twice (map end (filter test xs)) =
-    ap (λ ys. map (λ x. twice (end x)) (filter test ys)) (map-id xs) ∙ sym (map-map twice end (filter test xs)) in
-    let it = answered.1 in
-    earliest_in L.table.tree tests project place (map end (filter test xs)) found it.ordered
-    (subst (λ os. IsPermutation os it.ordered) moments it.same) it.sorted (first ∙ ap first_number (answered.2 ∙ ap first_of it.shown))
+module _ {X : Type 0} (L : Layout X) (end : X → ℕ) (text : List ℕ) (tests : List Term) (place : ℕ) (params : Row) (test : X → Bool)
+    (reading : IsReading desk_schema first_row text L.table.tree tests (col 1 place ∷ []) (by place ∷ []) params)
+    (low : (db : Trees) → overlay db [] L.table.tree ≡ db L.table.tree) (tests_are : (x : X) → passes tests params (L.image x) ≡ test x)
+    (shows : (x : X) → output (picked L.table.tree tests (col 1 place ∷ []) (by place ∷ [])) (params ∷ L.image x ∷ []) ≡ twice (end x)) where
+  -- the moments that are shown, cut from those of all rows that pass the test
+  moments : (old new : State) (xs : List X) (rows : List Row) → HasRows L old.now xs → Shown text params old new rows
+      → (all : List Row) × IsOrderedAs (picked L.table.tree tests (col 1 place ∷ []) (by place ∷ []))
+      (map (λ x. twice (end x)) (filter test (map (λ (x : X). x) xs))) all
+      × (rows ≡ first_of all)
+  moments old new xs rows has h =
+      answers_up_to L.image (λ (x : X). x) L.table.tree tests (col 1 place ∷ []) (by place ∷ []) params test (λ x. twice (end x)) tests_are shows first_row
+      text reading low old new xs rows has.schema has.rows_are h
 
-module _ (old new : State) (T : Tables) (rows : List Row) (values : Row) (found : Option ℕ) (has : Holds old.now T)
-    (first : option_map (λ m. pos m) found ≡ first_number rows) where
+  -- so a look-up finds the earliest
+  earliest_finds : {S : Type 0} (g : Ghosts S) (old : Held S) (xs : List X) → HasRows L (state g old).now xs
+      → FindsEarliest g text params old (map end (filter test xs))
+  earliest_finds g old xs has =
+      let ys = filter test (map (λ (x : X). x) xs) in
+      let same : map (λ x. twice (end x)) ys ≡ map twice (map end (filter test xs)) =
+      ap (λ ys. map (λ x. twice (end x)) (filter test ys)) (map-id xs) ∙ sym (map-map twice end (filter test xs)) in
+      record {
+        shows = λ new rows found h first.
+            let it = moments (state g old) (state g new) xs rows has h in
+            earliest_in L.table.tree tests (col 1 place ∷ []) place (map end (filter test xs)) found it.1.ordered
+            (subst (λ os. IsPermutation os it.1.ordered) same it.1.same) it.1.sorted (first ∙ ap first_number (it.2 ∙ ap first_of it.1.shown));
+        sure = λ may. record {
+          fails = λ new e.
+              query_fails first_row text L.table.tree tests (col 1 place ∷ []) (by place ∷ []) params reading (state g old) (state g new) has.schema e may;
+          shows = λ new rows h.
+              let it = moments (state g old) (state g new) xs rows has h in
+              begin_with_moment it.1.ordered rows (all-permutation IsMoment (map (λ x. twice (end x)) ys) it.1.ordered it.1.same (all_moments end ys))
+              (it.2 ∙ ap first_of it.1.shown);
+        };
+      }
+
+-- whatever its parameters are called
+pub earliest_as : {S : Type 0} {g : Ghosts S} {text : List ℕ} {params values : Row} {old : Held S} {ms : List ℕ} → values ≡ params
+    → FindsEarliest g text params old ms → FindsEarliest g text values old ms
+earliest_as {S} {g} {text} {params} {values} {old} {ms} given finds = subst (λ v. FindsEarliest g text v old ms) (sym given) finds
+
+module _ {S : Type 0} (g : Ghosts S) (old : Held S) (T : Tables) (has : Holds (state g old).now T) where
   -- of nonces
-  pub issue_found : values ≡ [] → Shown nonce.SELECT_EARLIEST.now values old new rows → IsEarliest (issues T) found
-  issue_found given h =
-      subst (λ ns. IsEarliest (map (λ (n : Nonce). n.issued) ns) found) (filter-all T.nonces)
-      (earliest_found nonce_layout (λ n. n.issued) nonce.SELECT_EARLIEST.now [] 3 [] (λ _. true) issue_reading (λ _. refl) (λ _. refl) (λ _. refl)
-      old new values T.nonces rows found (nonces_held old.now T has) given h first)
+  pub issue_find : FindsEarliest g nonce.SELECT_EARLIEST.now [] old (issues T)
+  issue_find =
+      subst (λ ns. FindsEarliest g nonce.SELECT_EARLIEST.now [] old (map (λ (n : Nonce). n.issued) ns)) (filter-all T.nonces)
+      (earliest_finds nonce_layout (λ n. n.issued) nonce.SELECT_EARLIEST.now [] 3 [] (λ _. true) issue_reading (λ _. refl) (λ _. refl) (λ _. refl)
+      g old T.nonces (nonces_held _ T has))
 
   -- of orders of a status
-  pub order_end_found : (status : OrderStatus) → values ≡ Text (order_status_text status) ∷ [] → Shown ord.SELECT_EARLIEST.now values old new rows
-      → IsEarliest (order_ends T status) found
-  order_end_found status given h =
-      earliest_found order_layout (λ o. o.expires) ord.SELECT_EARLIEST.now (is_equal order_status_at) 4 (Text (order_status_text status) ∷ [])
-      (λ o. order_code o.status == order_code status) order_end_reading (λ _. refl)
+  pub order_end_find : (status : OrderStatus) → FindsEarliest g ord.SELECT_EARLIEST.now (text (order_status_text status)) old (order_ends T status)
+  order_end_find status =
+      earliest_finds order_layout (λ o. o.expires) ord.SELECT_EARLIEST.now (is_equal order_status_at) 4 (text (order_status_text status))
+      (λ o. order_code o.status == order_code status) (order_end_reading status) (λ _. refl)
       (λ o. text_test (order_status_text o.status) (order_status_text status) ∙ order_status_test o.status status) (λ _. refl)
-      old new values T.orders rows found (orders_held old.now T has) given h first
+      g old T.orders (orders_held _ T has)
 
   -- of authorizations of a status
-  pub authorization_end_found : (status : AuthzStatus) → values ≡ Text (authorization_status_text status) ∷ []
-      → Shown authz.SELECT_EARLIEST.now values old new rows → IsEarliest (authorization_ends T status) found
-  authorization_end_found status given h =
-      earliest_found authorization_layout (λ r. r.expires) authz.SELECT_EARLIEST.now (is_equal authorization_status_at) 6 (Text (authorization_status_text status) ∷ [])
-      (λ r. authz_code r.status == authz_code status) authorization_end_reading (λ _. refl)
+  pub authorization_end_find : (status : AuthzStatus)
+      → FindsEarliest g authz.SELECT_EARLIEST.now (text (authorization_status_text status)) old (authorization_ends T status)
+  authorization_end_find status =
+      earliest_finds authorization_layout (λ r. r.expires) authz.SELECT_EARLIEST.now (is_equal authorization_status_at) 6
+      (text (authorization_status_text status)) (λ r. authz_code r.status == authz_code status) (authorization_end_reading status) (λ _. refl)
       (λ r. text_test (authorization_status_text r.status) (authorization_status_text status) ∙ authorization_status_test r.status status) (λ _. refl)
-      old new values T.authorizations rows found (authorizations_held old.now T has) given h first
+      g old T.authorizations (authorizations_held _ T has)

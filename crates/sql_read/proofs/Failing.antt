@@ -1,5 +1,5 @@
 -- A query of a desk's tables fails for memory or the disk alone.
-use Rattle.std.proofs.Common.{◌≡◌, inl, inr, ℕ, true, List, [], ◌∷◌, length, IsTrue, IsSome, None, Option, Ok, Err, Result, All}
+use Rattle.std.proofs.Common.{◌≡◌, inl, inr, ℕ, List, [], ◌∷◌, length, IsTrue, IsSome, None, Option, Ok, Err, All}
 use Rattle.std.proofs.Common.{refl, sym, ap, subst, ◌∙◌, arith, append-nil}
 use Rattle.sqlite_value.specs.Order.{Row}
 use Rattle.sqlite_trees.specs.declared.error.StoreError.{StoreError}
@@ -21,44 +21,12 @@ use Rattle.sqlite.specs.State.{State, store_error, IsNoStatement, HasCause, Fail
 use Rattle.sqlite.specs.declared.error.Error.{Error}
 use Rattle.sqlite.proofs.Callers.{IsPlain, command_of}
 use Rattle.sql_schema.specs.Failing.{IsFailure}
-use Rattle.sql_schema.specs.Schema.{desk_schema, first_schema}
 use Rattle.sqlite.specs.Schema.{Schema}
 use Rattle.sql_schema.specs.Stays.{Asks}
 use Rattle.sql_read.specs.Failures.{FailsToRead, MayRead}
-use Rattle.sql_read.proofs.Answered.{IsCommand, IsReadingIn, all_rows, compiled_alone, picked_up_to}
+use Rattle.sql_read.proofs.Answered.{IsCommand, IsReading, all_rows, compiled_alone, names_of, picked_up_to, tail_of}
 
 -- ---- the engine
-
--- how long the statement is that was understood
-abbrev pub tail_of : Result Compiled CompileError → ℕ
-tail_of (Ok c) = c.tail
-tail_of (Err e) = 0
-
--- the names of its parameters
-abbrev pub names_of : Result Compiled CompileError → List (List ℕ)
-names_of (Ok c) = c.names
-names_of (Err e) = []
-
--- how long the statement is that was understood, and how many parameters it has
-abbrev pub sizes_of : Result Compiled CompileError → ℕ × ℕ
-sizes_of r = (tail_of r, length (names_of r))
-
--- the text is one statement with as many parameters as are given, and compares no values of other kinds
-pub record IsSureIn (schema : Schema) (limit : Term) (text : List ℕ) (tree : ℕ) (tests project : List Term) (order : List (Term × Key)) (params : Row)
-    : Type 0 where
-  pub sizes : sizes_of (understood schema text) ≡ (length text, length params)
-  pub typed : accepts_program schema [] (picked_up_to limit tree tests project order) params ≡ true
-
--- over the schema of a desk
-abbrev pub IsSureUpTo : Term → List ℕ → ℕ → List Term → List Term → List (Term × Key) → Row → Type 0
-IsSureUpTo = IsSureIn desk_schema
-
--- of a whole table, over that schema and over that of format 1
-abbrev pub IsSure : List ℕ → ℕ → List Term → List (Term × Key) → Type 0
-IsSure text tree project order = IsSureUpTo all_rows text tree [] project order []
-
-abbrev pub IsFirstSure : List ℕ → ℕ → List Term → List (Term × Key) → Type 0
-IsFirstSure text tree project order = IsSureIn first_schema all_rows text tree [] project order []
 
 -- a failure of an open store
 pub failed : (old new : State) (e : Error) (cause : StoreError) → IsTrue old.is_open → e ≡ store_error cause → HasCause old new ⊥ cause → IsFailure e
@@ -70,8 +38,7 @@ failed old new e store.Broken is_open is why = absurd (let x = sym is_open ∙ w
 failed old new e store.Unstorable is_open is why = absurd why
 
 module _ {schema : Schema} (limit : Term) (text : List ℕ) (tree : ℕ) (tests project : List Term) (order : List (Term × Key)) (params : Row)
-    (is : IsReadingIn schema limit text tree tests project order)
-    (sure : IsSureIn schema limit text tree tests project order params) (old new : State) (has : old.now.schema ≡ schema) (e : Error) where
+    (is : IsReading schema limit text tree tests project order params) (old new : State) (has : old.now.schema ≡ schema) (e : Error) where
   -- what the text means
   meant : IsCommand schema text (Select (record { lets = []; body = picked_up_to limit tree tests project order }) is.names)
   meant = compiled_alone text _ is.means
@@ -91,11 +58,11 @@ module _ {schema : Schema} (limit : Term) (text : List ℕ) (tree : ℕ) (tests 
   never_none : IsNoStatement old text params e → ⊥
   never_none (inl (fault, h, why)) = no_error fault h
   never_none (inr (c, h, inl cut)) =
-      let tail : c.tail ≡ length text = sym (ap tail_of (known c h)) ∙ ap (λ (s : ℕ × ℕ). s.0) sure.sizes in
+      let tail : c.tail ≡ length text = sym (ap tail_of (known c h)) ∙ ap (λ (s : ℕ × ℕ). s.0) is.sizes in
       cut.0 (omega (arith, tail))
   never_none (inr (c, h, inr (inl given))) =
       let counted : length c.names ≡ length params =
-      sym (ap (λ r. length (names_of r)) (known c h)) ∙ ap (λ (s : ℕ × ℕ). s.1) sure.sizes in
+      sym (ap (λ r. length (names_of r)) (known c h)) ∙ ap (λ (s : ℕ × ℕ). s.1) is.sizes in
       given.0 (sym counted)
   never_none (inr (c, h, inr (inr clock))) = clock.0 (subst IsPlain (known c h) meant.plain).1
 
@@ -112,7 +79,7 @@ module _ {schema : Schema} (limit : Term) (text : List ℕ) (tree : ℕ) (tests 
     where
       go : RefusesToRead steps (Select (record { lets = []; body = picked_up_to limit tree tests project order }) is.names) old.now params e → ⊥
       go (inl mismatch) =
-          absurd (let x = sym (ap (λ s. accepts_program s [] (picked_up_to limit tree tests project order) params) has ∙ sure.typed) ∙ mismatch.1 in cc)
+          absurd (let x = sym (ap (λ s. accepts_program s [] (picked_up_to limit tree tests project order) params) has ∙ is.typed) ∙ mismatch.1 in cc)
       go (inr (inl (why, inl none))) = none
       go (inr (inl (why, inr folds))) = no_fold_overflows (overlay old.now.trees []) (inner tree end) (params ∷ []) refl folds
       go (inr (inr stopped)) = absurd (let x = subst (λ (l : Option ℕ). IsSome l) unlimited stopped.1 in cc)
@@ -133,12 +100,12 @@ module _ {schema : Schema} (limit : Term) (text : List ℕ) (tree : ℕ) (tests 
 
 -- and so does a reading of a whole table, where the rows that it shows fit
 pub reading_fails : {schema : Schema} (text : List ℕ) (tree : ℕ) (project : List Term) (order : List (Term × Key))
-    → IsReadingIn schema all_rows text tree [] project order → IsSureIn schema all_rows text tree [] project order [] → (old new : State)
-    → old.now.schema ≡ schema → (e : Error) (Fits : Row → Type 0) → MayRead old → ((rows : List Row) → Shown text [] old new rows → All Fits rows)
+    → IsReading schema all_rows text tree [] project order [] → (old new : State) → old.now.schema ≡ schema → (e : Error) (Fits : Row → Type 0)
+    → MayRead old → ((rows : List Row) → Shown text [] old new rows → All Fits rows)
     → FailsToRead text [] old new Fits e → IsFailure e
-reading_fails text tree project order is sure old new has e Fits may fit (inl query) =
-    query_fails all_rows text tree [] project order [] is sure old new has e may query
-reading_fails text tree project order is sure old new has e Fits may fit (inr (rows, shown, memory)) = inl (memory (fit rows shown))
+reading_fails text tree project order is old new has e Fits may fit (inl query) =
+    query_fails all_rows text tree [] project order [] is old new has e may query
+reading_fails text tree project order is old new has e Fits may fit (inr (rows, shown, memory)) = inl (memory (fit rows shown))
 
 -- ---- one reading after another
 

@@ -17,10 +17,11 @@ use Rattle.desk_model.specs.declared.objects.Answer.{Answer}
 use Rattle.desk_model.specs.declared.rows.ChallengeRow.{ChallengeRow}
 use Rattle.sql_read.specs.First.{AreFirstShown, blank_key, raised_meta}
 use Rattle.sql_read.specs.Shown.{AreColumnsOf}
-use Rattle.sql_read.proofs.FirstTables.{accounts_read, authorizations_read, challenges_read, listed_shown, meta_read, nonces_read, orders_read}
+use Rattle.sql_read.specs.declared.formats.Format.TheVariants.{First}
+use Rattle.sql_read.proofs.Loading.{challenges_moved}
 use Rattle.sql_read.proofs.ShownRows.{shown_still}
-use Rattle.sql_read.proofs.WholeTables.{listed_in_order}
-use Rattle.sql_read.proofs.Lists.{map_moved, picked_moved}
+use Rattle.sql_read.proofs.WholeTables.{accounts_whole, authorizations_whole, challenges_whole, listed_columns_are, meta_whole, nonces_whole, orders_whole}
+use Rattle.sql_read.proofs.Lists.{picked_moved}
 use Rattle.sql_tables.specs.Holds.{HoldsFirst}
 use Rattle.sql_tables.specs.Layouts.{challenge_layout}
 use Rattle.sql_tables.specs.Sorted.{sorted_by}
@@ -84,33 +85,20 @@ blank_step f xs i d before now low pushed kept =
 pub first_columns : {S : Type 0} (g : Ghosts S) (conn : Held S) (stored : StoredRows) (T : Tables) → HoldsFirst (state g conn).now T
     → AreFirstShown g conn stored → AreColumnsOf stored (blank T)
 first_columns {S} g conn stored T has it =
-    let held : (before : Held S) → (state g before).now ≡ (state g conn).now → HoldsFirst (state g before).now T =
-    λ before same. subst (λ db. HoldsFirst db T) (sym same) has in
     let rows = challenge_rows T.authorizations in
-    let columns = λ (c : Owned ChallengeRow). challenge_columns (bare_row c) in
     let sorted = sorted_by challenge_layout.key rows in
-    let challs : stored.challs ≡ map columns sorted =
-    it.challenges.columns ∙ challenges_read (state g it.challenges.before) (state g it.challenges.after) T it.challenges.rows
-    (held it.challenges.before it.challenges.same) it.challenges.shown in
+    let challs = (challenges_whole g conn T First has).columns_are _ it.challenges in
     record {
-      metas = it.raised_metas ∙ ap (map raised_meta) (it.metas.columns ∙ meta_read (state g it.metas.before) (state g it.metas.after) T it.metas.rows
-          (held it.metas.before it.metas.same) it.metas.shown);
-      nonces = it.nonces.columns ∙ nonces_read (state g it.nonces.before) (state g it.nonces.after) T it.nonces.rows
-          (held it.nonces.before it.nonces.same) it.nonces.shown;
-      accounts = it.accounts.columns ∙ accounts_read (state g it.accounts.before) (state g it.accounts.after) T it.accounts.rows
-          (held it.accounts.before it.accounts.same) it.accounts.shown;
-      orders = it.orders.columns ∙ orders_read (state g it.orders.before) (state g it.orders.after) T it.orders.rows
-          (held it.orders.before it.orders.same) it.orders.shown;
-      authorizations = it.authorizations.columns ∙ authorizations_read (state g it.authorizations.before) (state g it.authorizations.after) T
-          it.authorizations.rows (held it.authorizations.before it.authorizations.same) it.authorizations.shown
+      metas = it.raised_metas ∙ ap (map raised_meta) ((meta_whole g conn T First has).columns_are _ it.metas);
+      nonces = (nonces_whole g conn T First has).columns_are _ it.nonces;
+      accounts = (accounts_whole g conn T First has).columns_are _ it.accounts;
+      orders = (orders_whole g conn T First has).columns_are _ it.orders;
+      authorizations = (authorizations_whole g conn T First has).columns_are _ it.authorizations
           ∙ sym (map-map authorization_columns blank_authorization T.authorizations);
-      listed = listed_in_order T.orders it.listed.rows stored.order_authzs
-          (listed_shown (state g it.listed.before) (state g it.listed.after) T it.listed.rows (held it.listed.before it.listed.same) it.listed.shown)
-          it.listed.columns;
+      listed = listed_columns_are g conn T First has _ it.listed;
       challenges = subst (IsPermutation stored.challs)
-          (sym (map-map challenge_columns bare_row rows)
-          ∙ ap (map challenge_columns) (sym (ap (map bare_row) (rows_blank T.authorizations) ∙ bare_same rows)))
-          (map_moved challenge_layout.key columns rows stored.challs has.rising.challenges challs);
+          (ap (map challenge_columns) (sym (ap (map bare_row) (rows_blank T.authorizations) ∙ bare_same rows)))
+          (challenges_moved T stored.challs has.rising.challenges challs);
       keys = subst (λ ks. IsPermutation ks (map key_columns (key_rows (challenge_rows (blank T).authorizations))))
           (sym (it.blank_keys ∙ ap (filter_map blank_key) challs ∙ keys_are_blank sorted))
           (subst (λ cs. IsPermutation (map key_columns (key_rows (map blank_row sorted))) (map key_columns (key_rows cs))) (sym (rows_blank T.authorizations))

@@ -1,20 +1,32 @@
--- The rows that a look-up finds are those of the model.
+-- What a look-up finds is the rows of the model; it fails for memory or the disk alone, and shows rows of its table.
 use Rattle.std.proofs.Common.{◌≡◌, ℕ, Bool, List, [], ◌∷◌, map, filter, cond, refl, sym, ap, subst, ◌∙◌}
 use Rattle.std.proofs.lemmas.Simd.{map-map}
 use Rattle.sqlite_value.specs.Order.{Row}
-use Rattle.sqlite_sql.specs.Term.{Term}
-use Rattle.sqlite.specs.State.{State, Shown}
+use Rattle.sqlite_sql.specs.Query.{as_count}
+use Rattle.sqlite_sql.specs.Term.{Term, eval}
+use Rattle.sqlite.specs.Effect.{Database}
+use Rattle.sqlite.specs.Held.{Held, state}
+use Rattle.sqlite.specs.Schema.{Schema}
+use Rattle.sqlite.specs.State.{Shown}
+use Rattle.sqlite.specs.Store.{Ghosts}
+use Rattle.store_columns.specs.Flat.{flat}
 use Rattle.store_columns.specs.Laws.{AreToldApart}
+use Rattle.store_columns.specs.Limits.{AreStored}
 use Rattle.store_columns.proofs.RowsApart.{table-apart}
 use Rattle.model_laws.proofs.Basics.{each-map, each_of_map}
 use Rattle.model_laws.proofs.Keeps.{each-filter}
 use Rattle.desk_model.specs.Kept.{EachOf}
-use Rattle.sql_tables.specs.Layouts.{HasRows, Layout}
-use Rattle.model_lives.specs.Above.{first_of}
-use Rattle.sql_read.proofs.Answered.{IsReading, IsReadingUpTo, by, first_row, passes}
-use Rattle.sql_read.proofs.KeyedReadings.{reads_first, reads_keyed}
-use Rattle.sql_read.proofs.Lists.{each-first}
-use Rattle.sql_read.proofs.TableColumns.{IsSpelled}
+use Rattle.desk_model.specs.Tables.{Tables}
+use Rattle.sql_schema.specs.Schema.{desk_schema}
+use Rattle.sql_read.specs.Failures.{HasTexts, MayRead}
+use Rattle.sql_read.specs.LookUpFaults.{AreTableRows, IsSureQuery}
+use Rattle.store_book.specs.IsBook.{IsStoredBook}
+use Rattle.sql_read.proofs.Answered.{by}
+use Rattle.sql_read.proofs.Failing.{query_fails}
+use Rattle.sql_read.proofs.KeyedReadings.{HasRowsIn, columns_of, cut, shown_cut}
+use Rattle.sql_read.proofs.Lists.{each_limited}
+use Rattle.sql_read.proofs.TableColumns.{all_fit}
+use Rattle.sql_read.proofs.TableFacts.{IsReadingOf, TableFacts, columns, picks}
 
 -- ---- rows and their columns
 
@@ -29,43 +41,73 @@ filter-each P p q agree [] h = refl
 filter-each P p q agree (x ∷ xs) h =
     λ i. cond (agree x h.0 i) (x ∷ filter-each P p q agree xs h.1 i) (filter-each P p q agree xs h.1 i)
 
--- ---- rows of a table by number
+-- rows in their limits, whose texts are UTF-8, are shown as a table's rows
+pub table_rows : {X R C : Type 0} (bare : X → R) (write : R → C) (IsStored : R → Type 0) (spelled : Row → C) (row : C → Row) → ((c : C) → spelled (row c) ≡ c)
+    → (HasText : C → Type 0) (Fits : Row → Type 0) → ((c : C) → HasText c → Fits (row c)) → (xs : List X) (rows : List Row)
+    → EachOf (λ x. IsStored (bare x)) xs → EachOf (λ x. HasText (write (bare x))) xs → rows ≡ map (λ x. row (write (bare x))) xs
+    → AreTableRows spelled Fits write IsStored rows
+table_rows bare write IsStored spelled row back HasText Fits fits xs rows stored texts are = record {
+  fit = all_fit (λ x. write (bare x)) row HasText Fits fits xs rows (each-map HasText (λ x. write (bare x)) xs texts) are;
+  written = map bare xs;
+  stored = each-map IsStored bare xs stored;
+  columns = columns_of spelled row (λ x. write (bare x)) back xs rows are ∙ sym (map-map write bare xs);
+}
 
--- a look-up finds the rows that pass the model's test, where the tests agree on rows in their limits
-pub found_keyed : {X R C : Type 0} (L : Layout X) (bare : X → R) (write : R → C) (IsStored : R → Type 0) (spelled : Row → C) (project : List Term)
-    → IsSpelled L (λ x. write (bare x)) spelled project → AreToldApart write IsStored
-    → (text : List ℕ) (tests : List Term) (params : Row) (sql test : X → Bool) → IsReading text L.table.tree tests project (by 0 ∷ [])
-    → ((x : X) → passes tests params (L.image x) ≡ sql x) → ((x : X) → IsStored (bare x) → sql x ≡ test x)
-    → (old new : State) (values : Row) (xs : List X) (rows : List Row) (found : List R)
-    → HasRows L old.now xs → EachOf IsStored (map bare xs) → values ≡ params → Shown text values old new rows → EachOf IsStored found
-    → map spelled rows ≡ map write found → found ≡ map bare (filter test xs)
-found_keyed L bare write IsStored spelled project is apart text tests params sql test reading tests_are agree old new values xs rows found has stored given
-    h kept spells =
-    let limits = each_of_map IsStored bare xs stored in
-    let shown = subst (λ v. Shown text v old new rows) given h in
-    let columns = reads_keyed L (λ x. write (bare x)) spelled project is text tests params sql reading tests_are old new xs rows has shown in
-    let same : filter sql xs ≡ filter test xs = filter-each (λ x. IsStored (bare x)) sql test agree xs limits in
-    table-apart write IsStored apart found (map bare (filter sql xs)) kept
-    (each-map IsStored bare (filter sql xs) (each-filter (λ x. IsStored (bare x)) sql xs limits))
-    (sym spells ∙ columns ∙ sym (map-map write bare (filter sql xs)))
-    ∙ ap (map bare) same
+-- ---- look-ups
 
--- and a look-up of the first row above a number finds that one
-pub found_first : {X R C : Type 0} (L : Layout X) (bare : X → R) (write : R → C) (IsStored : R → Type 0) (spelled : Row → C) (project : List Term)
-    → IsSpelled L (λ x. write (bare x)) spelled project → AreToldApart write IsStored
-    → (text : List ℕ) (tests : List Term) (params : Row) (sql test : X → Bool)
-    → IsReadingUpTo first_row text L.table.tree tests project (by 0 ∷ [])
-    → ((x : X) → passes tests params (L.image x) ≡ sql x) → ((x : X) → IsStored (bare x) → sql x ≡ test x)
-    → (old new : State) (values : Row) (xs : List X) (rows : List Row) (found : List R)
-    → HasRows L old.now xs → EachOf IsStored (map bare xs) → values ≡ params → Shown text values old new rows → EachOf IsStored found
-    → map spelled rows ≡ map write found → found ≡ map bare (first_of (filter test xs))
-found_first {X} L bare write IsStored spelled project is apart text tests params sql test reading tests_are agree old new values xs rows found has stored
-    given h kept spells =
-    let P = λ (x : X). IsStored (bare x) in
-    let limits = each_of_map IsStored bare xs stored in
-    let shown = subst (λ v. Shown text v old new rows) given h in
-    let columns = reads_first L (λ x. write (bare x)) spelled project is text tests params sql reading tests_are old new xs rows has shown in
-    table-apart write IsStored apart found (map bare (first_of (filter sql xs))) kept
-    (each-map IsStored bare (first_of (filter sql xs)) (each-first P (filter sql xs) (each-filter P sql xs limits)))
-    (sym spells ∙ columns ∙ sym (map-map write bare (first_of (filter sql xs))))
-    ∙ ap (λ ys. map bare (first_of ys)) (filter-each P sql test agree xs limits)
+-- whatever a query shows are these rows, and it is sure
+pub record Finds {S R C : Type 0} (g : Ghosts S) (spelled : Row → C) (Fits : Row → Type 0) (write : R → C) (IsStored : R → Type 0) (text : List ℕ) (params : Row)
+    (old : Held S) (found : List R) : Type 0 where
+  pub shows : (new : Held S) (shown : List Row) (heads : List R) → Shown text params (state g old) (state g new) shown → EachOf IsStored heads
+      → map spelled shown ≡ map write heads → heads ≡ found
+  pub sure : MayRead (state g old) → IsSureQuery g text params old (AreTableRows spelled Fits write IsStored)
+
+-- whatever its text, its parameters and these rows are called
+pub finds_as : {S R C : Type 0} {g : Ghosts S} {spelled : Row → C} {Fits : Row → Type 0} {write : R → C} {IsStored : R → Type 0} {text other : List ℕ}
+    {params values : Row} {old : Held S} {found : List R}
+    → other ≡ text → values ≡ params → Finds g spelled Fits write IsStored text params old found → Finds g spelled Fits write IsStored other values old found
+finds_as {S} {R} {C} {g} {spelled} {Fits} {write} {IsStored} {text} {other} {params} {values} {old} {found} texts given finds =
+    subst (λ v. Finds g spelled Fits write IsStored other v old found) (sym given)
+    (subst (λ t. Finds g spelled Fits write IsStored t params old found) (sym texts) finds)
+
+-- over this schema a table has these rows, which are in their limits, and whose texts are UTF-8, as those of all tables are
+pub record Keeps {X R C : Type 0} (schema : Schema) (t : TableFacts X R C) (db : Database) (T : Tables) (xs : List X) : Type 0 where
+  pub rows : HasRowsIn schema t.layout db xs
+  pub stored : AreStored (flat T) → EachOf t.IsStored (map t.bare xs)
+  pub texts : HasTexts T → EachOf t.HasText (map (columns t) xs)
+
+module _ {X R C : Type 0} (t : TableFacts X R C) where
+  -- of a table of a book
+  abbrev pub FindsIn : {S : Type 0} → Ghosts S → List ℕ → Row → Held S → List R → Type 0
+  FindsIn g text params old found = Finds g t.spelled t.Fits t.write t.IsStored text params old found
+
+  -- a look-up finds the rows that pass the model's test, where the tests agree on rows in their limits
+  pub finds : {S : Type 0} (g : Ghosts S) (limit : Term) (text : List ℕ) (tests : List Term) (params : Row)
+      → IsReadingOf t desk_schema limit text tests params → (test : X → Bool)
+      → ((x : X) → t.IsStored (t.bare x) → picks t tests params x ≡ test x) → (old : Held S) (T : Tables) → IsStoredBook T
+      → (xs : List X) → Keeps desk_schema t (state g old).now T xs → FindsIn g text params old (map t.bare (cut limit params (filter test xs)))
+  finds g limit text tests params reading test agree old T book xs keeps =
+      let P = λ (x : X). t.IsStored (t.bare x) in
+      let sql = picks t tests params in
+      let count = as_count (eval limit (params ∷ [])) in
+      let ys = cut limit params (filter sql xs) in
+      let limits = each_of_map t.IsStored t.bare xs (keeps.stored book.stored) in
+      let kept : EachOf P ys = each_limited P count (filter sql xs) (each-filter P sql xs limits) in
+      let texts = each_limited (λ x. t.HasText (columns t x)) count (filter sql xs)
+      (each-filter (λ x. t.HasText (columns t x)) sql xs (each_of_map t.HasText (columns t) xs (keeps.texts book.texts))) in
+      record {
+        shows = λ new shown heads h stored spells.
+            table-apart t.write t.IsStored t.apart heads (map t.bare ys) stored (each-map t.IsStored t.bare ys kept)
+            (sym spells
+            ∙ columns_of t.spelled t.is.row (columns t) t.is.back ys shown
+            (shown_cut t limit text tests params reading (state g old) (state g new) xs shown keeps.rows h)
+            ∙ sym (map-map t.write t.bare ys))
+            ∙ ap (λ zs. map t.bare (cut limit params zs)) (filter-each P sql test agree xs limits);
+        sure = λ may. record {
+          fails = λ new e. query_fails limit text t.layout.table.tree tests t.project (by 0 ∷ []) params reading (state g old) (state g new) keeps.rows.there e
+              may;
+          shows = λ new rows h.
+              table_rows t.bare t.write t.IsStored t.spelled t.is.row t.is.back t.HasText t.Fits t.fits ys rows kept texts
+              (shown_cut t limit text tests params reading (state g old) (state g new) xs rows keeps.rows h);
+        };
+      }

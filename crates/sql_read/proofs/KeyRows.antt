@@ -23,7 +23,7 @@ use Rattle.sql_tables.proofs.Sorting.{each_sorted}
 use Rattle.sql_read.specs.Keys.{HasItsKey, keys_of}
 use Rattle.sql_read.specs.Under.{rows_under}
 use Rattle.sql_read.proofs.AboveRows.{first_challenge}
-use Rattle.sql_read.proofs.Lists.{each-first}
+use Rattle.sql_read.proofs.Lists.{each_take}
 use Rattle.sql_read.proofs.Results.{read_then}
 
 -- the number of a challenge
@@ -148,4 +148,4 @@ module _ (T : Tables) (apart : Distinct number (challenge_rows T.authorizations)
       let above = filter (λ (c : Owned ChallengeRow). nat_lt n c.row.number) all in
       subst (EachOf (HasItsKey T)) (first_challenge T n apart)
       (each-map (HasItsKey T) (λ (c : Owned ChallengeRow). c.row) (first_of above)
-      (each-first P above (each-filter P (λ c. nat_lt n c.row.number) all (each_sorted number P rows (keys_own rows apart)))))
+      (each_take P 1 above (each-filter P (λ c. nat_lt n c.row.number) all (each_sorted number P rows (keys_own rows apart)))))

@@ -7,11 +7,10 @@ pub mod EarliestRows
 pub mod Failing
 pub mod FirstChecked
 pub mod FirstLoading
-pub mod FirstReadings
 pub mod FirstTables
 pub mod FormatLemmas
-pub mod FormatTables
 pub mod FoundRows
+pub mod KeptRows
 pub mod KeyRows
 pub mod KeyedReadings
 pub mod ListedOrder
@@ -31,11 +30,8 @@ pub mod ShownRows
 pub mod ShownTables
 pub mod StatusTests
 pub mod Streaming
-pub mod SureQueries
-pub mod SureTables
-pub mod SureTexts
 pub mod TableColumns
-pub mod TableFailures
+pub mod TableFacts
 pub mod Tests
 pub mod UnderLemmas
 pub mod WaitingChallenges

@@ -1,5 +1,5 @@
 -- What orders list stands by order, then by place; what a look-up finds of it.
-use Rattle.std.proofs.Common.{◌≡◌, inl, inr, ℕ, ◌+◌, ◌<◌, pos, Bool, List, [], ◌∷◌, ◌++◌, map, filter, Ordering, Less, Equal, refl, sym, ap, subst, ◌∙◌, arith}
+use Rattle.std.proofs.Common.{◌≡◌, inl, inr, ℕ, ◌+◌, ◌<◌, pos, Bool, List, [], ◌∷◌, ◌++◌, map, filter, Ordering, Less, Equal, refl, sym, ap, ◌∙◌, arith}
 use Rattle.std.specs.Prelude.{◌==◌}
 use Rattle.std.specs.List.{AllByRecursion}
 use Rattle.std.specs.List.Sorted.{IsStrictlySortedBy}
@@ -11,7 +11,9 @@ use Rattle.sqlite_value.proofs.OrderLemmas.{value_cmp-Int}
 use Rattle.sqlite_trees.proofs.ListLemmas.{IsPermutation-filter}
 use Rattle.sqlite_sql.specs.Query.{Output, output_cmp}
 use Rattle.sqlite_sql.specs.Term.{Term}
-use Rattle.sqlite.specs.State.{State, Shown}
+use Rattle.sqlite.specs.Held.{Held, state}
+use Rattle.sqlite.specs.State.{Shown}
+use Rattle.sqlite.specs.Store.{Ghosts}
 use Rattle.store_columns.specs.Columns.{listed_columns}
 use Rattle.store_columns.specs.Flat.{listed_rows, owned_by}
 use Rattle.store_columns.specs.Limits.{IsStoredListed}
@@ -28,15 +30,18 @@ use Rattle.sql_tables.specs.Holds.{Holds}
 use Rattle.sql_tables.specs.Images.{listed_cells, listed_params}
 use Rattle.sql_tables.proofs.Keyed.{ranked, three}
 use Rattle.sql_read.specs.Bounded.{bounded}
-use Rattle.sql_read.specs.Spelled.{listed_in}
+use Rattle.sql_read.specs.Spelled.{FitsListed, listed_in}
+use Rattle.sql_schema.specs.Schema.{desk_schema}
+use Rattle.model_laws.proofs.Basics.{each_all}
 use Rattle.store_book.specs.IsBook.{IsStoredBook}
 use Rattle.sql_schema.specs.declared.listed.TheConstants as ord_authz
-use Rattle.sql_read.proofs.Answered.{IsReading, answers, by, less, passes, picked, shown_in_order}
-use Rattle.sql_read.proofs.FoundRows.{filter-each}
+use Rattle.sql_read.proofs.Answered.{IsReading, all_rows, answers, by, less, passes, picked, shown_in_order}
+use Rattle.sql_read.proofs.Failing.{query_fails}
+use Rattle.sql_read.proofs.FoundRows.{Finds, filter-each, table_rows}
 use Rattle.sql_read.proofs.KeyedReadings.{columns_of}
-use Rattle.sql_read.proofs.LookUpReadings.{is_equal, listed_by_reading, listing_reading}
+use Rattle.sql_read.proofs.LookUpReadings.{is_equal, listed_by_reading, listing_reading, number}
 use Rattle.sql_read.proofs.Tests.{number_test, same_bounded}
-use Rattle.sql_read.proofs.TableColumns.{listed_back, listed_project}
+use Rattle.sql_read.proofs.TableColumns.{listed_back, listed_fits, listed_project}
 
 -- ---- by order, then by place
 
@@ -111,48 +116,47 @@ listed_strictly tests n (o ∷ os) up places =
 
 -- ---- look-ups
 
--- what a text picks is shown in this order
-pub listed_shown : (old new : State) (T : Tables) (rows : List Row) → Holds old.now T → IsStoredBook T → (text : List ℕ) (tests : List Term) (params : Row)
-    (sql : Owned Listed → Bool) → IsReading text 6 tests listed_project (by 1 ∷ by 2 ∷ [])
-    → ((t : ℕ × Owned Listed) → passes tests params (hidden listed_cells t) ≡ sql t.1) → Shown text params old new rows
-    → rows ≡ map listed_cells (filter sql (listed_rows T.orders))
-listed_shown old new T rows has book text tests params sql reading tests_are shown =
-    let order = by 1 ∷ by 2 ∷ [] in
-    let ts = has.listed.numbered in
-    let ls = listed_rows T.orders in
-    let answered = answers (hidden listed_cells) row_of 6 tests listed_project order params sql placed tests_are (λ _. refl)
-    text reading (λ _. refl) old new ts rows has.schema has.listed.has shown in
-    let same = IsPermutation-filter sql (map row_of ts) ls has.listed.same in
-    let up = IsStrictlySortedBy-filter (ranks tests) sql ls (listed_strictly tests 0 T.orders has.rising.orders book.book.in_order.places) in
-    shown_in_order (picked 6 tests listed_project order) placed (filter sql (map row_of ts)) (filter sql ls) rows same up answered
-
-module _ (old new : State) (T : Tables) (rows : List Row) (values : Row) (has : Holds old.now T) (book : IsStoredBook T)
-    (found : List (Owned Listed)) (kept : EachOf IsStoredListed found) (spells : map listed_in rows ≡ map listed_columns found) where
-  -- those that a text picks
-  listed : (text : List ℕ) (tests : List Term) (params : Row) (sql test : Owned Listed → Bool)
-      → IsReading text 6 tests listed_project (by 1 ∷ by 2 ∷ [])
-      → ((t : ℕ × Owned Listed) → passes tests params (hidden listed_cells t) ≡ sql t.1)
-      → ((x : Owned Listed) → IsStoredListed x → sql x ≡ test x)
-      → values ≡ params → Shown text values old new rows → found ≡ filter test (listed_rows T.orders)
-  listed text tests params sql test reading tests_are agree given h =
+module _ {S : Type 0} (g : Ghosts S) (old : Held S) (T : Tables) (has : Holds (state g old).now T) (book : IsStoredBook T) where
+  -- what a text picks is found in this order, where the tests agree on rows in their limits
+  listed_finds : (text : List ℕ) (tests : List Term) (params : Row) (sql test : Owned Listed → Bool)
+      → IsReading desk_schema all_rows text 6 tests listed_project (by 1 ∷ by 2 ∷ []) params
+      → ((t : ℕ × Owned Listed) → passes tests params (hidden listed_cells t) ≡ sql t.1) → ((x : Owned Listed) → IsStoredListed x → sql x ≡ test x)
+      → Finds g listed_in FitsListed listed_columns IsStoredListed text params old (filter test (listed_rows T.orders))
+  listed_finds text tests params sql test reading tests_are agree =
+      let order = by 1 ∷ by 2 ∷ [] in
+      let ts = has.listed.numbered in
       let ls = listed_rows T.orders in
-      let rows_are = listed_shown old new T rows has book text tests params sql reading tests_are (subst (λ v. Shown text v old new rows) given h) in
-      let columns = columns_of listed_in listed_params listed_columns listed_back (filter sql ls) rows rows_are in
-      table-apart listed_columns IsStoredListed listed-apart found (filter sql ls) kept (each-filter IsStoredListed sql ls book.stored.listed)
-      (sym spells ∙ columns)
-      ∙ filter-each IsStoredListed sql test agree ls book.stored.listed
+      let stored = each-filter IsStoredListed sql ls book.stored.listed in
+      let same = IsPermutation-filter sql (map row_of ts) ls has.listed.same in
+      let up = IsStrictlySortedBy-filter (ranks tests) sql ls (listed_strictly tests 0 T.orders has.rising.orders book.book.in_order.places) in
+      let shown : (new : Held S) (rows : List Row) → Shown text params (state g old) (state g new) rows → rows ≡ map listed_cells (filter sql ls) =
+      λ new rows h.
+      shown_in_order (picked 6 tests listed_project order) placed (filter sql (map row_of ts)) (filter sql ls) rows same up
+      (answers (hidden listed_cells) row_of 6 tests listed_project order params sql placed tests_are (λ _. refl) text reading (λ _. refl) (state g old)
+      (state g new) ts rows has.schema has.listed.has h) in
+      record {
+        shows = λ new rows heads h kept spells.
+            table-apart listed_columns IsStoredListed listed-apart heads (filter sql ls) kept stored
+            (sym spells ∙ columns_of listed_in listed_params listed_columns listed_back (filter sql ls) rows (shown new rows h))
+            ∙ filter-each IsStoredListed sql test agree ls book.stored.listed;
+        sure = λ may. record {
+          fails = λ new e. query_fails all_rows text 6 tests listed_project order params reading (state g old) (state g new) has.schema e may;
+          shows = λ new rows h.
+              table_rows (λ (l : Owned Listed). l) listed_columns IsStoredListed listed_in listed_params listed_back (λ _. Unit {0}) FitsListed listed_fits
+              (filter sql ls) rows stored (each_all (λ _. Unit {0}) (filter sql ls) (λ _. tt)) (shown new rows h);
+        };
+      }
 
   -- what an order lists
-  pub listed_by_found : (n : ℕ) → values ≡ Int (pos (bounded n)) ∷ [] → Shown ord_authz.SELECT_OF.now values old new rows
-      → found ≡ filter (λ l. l.owner == n) (listed_rows T.orders)
-  listed_by_found n given h =
-      listed ord_authz.SELECT_OF.now (is_equal 1) (Int (pos (bounded n)) ∷ []) (λ l. l.owner == bounded n) (λ l. l.owner == n) listed_by_reading
-      (λ t. number_test t.1.owner (bounded n)) (λ l k. same_bounded l.owner n k.order.1) given h
+  pub listed_by_find : (n : ℕ) → Finds g listed_in FitsListed listed_columns IsStoredListed ord_authz.SELECT_OF.now (number n) old
+      (filter (λ l. l.owner == n) (listed_rows T.orders))
+  listed_by_find n =
+      listed_finds ord_authz.SELECT_OF.now (is_equal 1) (number n) (λ l. l.owner == bounded n) (λ l. l.owner == n) (listed_by_reading n)
+      (λ t. number_test t.1.owner (bounded n)) (λ l k. same_bounded l.owner n k.order.1)
 
   -- what lists an authorization
-  pub listing_found : (n : ℕ) → values ≡ Int (pos (bounded n)) ∷ [] → Shown ord_authz.SELECT_LISTING.now values old new rows
-      → found ≡ filter (λ l. l.row.authorization == n) (listed_rows T.orders)
-  listing_found n given h =
-      listed ord_authz.SELECT_LISTING.now (is_equal 3) (Int (pos (bounded n)) ∷ []) (λ l. l.row.authorization == bounded n)
-      (λ l. l.row.authorization == n) listing_reading
-      (λ t. number_test t.1.row.authorization (bounded n)) (λ l k. same_bounded l.row.authorization n k.authorization.1) given h
+  pub listing_find : (n : ℕ) → Finds g listed_in FitsListed listed_columns IsStoredListed ord_authz.SELECT_LISTING.now (number n) old
+      (filter (λ l. l.row.authorization == n) (listed_rows T.orders))
+  listing_find n =
+      listed_finds ord_authz.SELECT_LISTING.now (is_equal 3) (number n) (λ l. l.row.authorization == bounded n) (λ l. l.row.authorization == n)
+      (listing_reading n) (λ t. number_test t.1.row.authorization (bounded n)) (λ l k. same_bounded l.row.authorization n k.authorization.1)

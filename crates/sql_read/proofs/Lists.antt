@@ -1,13 +1,14 @@
 -- Lists: maps, filters and their order.
-use Rattle.std.proofs.Common.{◌≡◌, ℕ, List, [], ◌∷◌, ◌++◌, map, filter, Bool, true, false, cond, Option, Some, None, refl, sym, ap, subst}
+use Rattle.std.proofs.Common.{◌≡◌, ℕ, zero, suc, take, List, [], ◌∷◌, ◌++◌, map, filter, Bool, true, false, cond, Option, Some, None, refl, sym, ap, subst}
 use Rattle.std.specs.List.{cons_option, filter_map, flat_map}
 use Rattle.std.specs.List.Sorted.{IsPermutation}
 use Rattle.std.proofs.lemmas.List.Sorted.{IsPermutation-map, IsPermutation-refl}
+use Rattle.std.proofs.lemmas.List.{take-map}
+use Rattle.sqlite_sql.specs.Query.{limited}
 use Rattle.sqlite_trees.proofs.ListLemmas.{IsPermutation-flat_map}
 use Rattle.model_laws.proofs.Basics.{each-map, each_of_map}
 use Rattle.model_laws.specs.Distinct.{Distinct}
 use Rattle.desk_model.specs.Kept.{EachOf}
-use Rattle.model_lives.specs.Above.{first_of}
 use Rattle.sql_tables.specs.Sorted.{sorted_by}
 use Rattle.sql_tables.proofs.Sorting.{each_sorted, sorted_moves}
 
@@ -35,17 +36,24 @@ filter-map {A} p f (x ∷ xs) = by (p (f x)) (filter-map p f xs)
 pub as_it_is : {X : Type 0} (xs ys : List X) → xs ≡ ys → IsPermutation xs ys
 as_it_is xs ys same = subst (λ zs. IsPermutation xs zs) same (IsPermutation-refl xs)
 
--- ---- the first item
+-- ---- lists that are cut
 
--- of a map
-pub first-map : {A B : Type 0} (f : A → B) (xs : List A) → first_of (map f xs) ≡ map f (first_of xs)
-first-map f [] = refl
-first-map f (x ∷ xs) = refl
+-- what holds of each item
+pub each_take : {X : Type 0} (P : X → Type 0) (n : ℕ) (xs : List X) → EachOf P xs → EachOf P (take n xs)
+each_take P zero [] h = tt
+each_take P zero (x ∷ xs) h = tt
+each_take P (suc n) [] h = tt
+each_take P (suc n) (x ∷ xs) h = (h.0, each_take P n xs h.1)
 
--- what holds of each item holds of the first
-pub each-first : {A : Type 0} (P : A → Type 0) (xs : List A) → EachOf P xs → EachOf P (first_of xs)
-each-first P [] h = tt
-each-first P (x ∷ xs) h = (h.0, tt)
+-- up to a count
+pub each_limited : {X : Type 0} (P : X → Type 0) (count : Option ℕ) (xs : List X) → EachOf P xs → EachOf P (limited count xs)
+each_limited P None xs h = h
+each_limited P (Some n) xs h = each_take P n xs h
+
+-- a map of these
+pub limited-map : {X Y : Type 0} (f : X → Y) (count : Option ℕ) (xs : List X) → limited count (map f xs) ≡ map f (limited count xs)
+limited-map f None xs = refl
+limited-map f (Some n) xs = take-map f n xs
 
 -- ---- rows by number
 

@@ -1,12 +1,9 @@
 -- By what a look-up fails: its calls one after another.
-use Rattle.std.proofs.Common.{◌≡◌, ◌<◌, inl, sym, ℕ, List, [], ◌∷◌, map, length, get_or, zero, suc, Result, Ok, Err, IfErr, arith, subst}
-use Rattle.sqlite.specs.Held.{Held}
-use Rattle.sqlite.specs.Order.{Row}
+use Rattle.std.proofs.Common.{◌≡◌, ◌<◌, inl, ℕ, List, [], ◌∷◌, map, length, get_or, zero, suc, Result, Ok, Err, IfErr, arith}
 use Rattle.sqlite.specs.State.{State}
-use Rattle.sqlite.specs.Store.{Ghosts}
 use Rattle.desk_model.specs.Kept.{EachOf}
 use Rattle.sql_schema.specs.Stays.{Asks}
-use Rattle.sql_read.specs.LookUpFaults.{IsOfMemory, IsOfMemoryOrDisk, IsSureQuery}
+use Rattle.sql_read.specs.LookUpFaults.{IsOfMemory, IsOfMemoryOrDisk}
 use Rattle.sql_read.specs.declared.fault.ReadFault.{ReadFault}
 use Rattle.sql_read.specs.declared.fault.ReadFault.TheVariants.{Engine, NotARow}
 use Rattle.sql_read.proofs.MetFaults.{memory_is_none, met_behind, no_device}
@@ -33,14 +30,6 @@ pub caused_behind : {A : Type 0} (r : Result A ReadFault) (old mid new : State) 
 caused_behind (Ok a) old mid new asks is = tt
 caused_behind (Err (Engine e)) old mid new asks is = (is.0, met_behind old mid new e asks is.1)
 caused_behind (Err NotARow) old mid new asks is = absurd is
-
--- ---- a query
-
--- a query is sure whatever its text and its parameters are called
-pub sure_as : {S : Type 0} (g : Ghosts S) {AreSuch : List Row → Type 0} (text other : List ℕ) (params values : Row) (old : Held S)
-    → other ≡ text → values ≡ params → IsSureQuery g text params old AreSuch → IsSureQuery g other values old AreSuch
-sure_as g {AreSuch} text other params values old texts given sure =
-    subst (λ v. IsSureQuery g other v old AreSuch) (sym given) (subst (λ t. IsSureQuery g t params old AreSuch) (sym texts) sure)
 
 -- ---- rows with children
 

@@ -1,8 +1,27 @@
 -- Rows that get their own under them, one after the other.
-use Rattle.std.proofs.Common.{◌≡◌, ◌<◌, ◌+◌, ℕ, List, [], ◌∷◌, ◌++◌, length, arith, map, refl, sym, ap, subst, ◌∙◌}
+use Rattle.std.proofs.Common.{◌≡◌, ◌<◌, ◌+◌, ℕ, List, [], ◌∷◌, ◌++◌, length, arith, map, refl, sym, ap, subst, ◌∙◌, IfErr, IsErrAnd, IsTrue, Result}
 use Rattle.std.proofs.Common.{add-one, append-nil, drop, drop-cons, get_or, set, take}
 use Rattle.std.proofs.lemmas.List.{drop-set-lt, drop_all, take_all, take_more, take_more_set}
+use Rattle.sqlite.proofs.Callers.{unchanged_then}
+use Rattle.sqlite.proofs.StateLemmas.{unchanged}
+use Rattle.sqlite.specs.State.{HasCleanDisk, IsUnchanged, State}
 use Rattle.desk_model.specs.Kept.{EachOf}
+use Rattle.desk_model.specs.Tables.{Tables}
+use Rattle.desk_model.specs.declared.rows.ChallengeRow.{ChallengeRow}
+use Rattle.store_columns.specs.declared.flat_rows.Owned.{Owned}
+use Rattle.sql_schema.specs.Stays.{Asks}
+use Rattle.sql_schema.proofs.StaysLemmas.{asks_nothing, asks_then}
+use Rattle.sql_tables.specs.Holds.{Holds}
+use Rattle.sql_tables.proofs.Holding.{holds_still}
+use Rattle.sql_read.specs.Failures.{MayRead}
+use Rattle.sql_read.specs.Held.{ForHeld}
+use Rattle.sql_read.specs.Keys.{HasItsKey}
+use Rattle.sql_read.specs.LookUpFaults.{IsOfMemoryOrDisk}
+use Rattle.sql_read.specs.declared.fault.ReadFault.{ReadFault}
+use Rattle.store_book.specs.IsBook.{IsStoredBook}
+use Rattle.sql_read.proofs.Failing.{may_read_still}
+use Rattle.sql_read.proofs.LookUpFaults.{caused_behind, failed, with_whole}
+use Rattle.sql_read.proofs.Results.{failed_as}
 
 -- a map that ends in an item is that of a list that ends in one
 pub record EndsIn {X Y : Type 0} (f : X → Y) (ys : List Y) (y : Y) (xs : List X) : Type 0 where
@@ -101,3 +120,53 @@ written_over n xs ys counted size =
     ap (λ l. take n (xs ++ l)) (drop_all (length xs) ys (omega (arith, size)))
     ∙ ap (take n) (append-nil xs)
     ∙ take_all n xs (omega (arith, counted, size))
+
+-- ---- over the tables of a desk
+
+-- rows were filled by calls that changed nothing, so as they stand under these
+pub record Filled {X Y : Type 0} (P : Tables → X → Type 0) (bare : X → Y) (first now : State) (read : List Y) (rows : List X) : Type 0 where
+  pub found : ForHeld first now (λ T. IsStoredBook T → IsTrue first.is_open → AreFilled (P T) bare read rows)
+  pub unchanged : HasCleanDisk now → IsTrue first.is_open → IsUnchanged first now
+  pub asks : Asks first now
+
+-- a challenge under its authorization has its key
+abbrev pub HasOwnKey : Tables → Owned ChallengeRow → Type 0
+HasOwnKey T c = HasItsKey T c.row
+
+-- none was yet
+pub filled_first : {X Y : Type 0} (P : Tables → X → Type 0) (bare : X → Y) (first : State) (rows : List X) → rows ≡ [] → Filled P bare first first [] rows
+filled_first P bare first rows none = record {
+  found = λ clean T has book open_. subst (AreFilled (P T) bare []) (sym none) (filled_none (P T) bare);
+  unchanged = λ clean open_. unchanged first open_;
+  asks = asks_nothing first;
+}
+
+-- one more call changed nothing
+pub filled_on : {X Y : Type 0} {P : Tables → X → Type 0} {bare : X → Y} {first old new : State} {read more : List Y} {rows filled : List X}
+    → Filled P bare first old read rows → Asks old new → (HasCleanDisk new → IsTrue old.is_open → IsUnchanged old new)
+    → (HasCleanDisk new → (T : Tables) → Holds old.now T → IsStoredBook T → AreFilled (P T) bare read rows → AreFilled (P T) bare more filled)
+    → Filled P bare first new more filled
+filled_on {X} {Y} {P} {bare} {first} {old} {new} before asks same step = record {
+  found = λ clean T has book open_.
+      let clean_old : HasCleanDisk old = omega (arith, clean, asks.survives.clean) in
+      step clean T (holds_still first old T (before.unchanged clean_old open_) has) book (before.found clean_old T has book open_);
+  unchanged = λ clean open_.
+      let clean_old : HasCleanDisk old = omega (arith, clean, asks.survives.clean) in
+      let still = before.unchanged clean_old open_ in
+      unchanged_then first old new still (same clean still.0.is_open);
+  asks = asks_then first old new before.asks asks;
+}
+
+-- or it failed, as it does under a row that is like the one that is filled
+pub filled_failed : {X Y A : Type 0} {P : Tables → X → Type 0} {bare : X → Y} {first old new : State} {read : List Y} {rows : List X}
+    → Filled P bare first old read rows → Asks old new → HasCleanDisk new → (T : Tables) → Holds first.now T → MayRead first
+    → (heads : List Y) (wholes : List X) (i : ℕ) (d : Y) → heads ≡ map bare wholes → EachOf (P T) wholes → i < length heads
+    → (r : Result A ReadFault) (fault : ReadFault) → IsErrAnd r (λ x. x ≡ fault)
+    → (Holds old.now T → MayRead old → (x : X) → P T x → get_or heads i d ≡ bare x → IsOfMemoryOrDisk old new fault)
+    → IfErr r (IsOfMemoryOrDisk first new)
+filled_failed {X} {Y} {A} {P} {bare} {first} {old} {new} before asks clean T has may heads wholes i d are own low r fault same fails =
+    let clean_old : HasCleanDisk old = omega (arith, clean, asks.survives.clean) in
+    let still = before.unchanged clean_old may.is_open in
+    failed_as r fault (IsOfMemoryOrDisk first new)
+    (caused_behind (failed (Unit {0}) fault) first old new before.asks
+    (with_whole (P T) bare heads wholes i d are own low (fails (holds_still first old T still has) (may_read_still first old still before.asks may)))) same

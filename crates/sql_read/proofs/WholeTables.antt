@@ -1,38 +1,33 @@
--- What the readings of whole tables give.
-use Rattle.std.proofs.Common.{◌≡◌, ℕ, ◌∷◌, [], List, map, true, filter, refl, sym, ap, subst, ◌∙◌}
+-- What the readings of whole tables give in either format; they fail for memory or the disk alone.
+use Rattle.std.proofs.Common.{◌≡◌, ℕ, ◌∷◌, [], List, map, true, filter, refl, sym, subst, ◌∙◌}
 use Rattle.std.specs.List.Sorted.{IsPermutation}
-use Rattle.std.proofs.lemmas.List.Sorted.{IsPermutation-map, IsPermutation-sym, IsPermutation-trans}
-use Rattle.std.proofs.lemmas.Simd.{map-map}
+use Rattle.std.proofs.lemmas.List.Sorted.{All-permutation, IsPermutation-map, IsPermutation-sym, IsPermutation-trans}
+use Rattle.sqlite.specs.Held.{Held, state}
+use Rattle.sqlite.specs.Schema.{Schema}
+use Rattle.sqlite.specs.State.{Shown}
+use Rattle.sqlite.specs.Store.{Ghosts}
 use Rattle.sqlite.specs.declared.types.Value.TheVariants.{Int}
 use Rattle.sqlite_value.specs.Order.{Row}
-use Rattle.sqlite_sql.specs.Term.{Term}
-use Rattle.sqlite.specs.Schema.{Schema}
-use Rattle.sqlite.specs.State.{State, Shown}
-use Rattle.store_columns.specs.Columns.{account_columns, authorization_columns, challenge_columns, key_columns}
-use Rattle.store_columns.specs.Columns.{listed_columns, meta_columns, nonce_columns, order_columns}
-use Rattle.store_columns.specs.Flat.{bare_row, challenge_rows, key_rows, listed_rows}
-use Rattle.store_columns.specs.declared.columns.AccountColumns.{AccountColumns}
-use Rattle.store_columns.specs.declared.columns.AuthzColumns.{AuthzColumns}
-use Rattle.store_columns.specs.declared.columns.ChallColumns.{ChallColumns}
-use Rattle.store_columns.specs.declared.columns.ChallKeyColumns.{ChallKeyColumns}
-use Rattle.store_columns.specs.declared.columns.MetaColumns.{MetaColumns}
-use Rattle.store_columns.specs.declared.columns.NonceColumns.{NonceColumns}
+use Rattle.sqlite_sql.specs.Query.{Output}
+use Rattle.store_columns.specs.Columns.{listed_columns}
+use Rattle.store_columns.specs.Flat.{challenge_rows, key_rows, listed_rows}
 use Rattle.store_columns.specs.declared.columns.OrderAuthzColumns.{OrderAuthzColumns}
-use Rattle.store_columns.specs.declared.columns.OrderColumns.{OrderColumns}
 use Rattle.store_columns.specs.declared.flat_rows.Owned.{Owned}
+use Rattle.model_laws.proofs.Basics.{each_all}
 use Rattle.desk_model.specs.Tables.{Tables}
-use Rattle.desk_model.specs.declared.rows.ChallengeRow.{ChallengeRow}
 use Rattle.desk_model.specs.declared.rows.Listed.{Listed}
-use Rattle.desk_model.specs.declared.rows.OrderRow.{OrderRow}
 use Rattle.sql_tables.specs.Hidden.{hidden, row_of}
 use Rattle.sql_tables.specs.Holds.{Holds, HoldsListed}
 use Rattle.sql_tables.specs.Images.{listed_cells, listed_params}
-use Rattle.sql_tables.specs.Layouts.{HasRows, Layout, account_layout, authorization_layout, challenge_layout}
-use Rattle.sql_tables.specs.Layouts.{key_layout, meta_layout, nonce_layout, order_layout}
+use Rattle.sql_tables.specs.Layouts.{challenge_layout, key_layout}
 use Rattle.sql_tables.specs.Sorted.{sorted_by}
-use Rattle.sql_tables.proofs.AnswerKeys.{keys_apart}
-use Rattle.sql_tables.proofs.Holding.{accounts_held, authorizations_held, challenges_held, keys_held, meta_held, nonces_held, orders_held}
-use Rattle.sql_read.specs.Spelled.{account_in, authorization_in, challenge_in, key_in, listed_in, meta_in, nonce_in, order_in}
+use Rattle.sql_read.specs.AllTables.{AreFirstReadable}
+use Rattle.sql_read.specs.BookShown.{HoldsIn}
+use Rattle.sql_read.specs.Failures.{HasTexts, IsReadable}
+use Rattle.sql_read.specs.Shown.{IsShown}
+use Rattle.sql_read.specs.Spelled.{FitsListed, listed_in}
+use Rattle.sql_read.specs.declared.formats.Format.{Format}
+use Rattle.sql_read.specs.declared.formats.Format.TheVariants.{First, Second}
 use Rattle.sql_schema.specs.declared.accounts.TheConstants as account
 use Rattle.sql_schema.specs.declared.authorizations.TheConstants as authz
 use Rattle.sql_schema.specs.declared.challenges.TheConstants as chall
@@ -41,114 +36,131 @@ use Rattle.sql_schema.specs.declared.meta.TheConstants as meta
 use Rattle.sql_schema.specs.declared.nonces.TheConstants as nonce
 use Rattle.sql_schema.specs.declared.orders.TheConstants as ord
 use Rattle.sql_schema.specs.declared.listed.TheConstants as ord_authz
-use Rattle.sql_read.proofs.Answered.{IsReading, IsReadingIn, all_rows, answers, by, shown_somehow, picked}
-use Rattle.sql_read.proofs.KeyedReadings.{columns_of, reads_keyed}
-use Rattle.sql_read.proofs.Lists.{filter-all, map_moved}
+use Rattle.sql_read.proofs.Answered.{all_rows, answers, by, picked, shown_somehow}
+use Rattle.sql_read.proofs.Failing.{reading_fails}
+use Rattle.sql_read.proofs.FoundRows.{Keeps}
+use Rattle.sql_read.proofs.KeptRows.{accounts_kept, authorizations_kept, challenges_kept, format_kept, keys_kept, nonces_kept, number_of, orders_kept, schema_of}
+use Rattle.sql_read.proofs.KeyedReadings.{HasRowsIn, columns_of, shown_whole}
+use Rattle.sql_read.proofs.Lists.{filter-all}
 use Rattle.sql_read.proofs.Readings.{accounts_reading, authorizations_reading, challenges_reading, keys_reading, listed_reading}
 use Rattle.sql_read.proofs.Readings.{meta_reading, nonces_reading, orders_reading}
-use Rattle.sql_read.proofs.TableColumns.{IsSpelled, account_project, account_spelled, authorization_project, authorization_spelled, challenge_project}
-use Rattle.sql_read.proofs.TableColumns.{challenge_spelled, key_project, key_spelled, listed_back, listed_project, meta_project, meta_spelled}
-use Rattle.sql_read.proofs.TableColumns.{nonce_project, nonce_spelled, order_project, order_spelled}
+use Rattle.sql_read.proofs.TableColumns.{all_fit, listed_back, listed_fits, listed_project}
+use Rattle.sql_read.proofs.TableFacts.{IsReadingOf, TableFacts, account_facts, authorization_facts, cells, challenge_facts, columns, key_facts}
+use Rattle.sql_read.proofs.TableFacts.{formatted_facts, nonce_facts, order_facts}
 
--- all rows of a table, in the order of their keys
-whole : {X C : Type 0} (L : Layout X) (columns : X → C) (spelled : Row → C) (project : List Term) → IsSpelled L columns spelled project
-    → (text : List ℕ) → IsReading text L.table.tree [] project (by 0 ∷ [])
-    → (old new : State) (xs : List X) (rows : List Row) → HasRows L old.now xs → Shown text [] old new rows
-    → map spelled rows ≡ map columns xs
-whole L columns spelled project is text reading old new xs rows has h =
-    reads_keyed L columns spelled project is text [] [] (λ _. true) reading (λ _. refl) old new xs rows has h ∙ ap (map columns) (filter-all xs)
+-- ---- a table by number
 
--- over a schema, what orders list is shown in some order
-pub listed_cells_in : {schema : Schema} → IsReadingIn schema all_rows ord_authz.SELECT.now 6 [] listed_project (by 1 ∷ by 2 ∷ [])
-    → (old new : State) (orders : List OrderRow) (rows : List Row) → old.now.schema ≡ schema → HoldsListed (old.now.trees 6) (listed_rows orders)
-    → Shown ord_authz.SELECT.now [] old new rows → IsPermutation (map listed_cells (listed_rows orders)) rows
-listed_cells_in reading old new orders rows there held h =
-    let order = by 1 ∷ by 2 ∷ [] in
-    let ts = held.numbered in
-    let sorted_by = λ (l : Owned Listed). Int (listed_columns l).ord ∷ Int (listed_columns l).place ∷ [] in
-    let answered = answers (hidden listed_cells) row_of 6 [] listed_project order [] (λ _. true) (λ l. (sorted_by l, listed_cells l)) (λ _. refl) (λ _. refl)
-    ord_authz.SELECT.now reading (λ _. refl) old new ts rows there held.has h in
-    let ls = filter (λ _. true) (map row_of ts) in
-    let some = shown_somehow (picked 6 [] listed_project order) (λ (l : Owned Listed). (sorted_by l, listed_cells l)) ls rows answered in
-    let these : ls ≡ map row_of ts = filter-all (map row_of ts) in
-    let cells = subst (λ ls. IsPermutation (map listed_cells ls) rows) these some in
-    IsPermutation-trans (map listed_cells (listed_rows orders)) (map listed_cells (map row_of ts)) rows
-    (IsPermutation-map listed_cells (listed_rows orders) (map row_of ts) (IsPermutation-sym (map row_of ts) (listed_rows orders) held.same)) cells
+-- over the database of this connection a reading of a whole table shows these rows, and fails for memory or the disk alone
+pub record IsWhole {S X R C : Type 0} (g : Ghosts S) (t : TableFacts X R C) (text : List ℕ) (here : Held S) (T : Tables) (xs : List X) : Type 0 where
+  pub columns_are : (all : List C) → IsShown g text t.spelled here all → all ≡ map (columns t) xs
+  pub readable : HasTexts T → IsReadable g here text t.Fits
 
--- and so read
-pub listed_in_order : (orders : List OrderRow) (rows : List Row) (all : List OrderAuthzColumns)
-    → IsPermutation (map listed_cells (listed_rows orders)) rows → all ≡ map listed_in rows
-    → IsPermutation all (map listed_columns (listed_rows orders))
-listed_in_order orders rows all cells are =
-    let told = IsPermutation-map listed_in (map listed_cells (listed_rows orders)) rows cells in
-    let first : map listed_in (map listed_cells (listed_rows orders)) ≡ map listed_columns (listed_rows orders) =
-    columns_of listed_in listed_params listed_columns listed_back (listed_rows orders) (map listed_cells (listed_rows orders)) refl in
-    IsPermutation-sym (map listed_columns (listed_rows orders)) all
-    (subst (λ cs. IsPermutation (map listed_columns (listed_rows orders)) cs) (sym are) (subst (λ cs. IsPermutation cs (map listed_in rows)) first told))
+-- one does
+whole : {S X R C : Type 0} (g : Ghosts S) (t : TableFacts X R C) (text : List ℕ) (here : Held S) (T : Tables) (xs : List X) {schema : Schema}
+    → IsReadingOf t schema all_rows text [] [] → Keeps schema t (state g here).now T xs → IsWhole g t text here T xs
+whole {S} {X} {R} {C} g t text here T xs {schema} reading keeps =
+    let moved : (before : Held S) → (state g before).now ≡ (state g here).now → HasRowsIn schema t.layout (state g before).now xs =
+    λ before same. subst (λ db. HasRowsIn schema t.layout db xs) (sym same) keeps.rows in
+    record {
+      columns_are = λ all it.
+          it.columns ∙ columns_of t.spelled t.is.row (columns t) t.is.back xs it.rows
+          (shown_whole t text reading (state g it.before) (state g it.after) xs it.rows (moved it.before it.same) it.shown);
+      readable = λ texts before after e same may.
+          reading_fails text t.layout.table.tree t.project (by 0 ∷ []) reading (state g before) (state g after) (moved before same).there e t.Fits may
+          (λ rows h.
+          all_fit (columns t) t.is.row t.HasText t.Fits t.fits xs rows (keeps.texts texts)
+          (shown_whole t text reading (state g before) (state g after) xs rows (moved before same) h));
+    }
 
-module _ (old new : State) (T : Tables) (rows : List Row) where
+module _ {S : Type 0} (g : Ghosts S) (here : Held S) (T : Tables) (format : Format) (has : HoldsIn format (state g here).now T) where
   -- `meta`
-  pub meta_read : (all : List MetaColumns) → Holds old.now T → Shown meta.SELECT.now [] old new rows → all ≡ map meta_in rows
-      → all ≡ map meta_columns (T.meta ∷ [])
-  meta_read all has h are =
-      are ∙ whole meta_layout meta_columns meta_in meta_project meta_spelled meta.SELECT.now meta_reading old new (T.meta ∷ []) rows (meta_held old.now T has) h
+  pub meta_whole : IsWhole g formatted_facts meta.SELECT.now here T ((number_of format, T.meta) ∷ [])
+  meta_whole = whole g formatted_facts _ here T _ (meta_reading format) (format_kept _ T format has)
 
   -- `nonce`
-  pub nonces_read : (all : List NonceColumns) → Holds old.now T → Shown nonce.SELECT.now [] old new rows → all ≡ map nonce_in rows
-      → all ≡ map nonce_columns T.nonces
-  nonces_read all has h are =
-      are ∙ whole nonce_layout nonce_columns nonce_in nonce_project nonce_spelled nonce.SELECT.now nonces_reading old new T.nonces rows
-      (nonces_held old.now T has) h
+  pub nonces_whole : IsWhole g nonce_facts nonce.SELECT.now here T T.nonces
+  nonces_whole = whole g nonce_facts _ here T _ (nonces_reading format) (nonces_kept _ T format has)
 
   -- `account`
-  pub accounts_read : (all : List AccountColumns) → Holds old.now T → Shown account.SELECT.now [] old new rows → all ≡ map account_in rows
-      → all ≡ map account_columns T.accounts
-  accounts_read all has h are =
-      are
-      ∙ whole account_layout account_columns account_in account_project account_spelled account.SELECT.now accounts_reading old new T.accounts rows
-      (accounts_held old.now T has) h
+  pub accounts_whole : IsWhole g account_facts account.SELECT.now here T T.accounts
+  accounts_whole = whole g account_facts _ here T _ (accounts_reading format) (accounts_kept _ T format has)
 
   -- `ord`
-  pub orders_read : (all : List OrderColumns) → Holds old.now T → Shown ord.SELECT.now [] old new rows → all ≡ map order_in rows
-      → all ≡ map order_columns T.orders
-  orders_read all has h are =
-      are ∙ whole order_layout order_columns order_in order_project order_spelled ord.SELECT.now orders_reading old new T.orders rows
-      (orders_held old.now T has) h
+  pub orders_whole : IsWhole g order_facts ord.SELECT.now here T T.orders
+  orders_whole = whole g order_facts _ here T _ (orders_reading format) (orders_kept _ T format has)
 
   -- `authz`
-  pub authorizations_read : (all : List AuthzColumns) → Holds old.now T → Shown authz.SELECT.now [] old new rows → all ≡ map authorization_in rows
-      → all ≡ map authorization_columns T.authorizations
-  authorizations_read all has h are =
-      are
-      ∙ whole authorization_layout authorization_columns authorization_in authorization_project authorization_spelled authz.SELECT.now
-      authorizations_reading
-      old new T.authorizations rows (authorizations_held old.now T has) h
+  pub authorizations_whole : IsWhole g authorization_facts authz.SELECT.now here T T.authorizations
+  authorizations_whole = whole g authorization_facts _ here T _ (authorizations_reading format) (authorizations_kept _ T format has)
 
-  -- `chall`, by number
-  pub challenges_read : (all : List ChallColumns) → Holds old.now T → Shown chall.SELECT.now [] old new rows → all ≡ map challenge_in rows
-      → IsPermutation all (map challenge_columns (map bare_row (challenge_rows T.authorizations)))
-  challenges_read all has h are =
-      let columns = λ (c : Owned ChallengeRow). challenge_columns (bare_row c) in
-      let key = challenge_layout.key in
-      let cs = challenge_rows T.authorizations in
-      let sorted = are ∙ whole challenge_layout columns challenge_in challenge_project challenge_spelled chall.SELECT.now challenges_reading
-      old new (sorted_by key cs) rows (challenges_held old.now T has) h in
-      subst (IsPermutation all) (sym (map-map challenge_columns bare_row cs)) (map_moved key columns cs all has.rising.challenges sorted)
+  -- `chall`
+  pub challenges_whole : IsWhole g challenge_facts chall.SELECT.now here T (sorted_by challenge_layout.key (challenge_rows T.authorizations))
+  challenges_whole = whole g challenge_facts _ here T _ (challenges_reading format) (challenges_kept _ T format has)
 
-  -- `chall_key`, by number
-  pub keys_read : (all : List ChallKeyColumns) → Holds old.now T → Shown chall_key.SELECT.now [] old new rows → all ≡ map key_in rows
-      → IsPermutation all (map key_columns (key_rows (challenge_rows T.authorizations)))
-  keys_read all has h are =
-      let cs = challenge_rows T.authorizations in
-      map_moved key_layout.key key_columns (key_rows cs) all (keys_apart cs has.rising.challenges)
-      (are ∙ whole key_layout key_columns key_in key_project key_spelled chall_key.SELECT.now keys_reading old new (sorted_by key_layout.key (key_rows cs)) rows
-      (keys_held old.now T has) h)
+-- `chall_key`
+pub keys_whole : {S : Type 0} (g : Ghosts S) (here : Held S) (T : Tables) → Holds (state g here).now T
+    → IsWhole g key_facts chall_key.SELECT.now here T (sorted_by key_layout.key (key_rows (challenge_rows T.authorizations)))
+keys_whole g here T has = whole g key_facts _ here T _ keys_reading (keys_kept _ T has)
 
-  -- `ord_authz` is shown in some order
-  pub listed_cells_shown : Holds old.now T → Shown ord_authz.SELECT.now [] old new rows → IsPermutation (map listed_cells (listed_rows T.orders)) rows
-  listed_cells_shown has h = listed_cells_in listed_reading old new T.orders rows has.schema has.listed h
+-- ---- what orders list
+
+module _ {S : Type 0} (g : Ghosts S) (here : Held S) (T : Tables) (format : Format) (has : HoldsIn format (state g here).now T) where
+  -- the table has it, in any order
+  listed_in_format : (f : Format) (before : Held S) → HoldsIn f (state g before).now T
+      → ((state g before).now.schema ≡ schema_of f) × HoldsListed ((state g before).now.trees 6) (listed_rows T.orders)
+  listed_in_format First before has = (has.schema, has.listed)
+  listed_in_format Second before has = (has.schema, has.listed)
+
+  -- and wherever the database is as it is here
+  listed_at : (before : Held S) → (state g before).now ≡ (state g here).now
+      → ((state g before).now.schema ≡ schema_of format) × HoldsListed ((state g before).now.trees 6) (listed_rows T.orders)
+  listed_at before same = listed_in_format format before (subst (λ db. HoldsIn format db T) (sym same) has)
+
+  -- it is shown in some order
+  listed_cells_shown : (before after : Held S) (rows : List Row) → (state g before).now ≡ (state g here).now
+      → Shown ord_authz.SELECT.now [] (state g before) (state g after) rows → IsPermutation (map listed_cells (listed_rows T.orders)) rows
+  listed_cells_shown before after rows same h =
+      let order = by 1 ∷ by 2 ∷ [] in
+      let held = (listed_at before same).1 in
+      let ts = held.numbered in
+      let placed : Owned Listed → Output = λ l. (Int (listed_columns l).ord ∷ Int (listed_columns l).place ∷ [], listed_cells l) in
+      let answered = answers (hidden listed_cells) row_of 6 [] listed_project order [] (λ _. true) placed (λ _. refl) (λ _. refl)
+      ord_authz.SELECT.now (listed_reading format) (λ _. refl) (state g before) (state g after) ts rows (listed_at before same).0 held.has h in
+      let ls = filter (λ _. true) (map row_of ts) in
+      let some = shown_somehow (picked 6 [] listed_project order) placed ls rows answered in
+      let cells = subst (λ ls. IsPermutation (map listed_cells ls) rows) (filter-all (map row_of ts)) some in
+      IsPermutation-trans (map listed_cells (listed_rows T.orders)) (map listed_cells (map row_of ts)) rows
+      (IsPermutation-map listed_cells (listed_rows T.orders) (map row_of ts) (IsPermutation-sym (map row_of ts) (listed_rows T.orders) held.same)) cells
 
   -- and so read
-  pub listed_read : (all : List OrderAuthzColumns) → Holds old.now T → Shown ord_authz.SELECT.now [] old new rows → all ≡ map listed_in rows
+  pub listed_columns_are : (all : List OrderAuthzColumns) → IsShown g ord_authz.SELECT.now listed_in here all
       → IsPermutation all (map listed_columns (listed_rows T.orders))
-  listed_read all has h are = listed_in_order T.orders rows all (listed_cells_shown has h) are
+  listed_columns_are all it =
+      let ls = listed_rows T.orders in
+      let told = IsPermutation-map listed_in (map listed_cells ls) it.rows (listed_cells_shown it.before it.after it.rows it.same it.shown) in
+      let first : map listed_in (map listed_cells ls) ≡ map listed_columns ls =
+      columns_of listed_in listed_params listed_columns listed_back ls (map listed_cells ls) refl in
+      IsPermutation-sym (map listed_columns ls) all
+      (subst (IsPermutation (map listed_columns ls)) (sym it.columns) (subst (λ cs. IsPermutation cs (map listed_in it.rows)) first told))
+
+  -- its reading fails for memory or the disk alone
+  pub listed_readable : IsReadable g here ord_authz.SELECT.now FitsListed
+  listed_readable before after e same may =
+      reading_fails ord_authz.SELECT.now 6 listed_project (by 1 ∷ by 2 ∷ []) (listed_reading format) (state g before) (state g after)
+      (listed_at before same).0 e FitsListed may (λ rows h.
+      let ls = listed_rows T.orders in
+      let all = all_fit listed_columns listed_params (λ _. Unit {0}) FitsListed listed_fits ls (map listed_cells ls)
+      (each_all (λ _. Unit {0}) (map listed_columns ls) (λ _. tt)) refl in
+      All-permutation FitsListed (map listed_cells ls) rows (listed_cells_shown before after rows same h) all)
+
+-- each table that both formats have
+pub first_readable : {S : Type 0} (g : Ghosts S) (here : Held S) (T : Tables) (format : Format) → HoldsIn format (state g here).now T → HasTexts T
+    → AreFirstReadable g here
+first_readable g here T format has texts =
+    let metas = (meta_whole g here T format has).readable texts in
+    let nonces = (nonces_whole g here T format has).readable texts in
+    let accounts = (accounts_whole g here T format has).readable texts in
+    let orders = (orders_whole g here T format has).readable texts in
+    let listed = listed_readable g here T format has in
+    let authorizations = (authorizations_whole g here T format has).readable texts in
+    ((((((metas, nonces), accounts), orders), listed), authorizations), (challenges_whole g here T format has).readable texts)

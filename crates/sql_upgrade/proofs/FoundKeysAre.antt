@@ -24,10 +24,9 @@ use Rattle.desk_model.specs.declared.objects.Answer.{Answer}
 use Rattle.desk_model.specs.declared.rows.AccountRow.{AccountRow}
 use Rattle.desk_model.specs.declared.rows.AuthorizationRow.{AuthorizationRow}
 use Rattle.desk_model.specs.declared.rows.ChallengeRow.{ChallengeRow}
-use Rattle.sql_read.proofs.FirstTables.{accounts_read, authorizations_read, challenges_read}
+use Rattle.sql_read.proofs.FirstTables.{first_accounts, first_authorizations, first_challenges}
 use Rattle.sql_read.proofs.FoundRows.{rows_back}
 use Rattle.sql_read.proofs.Lists.{each_map_sorted}
-use Rattle.sql_tables.specs.Holds.{HoldsFirst}
 use Rattle.sql_tables.specs.Layouts.{challenge_layout, key_layout}
 use Rattle.sql_tables.specs.Sorted.{sorted_by}
 use Rattle.sql_tables.proofs.Sorting.{each_sorted, sorted_rises}
@@ -100,10 +99,6 @@ key_numbers c = by c.row.answered
     by (Some x) = refl
 
 module _ {S : Type 0} (g : Ghosts S) (conn : Held S) (T : Tables) (desk : IsFirstDesk (state g conn).now T) where
-  -- it is held wherever the database is as it is here
-  held : (before : Held S) → (state g before).now ≡ (state g conn).now → HoldsFirst (state g before).now T
-  held before same = subst (λ db. HoldsFirst db T) (sym same) desk.holds
-
   -- each account is found
   all_found : EachOf (IsFound T) T.authorizations
   all_found =
@@ -119,7 +114,7 @@ module _ {S : Type 0} (g : Ghosts S) (conn : Held S) (T : Tables) (desk : IsFirs
   thumbs_are keys shows =
       let it = shows.table.shown conn refl in
       let rows = rows_back account_columns IsStoredAccount accounts-apart _ T.accounts shows.table.rows desk.book.stored.accounts
-      (accounts_read (state g it.before) (state g it.after) T it.rows (held it.before it.same) it.shown) (shows.table.stored, sym it.columns) in
+      ((first_accounts g conn T desk.holds).columns_are _ it) (shows.table.stored, refl) in
       shows.table.is ∙ ap thumb_rows rows
       ∙ puts_ascending (λ t. t.number) 0 (thumbs T) (ascends_map (λ a. a.number) (λ t. t.number) thumb_of (λ _. refl) 0 T.accounts desk.holds.rising.accounts)
 
@@ -129,8 +124,8 @@ module _ {S : Type 0} (g : Ghosts S) (conn : Held S) (T : Tables) (desk : IsFirs
       let it = shows.table.shown conn refl in
       let rows = rows_back authorization_columns IsStoredAuthorization authorizations-apart _ (map without_challenges T.authorizations) shows.table.rows
       desk.book.stored.authorizations
-      (authorizations_read (state g it.before) (state g it.after) T it.rows (held it.before it.same) it.shown
-      ∙ sym (map-map authorization_columns without_challenges T.authorizations)) (shows.table.stored, sym it.columns) in
+      ((first_authorizations g conn T desk.holds).columns_are _ it
+      ∙ sym (map-map authorization_columns without_challenges T.authorizations)) (shows.table.stored, refl) in
       shows.table.is ∙ ap account_rows rows
       ∙ ap (λ l. puts (λ a. a.number) l []) (map-map account_of without_challenges T.authorizations)
       ∙ puts_ascending (λ a. a.number) 0 (accounts T)
@@ -145,8 +140,8 @@ module _ {S : Type 0} (g : Ghosts S) (conn : Held S) (T : Tables) (desk : IsFirs
       let sorted = sorted_by challenge_layout.key cs in
       let rows = rows_back challenge_columns IsStoredChallenge challenges-apart _ (map bare_row sorted) shows.rows
       (each_map_sorted challenge_layout.key bare_row IsStoredChallenge cs desk.book.stored.challenges)
-      (challenges_read (state g it.before) (state g it.after) T it.rows (held it.before it.same) it.shown
-      ∙ sym (map-map challenge_columns bare_row sorted)) (shows.stored, sym it.columns) in
+      ((first_challenges g conn T desk.holds).columns_are _ it
+      ∙ sym (map-map challenge_columns bare_row sorted)) (shows.stored, refl) in
       shows.is ∙ ap (row_keys (accounts T) (thumbs T)) rows
       ∙ picked_map (row_key (accounts T) (thumbs T)) bare_row sorted
       ∙ picked_alike (λ c. row_key (accounts T) (thumbs T) (bare_row c)) (λ c. answer_key c.row) sorted

@@ -1,72 +1,34 @@
-use Rattle.std.proofs.Common.{[], arith, subst, sym, ◌∙◌}
+use Rattle.std.proofs.Common.{◌∙◌}
 use Rattle.std.proofs.lemmas.List.{take_all}
-use Rattle.sqlite.proofs.Callers.{unchanged_then}
-use Rattle.sqlite.proofs.StateLemmas.{unchanged}
 use Rattle.sqlite.specs.Held.{state}
-use Rattle.sqlite.specs.State.{HasCleanDisk}
 use Rattle.store_columns.specs.Flat.{bare}
-use Rattle.sql_schema.proofs.StaysLemmas.{asks_nothing, asks_then}
-use Rattle.sql_tables.proofs.Holding.{holds_still}
 use Rattle.sql_read.specs.Keys.{HasItsKey, answered_as}
-use Rattle.sql_read.proofs.NestLemmas.{AreFilled, filled_none, filled_slice}
-use Rattle.sql_read.proofs.Results.{failed_as}
-use Rattle.sql_read.specs.LookUpFaults.{IsOfMemoryOrDisk}
-use Rattle.sql_read.proofs.LookUpFaults.{caused_behind, failed, with_whole}
-use Rattle.sql_read.proofs.Failing.{may_read_still}
+use Rattle.sql_read.proofs.NestLemmas.{filled_failed, filled_first, filled_on, filled_slice}
 use Rattle.sql_read.proofs.answers.with_answers.Goals as goal
 
 pub loop-row-init : goal.loop-row-init
-loop-row-init g c =
-    let first = state g.S.Store c.args.conn.now in
-    record {
-      found = λ clean T has book open_. subst (AreFilled (HasItsKey T) bare []) (sym c.new-rows.ensures.items) (filled_none (HasItsKey T) bare);
-      unchanged = λ clean open_. unchanged first open_;
-      asks = asks_nothing first;
-    }
+loop-row-init g c = filled_first HasItsKey bare (state g.S.Store c.args.conn.now) _ c.new-rows.ensures.items
 
 pub loop-row-preserved : goal.loop-row-preserved
 loop-row-preserved g c =
-    let first = state g.S.Store c.args.conn.now in
-    let old = state g.S.Store c.loop-row.conn in
-    let new = state g.S.Store c.answer_to.new.conn in
-    let before = c.loop-row.invariant in
     let after = c.in_ok-answered.ensures in
-    record {
-      found = λ clean T has book open_.
-          let clean_old : HasCleanDisk old = omega (arith, clean, after.asks.survives.clean) in
-          filled_slice (HasItsKey T) bare c.args.heads.now c.loop-row.row-index _ c.loop-row.rows.items _ _ c.loop-row-test.true
-          (before.found clean_old T has book open_)
-          (λ whole own head. c.with_answer.ensures
-          ∙ (λ i. answered_as (head i) (after.found clean T (holds_still first old T (before.unchanged clean_old open_) has) book whole own head i)))
-          c.in_ok-push.ensures.items;
-      unchanged = λ clean open_.
-          let clean_old : HasCleanDisk old = omega (arith, clean, after.asks.survives.clean) in
-          let same = before.unchanged clean_old open_ in
-          unchanged_then first old new same (after.unchanged clean same.0.is_open);
-      asks = asks_then first old new before.asks after.asks;
-    }
+    filled_on c.loop-row.invariant after.asks (λ clean open_. after.unchanged clean open_) (λ clean T has book before.
+    filled_slice (HasItsKey T) bare c.args.heads.now c.loop-row.row-index _ c.loop-row.rows.items _ _ c.loop-row-test.true before
+    (λ whole own head. c.with_answer.ensures ∙ (λ i. answered_as (head i) (after.found clean T has book whole own head i))) c.in_ok-push.ensures.items)
 
 pub returns-clause-found : goal.returns-clause-found
 returns-clause-found g c clean T has book open_ rows own are =
     c.loop-row.invariant.found clean T has book open_ rows own (take_all c.loop-row.row-index c.args.heads.now c.loop-row-test.false ∙ are)
 
 pub returns-clause-unchanged : goal.returns-clause-unchanged
-returns-clause-unchanged g c clean open_ = c.loop-row.invariant.unchanged clean open_
+returns-clause-unchanged g c = c.loop-row.invariant.unchanged
 
 pub returns-clause-asks : goal.returns-clause-asks
 returns-clause-asks g c = c.loop-row.invariant.asks
 
 pub returns-in_err-answered-clause-caused : goal.returns-in_err-answered-clause-caused
 returns-in_err-answered-clause-caused g c clean T has book may rows own are =
-    let first = state g.S.Store c.args.conn.now in
-    let old = state g.S.Store c.loop-row.conn in
-    let new = state g.S.Store c.answer_to.new.conn in
-    let before = c.loop-row.invariant in
     let after = c.in_err-answered.ensures in
-    let clean_old : HasCleanDisk old = omega (arith, clean, after.asks.survives.clean) in
-    let same = before.unchanged clean_old may.is_open in
-    failed_as c.from_residual.result c.in_err-answered.field-0.0 (IsOfMemoryOrDisk first new)
-    (caused_behind (failed (Unit {0}) c.in_err-answered.field-0.0) first old new before.asks
-    (with_whole (HasItsKey T) bare c.args.heads.now rows c.loop-row.row-index _ are own c.loop-row-test.true
-    (λ whole own head. after.caused clean T (holds_still first old T same has) book (may_read_still first old same before.asks may) whole own head)))
-    c.from_residual.ensures.1
+    filled_failed c.loop-row.invariant after.asks clean T has may c.args.heads.now rows c.loop-row.row-index _ are own c.loop-row-test.true
+    c.from_residual.result c.in_err-answered.field-0.0 c.from_residual.ensures.1
+    (λ has may whole own head. after.caused clean T has book may whole own head)

@@ -1,26 +1,22 @@
 use Rattle.std.proofs.Common.{refl}
-use Rattle.std.proofs.lemmas.Result.{IfOk-weaker}
-use Rattle.sqlite.specs.Held.{state}
 use Rattle.model_lives.specs.declared.queries.AuthorizationsWhere.TheVariants as authorizations_by
-use Rattle.sql_read.proofs.LookUpReadings.{authorizations_numbered_reading}
-use Rattle.sql_read.proofs.LookUpRows.{authorizations_found}
-use Rattle.sql_read.proofs.LookUpFaults.{sure_as}
-use Rattle.sql_read.proofs.SureTables.{authorizations_query}
+use Rattle.sql_read.proofs.FoundRows.{finds_as}
+use Rattle.sql_read.proofs.LookUpReadings.{authorizations_asked}
+use Rattle.sql_read.proofs.LookUpRows.{authorizations_find}
+use Rattle.sql_read.proofs.Results.{read_then}
 use Rattle.sql_read.proofs.authorizations.bare_authorizations.Goals as goal
 
 pub find_rows-requires : goal.find_rows-requires
-find_rows-requires g c = authorizations_numbered_reading.selecting
+find_rows-requires g c = (authorizations_asked (authorizations_by.Number c.args.number)).selecting
 
 pub returns-clause-found : goal.returns-clause-found
 returns-clause-found g c clean T has book =
-    IfOk-weaker c.find_rows.result _ _
-    (λ found it.
-    authorizations_found (state g.S.Store c.args.conn.now) (state g.S.Store c.find_rows.new.conn) T it.0 _ has book found.items it.2 it.3
-    (authorizations_by.Number c.args.number) c.number_param-params.ensures it.1)
-    (c.find_rows.ensures.read clean)
+    let it = finds_as refl c.number_param-params.ensures
+    (authorizations_find g.S.Store c.args.conn.now T has book (authorizations_by.Number c.args.number)) in
+    read_then c.find_rows.result (c.find_rows.ensures.read clean) (λ found read. it.shows c.find_rows.new.conn read.0 found.items read.1 read.2 read.3)
 
 pub returns-clause-caused : goal.returns-clause-caused
 returns-clause-caused g c clean T has book may =
-    c.find_rows.ensures.caused clean
-    (sure_as g.S.Store _ _ _ _ c.args.conn.now refl c.number_param-params.ensures
-    (authorizations_query g.S.Store c.args.conn.now T has book may (authorizations_by.Number c.args.number)))
+    let it = finds_as refl c.number_param-params.ensures
+    (authorizations_find g.S.Store c.args.conn.now T has book (authorizations_by.Number c.args.number)) in
+    c.find_rows.ensures.caused clean (it.sure may)

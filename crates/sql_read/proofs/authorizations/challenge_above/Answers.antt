@@ -1,20 +1,20 @@
-use Rattle.std.proofs.Common.{arith, refl, ◌∙◌}
+use Rattle.std.proofs.Common.{ap, arith, map, ◌∙◌}
 use Rattle.sqlite.specs.Held.{state}
 use Rattle.sqlite.specs.State.{HasCleanDisk}
 use Rattle.model_lives.specs.Above.{challenges_above, first_of}
 use Rattle.sql_schema.proofs.StaysLemmas.{asks_then}
 use Rattle.sql_tables.proofs.Holding.{holds_still}
-use Rattle.sql_read.proofs.AboveRows.{challenge_above_found, challenge_above_reading}
+use Rattle.sql_read.proofs.AboveRows.{challenge_above_find, first_bare}
+use Rattle.sql_read.proofs.LookUpReadings.{challenge_above_reading}
 use Rattle.sql_read.proofs.KeyRows.{keys_above}
 use Rattle.sql_read.proofs.Results.{failed_as, unchanged_after}
 use Rattle.sql_read.specs.LookUpFaults.{IsOfMemoryOrDisk}
-use Rattle.sql_read.proofs.SureTables.{challenge_above_query}
 use Rattle.sql_read.proofs.LookUpFaults.{caused_behind}
 use Rattle.sql_read.proofs.Failing.{may_read_still}
 use Rattle.sql_read.proofs.authorizations.challenge_above.Goals as goal
 
 pub find_owned-requires : goal.find_owned-requires
-find_owned-requires g c = challenge_above_reading.selecting
+find_owned-requires g c = (challenge_above_reading c.args.number).selecting
 
 pub returns-clause-found : goal.returns-clause-found
 returns-clause-found g c clean T has book =
@@ -26,7 +26,9 @@ returns-clause-found g c clean T has book =
     let n = c.args.number in
     c.with_answers.ensures.found clean T (holds_still before one T same has) book same.0.is_open (first_of (challenges_above T n))
     (keys_above T has.rising.challenges n)
-    (c.deref.ensures.value ∙ it.5 ∙ challenge_above_found before one T it.0 _ has book n refl it.1 it.3 it.4 it.2)
+    (c.deref.ensures.value ∙ it.5
+    ∙ ap (map (λ r. r.row)) ((challenge_above_find g.S.Store c.args.conn.now T has book n).shows c.find_owned.new.conn it.0 it.1 it.2 it.3 it.4)
+    ∙ first_bare T n has.rising.challenges)
 
 pub returns-clause-unchanged : goal.returns-clause-unchanged
 returns-clause-unchanged g c clean =
@@ -44,7 +46,7 @@ returns-clause-asks g c =
 pub returns-in_err-heads-clause-caused : goal.returns-in_err-heads-clause-caused
 returns-in_err-heads-clause-caused g c clean T has book may =
     failed_as c.from_residual.result c.in_err-heads.field-0.0 (IsOfMemoryOrDisk (state g.S.Store c.args.conn.now) (state g.S.Store c.find_owned.new.conn))
-    (c.in_err-heads.ensures.caused clean (challenge_above_query g.S.Store c.args.conn.now T has book may c.args.number))
+    (c.in_err-heads.ensures.caused clean ((challenge_above_find g.S.Store c.args.conn.now T has book c.args.number).sure may))
     c.from_residual.ensures.1
 
 pub returns-clause-caused : goal.returns-clause-caused
@@ -59,4 +61,6 @@ returns-clause-caused g c clean T has book may =
     caused_behind c.with_answers.result before one (state g.S.Store c.with_answers.new.conn) asks
     (c.with_answers.ensures.caused clean T (holds_still before one T same has) book (may_read_still before one same asks may)
     (first_of (challenges_above T n)) (keys_above T has.rising.challenges n)
-    (c.deref.ensures.value ∙ it.5 ∙ challenge_above_found before one T it.0 _ has book n refl it.1 it.3 it.4 it.2))
+    (c.deref.ensures.value ∙ it.5
+    ∙ ap (map (λ r. r.row)) ((challenge_above_find g.S.Store c.args.conn.now T has book n).shows c.find_owned.new.conn it.0 it.1 it.2 it.3 it.4)
+    ∙ first_bare T n has.rising.challenges))

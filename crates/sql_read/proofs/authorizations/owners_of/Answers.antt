@@ -3,24 +3,23 @@ use Rattle.std.proofs.lemmas.Simd.{map-map}
 use Rattle.std.proofs.lemmas.Result.{IfOk-weaker}
 use Rattle.sqlite.specs.Held.{state}
 use Rattle.store_columns.specs.Flat.{bare_row, challenge_rows}
-use Rattle.sql_read.proofs.LookUpRows.{challenges_numbered_found}
+use Rattle.sql_read.proofs.FoundRows.{finds_as}
+use Rattle.sql_read.proofs.LookUpRows.{challenges_numbered_find}
 use Rattle.sql_read.proofs.LookUpReadings.{challenges_numbered_reading}
 use Rattle.sql_read.proofs.UnderLemmas.{owners_are}
 use Rattle.sql_read.proofs.Results.{failed_as}
 use Rattle.sql_read.specs.LookUpFaults.{IsOfMemoryOrDisk}
-use Rattle.sql_read.proofs.LookUpFaults.{all_of_memory, sure_as}
-use Rattle.sql_read.proofs.SureTables.{challenges_numbered_query}
+use Rattle.sql_read.proofs.LookUpFaults.{all_of_memory}
 use Rattle.sql_read.proofs.authorizations.owners_of.Goals as goal
 
 pub find_rows-requires : goal.find_rows-requires
-find_rows-requires g c = challenges_numbered_reading.selecting
+find_rows-requires g c = (challenges_numbered_reading c.args.challenge).selecting
 
 pub returns-clause-found : goal.returns-clause-found
 returns-clause-found g c clean T has book =
-    let it = c.in_ok-rows.ensures.read clean in
-    let found = challenges_numbered_found (state g.S.Store c.args.conn.now)
-    (state g.S.Store c.find_rows.new.conn) T it.0 _ has book c.in_ok-rows.rows.items it.2 it.3
-    c.args.challenge c.number_param-params.ensures it.1 in
+    let it = finds_as refl c.number_param-params.ensures (challenges_numbered_find g.S.Store c.args.conn.now T has book c.args.challenge) in
+    let read = c.in_ok-rows.ensures.read clean in
+    let found = it.shows c.find_rows.new.conn read.0 c.in_ok-rows.rows.items read.1 read.2 read.3 in
     IfOk-weaker c.owners.result _ _ (λ _ are. are ∙ ap (map (λ c. c.owner)) found
     ∙ map-map (λ c. c.owner) bare_row (filter (λ r. r.row.number == c.args.challenge) (challenge_rows T.authorizations))
     ∙ owners_are T c.args.challenge) c.owners.ensures.numbers
@@ -31,8 +30,7 @@ returns-clause-caused g c clean T has book may =
 
 pub returns-in_err-rows-clause-caused : goal.returns-in_err-rows-clause-caused
 returns-in_err-rows-clause-caused g c clean T has book may =
+    let it = finds_as refl c.number_param-params.ensures (challenges_numbered_find g.S.Store c.args.conn.now T has book c.args.challenge) in
     failed_as c.from_residual.result c.in_err-rows.field-0.0 (IsOfMemoryOrDisk (state g.S.Store c.args.conn.now) (state g.S.Store c.find_rows.new.conn))
-    (c.in_err-rows.ensures.caused clean
-    (sure_as g.S.Store _ _ _ _ c.args.conn.now refl c.number_param-params.ensures
-    (challenges_numbered_query g.S.Store c.args.conn.now T has book may c.args.challenge)))
+    (c.in_err-rows.ensures.caused clean (it.sure may))
     c.from_residual.ensures.1

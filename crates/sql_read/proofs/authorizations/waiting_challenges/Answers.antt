@@ -1,20 +1,19 @@
-use Rattle.std.proofs.Common.{[], ◌∷◌, map, ap, arith, refl, subst, sym, ◌∙◌}
+use Rattle.std.proofs.Common.{map, ap, arith, refl, subst, sym, ◌∙◌}
 use Rattle.std.proofs.lemmas.Result.{IfOk-weaker}
-use Rattle.sqlite.specs.declared.types.Value.TheVariants.{Text}
 use Rattle.sqlite.specs.Held.{state}
 use Rattle.sqlite.specs.State.{HasCleanDisk}
 use Rattle.model_lives.specs.LookUps.{AreWaiting}
 use Rattle.sql_schema.proofs.StaysLemmas.{asks_then}
 use Rattle.sql_tables.proofs.Holding.{holds_still}
 use Rattle.sql_read.proofs.KeyRows.{keys_waiting}
-use Rattle.sql_read.proofs.LookUpReadings.{challenges_processing_reading}
-use Rattle.sql_read.proofs.LookUpRows.{challenges_processing_found}
+use Rattle.sql_read.proofs.LookUpReadings.{challenges_processing_reading, text}
+use Rattle.sql_read.proofs.FoundRows.{finds_as}
+use Rattle.sql_read.proofs.LookUpRows.{challenges_processing_find}
 use Rattle.sql_read.proofs.Results.{failed_as, unchanged_after}
 use Rattle.sql_read.proofs.WaitingChallenges.{are_waiting, found_waiting, numbered}
 use Rattle.sql_read.specs.LookUpFaults.{IsOfMemoryOrDisk}
-use Rattle.sql_read.proofs.LookUpFaults.{caused_behind, sure_as}
+use Rattle.sql_read.proofs.LookUpFaults.{caused_behind}
 use Rattle.sql_read.proofs.Failing.{may_read_still}
-use Rattle.sql_read.proofs.SureTables.{challenges_processing_query}
 use Rattle.sql_read.proofs.authorizations.waiting_challenges.Goals as goal
 
 pub find_rows-requires : goal.find_rows-requires
@@ -27,8 +26,8 @@ returns-clause-found g c clean T has book =
     let clean_one : HasCleanDisk one = omega (arith, clean, c.with_owned_answers.ensures.asks.survives.clean) in
     let it = c.in_ok-heads.ensures.read clean_one in
     let same = c.in_ok-heads.ensures.unchanged clean_one in
-    let found = challenges_processing_found before one T it.0 _ has book c.in_ok-heads.heads.items it.2 it.3
-    (c.text_param-params.ensures ∙ ap (λ t. Text t ∷ []) c.as_str.ensures) it.1 in
+    let waiting = finds_as refl (c.text_param-params.ensures ∙ ap text c.as_str.ensures) (challenges_processing_find g.S.Store c.args.conn.now T has book) in
+    let found = waiting.shows c.find_rows.new.conn it.0 c.in_ok-heads.heads.items it.1 it.2 it.3 in
     IfOk-weaker c.with_owned_answers.result _ _
     (λ rows are. subst (λ l. AreWaiting T (map numbered l)) (sym are)
     (are_waiting T has.rising.challenges has.rising.authorizations book.book.in_order.challenges))
@@ -50,10 +49,9 @@ returns-clause-asks g c =
 
 pub returns-in_err-heads-clause-caused : goal.returns-in_err-heads-clause-caused
 returns-in_err-heads-clause-caused g c clean T has book may =
+    let waiting = finds_as refl (c.text_param-params.ensures ∙ ap text c.as_str.ensures) (challenges_processing_find g.S.Store c.args.conn.now T has book) in
     failed_as c.from_residual.result c.in_err-heads.field-0.0 (IsOfMemoryOrDisk (state g.S.Store c.args.conn.now) (state g.S.Store c.find_rows.new.conn))
-    (c.in_err-heads.ensures.caused clean
-    (sure_as g.S.Store _ _ _ _ c.args.conn.now refl (c.text_param-params.ensures ∙ ap (λ t. Text t ∷ []) c.as_str.ensures)
-    (challenges_processing_query g.S.Store c.args.conn.now T has book may)))
+    (c.in_err-heads.ensures.caused clean (waiting.sure may))
     c.from_residual.ensures.1
 
 pub returns-clause-caused : goal.returns-clause-caused
@@ -64,8 +62,8 @@ returns-clause-caused g c clean T has book may =
     let it = c.in_ok-heads.ensures.read clean_one in
     let same = c.in_ok-heads.ensures.unchanged clean_one in
     let asks = c.in_ok-heads.ensures.asks in
-    let found = challenges_processing_found before one T it.0 _ has book c.in_ok-heads.heads.items it.2 it.3
-    (c.text_param-params.ensures ∙ ap (λ t. Text t ∷ []) c.as_str.ensures) it.1 in
+    let waiting = finds_as refl (c.text_param-params.ensures ∙ ap text c.as_str.ensures) (challenges_processing_find g.S.Store c.args.conn.now T has book) in
+    let found = waiting.shows c.find_rows.new.conn it.0 c.in_ok-heads.heads.items it.1 it.2 it.3 in
     caused_behind c.with_owned_answers.result before one (state g.S.Store c.with_owned_answers.new.conn) asks
     (c.with_owned_answers.ensures.caused clean T (holds_still before one T same has) book (may_read_still before one same asks may)
     (found_waiting T) (keys_waiting T has.rising.challenges) (c.deref.ensures.value ∙ found))

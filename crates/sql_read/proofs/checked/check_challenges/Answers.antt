@@ -1,53 +1,40 @@
 use Rattle.std.proofs.Common.{ap, inr, subst, sym}
 use Rattle.sqlite.specs.Held.{state}
-use Rattle.sql_read.specs.BookShown.{Checks, ShowsChallenges, ShowsKeysIn}
-use Rattle.sql_read.proofs.BookChecks.{at_table, checks_failed, checks_last, checks_stopped, checks_then, in_format}
+use Rattle.sql_read.specs.BookShown.{Checks, ShowsKeysIn}
+use Rattle.sql_read.specs.declared.formats.Format.TheVariants.{Second}
+use Rattle.sql_read.proofs.BookChecks.{checks_failed, checks_last, checks_stopped, checks_then, in_format}
 use Rattle.sql_read.proofs.Readings.{challenges_reading}
 use Rattle.sql_read.proofs.ShownTables.{challenges_shown}
-use Rattle.sql_read.proofs.FormatTables.{challenges_readable}
+use Rattle.sql_read.proofs.WholeTables.{challenges_whole}
 use Rattle.sql_read.proofs.checked.check_challenges.Goals as goal
 
 pub check_table-requires-clause-query : goal.check_table-requires-clause-query
-check_table-requires-clause-query g c = challenges_reading.selecting
+check_table-requires-clause-query g c = (challenges_reading Second).selecting
 
-pub returns-in_err-answered : goal.returns-in_err-answered
-returns-in_err-answered g c =
-    checks_failed g.S.Store c.args.format _ (λ db. ShowsChallenges g.S.Store db c.args.format c.args.last c.args.authorizations.now) c.args.conn.now
-    c.check_table.new.conn
-    c.in_err-answered.field-0.0
-    c.from_residual.result c.from_residual.ensures.0 c.from_residual.ensures.1
-    (λ T has texts. challenges_readable g.S.Store c.args.conn.now T c.args.format has texts)
-    c.in_err-answered.ensures.fails
-    (λ clean. at_table g.S.Store c.args.format c.args.conn.now _ _ _ (λ at. in_format g.S.Store c.args.format _ _ (inr at))
-    (c.in_err-answered.ensures.refused clean))
-    c.in_err-answered.ensures.met c.in_err-answered.ensures.asks
-
-pub returns-in_default : goal.returns-in_default
-returns-in_default g c =
-    checks_stopped g.S.Store c.args.format (λ db. ShowsChallenges g.S.Store db c.args.format c.args.last c.args.authorizations.now) c.args.conn.now
-    c.check_table.new.conn
+pub returns : goal.returns
+returns g c =
+    checks_then g.S.Store
+    (subst (λ f. Checks g.S.Store f c.check_table.new.conn c.check_keys.new.conn (λ db. ShowsKeysIn g.S.Store db f c.in-Some.answered) c.check_keys.result)
+    (sym c.in-Second.is) c.check_keys.ensures) (λ clean rest.
+    challenges_shown g.S.Store _ c.args.format c.args.last _ _ c.args.authorizations.now c.in-Some.answered (ap (λ k. k.last) c.new-check.ensures.counter)
+    c.new-check.ensures.authorizations
+    (rw c.in-Some.is at (c.in_ok-answered.ensures.whole clean)) rest)
     c.in_ok-answered.ensures.unchanged c.in_ok-answered.ensures.asks
 
 pub returns-in-First : goal.returns-in-First
 returns-in-First g c =
-    checks_last g.S.Store c.args.format (λ db. ShowsChallenges g.S.Store db c.args.format c.args.last c.args.authorizations.now)
-    c.args.conn.now c.check_table.new.conn
-    (λ clean.
+    checks_last g.S.Store (λ clean.
     challenges_shown g.S.Store _ c.args.format c.args.last _ _ c.args.authorizations.now c.in-Some.answered (ap (λ k. k.last) c.new-check.ensures.counter)
     c.new-check.ensures.authorizations
     (rw c.in-Some.is at (c.in_ok-answered.ensures.whole clean))
     (subst (λ f. ShowsKeysIn g.S.Store (state g.S.Store c.args.conn.now).now f c.in-Some.answered) (sym c.in-First.is) tt))
     c.in_ok-answered.ensures.unchanged c.in_ok-answered.ensures.asks
 
-pub returns : goal.returns
-returns g c =
-    checks_then g.S.Store c.args.format (λ db. ShowsChallenges g.S.Store db c.args.format c.args.last c.args.authorizations.now)
-    (λ db. ShowsKeysIn g.S.Store db c.args.format c.in-Some.answered)
-    c.args.conn.now c.check_table.new.conn c.check_keys.new.conn c.check_keys.result
-    (λ clean rest.
-    challenges_shown g.S.Store _ c.args.format c.args.last _ _ c.args.authorizations.now c.in-Some.answered (ap (λ k. k.last) c.new-check.ensures.counter)
-    c.new-check.ensures.authorizations
-    (rw c.in-Some.is at (c.in_ok-answered.ensures.whole clean)) rest)
-    c.in_ok-answered.ensures.unchanged c.in_ok-answered.ensures.asks
-    (subst (λ f. Checks g.S.Store f c.check_table.new.conn c.check_keys.new.conn (λ db. ShowsKeysIn g.S.Store db f c.in-Some.answered) c.check_keys.result)
-    (sym c.in-Second.is) c.check_keys.ensures)
+pub returns-in_err-answered : goal.returns-in_err-answered
+returns-in_err-answered g c =
+    checks_failed g.S.Store (λ T has texts. (challenges_whole g.S.Store c.args.conn.now T c.args.format has).readable texts)
+    (λ at. in_format g.S.Store c.args.format _ _ (inr at)) c.from_residual.ensures.0 c.from_residual.ensures.1
+    c.in_err-answered.ensures.fails c.in_err-answered.ensures.refused c.in_err-answered.ensures.met c.in_err-answered.ensures.asks
+
+pub returns-in_default : goal.returns-in_default
+returns-in_default g c = checks_stopped g.S.Store c.in_ok-answered.ensures.unchanged c.in_ok-answered.ensures.asks

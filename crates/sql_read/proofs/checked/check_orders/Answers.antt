@@ -1,38 +1,25 @@
 use Rattle.std.proofs.Common.{ap, inl, inr}
-use Rattle.sql_read.specs.BookShown.{ShowsAuthorizations, ShowsOrders}
-use Rattle.sql_read.proofs.BookChecks.{at_table, checks_failed, checks_stopped, checks_then, in_format}
+use Rattle.sql_read.specs.declared.formats.Format.TheVariants.{Second}
+use Rattle.sql_read.proofs.BookChecks.{checks_failed, checks_stopped, checks_then, in_format}
 use Rattle.sql_read.proofs.Readings.{orders_reading}
 use Rattle.sql_read.proofs.ShownTables.{orders_shown}
-use Rattle.sql_read.proofs.FormatTables.{orders_readable}
+use Rattle.sql_read.proofs.WholeTables.{orders_whole}
 use Rattle.sql_read.proofs.checked.check_orders.Goals as goal
 
 pub check_table-requires-clause-query : goal.check_table-requires-clause-query
-check_table-requires-clause-query g c = orders_reading.selecting
-
-pub returns-in_err-orders : goal.returns-in_err-orders
-returns-in_err-orders g c =
-    checks_failed g.S.Store c.args.format _ (λ db. ShowsOrders g.S.Store db c.args.format c.args.last c.args.accounts.now) c.args.conn.now
-    c.check_table.new.conn
-    c.in_err-orders.field-0.0
-    c.from_residual.result c.from_residual.ensures.0 c.from_residual.ensures.1
-    (λ T has texts. orders_readable g.S.Store c.args.conn.now T c.args.format has texts)
-    c.in_err-orders.ensures.fails
-    (λ clean. at_table g.S.Store c.args.format c.args.conn.now _ _ _ (λ at. in_format g.S.Store c.args.format _ _ (inl (inl (inl (inr at)))))
-    (c.in_err-orders.ensures.refused clean))
-    c.in_err-orders.ensures.met c.in_err-orders.ensures.asks
-
-pub returns-in_default : goal.returns-in_default
-returns-in_default g c =
-    checks_stopped g.S.Store c.args.format (λ db. ShowsOrders g.S.Store db c.args.format c.args.last c.args.accounts.now) c.args.conn.now c.check_table.new.conn
-    c.in_ok-orders.ensures.unchanged c.in_ok-orders.ensures.asks
+check_table-requires-clause-query g c = (orders_reading Second).selecting
 
 pub returns : goal.returns
 returns g c =
-    checks_then g.S.Store c.args.format (λ db. ShowsOrders g.S.Store db c.args.format c.args.last c.args.accounts.now)
-    (λ db. ShowsAuthorizations g.S.Store db c.args.format c.args.last c.args.accounts.now c.in-Some.orders)
-    c.args.conn.now c.check_table.new.conn c.check_authorizations.new.conn c.check_authorizations.result
-    (λ clean rest.
-    orders_shown g.S.Store _ c.args.format c.args.last _ _ c.args.accounts.now c.in-Some.orders (ap (λ k. k.last) c.new-check.ensures.counter)
-    c.new-check.ensures.owners
-    (rw c.in-Some.is at (c.in_ok-orders.ensures.whole clean)) rest)
-    c.in_ok-orders.ensures.unchanged c.in_ok-orders.ensures.asks c.check_authorizations.ensures
+    checks_then g.S.Store c.check_authorizations.ensures (λ clean rest. orders_shown g.S.Store _ c.args.format c.args.last _ _ c.args.accounts.now
+    c.in-Some.orders (ap (λ k. k.last) c.new-check.ensures.counter) c.new-check.ensures.owners
+    (rw c.in-Some.is at (c.in_ok-orders.ensures.whole clean)) rest) c.in_ok-orders.ensures.unchanged c.in_ok-orders.ensures.asks
+
+pub returns-in_err-orders : goal.returns-in_err-orders
+returns-in_err-orders g c =
+    checks_failed g.S.Store (λ T has texts. (orders_whole g.S.Store c.args.conn.now T c.args.format has).readable texts)
+    (λ at. in_format g.S.Store c.args.format _ _ (inl (inl (inl (inr at))))) c.from_residual.ensures.0 c.from_residual.ensures.1
+    c.in_err-orders.ensures.fails c.in_err-orders.ensures.refused c.in_err-orders.ensures.met c.in_err-orders.ensures.asks
+
+pub returns-in_default : goal.returns-in_default
+returns-in_default g c = checks_stopped g.S.Store c.in_ok-orders.ensures.unchanged c.in_ok-orders.ensures.asks

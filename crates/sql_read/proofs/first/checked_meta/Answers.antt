@@ -1,13 +1,35 @@
-use Rattle.sql_read.proofs.FirstChecked.{meta_failed, meta_then_rows, no_meta}
+use Rattle.std.proofs.Common.{inl, inr, subst, sym}
+use Rattle.sql_read.specs.BookShown.{ShowsNonces}
+use Rattle.sql_read.specs.First.{ShowsFirstMeta}
+use Rattle.sql_read.specs.FirstRows.{IsFirstMeta, IsWithRows}
+use Rattle.sql_read.specs.declared.formats.Format.TheVariants.{First}
+use Rattle.sql_read.proofs.FirstChecked.{reads_err, reads_ok, tables_then}
+use Rattle.sql_read.proofs.WholeTables.{meta_whole}
 use Rattle.sql_read.proofs.first.checked_meta.Goals as goal
 
 pub returns-in-Ok-Some : goal.returns-in-Ok-Some
 returns-in-Ok-Some g c =
-    meta_then_rows g.S.Store c.args.conn.now c.read_first_meta.new.conn c.with_checked_rows.new.conn c.in-Ok-Some.meta c.with_checked_rows.result
-    (rw c.in-Ok-Some.field-0-is at c.in-Ok-Some.ensures) c.with_checked_rows.ensures
+    let store = g.S.Store in
+    let old = c.args.conn.now in
+    let mid = c.read_first_meta.new.conn in
+    let first = rw c.in-Ok-Some.field-0-is at c.in-Ok-Some.ensures in
+    tables_then store (IsFirstMeta store old) (IsWithRows store mid c.in-Ok-Some.meta) old mid c.with_checked_rows.new.conn c.with_checked_rows.result
+    (λ clean row is. record {
+      shown = subst (ShowsFirstMeta store old) (sym is.same) (first.shown clean);
+      shows = subst (λ db. ShowsNonces store db First row.counters) (first.unchanged clean).0.now_is is.shows;
+    })
+    first.unchanged first.asks c.with_checked_rows.ensures
 
 pub returns-in-Ok-None : goal.returns-in-Ok-None
-returns-in-Ok-None g c = no_meta g.S.Store c.args.conn.now c.read_first_meta.new.conn (rw c.in-Ok-None.field-0-is at c.in-Ok-None.ensures)
+returns-in-Ok-None g c =
+    let first = rw c.in-Ok-None.field-0-is at c.in-Ok-None.ensures in
+    reads_ok g.S.Store (λ clean. tt) first.unchanged first.asks
 
 pub returns-in-Err : goal.returns-in-Err
-returns-in-Err g c = meta_failed g.S.Store c.args.conn.now c.read_first_meta.new.conn c.in-Err.error c.in-Err.ensures
+returns-in-Err g c =
+    let first = c.in-Err.ensures in
+    reads_err g.S.Store (λ clean may is. first.fails clean may ((meta_whole g.S.Store c.args.conn.now is.tables First is.holds).readable is.texts))
+    (λ clean. elim (first.refused clean) [
+      | inl memory ↦ inl memory
+      | inr at ↦ inr (inl (inl (inl (inl (inl (inl at))))))
+    ]) first.met first.asks

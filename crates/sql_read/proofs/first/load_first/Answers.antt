@@ -6,29 +6,15 @@ use Rattle.sql_read.specs.AllTables.{FailsAtFirst}
 use Rattle.sql_read.specs.Failures.{IsOutOfMemory}
 use Rattle.sql_read.specs.First.{blank_key, raised_meta}
 use Rattle.sql_read.proofs.FirstLoading.{first_columns}
-use Rattle.sql_read.proofs.FirstTables.{accounts_readable, authorizations_readable, challenges_readable, listed_readable}
-use Rattle.sql_read.proofs.FirstTables.{meta_readable, nonces_readable, orders_readable}
+use Rattle.sql_read.proofs.WholeTables.{first_readable}
+use Rattle.sql_read.specs.declared.formats.Format.TheVariants.{First}
 use Rattle.sql_read.proofs.Results.{failed_as}
 use Rattle.sql_read.proofs.first.load_first.Goals as goal
 
 pub returns-in_err-read-clause-fails : goal.returns-in_err-read-clause-fails
 returns-in_err-read-clause-fails g c clean T has may texts =
-    let store = g.S.Store in
-    let conn = c.args.conn.now in
     failed_as c.from_residual.result c.in_err-read.field-0.0 IsFailure
-    (c.in_err-read.ensures.fails clean may (
-      (
-        (
-          (
-            ((meta_readable store conn T has texts, nonces_readable store conn T has texts), accounts_readable store conn T has texts),
-            orders_readable store conn T has texts,
-          ),
-          listed_readable store conn T has texts,
-        ),
-        authorizations_readable store conn T has texts,
-      ),
-      challenges_readable store conn T has texts,
-    ))
+    (c.in_err-read.ensures.fails clean may (first_readable g.S.Store c.args.conn.now T First has texts))
     c.from_residual.ensures.1
 
 pub returns-clause-shown : goal.returns-clause-shown

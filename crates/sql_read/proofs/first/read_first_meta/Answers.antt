@@ -1,7 +1,9 @@
 use Rattle.std.proofs.Common.{inl, inr, refl}
 use Rattle.sqlite.specs.Held.{state}
 use Rattle.sql_read.specs.Spelled.{meta_in}
+use Rattle.sql_read.proofs.FirstChecked.{reads_err}
 use Rattle.sql_read.proofs.MetFaults.{memory_is_none, no_device}
+use Rattle.sql_read.specs.declared.formats.Format.TheVariants.{Second}
 use Rattle.sql_read.proofs.Readings.{meta_reading}
 use Rattle.sql_read.proofs.Results.{fails_then, found_then, read_then}
 use Rattle.sql_read.proofs.ShownRows.{shown_now}
@@ -9,7 +11,7 @@ use Rattle.sql_schema.specs.declared.meta.TheConstants as meta
 use Rattle.sql_read.proofs.first.read_first_meta.Goals as goal
 
 pub read_query-requires : goal.read_query-requires
-read_query-requires g c = meta_reading.selecting
+read_query-requires g c = (meta_reading Second).selecting
 
 pub returns-in-Ok : goal.returns-in-Ok
 returns-in-Ok g c =
@@ -35,11 +37,6 @@ returns-in-Ok g c =
 pub returns-in-Err : goal.returns-in-Err
 returns-in-Err g c =
     let old = c.args.conn.now in
-    record {
-      shown = λ clean. tt;
-      fails = λ clean may readable. readable old c.read_query.new.conn c.in-Err.error refl may (c.in-Err.ensures.fails clean);
-      refused = λ clean. inr (record { before = old; after = c.read_query.new.conn; same = refl; fails = c.in-Err.ensures.fails clean });
-      met = c.in-Err.ensures.met;
-      unchanged = λ clean. tt;
-      asks = c.read_query.ensures.asks;
-    }
+    let new = c.read_query.new.conn in
+    reads_err g.S.Store (λ clean may readable. readable old new c.in-Err.error refl may (c.in-Err.ensures.fails clean))
+    (λ clean. inr (record { before = old; after = new; same = refl; fails = c.in-Err.ensures.fails clean })) c.in-Err.ensures.met c.read_query.ensures.asks

@@ -1,13 +1,18 @@
-use Rattle.sql_read.proofs.FirstChecked.{row_stopped, rows_failed, rows_passed}
+use Rattle.std.proofs.Common.{refl}
+use Rattle.sql_read.proofs.FirstChecked.{reads_err, reads_ok}
 use Rattle.sql_read.proofs.first.with_checked_rows.Goals as goal
+
+pub returns-in-Err : goal.returns-in-Err
+returns-in-Err g c =
+    let checks = c.in-Err.ensures in
+    reads_err g.S.Store (λ clean may is. checks.fails clean is.tables is.holds may is.texts) checks.refused checks.met checks.asks
 
 pub returns-in-Ok-true : goal.returns-in-Ok-true
 returns-in-Ok-true g c =
-    rows_passed g.S.Store c.args.conn.now c.check_nonces.new.conn c.args.meta (rw c.in-Ok-true.field-0-test at c.in-Ok-true.ensures)
+    let checks = rw c.in-Ok-true.field-0-test at c.in-Ok-true.ensures in
+    reads_ok g.S.Store (λ clean. record { same = refl; shows = checks.known clean refl }) checks.unchanged checks.asks
 
 pub returns-in-Ok-false : goal.returns-in-Ok-false
 returns-in-Ok-false g c =
-    row_stopped g.S.Store c.args.conn.now c.check_nonces.new.conn c.args.meta (rw c.in-Ok-false.field-0-test at c.in-Ok-false.ensures)
-
-pub returns-in-Err : goal.returns-in-Err
-returns-in-Err g c = rows_failed g.S.Store c.args.conn.now c.check_nonces.new.conn c.args.meta c.in-Err.error c.in-Err.ensures
+    let checks = rw c.in-Ok-false.field-0-test at c.in-Ok-false.ensures in
+    reads_ok g.S.Store (λ clean. tt) checks.unchanged checks.asks

@@ -1,16 +1,15 @@
 use Rattle.std.proofs.Common.{IsTrue, sym, ◌∙◌}
 use Rattle.sqlite.specs.Held.{state}
-use Rattle.sql_read.proofs.FormatLemmas.{first_never_newer, later_fails, later_is_newer, never_newer}
+use Rattle.sql_read.proofs.FormatLemmas.{desk_fails, later_fails, later_is_newer, never_newer}
 use Rattle.sql_read.proofs.Readings.{format_reading}
 use Rattle.sql_schema.specs.Failing.{IsFailure}
 use Rattle.sql_read.specs.Format.{FailsToShowFormat}
 use Rattle.sql_read.proofs.Results.{failed_as, not_true}
-use Rattle.sql_read.proofs.FirstTables as first
-use Rattle.sql_read.proofs.TableFailures.{format_fails}
+use Rattle.sql_read.specs.declared.formats.Format.TheVariants.{First, Second}
 use Rattle.sql_read.proofs.format.is_newer.Goals as goal
 
 pub all_rows-requires : goal.all_rows-requires
-all_rows-requires g c = format_reading.selecting
+all_rows-requires g c = (format_reading Second).selecting
 
 pub returns-clause-newer : goal.returns-clause-newer
 returns-clause-newer g c clean told = (_, c.in_ok-rows.ensures.shown clean, rw (c.deref.ensures.value) at (c.is_newer_row.ensures.0 told))
@@ -18,7 +17,7 @@ returns-clause-newer g c clean told = (_, c.in_ok-rows.ensures.shown clean, rw (
 pub returns-clause-desk : goal.returns-clause-desk
 returns-clause-desk g c clean T has =
     not_true c.is_newer_row.result (λ told.
-    never_newer (state g.S.Store c.args.conn.now) (state g.S.Store c.all_rows.new.conn) T _ has (c.in_ok-rows.ensures.shown clean)
+    never_newer Second (state g.S.Store c.args.conn.now) (state g.S.Store c.all_rows.new.conn) T _ has (c.in_ok-rows.ensures.shown clean)
     (rw (c.deref.ensures.value) at (c.is_newer_row.ensures.0 told)))
 
 pub returns-clause-known : goal.returns-clause-known
@@ -33,19 +32,19 @@ returns-clause-known g c clean not_told = (
 pub returns-in_err-rows-clause-fails : goal.returns-in_err-rows-clause-fails
 returns-in_err-rows-clause-fails g c clean T has may =
     failed_as c.from_residual.result c.in_err-rows.field-0.0 IsFailure
-    (format_fails (state g.S.Store c.args.conn.now) (state g.S.Store c.all_rows.new.conn) T c.in_err-rows.field-0.0 has may (c.in_err-rows.ensures.err clean))
+    (desk_fails Second (state g.S.Store c.args.conn.now) (state g.S.Store c.all_rows.new.conn) T c.in_err-rows.field-0.0 has may (c.in_err-rows.ensures.err clean))
     c.from_residual.ensures.1
 
 pub returns-clause-first : goal.returns-clause-first
 returns-clause-first g c clean T has =
     not_true c.is_newer_row.result (λ told.
-    first_never_newer (state g.S.Store c.args.conn.now) (state g.S.Store c.all_rows.new.conn) T _ has (c.in_ok-rows.ensures.shown clean)
+    never_newer First (state g.S.Store c.args.conn.now) (state g.S.Store c.all_rows.new.conn) T _ has (c.in_ok-rows.ensures.shown clean)
     (rw (c.deref.ensures.value) at (c.is_newer_row.ensures.0 told)))
 
 pub returns-in_err-rows-clause-first_fails : goal.returns-in_err-rows-clause-first_fails
 returns-in_err-rows-clause-first_fails g c clean T has may =
     failed_as c.from_residual.result c.in_err-rows.field-0.0 IsFailure
-    (first.format_fails (state g.S.Store c.args.conn.now) (state g.S.Store c.all_rows.new.conn) T c.in_err-rows.field-0.0 has may
+    (desk_fails First (state g.S.Store c.args.conn.now) (state g.S.Store c.all_rows.new.conn) T c.in_err-rows.field-0.0 has may
     (c.in_err-rows.ensures.err clean))
     c.from_residual.ensures.1
 

@@ -1,23 +1,18 @@
-use Rattle.std.proofs.Common.{[], ◌∷◌, ap, ◌∙◌, refl}
-use Rattle.sqlite.specs.declared.types.Value.TheVariants.{Text}
-use Rattle.sqlite.specs.Held.{state}
-use Rattle.sql_read.proofs.EarliestRows.{order_end_found, order_end_reading}
+use Rattle.std.proofs.Common.{ap, ◌∙◌}
+use Rattle.sql_read.proofs.EarliestRows.{earliest_as, order_end_find}
+use Rattle.sql_read.proofs.LookUpReadings.{order_end_reading, text}
 use Rattle.sql_read.proofs.Results.{read_then}
-use Rattle.sql_read.proofs.LookUpFaults.{sure_as}
-use Rattle.sql_read.proofs.SureTables.{order_end_query}
 use Rattle.sql_read.proofs.orders.earliest_order_end.Goals as goal
 
 pub earliest-requires : goal.earliest-requires
-earliest-requires g c = order_end_reading.selecting
+earliest-requires g c = (order_end_reading c.args.status).selecting
 
 pub returns-clause-found : goal.returns-clause-found
 returns-clause-found g c clean T has =
-    read_then c.earliest.result (c.earliest.ensures.shown clean) (λ found it.
-    order_end_found (state g.S.Store c.args.conn.now) (state g.S.Store c.earliest.new.conn) T it.0 _ found has it.2 c.args.status
-    (c.text_param-params.ensures ∙ ap (λ t. Text t ∷ []) c.as_str.ensures) it.1)
+    let it = earliest_as (c.text_param-params.ensures ∙ ap text c.as_str.ensures) (order_end_find g.S.Store c.args.conn.now T has c.args.status) in
+    read_then c.earliest.result (c.earliest.ensures.shown clean) (λ found read. it.shows c.earliest.new.conn read.0 found read.1 read.2)
 
 pub returns-clause-caused : goal.returns-clause-caused
 returns-clause-caused g c clean T has book may =
-    c.earliest.ensures.caused clean
-    (sure_as g.S.Store _ _ _ _ c.args.conn.now refl (c.text_param-params.ensures ∙ ap (λ t. Text t ∷ []) c.as_str.ensures)
-    (order_end_query g.S.Store c.args.conn.now T has book may c.args.status))
+    let it = earliest_as (c.text_param-params.ensures ∙ ap text c.as_str.ensures) (order_end_find g.S.Store c.args.conn.now T has c.args.status) in
+    c.earliest.ensures.caused clean (it.sure may)

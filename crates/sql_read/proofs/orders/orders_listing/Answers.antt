@@ -1,23 +1,23 @@
 use Rattle.std.proofs.Common.{map, ap, ◌∙◌, refl}
 use Rattle.std.proofs.lemmas.Result.{IfOk-weaker}
 use Rattle.sqlite.specs.Held.{state}
-use Rattle.sql_read.proofs.ListedOrder.{listing_found}
+use Rattle.sql_read.proofs.FoundRows.{finds_as}
+use Rattle.sql_read.proofs.ListedOrder.{listing_find}
 use Rattle.sql_read.proofs.LookUpReadings.{listing_reading}
 use Rattle.sql_read.proofs.UnderLemmas.{listing_is}
 use Rattle.sql_read.proofs.Results.{failed_as}
 use Rattle.sql_read.specs.LookUpFaults.{IsOfMemoryOrDisk}
-use Rattle.sql_read.proofs.LookUpFaults.{all_of_memory, sure_as}
-use Rattle.sql_read.proofs.SureTables.{listing_query}
+use Rattle.sql_read.proofs.LookUpFaults.{all_of_memory}
 use Rattle.sql_read.proofs.orders.orders_listing.Goals as goal
 
 pub find_rows-requires : goal.find_rows-requires
-find_rows-requires g c = listing_reading.selecting
+find_rows-requires g c = (listing_reading c.args.authorization).selecting
 
 pub returns-clause-found : goal.returns-clause-found
 returns-clause-found g c clean T has book =
-    let it = c.in_ok-rows.ensures.read clean in
-    let found = listing_found (state g.S.Store c.args.conn.now) (state g.S.Store c.find_rows.new.conn) T it.0 _ has book c.in_ok-rows.rows.items it.2 it.3
-    c.args.authorization c.number_param-params.ensures it.1 in
+    let it = finds_as refl c.number_param-params.ensures (listing_find g.S.Store c.args.conn.now T has book c.args.authorization) in
+    let read = c.in_ok-rows.ensures.read clean in
+    let found = it.shows c.find_rows.new.conn read.0 c.in_ok-rows.rows.items read.1 read.2 read.3 in
     IfOk-weaker c.owners.result _ _ (λ _ are. are ∙ ap (map (λ l. l.owner)) found ∙ listing_is T c.args.authorization) c.owners.ensures.numbers
 
 pub returns-clause-caused : goal.returns-clause-caused
@@ -26,8 +26,7 @@ returns-clause-caused g c clean T has book may =
 
 pub returns-in_err-rows-clause-caused : goal.returns-in_err-rows-clause-caused
 returns-in_err-rows-clause-caused g c clean T has book may =
+    let it = finds_as refl c.number_param-params.ensures (listing_find g.S.Store c.args.conn.now T has book c.args.authorization) in
     failed_as c.from_residual.result c.in_err-rows.field-0.0 (IsOfMemoryOrDisk (state g.S.Store c.args.conn.now) (state g.S.Store c.find_rows.new.conn))
-    (c.in_err-rows.ensures.caused clean
-    (sure_as g.S.Store _ _ _ _ c.args.conn.now refl c.number_param-params.ensures
-    (listing_query g.S.Store c.args.conn.now T has book may c.args.authorization)))
+    (c.in_err-rows.ensures.caused clean (it.sure may))
     c.from_residual.ensures.1

@@ -3,8 +3,8 @@ use Rattle.sql_read.specs.AllTables.{FailsAtTable}
 use Rattle.sql_schema.specs.Failing.{IsFailure}
 use Rattle.sql_read.proofs.Loading.{shown_columns}
 use Rattle.sql_read.proofs.Results.{failed_as}
-use Rattle.sql_read.proofs.TableFailures.{accounts_readable, authorizations_readable, challenges_readable, keys_readable, listed_readable}
-use Rattle.sql_read.proofs.TableFailures.{meta_readable, nonces_readable, orders_readable}
+use Rattle.sql_read.proofs.WholeTables.{first_readable, keys_whole}
+use Rattle.sql_read.specs.declared.formats.Format.TheVariants.{Second}
 use Rattle.sql_read.proofs.stored.load_stored.Goals as goal
 
 pub returns-clause-shown : goal.returns-clause-shown
@@ -35,25 +35,9 @@ returns-in_err-metas-clause-shown g c clean = IfOk-from_err c.from_residual.resu
 
 pub returns-in_err-metas-clause-fails : goal.returns-in_err-metas-clause-fails
 returns-in_err-metas-clause-fails g c clean T has may texts =
-    let store = g.S.Store in
-    let conn = c.args.conn.now in
     failed_as c.from_residual.result c.in_err-metas.field-0.0 IsFailure
-    (c.in_err-metas.ensures.fails clean may (
-      (
-        (
-          (
-            (
-              ((meta_readable store conn T has texts, nonces_readable store conn T has texts), accounts_readable store conn T has texts),
-              orders_readable store conn T has texts,
-            ),
-            listed_readable store conn T has texts,
-          ),
-          authorizations_readable store conn T has texts,
-        ),
-        challenges_readable store conn T has texts,
-      ),
-      keys_readable store conn T has texts,
-    ))
+    (c.in_err-metas.ensures.fails clean may
+    (first_readable g.S.Store c.args.conn.now T Second has texts, (keys_whole g.S.Store c.args.conn.now T has).readable texts))
     c.from_residual.ensures.1
 
 pub returns-in_err-metas-clause-unchanged : goal.returns-in_err-metas-clause-unchanged

@@ -7,31 +7,32 @@ use Rattle.sql_schema.specs.declared.meta.TheConstants as meta
 use Rattle.sql_schema.specs.declared.nonces.TheConstants as nonce
 use Rattle.sql_schema.specs.declared.orders.TheConstants as ord
 use Rattle.sql_schema.specs.declared.listed.TheConstants as ord_authz
+use Rattle.sql_read.specs.declared.formats.Format.TheVariants.{Second}
 use Rattle.sql_read.proofs.ReadsChain.{reads_first, reads_more}
 use Rattle.sql_read.proofs.Readings.{accounts_reading, authorizations_reading, challenges_reading, listed_reading}
 use Rattle.sql_read.proofs.Readings.{meta_reading, nonces_reading, orders_reading}
 use Rattle.sql_read.proofs.stored.read_first_tables.Goals as goal
 
 pub read_query-metas-requires : goal.read_query-metas-requires
-read_query-metas-requires g c = meta_reading.selecting
+read_query-metas-requires g c = (meta_reading Second).selecting
 
 pub then_read-nonces-requires : goal.then_read-nonces-requires
-then_read-nonces-requires g c = nonces_reading.selecting
+then_read-nonces-requires g c = (nonces_reading Second).selecting
 
 pub then_read-accounts-requires : goal.then_read-accounts-requires
-then_read-accounts-requires g c = accounts_reading.selecting
+then_read-accounts-requires g c = (accounts_reading Second).selecting
 
 pub then_read-orders-requires : goal.then_read-orders-requires
-then_read-orders-requires g c = orders_reading.selecting
+then_read-orders-requires g c = (orders_reading Second).selecting
 
 pub then_read-listed-requires : goal.then_read-listed-requires
-then_read-listed-requires g c = listed_reading.selecting
+then_read-listed-requires g c = (listed_reading Second).selecting
 
 pub then_read-authorizations-requires : goal.then_read-authorizations-requires
-then_read-authorizations-requires g c = authorizations_reading.selecting
+then_read-authorizations-requires g c = (authorizations_reading Second).selecting
 
 pub then_read-requires : goal.then_read-requires
-then_read-requires g c = challenges_reading.selecting
+then_read-requires g c = (challenges_reading Second).selecting
 
 pub returns : goal.returns
 returns g c =

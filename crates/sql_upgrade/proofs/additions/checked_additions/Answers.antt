@@ -4,7 +4,7 @@ use Rattle.sqlite.specs.Held.{state}
 use Rattle.sql_upgrade.specs.Checked.{AreChecked}
 use Rattle.sql_upgrade.specs.FoundKeys.{HasKeys, ShowsThumbs}
 use Rattle.sql_upgrade.proofs.FoundKeysAre.{found_keys_are}
-use Rattle.sql_upgrade.proofs.KeyReadings.{tables_then}
+use Rattle.sql_read.proofs.FirstChecked.{reads_err, reads_ok, tables_then}
 use Rattle.sql_upgrade.proofs.additions.checked_additions.Goals as goal
 
 pub returns-in-Ok-Some : goal.returns-in-Ok-Some
@@ -31,21 +31,9 @@ returns-in-Ok-Some g c =
     c.in-Ok-Some.ensures.unchanged c.in-Ok-Some.ensures.asks c.with_keys.ensures
 
 pub returns-in-Ok-None : goal.returns-in-Ok-None
-returns-in-Ok-None g c = record {
-  shown = λ clean. tt;
-  fails = λ clean may is. tt;
-  refused = λ clean. tt;
-  met = λ clean. tt;
-  unchanged = c.in-Ok-None.ensures.unchanged;
-  asks = c.in-Ok-None.ensures.asks;
-}
+returns-in-Ok-None g c = reads_ok g.S.Store (λ clean. tt) c.in-Ok-None.ensures.unchanged c.in-Ok-None.ensures.asks
 
 pub returns-in-Err : goal.returns-in-Err
-returns-in-Err g c = record {
-  shown = λ clean. tt;
-  fails = λ clean may is. c.in-Err.ensures.fails clean is.tables is.holds may is.texts;
-  refused = c.in-Err.ensures.refused;
-  met = c.in-Err.ensures.met;
-  unchanged = λ clean. tt;
-  asks = c.in-Err.ensures.asks;
-}
+returns-in-Err g c =
+    let meta = c.in-Err.ensures in
+    reads_err g.S.Store (λ clean may is. meta.fails clean is.tables is.holds may is.texts) meta.refused meta.met meta.asks

@@ -1,15 +1,18 @@
 use Rattle.std.proofs.Common.{refl}
-use Rattle.sql_upgrade.proofs.KeyReadings.{keys_failed, keys_found, keys_missing}
+use Rattle.sql_read.proofs.FirstChecked.{reads_err, reads_ok}
 use Rattle.sql_upgrade.proofs.additions.with_keys.Goals as goal
+
+pub returns-in-Err : goal.returns-in-Err
+returns-in-Err g c =
+    let keys = c.in-Err.ensures in
+    reads_err g.S.Store keys.fails keys.refused keys.met keys.asks
 
 pub returns-in-Ok-Some : goal.returns-in-Ok-Some
 returns-in-Ok-Some g c =
-    keys_found g.S.Store c.args.conn.now c.read_keys.new.conn c.args.meta (record { meta = c.args.meta; keys = c.in-Ok-Some.keys }) refl
-    (rw c.in-Ok-Some.field-0-is at c.in-Ok-Some.ensures)
+    let keys = rw c.in-Ok-Some.field-0-is at c.in-Ok-Some.ensures in
+    reads_ok g.S.Store (λ clean. record { same = refl; found = keys.shown clean }) keys.unchanged keys.asks
 
 pub returns-in-Ok-None : goal.returns-in-Ok-None
 returns-in-Ok-None g c =
-    keys_missing g.S.Store c.args.conn.now c.read_keys.new.conn c.args.meta _ (rw c.in-Ok-None.field-0-is at c.in-Ok-None.ensures)
-
-pub returns-in-Err : goal.returns-in-Err
-returns-in-Err g c = keys_failed g.S.Store c.args.conn.now c.read_keys.new.conn c.args.meta _ c.in-Err.error c.in-Err.ensures
+    let keys = rw c.in-Ok-None.field-0-is at c.in-Ok-None.ensures in
+    reads_ok g.S.Store (λ clean. tt) keys.unchanged keys.asks

@@ -1,13 +1,13 @@
 use Rattle.std.proofs.Common.{inl, inr, subst}
-use Rattle.sql_read.proofs.FirstTables.{accounts_readable}
-use Rattle.sql_read.proofs.Readings.{accounts_reading}
+use Rattle.sql_read.proofs.FirstTables.{accounts_selected, first_accounts}
 use Rattle.sqlite.specs.Held.{state}
 use Rattle.sql_upgrade.specs.FoundKeys.{ShowsOwners, ShowsThumbs}
-use Rattle.sql_upgrade.proofs.KeyReadings.{table_failed, table_stopped, tables_then}
+use Rattle.sql_read.proofs.FirstChecked.{reads_ok, tables_then}
+use Rattle.sql_upgrade.proofs.KeyReadings.{table_failed}
 use Rattle.sql_upgrade.proofs.answer_keys.read_keys.Goals as goal
 
 pub check_table-requires-clause-query : goal.check_table-requires-clause-query
-check_table-requires-clause-query g c = accounts_reading.selecting
+check_table-requires-clause-query g c = accounts_selected
 
 pub returns-in-Ok-Some : goal.returns-in-Ok-Some
 returns-in-Ok-Some g c =
@@ -24,11 +24,10 @@ returns-in-Ok-Some g c =
     c.in-Ok-Some.ensures.unchanged c.in-Ok-Some.ensures.asks c.keys_of_authorizations.ensures
 
 pub returns-in-Ok-None : goal.returns-in-Ok-None
-returns-in-Ok-None g c =
-    table_stopped g.S.Store _ c.args.conn.now c.check_table.new.conn c.in-Ok-None.ensures.unchanged c.in-Ok-None.ensures.asks
+returns-in-Ok-None g c = reads_ok g.S.Store (λ clean. tt) c.in-Ok-None.ensures.unchanged c.in-Ok-None.ensures.asks
 
 pub returns-in-Err : goal.returns-in-Err
 returns-in-Err g c =
     table_failed g.S.Store _ _ _ c.args.conn.now c.check_table.new.conn c.in-Err.error (λ at. inl (inl (inl (inl (inr at)))))
-    (λ T has texts. accounts_readable g.S.Store c.args.conn.now T has texts)
+    (λ T has texts. (first_accounts g.S.Store c.args.conn.now T has).readable texts)
     c.in-Err.ensures.fails c.in-Err.ensures.refused c.in-Err.ensures.met c.in-Err.ensures.asks

@@ -1,4 +1,4 @@
-use Rattle.std.proofs.Common.{◌≡◌, map, ap, arith, refl, subst, ◌∙◌}
+use Rattle.std.proofs.Common.{◌≡◌, map, ap, arith, subst, ◌∙◌}
 use Rattle.sqlite.proofs.Callers.{unchanged_then}
 use Rattle.sqlite.specs.Held.{state}
 use Rattle.sqlite.specs.State.{HasCleanDisk}
@@ -10,17 +10,16 @@ use Rattle.sql_tables.proofs.Holding.{holds_still}
 use Rattle.sql_read.specs.Keys.{HasItsKey}
 use Rattle.sql_read.specs.Under.{rows_under}
 use Rattle.sql_read.proofs.KeyRows.{bare_under, keys_under}
-use Rattle.sql_read.proofs.LookUpRows.{challenges_of_found}
+use Rattle.sql_read.proofs.LookUpRows.{challenges_of_find}
 use Rattle.sql_read.proofs.LookUpReadings.{challenges_of_reading}
 use Rattle.sql_read.proofs.Results.{failed_as}
 use Rattle.sql_read.specs.LookUpFaults.{IsOfMemoryOrDisk}
-use Rattle.sql_read.proofs.SureTables.{challenges_of_query}
 use Rattle.sql_read.proofs.LookUpFaults.{caused_behind, failed}
 use Rattle.sql_read.proofs.Failing.{may_read_still}
 use Rattle.sql_read.proofs.authorizations.AuthorizationRowParent.nest.Goals as goal
 
 pub find_owned-requires : goal.find_owned-requires
-find_owned-requires g c = challenges_of_reading.selecting
+find_owned-requires g c = (challenges_of_reading c.args.self.now.number).selecting
 
 pub returns-clause-found : goal.returns-clause-found
 returns-clause-found g c clean T has book whole own bare_is =
@@ -30,7 +29,7 @@ returns-clause-found g c clean T has book whole own bare_is =
     let it = c.in_ok-heads.ensures.read clean_one in
     let same = c.in_ok-heads.ensures.unchanged clean_one in
     let row = c.args.self.now in
-    let found = challenges_of_found before one T it.0 _ has book it.1 it.3 it.4 row.number refl it.2 in
+    let found = (challenges_of_find g.S.Store c.args.conn.now T has book row.number).shows c.find_owned.new.conn it.0 it.1 it.2 it.3 it.4 in
     let number = ap (λ (a : AuthorizationRow). a.number) bare_is in
     let all = challenge_rows T.authorizations in
     let heads : c.in_ok-heads.heads.items ≡ map bare whole.challenges =
@@ -58,7 +57,7 @@ returns-clause-asks g c =
 pub returns-in_err-heads-clause-caused : goal.returns-in_err-heads-clause-caused
 returns-in_err-heads-clause-caused g c clean T has book may whole own bare_is =
     failed_as c.from_residual.result c.in_err-heads.field-0.0 (IsOfMemoryOrDisk (state g.S.Store c.args.conn.now) (state g.S.Store c.find_owned.new.conn))
-    (c.in_err-heads.ensures.caused clean (challenges_of_query g.S.Store c.args.conn.now T has book may c.args.self.now.number))
+    (c.in_err-heads.ensures.caused clean ((challenges_of_find g.S.Store c.args.conn.now T has book c.args.self.now.number).sure may))
     c.from_residual.ensures.1
 
 pub returns-in_err-challenges-clause-caused : goal.returns-in_err-challenges-clause-caused
@@ -71,7 +70,7 @@ returns-in_err-challenges-clause-caused g c clean T has book may whole own bare_
     let same = c.in_ok-heads.ensures.unchanged clean_one in
     let asks = c.in_ok-heads.ensures.asks in
     let number = c.args.self.now.number in
-    let found = challenges_of_found before one T it.0 _ has book it.1 it.3 it.4 number refl it.2 in
+    let found = (challenges_of_find g.S.Store c.args.conn.now T has book number).shows c.find_owned.new.conn it.0 it.1 it.2 it.3 it.4 in
     let all = challenge_rows T.authorizations in
     let heads : c.in_ok-heads.heads.items ≡ map bare whole.challenges =
     it.5 ∙ ap (map (λ r. r.row)) found ∙ bare_under number all
