@@ -8,31 +8,23 @@ use Rattle.std.proofs.lemmas.Simd.{map-map}
 use Rattle.sqlite.specs.Held.{Held, state}
 use Rattle.sqlite.specs.Store.{Ghosts}
 use Rattle.store_columns.specs.Flat.{bare, bare_row, challenge_rows, owned_by}
-use Rattle.store_columns.specs.declared.flat_rows.BareChallenge.{BareChallenge}
-use Rattle.store_columns.specs.declared.flat_rows.Owned.{Owned}
+use Rattle.store_columns.specs.declared.flat_rows.{BareChallenge.BareChallenge, Owned.Owned}
 use Rattle.model_laws.proofs.RowLists.{put_before, put_past}
 use Rattle.model_laws.specs.Distinct.{Distinct}
-use Rattle.desk_model.specs.Change.{put}
+use Rattle.desk_model.specs.{Change.put, Tables.Tables}
 use Rattle.desk_model.specs.Derived.{insert_challenge, sorted_challenges}
-use Rattle.desk_model.specs.Tables.{Tables}
-use Rattle.desk_model.specs.declared.rows.AuthorizationRow.{AuthorizationRow}
-use Rattle.desk_model.specs.declared.rows.ChallengeRow.{ChallengeRow}
+use Rattle.desk_model.specs.declared.rows.{AuthorizationRow.AuthorizationRow, ChallengeRow.ChallengeRow}
 use Rattle.model_lives.specs.Above.{challenges_above, first_of}
-use Rattle.sql_tables.specs.Holds.{Holds}
-use Rattle.sql_tables.specs.Layouts.{challenge_layout}
-use Rattle.sql_tables.specs.Sorted.{sorted_by}
+use Rattle.sql_tables.specs.{Holds.Holds, Layouts.challenge_layout, Sorted.sorted_by}
 use Rattle.sql_tables.proofs.Keyed.{ranked}
 use Rattle.sql_tables.proofs.Sorting.{IsApart, each_sorted}
 use Rattle.sql_read.specs.Bounded.{bounded}
 use Rattle.sql_read.specs.declared.formats.Format.TheVariants.{Second}
 use Rattle.store_book.specs.IsBook.{IsStoredBook}
 use Rattle.sql_schema.specs.declared.challenges.TheConstants as chall
-use Rattle.sql_read.proofs.Answered.{first_row}
+use Rattle.sql_read.proofs.{Answered.first_row, KeptRows.challenges_kept, Lists.filter-map, TableFacts.challenge_facts}
 use Rattle.sql_read.proofs.FoundRows.{FindsIn, finds}
-use Rattle.sql_read.proofs.KeptRows.{challenges_kept}
 use Rattle.sql_read.proofs.LookUpReadings.{challenge_above_reading, is_higher, number}
-use Rattle.sql_read.proofs.Lists.{filter-map}
-use Rattle.sql_read.proofs.TableFacts.{challenge_facts}
 use Rattle.sql_read.proofs.Tests.{above_bounded, above_test}
 
 -- ---- challenges without their owners

@@ -7,8 +7,7 @@ use Rattle.std.specs.Ordering.{ordering_then}
 use Rattle.std.proofs.lemmas.List.Sorted.{IsPermutation-map, IsPermutation-sym, IsPermutation-trans}
 use Rattle.std.proofs.lemmas.Simd.{map-map}
 use Rattle.sqlite.specs.declared.types.Value.TheVariants.{Null, Int}
-use Rattle.sqlite_value.specs.declared.keys.Collation.TheVariants.{Binary}
-use Rattle.sqlite_value.specs.declared.keys.Key.{Key}
+use Rattle.sqlite_value.specs.declared.keys.{Collation.TheVariants.Binary, Key.Key}
 use Rattle.sqlite_value.specs.Order.{Row}
 use Rattle.sqlite_value.proofs.OrderLemmas.{value_cmp-Int}
 use Rattle.sqlite_trees.specs.Tree.{Trees}
@@ -16,12 +15,9 @@ use Rattle.sqlite_sql.specs.Term.{Term, Env, lit, col, eval, holds}
 use Rattle.sqlite_sql.specs.Query.{Query, Output, inner, end, IsAnswer, as_count, limited, output, output_cmp}
 use Rattle.sqlite_sql.specs.Program.{overlay}
 use Rattle.sqlite_sql.proofs.QueryLemmas.{output_cmp_total}
-use Rattle.sqlite_schema.specs.declared.command.Command.{Command}
-use Rattle.sqlite_schema.specs.declared.command.Command.TheVariants.{Select}
-use Rattle.sqlite_schema.specs.declared.command.Returning.{Returning}
+use Rattle.sqlite_schema.specs.declared.command.{Command.Command, Command.TheVariants.Select, Returning.Returning}
 use Rattle.sqlite_resolve.specs.Compile.{compiled}
-use Rattle.sqlite_resolve.specs.declared.compiled.Compiled.{Compiled}
-use Rattle.sqlite_resolve.specs.declared.error.CompileError.{CompileError}
+use Rattle.sqlite_resolve.specs.declared.{compiled.Compiled.Compiled, error.CompileError.CompileError}
 use Rattle.sqlite_typing.specs.Types.{accepts_program}
 use Rattle.sqlite.specs.Listing.{understood, misses_table, reads_listing}
 use Rattle.sqlite.specs.State.{State, Shown}

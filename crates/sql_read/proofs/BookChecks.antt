@@ -2,11 +2,9 @@
 use Rattle.std.proofs.Common.{◌≡◌, inl, inr, ℕ, List, Bool, true, false, Result, Ok, Err, IfOk, IsErrAnd, sym, subst, ◌∙◌, arith}
 use Rattle.std.proofs.lemmas.Result.{IfOk-from_err}
 use Rattle.std.specs.Prelude.{◌⊎◌, IsErr, IsTrue}
-use Rattle.sqlite.specs.Effect.{Database}
+use Rattle.sqlite.specs.{Effect.Database, Order.Row, Store.Ghosts}
 use Rattle.sqlite.specs.Held.{Held, state}
-use Rattle.sqlite.specs.Order.{Row}
 use Rattle.sqlite.specs.State.{HasCleanDisk, IsUnchanged}
-use Rattle.sqlite.specs.Store.{Ghosts}
 use Rattle.sqlite.specs.declared.error.Error.{Error}
 use Rattle.desk_model.specs.Tables.{Tables}
 use Rattle.sql_read.specs.AllTables.{FailsAtFirst, FailsAtTable}
@@ -15,11 +13,9 @@ use Rattle.sql_read.specs.Checking.{ShowsTable}
 use Rattle.sql_read.specs.Failures.{FailsHere, HasTexts, IsMet, IsOutOfMemory, IsReadable, MayRead}
 use Rattle.sql_read.specs.declared.formats.Format.{Format}
 use Rattle.sql_read.specs.declared.formats.Format.TheVariants.{First, Second}
-use Rattle.sql_read.proofs.Failing.{may_read_still}
-use Rattle.sql_read.proofs.MetFaults.{met_behind}
+use Rattle.sql_read.proofs.{Failing.may_read_still, MetFaults.met_behind}
 use Rattle.sql_read.proofs.Results.{failed_as, fails_then, unchanged_after}
-use Rattle.sql_schema.specs.Failing.{IsFailure}
-use Rattle.sql_schema.specs.Stays.{Asks}
+use Rattle.sql_schema.specs.{Failing.IsFailure, Stays.Asks}
 use Rattle.sql_schema.proofs.StaysLemmas.{asks_then}
 
 module _ {S : Type 0} (g : Ghosts S) where

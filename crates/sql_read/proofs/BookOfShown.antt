@@ -8,16 +8,11 @@ use Rattle.store_book.specs.BookRows.{AreAccounts, AreAuthorizations, AreBookRow
 use Rattle.store_book.proofs.InOrder.{rows_are_books}
 use Rattle.store_columns.specs.Columns.{challenge_columns, key_columns, meta_columns, rows_columns}
 use Rattle.store_columns.specs.Limits.{AreStored, IsStoredChallenge, IsStoredKey, IsStoredMeta}
-use Rattle.store_columns.specs.declared.columns.StoredRows.{StoredRows}
-use Rattle.store_columns.specs.declared.flat_rows.AnswerKey.{AnswerKey}
-use Rattle.store_columns.specs.declared.flat_rows.BareChallenge.{BareChallenge}
-use Rattle.store_columns.specs.declared.flat_rows.FlatRows.{FlatRows}
-use Rattle.store_columns.specs.declared.flat_rows.Owned.{Owned}
+use Rattle.store_columns.specs.declared.{columns.StoredRows.StoredRows, flat_rows.AnswerKey.AnswerKey, flat_rows.BareChallenge.BareChallenge}
+use Rattle.store_columns.specs.declared.{flat_rows.FlatRows.FlatRows, flat_rows.Owned.Owned}
 use Rattle.model_laws.specs.Ordered.{IsTable}
-use Rattle.desk_model.specs.Kept.{EachOf}
-use Rattle.desk_model.specs.Tables.{Tables}
-use Rattle.desk_model.specs.declared.rows.Counters.{Counters}
-use Rattle.desk_model.specs.declared.rows.Meta.{Meta}
+use Rattle.desk_model.specs.{Kept.EachOf, Tables.Tables}
+use Rattle.desk_model.specs.declared.rows.{Counters.Counters, Meta.Meta}
 use Rattle.sql_read.specs.BookShown.{ShowsBookRows, ShowsNonces}
 use Rattle.sql_read.specs.First.{AreFirstShown, ShowsFirstMeta, blank_key}
 use Rattle.sql_read.specs.Shown.{AreShown, IsShown}

@@ -5,13 +5,8 @@ use Rattle.std.specs.Prelude.{◌==◌, nat_lt, option_map}
 use Rattle.std.specs.List.{All, AllByRecursion, list_any}
 use Rattle.std.specs.List.Sorted.{IsPermutation, IsSorted}
 use Rattle.std.specs.Ordering.{is_eq, is_lt, ordering_then}
-use Rattle.std.proofs.lemmas.Bool.{eq-eqb}
-use Rattle.std.proofs.lemmas.Bool.Decides.{nat_tests}
-use Rattle.std.proofs.lemmas.List.{map-id}
-use Rattle.std.proofs.lemmas.List.Elements.{recursion_from_All}
+use Rattle.std.proofs.lemmas.{Bool.eq-eqb, Bool.Decides.nat_tests, List.map-id, List.Elements.recursion_from_All, Option.same_Some, Simd.map-map}
 use Rattle.std.proofs.lemmas.List.Sorted.{IsPermutation-sym, list_any-IsPermutation, ranks_by, sorted_far}
-use Rattle.std.proofs.lemmas.Option.{same_Some}
-use Rattle.std.proofs.lemmas.Simd.{map-map}
 use Rattle.sqlite.specs.declared.types.Value.TheVariants.{Int}
 use Rattle.sqlite.specs.Held.{Held, state}
 use Rattle.sqlite.specs.State.{State, Shown}
@@ -27,11 +22,8 @@ use Rattle.sqlite_sql.proofs.QueryLemmas.{output_cmp_total}
 use Rattle.model_laws.proofs.Basics.{list_any-map, list_any-same}
 use Rattle.desk_model.specs.Derived.{authz_code, order_code}
 use Rattle.desk_model.specs.Document.{authorization_status_text, order_status_text}
-use Rattle.desk_model.specs.Kept.{EachOf}
-use Rattle.desk_model.specs.Tables.{Tables}
-use Rattle.desk_model.specs.declared.objects.Nonce.{Nonce}
-use Rattle.desk_model.specs.declared.status.AuthzStatus.{AuthzStatus}
-use Rattle.desk_model.specs.declared.status.OrderStatus.{OrderStatus}
+use Rattle.desk_model.specs.{Kept.EachOf, Tables.Tables}
+use Rattle.desk_model.specs.declared.{objects.Nonce.Nonce, status.AuthzStatus.AuthzStatus, status.OrderStatus.OrderStatus}
 use Rattle.model_lives.specs.Above.{first_of}
 use Rattle.sql_tables.specs.Holds.{Holds}
 use Rattle.sql_tables.specs.Layouts.{HasRows, Layout, authorization_layout, nonce_layout, order_layout}
@@ -45,8 +37,7 @@ use Rattle.sql_schema.specs.declared.authorizations.TheConstants as authz
 use Rattle.sql_schema.specs.declared.nonces.TheConstants as nonce
 use Rattle.sql_schema.specs.declared.orders.TheConstants as ord
 use Rattle.sql_read.proofs.Answered.{IsOrderedAs, IsReading, answers_up_to, by, first_row, passes, picked}
-use Rattle.sql_read.proofs.Failing.{query_fails}
-use Rattle.sql_read.proofs.Lists.{filter-all}
+use Rattle.sql_read.proofs.{Failing.query_fails, Lists.filter-all}
 use Rattle.sql_read.proofs.LookUpReadings.{authorization_end_reading, is_equal, issue_reading, order_end_reading, text}
 use Rattle.sql_read.proofs.StatusTests.{authorization_status_test, order_status_test}
 use Rattle.sql_read.proofs.Tests.{eq_as, lt_as, text_test}

@@ -1,28 +1,22 @@
 -- A query of a desk's tables fails for memory or the disk alone.
-use Rattle.std.proofs.Common.{◌≡◌, inl, inr, ℕ, List, [], ◌∷◌, length, IsTrue, IsSome, None, Option, Ok, Err, All}
-use Rattle.std.proofs.Common.{refl, sym, ap, subst, ◌∙◌, arith, append-nil}
+use Rattle.std.proofs.Common.{◌≡◌, inl, inr, ℕ, List, [], ◌∷◌, length, IsTrue, IsSome, None, Option, Ok, Err, All, refl, sym, ap, subst, ◌∙◌, arith, append-nil}
 use Rattle.sqlite_value.specs.Order.{Row}
 use Rattle.sqlite_trees.specs.declared.error.StoreError.{StoreError}
 use Rattle.sqlite_trees.specs.declared.error.StoreError.TheVariants as store
-use Rattle.sqlite_schema.specs.declared.command.Command.{Command}
-use Rattle.sqlite_schema.specs.declared.command.Command.TheVariants.{Select}
-use Rattle.sqlite_resolve.specs.declared.compiled.Compiled.{Compiled}
-use Rattle.sqlite_resolve.specs.declared.error.CompileError.{CompileError}
+use Rattle.sqlite_schema.specs.declared.command.{Command.Command, Command.TheVariants.Select}
+use Rattle.sqlite_resolve.specs.declared.{compiled.Compiled.Compiled, error.CompileError.CompileError}
 use Rattle.sqlite_typing.specs.Types.{accepts_program}
-use Rattle.sqlite_sql.specs.Term.{Term}
+use Rattle.sqlite_sql.specs.{Term.Term, Program.overlay}
 use Rattle.sqlite_sql.specs.Query.{inner, end}
-use Rattle.sqlite_sql.specs.Program.{overlay}
 use Rattle.sqlite_sql.proofs.QueryLemmas.{no_fold_overflows}
 use Rattle.sqlite_value.specs.declared.keys.Key.{Key}
-use Rattle.sqlite.specs.Clock.{timed}
+use Rattle.sqlite.specs.{Clock.timed, Schema.Schema}
 use Rattle.sqlite.specs.Effect.{Database, RefusesToRead}
 use Rattle.sqlite.specs.Listing.{understood, reads_listing, IsSourceOf}
 use Rattle.sqlite.specs.State.{State, store_error, IsNoStatement, HasCause, FailsToQuery, FailsToShow, IsNotRun, IsUnchanged, Shown}
 use Rattle.sqlite.specs.declared.error.Error.{Error}
 use Rattle.sqlite.proofs.Callers.{IsPlain, command_of}
-use Rattle.sql_schema.specs.Failing.{IsFailure}
-use Rattle.sqlite.specs.Schema.{Schema}
-use Rattle.sql_schema.specs.Stays.{Asks}
+use Rattle.sql_schema.specs.{Failing.IsFailure, Stays.Asks}
 use Rattle.sql_read.specs.Failures.{FailsToRead, MayRead}
 use Rattle.sql_read.proofs.Answered.{IsCommand, IsReading, all_rows, compiled_alone, names_of, picked_up_to, tail_of}
 

@@ -11,20 +11,14 @@ use Rattle.store_columns.specs.declared.columns.StoredRows.{StoredRows}
 use Rattle.store_columns.proofs.RowsApart.{metas-apart}
 use Rattle.desk_model.specs.Tables.{Tables}
 use Rattle.desk_model.specs.declared.rows.Meta.{Meta}
-use Rattle.sql_read.specs.AllTables.{FailsAtFirst}
+use Rattle.sql_read.specs.{AllTables.FailsAtFirst, Reads.Reads}
 use Rattle.sql_read.specs.Failures.{IsMet, IsOutOfMemory, MayRead}
 use Rattle.sql_read.specs.First.{AreFirstShown, raised_meta}
 use Rattle.sql_read.specs.FirstRows.{IsFirstMeta, IsFirstReadable}
-use Rattle.sql_read.specs.Reads.{Reads}
 use Rattle.sql_read.specs.declared.formats.Format.TheVariants.{First}
-use Rattle.sql_read.proofs.BookChecks.{first_still}
-use Rattle.sql_read.proofs.BookOfShown.{first_book_shown}
-use Rattle.sql_read.proofs.Failing.{may_read_still}
-use Rattle.sql_read.proofs.MetFaults.{met_behind}
+use Rattle.sql_read.proofs.{BookChecks.first_still, BookOfShown.first_book_shown, Failing.may_read_still, MetFaults.met_behind, WholeTables.meta_whole}
 use Rattle.sql_read.proofs.Results.{fails_then, found_then, read_then, unchanged_after}
-use Rattle.sql_read.proofs.WholeTables.{meta_whole}
-use Rattle.sql_schema.specs.Failing.{IsFailure}
-use Rattle.sql_schema.specs.Stays.{Asks}
+use Rattle.sql_schema.specs.{Failing.IsFailure, Stays.Asks}
 use Rattle.sql_schema.proofs.StaysLemmas.{asks_then}
 use Rattle.sql_tables.specs.Holds.{HoldsFirst}
 

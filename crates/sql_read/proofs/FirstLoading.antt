@@ -1,30 +1,21 @@
 -- The rows of all tables in format 1 are those of tables that tell no keys of answers.
 use Rattle.std.proofs.Common.{◌≡◌, ℕ, pos, ◌++◌, ◌+◌, ◌<◌, length, take, get_or, List, [], ◌∷◌, map, Option, Some, None, refl, sym, ap, subst, ◌∙◌}
 use Rattle.std.specs.List.{cons_option, filter_map}
-use Rattle.std.specs.Prelude.{option_to_list}
-use Rattle.std.specs.List.Sorted.{IsPermutation}
-use Rattle.std.proofs.lemmas.List.{take_more}
-use Rattle.std.proofs.lemmas.List.Sorted.{IsPermutation-map}
-use Rattle.std.proofs.lemmas.Simd.{map-map}
+use Rattle.std.specs.{Prelude.option_to_list, List.Sorted.IsPermutation}
+use Rattle.std.proofs.lemmas.{List.take_more, List.Sorted.IsPermutation-map, Simd.map-map}
 use Rattle.sqlite.specs.Held.{Held, state}
 use Rattle.sqlite.specs.Store.{Ghosts}
 use Rattle.store_columns.specs.Columns.{authorization_columns, challenge_columns, key_columns}
 use Rattle.store_columns.specs.Flat.{answer_key, bare_row, challenge_rows, key_rows}
-use Rattle.store_columns.specs.declared.columns.StoredRows.{StoredRows}
-use Rattle.store_columns.specs.declared.flat_rows.Owned.{Owned}
+use Rattle.store_columns.specs.declared.{columns.StoredRows.StoredRows, flat_rows.Owned.Owned}
 use Rattle.desk_model.specs.Tables.{Tables}
-use Rattle.desk_model.specs.declared.objects.Answer.{Answer}
-use Rattle.desk_model.specs.declared.rows.ChallengeRow.{ChallengeRow}
+use Rattle.desk_model.specs.declared.{objects.Answer.Answer, rows.ChallengeRow.ChallengeRow}
 use Rattle.sql_read.specs.First.{AreFirstShown, blank_key, raised_meta}
 use Rattle.sql_read.specs.Shown.{AreColumnsOf}
 use Rattle.sql_read.specs.declared.formats.Format.TheVariants.{First}
-use Rattle.sql_read.proofs.Loading.{challenges_moved}
-use Rattle.sql_read.proofs.ShownRows.{shown_still}
+use Rattle.sql_read.proofs.{Loading.challenges_moved, ShownRows.shown_still, Lists.picked_moved}
 use Rattle.sql_read.proofs.WholeTables.{accounts_whole, authorizations_whole, challenges_whole, listed_columns_are, meta_whole, nonces_whole, orders_whole}
-use Rattle.sql_read.proofs.Lists.{picked_moved}
-use Rattle.sql_tables.specs.Holds.{HoldsFirst}
-use Rattle.sql_tables.specs.Layouts.{challenge_layout}
-use Rattle.sql_tables.specs.Sorted.{sorted_by}
+use Rattle.sql_tables.specs.{Holds.HoldsFirst, Layouts.challenge_layout, Sorted.sorted_by}
 use Rattle.sql_tables.proofs.Sorting.{sorted_moves}
 use Rattle.store_laws.proofs.BlankBooks.{bare_same, blank_row, rows_blank}
 use Rattle.store_laws.specs.Blank.{blank, blank_authorization, zeros}

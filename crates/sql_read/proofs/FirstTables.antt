@@ -6,9 +6,7 @@ use Rattle.desk_model.specs.Tables.{Tables}
 use Rattle.sql_schema.specs.declared.accounts.TheConstants as account
 use Rattle.sql_schema.specs.declared.authorizations.TheConstants as authz
 use Rattle.sql_schema.specs.declared.challenges.TheConstants as chall
-use Rattle.sql_tables.specs.Holds.{HoldsFirst}
-use Rattle.sql_tables.specs.Layouts.{challenge_layout}
-use Rattle.sql_tables.specs.Sorted.{sorted_by}
+use Rattle.sql_tables.specs.{Holds.HoldsFirst, Layouts.challenge_layout, Sorted.sorted_by}
 use Rattle.sql_read.specs.Selecting.{IsQuery}
 use Rattle.sql_read.specs.declared.formats.Format.TheVariants.{First}
 use Rattle.sql_read.proofs.Readings.{accounts_reading, authorizations_reading, challenges_reading}

@@ -4,28 +4,19 @@ use Rattle.std.proofs.lemmas.Simd.{map-map}
 use Rattle.sqlite_value.specs.Order.{Row}
 use Rattle.sqlite_sql.specs.Query.{as_count}
 use Rattle.sqlite_sql.specs.Term.{Term, eval}
-use Rattle.sqlite.specs.Effect.{Database}
+use Rattle.sqlite.specs.{Effect.Database, Schema.Schema, State.Shown, Store.Ghosts}
 use Rattle.sqlite.specs.Held.{Held, state}
-use Rattle.sqlite.specs.Schema.{Schema}
-use Rattle.sqlite.specs.State.{Shown}
-use Rattle.sqlite.specs.Store.{Ghosts}
-use Rattle.store_columns.specs.Flat.{flat}
-use Rattle.store_columns.specs.Laws.{AreToldApart}
-use Rattle.store_columns.specs.Limits.{AreStored}
+use Rattle.store_columns.specs.{Flat.flat, Laws.AreToldApart, Limits.AreStored}
 use Rattle.store_columns.proofs.RowsApart.{table-apart}
 use Rattle.model_laws.proofs.Basics.{each-map, each_of_map}
 use Rattle.model_laws.proofs.Keeps.{each-filter}
-use Rattle.desk_model.specs.Kept.{EachOf}
-use Rattle.desk_model.specs.Tables.{Tables}
+use Rattle.desk_model.specs.{Kept.EachOf, Tables.Tables}
 use Rattle.sql_schema.specs.Schema.{desk_schema}
 use Rattle.sql_read.specs.Failures.{HasTexts, MayRead}
 use Rattle.sql_read.specs.LookUpFaults.{AreTableRows, IsSureQuery}
 use Rattle.store_book.specs.IsBook.{IsStoredBook}
-use Rattle.sql_read.proofs.Answered.{by}
-use Rattle.sql_read.proofs.Failing.{query_fails}
+use Rattle.sql_read.proofs.{Answered.by, Failing.query_fails, Lists.each_limited, TableColumns.all_fit}
 use Rattle.sql_read.proofs.KeyedReadings.{HasRowsIn, columns_of, cut, shown_cut}
-use Rattle.sql_read.proofs.Lists.{each_limited}
-use Rattle.sql_read.proofs.TableColumns.{all_fit}
 use Rattle.sql_read.proofs.TableFacts.{IsReadingOf, TableFacts, columns, picks}
 
 -- ---- rows and their columns

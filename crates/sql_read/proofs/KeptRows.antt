@@ -1,16 +1,13 @@
 -- The rows that a database of a desk keeps of each table by number, in either format.
 use Rattle.std.proofs.Common.{◌≡◌, ℤ, List, [], ◌∷◌, map, sym, subst, arith}
-use Rattle.std.proofs.lemmas.List.{map-id}
-use Rattle.std.proofs.lemmas.Simd.{map-map}
-use Rattle.sqlite.specs.Effect.{Database}
-use Rattle.sqlite.specs.Schema.{Schema}
+use Rattle.std.proofs.lemmas.{List.map-id, Simd.map-map}
+use Rattle.sqlite.specs.{Effect.Database, Schema.Schema}
 use Rattle.store_columns.specs.Columns.{authorization_columns, challenge_columns, first_format, key_columns, known_format, nonce_columns, order_columns}
 use Rattle.store_columns.specs.Flat.{bare_row, challenge_rows, key_rows, without_challenges, without_listed}
 use Rattle.store_columns.specs.Limits.{IsStoredAccount, IsStoredChallenge, IsStoredKey, IsStoredNonce}
 use Rattle.store_columns.specs.TextColumns.{HasTextAuthorization, HasTextChallenge, HasTextOrder}
 use Rattle.model_laws.proofs.Basics.{each_all}
-use Rattle.desk_model.specs.Kept.{EachOf}
-use Rattle.desk_model.specs.Tables.{Tables}
+use Rattle.desk_model.specs.{Kept.EachOf, Tables.Tables}
 use Rattle.sql_schema.specs.Schema.{desk_schema, first_schema}
 use Rattle.sql_tables.specs.Holds.{Holds, HoldsFirst}
 use Rattle.sql_tables.specs.Layouts.{IsRising, Layout, account_layout, authorization_layout, challenge_layout, formatted_layout, key_layout, nonce_layout}
@@ -20,9 +17,7 @@ use Rattle.sql_tables.proofs.Sorting.{each_sorted, sorted_rises}
 use Rattle.sql_read.specs.BookShown.{HoldsIn}
 use Rattle.sql_read.specs.declared.formats.Format.{Format}
 use Rattle.sql_read.specs.declared.formats.Format.TheVariants.{First, Second}
-use Rattle.sql_read.proofs.FoundRows.{Keeps}
-use Rattle.sql_read.proofs.KeyedReadings.{HasRowsIn}
-use Rattle.sql_read.proofs.Lists.{each_map_sorted}
+use Rattle.sql_read.proofs.{FoundRows.Keeps, KeyedReadings.HasRowsIn, Lists.each_map_sorted}
 use Rattle.sql_read.proofs.TableFacts.{account_facts, authorization_facts, challenge_facts, columns, formatted_facts, key_facts, meta_facts, nonce_facts}
 use Rattle.sql_read.proofs.TableFacts.{order_facts}
 

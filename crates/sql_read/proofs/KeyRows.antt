@@ -3,28 +3,20 @@ use Rattle.std.proofs.Common.{◌≡◌, ◌≢◌, ℕ, List, [], ◌∷◌, ma
 use Rattle.std.specs.List.{cons_option}
 use Rattle.std.specs.Prelude.{◌==◌, nat_lt, option_map}
 use Rattle.std.proofs.lemmas.Bool.{eq-eqb, ne_eqb}
-use Rattle.std.proofs.lemmas.Option.{same_Some}
-use Rattle.std.proofs.lemmas.Simd.{map-map}
+use Rattle.std.proofs.lemmas.{Option.same_Some, Simd.map-map}
 use Rattle.store_columns.specs.Flat.{answer_key, bare, bare_row, challenge_rows, key_rows}
-use Rattle.store_columns.specs.declared.flat_rows.AnswerKey.{AnswerKey}
-use Rattle.store_columns.specs.declared.flat_rows.BareChallenge.{BareChallenge}
-use Rattle.store_columns.specs.declared.flat_rows.Owned.{Owned}
+use Rattle.store_columns.specs.declared.flat_rows.{AnswerKey.AnswerKey, BareChallenge.BareChallenge, Owned.Owned}
 use Rattle.model_laws.proofs.Basics.{each, each-map, each_both}
 use Rattle.model_laws.proofs.Keeps.{each-filter}
 use Rattle.model_laws.specs.Distinct.{Distinct}
-use Rattle.desk_model.specs.Kept.{EachOf}
-use Rattle.desk_model.specs.Legal.{is_processing_challenge}
-use Rattle.desk_model.specs.Tables.{Tables}
-use Rattle.desk_model.specs.declared.objects.Answer.{Answer}
-use Rattle.desk_model.specs.declared.rows.ChallengeRow.{ChallengeRow}
+use Rattle.desk_model.specs.{Kept.EachOf, Legal.is_processing_challenge, Tables.Tables}
+use Rattle.desk_model.specs.declared.{objects.Answer.Answer, rows.ChallengeRow.ChallengeRow}
 use Rattle.model_lives.specs.Above.{challenges_above, first_of}
 use Rattle.sql_tables.specs.Sorted.{sorted_by}
 use Rattle.sql_tables.proofs.Sorting.{each_sorted}
 use Rattle.sql_read.specs.Keys.{HasItsKey, keys_of}
 use Rattle.sql_read.specs.Under.{rows_under}
-use Rattle.sql_read.proofs.AboveRows.{first_challenge}
-use Rattle.sql_read.proofs.Lists.{each_take}
-use Rattle.sql_read.proofs.Results.{read_then}
+use Rattle.sql_read.proofs.{AboveRows.first_challenge, Lists.each_take, Results.read_then}
 
 -- the number of a challenge
 abbrev number : Owned ChallengeRow → ℕ

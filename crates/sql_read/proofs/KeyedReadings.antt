@@ -1,12 +1,10 @@
 -- What a reading gives of a table that has a number as its key.
 use Rattle.std.proofs.Common.{◌≡◌, ℕ, List, [], ◌∷◌, map, filter, refl, ap, ◌∙◌}
-use Rattle.std.proofs.lemmas.Simd.{map-map}
-use Rattle.std.proofs.lemmas.List.{map-id}
+use Rattle.std.proofs.lemmas.{Simd.map-map, List.map-id}
 use Rattle.sqlite_value.specs.Order.{Row}
 use Rattle.sqlite_sql.specs.Query.{as_count, limited}
 use Rattle.sqlite_sql.specs.Term.{Term, eval}
-use Rattle.sqlite.specs.Effect.{Database}
-use Rattle.sqlite.specs.Schema.{Schema}
+use Rattle.sqlite.specs.{Effect.Database, Schema.Schema}
 use Rattle.sqlite.specs.State.{State, Shown}
 use Rattle.model_laws.proofs.RowLists.{ascends_filter}
 use Rattle.sql_tables.specs.Layouts.{IsRising, Layout}

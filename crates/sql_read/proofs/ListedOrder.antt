@@ -1,9 +1,7 @@
 -- What orders list stands by order, then by place; what a look-up finds of it.
 use Rattle.std.proofs.Common.{◌≡◌, inl, inr, ℕ, ◌+◌, ◌<◌, pos, Bool, List, [], ◌∷◌, ◌++◌, map, filter, Ordering, Less, Equal, refl, sym, ap, ◌∙◌, arith}
 use Rattle.std.specs.Prelude.{◌==◌}
-use Rattle.std.specs.List.{AllByRecursion}
-use Rattle.std.specs.List.Sorted.{IsStrictlySortedBy}
-use Rattle.std.specs.Ordering.{ordering_then}
+use Rattle.std.specs.{List.AllByRecursion, List.Sorted.IsStrictlySortedBy, Ordering.ordering_then}
 use Rattle.std.proofs.lemmas.List.Kept.{IsStrictlySortedBy-filter}
 use Rattle.sqlite.specs.declared.types.Value.TheVariants.{Int}
 use Rattle.sqlite_value.specs.Order.{Row, value_cmp}
@@ -12,19 +10,15 @@ use Rattle.sqlite_trees.proofs.ListLemmas.{IsPermutation-filter}
 use Rattle.sqlite_sql.specs.Query.{Output, output_cmp}
 use Rattle.sqlite_sql.specs.Term.{Term}
 use Rattle.sqlite.specs.Held.{Held, state}
-use Rattle.sqlite.specs.State.{Shown}
-use Rattle.sqlite.specs.Store.{Ghosts}
-use Rattle.store_columns.specs.Columns.{listed_columns}
+use Rattle.sqlite.specs.{State.Shown, Store.Ghosts}
+use Rattle.store_columns.specs.{Columns.listed_columns, Limits.IsStoredListed}
 use Rattle.store_columns.specs.Flat.{listed_rows, owned_by}
-use Rattle.store_columns.specs.Limits.{IsStoredListed}
 use Rattle.store_columns.specs.declared.flat_rows.Owned.{Owned}
 use Rattle.store_columns.proofs.RowsApart.{listed-apart, table-apart}
-use Rattle.model_laws.proofs.Keeps.{each-filter}
+use Rattle.model_laws.proofs.{Keeps.each-filter, Basics.each_all}
 use Rattle.model_laws.specs.Ordered.{Ascends}
-use Rattle.desk_model.specs.Kept.{EachOf}
-use Rattle.desk_model.specs.Tables.{Tables}
-use Rattle.desk_model.specs.declared.rows.Listed.{Listed}
-use Rattle.desk_model.specs.declared.rows.OrderRow.{OrderRow}
+use Rattle.desk_model.specs.{Kept.EachOf, Tables.Tables}
+use Rattle.desk_model.specs.declared.rows.{Listed.Listed, OrderRow.OrderRow}
 use Rattle.sql_tables.specs.Hidden.{hidden, row_of}
 use Rattle.sql_tables.specs.Holds.{Holds}
 use Rattle.sql_tables.specs.Images.{listed_cells, listed_params}
@@ -32,13 +26,11 @@ use Rattle.sql_tables.proofs.Keyed.{ranked, three}
 use Rattle.sql_read.specs.Bounded.{bounded}
 use Rattle.sql_read.specs.Spelled.{FitsListed, listed_in}
 use Rattle.sql_schema.specs.Schema.{desk_schema}
-use Rattle.model_laws.proofs.Basics.{each_all}
 use Rattle.store_book.specs.IsBook.{IsStoredBook}
 use Rattle.sql_schema.specs.declared.listed.TheConstants as ord_authz
 use Rattle.sql_read.proofs.Answered.{IsReading, all_rows, answers, by, less, passes, picked, shown_in_order}
-use Rattle.sql_read.proofs.Failing.{query_fails}
+use Rattle.sql_read.proofs.{Failing.query_fails, KeyedReadings.columns_of}
 use Rattle.sql_read.proofs.FoundRows.{Finds, filter-each, table_rows}
-use Rattle.sql_read.proofs.KeyedReadings.{columns_of}
 use Rattle.sql_read.proofs.LookUpReadings.{is_equal, listed_by_reading, listing_reading, number}
 use Rattle.sql_read.proofs.Tests.{number_test, same_bounded}
 use Rattle.sql_read.proofs.TableColumns.{listed_back, listed_fits, listed_project}

@@ -6,14 +6,12 @@ use Rattle.sqlite.specs.Held.{Held, state}
 use Rattle.sqlite.specs.Store.{Ghosts}
 use Rattle.store_columns.specs.Columns.{authorization_columns, challenge_columns, key_columns, order_columns, rows_columns}
 use Rattle.store_columns.specs.Flat.{bare_row, challenge_rows, flat, key_rows, without_challenges, without_listed}
-use Rattle.store_columns.specs.declared.columns.ChallColumns.{ChallColumns}
-use Rattle.store_columns.specs.declared.columns.StoredRows.{StoredRows}
+use Rattle.store_columns.specs.declared.columns.{ChallColumns.ChallColumns, StoredRows.StoredRows}
 use Rattle.model_laws.specs.Distinct.{Distinct}
 use Rattle.desk_model.specs.Tables.{Tables}
 use Rattle.store_laws.specs.Told.{AreReorderedColumns}
-use Rattle.sql_tables.specs.Holds.{Holds}
+use Rattle.sql_tables.specs.{Holds.Holds, Sorted.sorted_by}
 use Rattle.sql_tables.specs.Layouts.{challenge_layout, key_layout}
-use Rattle.sql_tables.specs.Sorted.{sorted_by}
 use Rattle.sql_tables.proofs.AnswerKeys.{keys_apart}
 use Rattle.sql_read.specs.Shown.{AreColumnsOf, AreShown}
 use Rattle.sql_read.specs.declared.formats.Format.TheVariants.{Second}

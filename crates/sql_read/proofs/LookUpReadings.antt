@@ -1,7 +1,6 @@
 -- What the look-ups mean: one statement each, with as many parameters as are given, that compares no values of other kinds.
 use Rattle.std.proofs.Common.{ℕ, List, [], ◌∷◌, pos, codes, refl}
-use Rattle.sqlite.specs.Listing.{understood}
-use Rattle.sqlite.specs.Order.{Row}
+use Rattle.sqlite.specs.{Listing.understood, Order.Row}
 use Rattle.sqlite.specs.declared.types.Value.TheVariants.{Int, Text}
 use Rattle.sqlite_value.specs.declared.keys.Collation.TheVariants.{Binary}
 use Rattle.sqlite_sql.specs.declared.ops.BinaryOp.TheVariants.{Compare}

@@ -7,12 +7,8 @@ use Rattle.sqlite.specs.Store.{Ghosts}
 use Rattle.store_columns.specs.Flat.{bare_row, challenge_rows, key_rows, without_challenges, without_listed}
 use Rattle.store_columns.specs.Limits.{IsStoredAccount, IsStoredAuthorization, IsStoredNonce, IsStoredOrder}
 use Rattle.desk_model.specs.Document.{authorization_status_text, challenge_status_text, order_status_text}
-use Rattle.desk_model.specs.Legal.{is_processing_challenge}
-use Rattle.desk_model.specs.Tables.{Tables}
-use Rattle.desk_model.specs.declared.objects.Nonce.{Nonce}
-use Rattle.desk_model.specs.declared.rows.AccountRow.{AccountRow}
-use Rattle.desk_model.specs.declared.rows.AuthorizationRow.{AuthorizationRow}
-use Rattle.desk_model.specs.declared.rows.OrderRow.{OrderRow}
+use Rattle.desk_model.specs.{Legal.is_processing_challenge, Tables.Tables}
+use Rattle.desk_model.specs.declared.{objects.Nonce.Nonce, rows.AccountRow.AccountRow, rows.AuthorizationRow.AuthorizationRow, rows.OrderRow.OrderRow}
 use Rattle.desk_model.specs.declared.status.ChallengeStatus.TheVariants as challenge
 use Rattle.desk_model.specs.declared.status.OrderStatus.TheVariants as order
 use Rattle.model_lives.specs.Above.{accounts_above, authorizations_above, first_of, orders_above}
@@ -26,15 +22,12 @@ use Rattle.model_lives.specs.declared.queries.NoncesWhere.{NoncesWhere}
 use Rattle.model_lives.specs.declared.queries.NoncesWhere.TheVariants as nonces_by
 use Rattle.model_lives.specs.declared.queries.OrdersWhere.{OrdersWhere}
 use Rattle.model_lives.specs.declared.queries.OrdersWhere.TheVariants as orders_by
-use Rattle.sql_tables.specs.Holds.{Holds}
+use Rattle.sql_tables.specs.{Holds.Holds, Sorted.sorted_by}
 use Rattle.sql_tables.specs.Layouts.{challenge_layout, key_layout}
-use Rattle.sql_tables.specs.Sorted.{sorted_by}
 use Rattle.sql_tables.proofs.AnswerKeys.{keys_apart}
 use Rattle.sql_tables.proofs.Sorting.{filter_ascending, filter_number}
-use Rattle.sql_read.specs.Bounded.{bounded}
-use Rattle.sql_read.specs.Keys.{keys_of}
-use Rattle.sql_read.specs.Queries.{account_params, account_text, authorization_params, authorization_text}
-use Rattle.sql_read.specs.Queries.{nonce_params, nonce_text, order_params, order_text}
+use Rattle.sql_read.specs.{Bounded.bounded, Keys.keys_of}
+use Rattle.sql_read.specs.Queries.{account_params, account_text, authorization_params, authorization_text, nonce_params, nonce_text, order_params, order_text}
 use Rattle.store_book.specs.IsBook.{IsStoredBook}
 use Rattle.sql_schema.specs.declared.accounts.TheConstants as account
 use Rattle.sql_schema.specs.declared.authorizations.TheConstants as authz
@@ -47,14 +40,11 @@ use Rattle.sql_read.proofs.Answered.{all_rows, first_row}
 use Rattle.sql_read.proofs.FoundRows.{FindsIn, finds}
 use Rattle.sql_read.proofs.KeptRows.{accounts_kept, authorizations_kept, challenges_kept, keys_kept, meta_kept, nonces_kept, orders_kept}
 use Rattle.sql_read.proofs.LookUpReadings.{account_above_reading, account_tests, accounts_asked, authorization_above_reading, authorization_tests}
-use Rattle.sql_read.proofs.LookUpReadings.{authorizations_asked, challenges_numbered_reading, challenges_of_reading, challenges_processing_reading}
-use Rattle.sql_read.proofs.LookUpReadings.{is_equal, is_higher, keys_of_reading, nonce_tests, nonces_asked, number, order_above_reading, order_tests}
-use Rattle.sql_read.proofs.LookUpReadings.{orders_asked, text}
-use Rattle.sql_read.proofs.UnderLemmas.{own_ascend}
-use Rattle.sql_read.proofs.Readings.{meta_reading}
+use Rattle.sql_read.proofs.LookUpReadings.{authorizations_asked, challenges_numbered_reading, challenges_of_reading, challenges_processing_reading, is_equal}
+use Rattle.sql_read.proofs.LookUpReadings.{is_higher, keys_of_reading, nonce_tests, nonces_asked, number, order_above_reading, order_tests, orders_asked, text}
+use Rattle.sql_read.proofs.{UnderLemmas.own_ascend, Readings.meta_reading, TableColumns.challenge_status_at}
 use Rattle.sql_read.proofs.StatusTests.{authorization_status_test, challenge_waits, order_status_test, order_waits}
 use Rattle.sql_read.proofs.Tests.{above_bounded, above_test, below_bounded, below_test, number_test, number_text_test, same_bounded, text_below_test, text_test}
-use Rattle.sql_read.proofs.TableColumns.{challenge_status_at}
 use Rattle.sql_read.proofs.TableFacts.{account_facts, authorization_facts, challenge_facts, key_facts, meta_facts, nonce_facts, order_facts, picks}
 
 -- ---- SQL's tests are the model's, on rows in their limits

@@ -2,26 +2,20 @@
 use Rattle.std.proofs.Common.{◌≡◌, ◌<◌, ◌+◌, ℕ, List, [], ◌∷◌, ◌++◌, length, arith, map, refl, sym, ap, subst, ◌∙◌, IfErr, IsErrAnd, IsTrue, Result}
 use Rattle.std.proofs.Common.{add-one, append-nil, drop, drop-cons, get_or, set, take}
 use Rattle.std.proofs.lemmas.List.{drop-set-lt, drop_all, take_all, take_more, take_more_set}
-use Rattle.sqlite.proofs.Callers.{unchanged_then}
-use Rattle.sqlite.proofs.StateLemmas.{unchanged}
+use Rattle.sqlite.proofs.{Callers.unchanged_then, StateLemmas.unchanged}
 use Rattle.sqlite.specs.State.{HasCleanDisk, IsUnchanged, State}
-use Rattle.desk_model.specs.Kept.{EachOf}
-use Rattle.desk_model.specs.Tables.{Tables}
+use Rattle.desk_model.specs.{Kept.EachOf, Tables.Tables}
 use Rattle.desk_model.specs.declared.rows.ChallengeRow.{ChallengeRow}
 use Rattle.store_columns.specs.declared.flat_rows.Owned.{Owned}
 use Rattle.sql_schema.specs.Stays.{Asks}
 use Rattle.sql_schema.proofs.StaysLemmas.{asks_nothing, asks_then}
 use Rattle.sql_tables.specs.Holds.{Holds}
 use Rattle.sql_tables.proofs.Holding.{holds_still}
-use Rattle.sql_read.specs.Failures.{MayRead}
-use Rattle.sql_read.specs.Held.{ForHeld}
-use Rattle.sql_read.specs.Keys.{HasItsKey}
-use Rattle.sql_read.specs.LookUpFaults.{IsOfMemoryOrDisk}
+use Rattle.sql_read.specs.{Failures.MayRead, Held.ForHeld, Keys.HasItsKey, LookUpFaults.IsOfMemoryOrDisk}
 use Rattle.sql_read.specs.declared.fault.ReadFault.{ReadFault}
 use Rattle.store_book.specs.IsBook.{IsStoredBook}
-use Rattle.sql_read.proofs.Failing.{may_read_still}
+use Rattle.sql_read.proofs.{Failing.may_read_still, Results.failed_as}
 use Rattle.sql_read.proofs.LookUpFaults.{caused_behind, failed, with_whole}
-use Rattle.sql_read.proofs.Results.{failed_as}
 
 -- a map that ends in an item is that of a list that ends in one
 pub record EndsIn {X Y : Type 0} (f : X → Y) (ys : List Y) (y : Y) (xs : List X) : Type 0 where

@@ -1,13 +1,9 @@
 -- A value of the kind of its column is read, or memory is refused.
 use Rattle.std.proofs.Common.{◌≡◌, ◌≢◌, ◌⊎◌, inl, inr, ℕ, ◌<◌, List, length, IsUtf8, IfErr, Result, Ok, Err, refl, sym, ◌∙◌}
-use Rattle.sqlite.specs.declared.types.Value.{Value}
+use Rattle.sqlite.specs.declared.{types.Value.Value, error.Error.Error, error.Error.TheVariants.SqliteFailure, error.ErrorCode.TheVariants.OutOfMemory}
 use Rattle.sqlite.specs.declared.types.Value.TheVariants.{Null, Int, Real, Text, Blob}
 use Rattle.sqlite.specs.Order.{Row, column}
-use Rattle.sqlite.specs.Reading.{IsReadError}
-use Rattle.sqlite.specs.Values.{IsInt}
-use Rattle.sqlite.specs.declared.error.Error.{Error}
-use Rattle.sqlite.specs.declared.error.Error.TheVariants.{SqliteFailure}
-use Rattle.sqlite.specs.declared.error.ErrorCode.TheVariants.{OutOfMemory}
+use Rattle.sqlite.specs.{Reading.IsReadError, Values.IsInt}
 use Rattle.sql_read.specs.Failures.{IsOutOfMemory}
 use Rattle.sql_read.specs.Spelled.{HoldsBlob, HoldsBlobOrNull, HoldsInt, HoldsIntOrNull, HoldsText, HoldsTextOrNull}
 

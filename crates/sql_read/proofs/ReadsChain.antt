@@ -2,17 +2,14 @@
 use Rattle.std.proofs.Common.{◌≡◌, ◌⊎◌, inl, inr, ℕ, List, [], map, Result, Ok, Err, refl, subst, arith, ◌∙◌}
 use Rattle.std.specs.Prelude.{IfErr, IfOk, IsOk, OnOk}
 use Rattle.sqlite.specs.Held.{Held, state}
-use Rattle.sqlite.specs.Order.{Row}
+use Rattle.sqlite.specs.{Order.Row, Store.Ghosts}
 use Rattle.sqlite.specs.State.{HasCleanDisk, IsUnchanged, Shown}
-use Rattle.sqlite.specs.Store.{Ghosts}
 use Rattle.sqlite.specs.declared.error.Error.{Error}
 use Rattle.sqlite.proofs.Callers.{unchanged_then}
-use Rattle.sql_schema.specs.Failing.{IsFailure}
-use Rattle.sql_schema.specs.Stays.{Asks}
+use Rattle.sql_schema.specs.{Failing.IsFailure, Stays.Asks}
 use Rattle.sql_schema.proofs.StaysLemmas.{asks_then}
 use Rattle.sql_read.specs.Failures.{FailsHere, FailsToRead, IsMet, IsReadable, MayRead}
-use Rattle.sql_read.specs.Reads.{Reads}
-use Rattle.sql_read.specs.Shown.{IsShown}
+use Rattle.sql_read.specs.{Reads.Reads, Shown.IsShown}
 use Rattle.sql_read.proofs.Failing.{may_read_still}
 use Rattle.sql_read.proofs.MetFaults.{met_behind, met_on}
 use Rattle.sql_read.proofs.Results.{fails_then, read_then}

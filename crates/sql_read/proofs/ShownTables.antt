@@ -1,7 +1,6 @@
 -- Tables with what comes below them.
 use Rattle.std.proofs.Common.{◌≡◌, ℕ, List, map, subst, subst₂}
-use Rattle.sqlite.specs.Effect.{Database}
-use Rattle.sqlite.specs.Store.{Ghosts}
+use Rattle.sqlite.specs.{Effect.Database, Store.Ghosts}
 use Rattle.store_book.specs.BookRows.{AreAccounts, AreAuthorizations, AreChallenges, AreOrders, answered_numbers}
 use Rattle.store_columns.specs.Columns.{account_columns, authorization_columns, challenge_columns, order_columns}
 use Rattle.store_columns.specs.Limits.{IsStoredAccount, IsStoredAuthorization, IsStoredChallenge, IsStoredOrder}

@@ -3,8 +3,7 @@ use Rattle.std.proofs.Common.{◌≡◌, refl}
 use Rattle.std.specs.Prelude.{◌==◌, bytes_eq}
 use Rattle.desk_model.specs.Derived.{authz_code, order_code}
 use Rattle.desk_model.specs.Document.{authorization_status_text, challenge_status_text, order_status_text}
-use Rattle.desk_model.specs.Legal.{is_processing_challenge}
-use Rattle.desk_model.specs.Order.{is_processing}
+use Rattle.desk_model.specs.{Legal.is_processing_challenge, Order.is_processing}
 use Rattle.desk_model.specs.declared.status.AuthzStatus.{AuthzStatus}
 use Rattle.desk_model.specs.declared.status.AuthzStatus.TheVariants as authz
 use Rattle.desk_model.specs.declared.status.ChallengeStatus.{ChallengeStatus}

@@ -1,27 +1,19 @@
 -- Rows that are read and checked one after the other.
 use Rattle.std.proofs.Common.{◌≡◌, ℕ, inl, inr, List, [], ◌∷◌, ◌++◌, map, None, Option, Result, Ok, Err, append-nil, append_assoc, refl, sym, ap, subst, ◌∙◌}
 use Rattle.std.specs.Prelude.{Bool, IfSome, OnErr, Some}
-use Rattle.sqlite.specs.Effect.{Database}
+use Rattle.sqlite.specs.{Effect.Database, Listing.understood, Order.Row, Store.Ghosts, Schema.Schema}
 use Rattle.sqlite.specs.Given.{HasBegun, HasGiven, IsRefused, Returns}
 use Rattle.sqlite.specs.Held.{Held, state}
-use Rattle.sqlite.specs.Listing.{understood}
-use Rattle.sqlite.specs.Order.{Row}
 use Rattle.sqlite.specs.State.{CommitsShowing, FailsToQuery, HasCleanDisk, IsUnchanged, Shown, Survives}
-use Rattle.sqlite.specs.Store.{Ghosts}
-use Rattle.sqlite.specs.Schema.{Schema}
 use Rattle.sqlite.specs.declared.error.Error.{Error}
-use Rattle.sqlite.proofs.Callers.{unchanged_then}
-use Rattle.sqlite.proofs.StateLemmas.{survives_weaker}
-use Rattle.sqlite_resolve.specs.declared.compiled.Compiled.{Compiled}
-use Rattle.sqlite_resolve.specs.declared.error.CompileError.{CompileError}
+use Rattle.sqlite.proofs.{Callers.unchanged_then, StateLemmas.survives_weaker}
+use Rattle.sqlite_resolve.specs.declared.{compiled.Compiled.Compiled, error.CompileError.CompileError}
 use Rattle.model_laws.proofs.Basics.{each-append}
 use Rattle.sql_schema.specs.Stays.{Asks}
 use Rattle.sql_schema.proofs.StaysLemmas.{stays_unchanged}
 use Rattle.sql_read.specs.Checking.{GoesOn, HasGivenRows, ShowsTable}
-use Rattle.sql_read.specs.Failures.{IsMet}
-use Rattle.sql_read.specs.Selecting.{IsQuery}
-use Rattle.sql_read.proofs.Asking.{stays_failed}
-use Rattle.sql_read.proofs.MetFaults.{query_met}
+use Rattle.sql_read.specs.{Failures.IsMet, Selecting.IsQuery}
+use Rattle.sql_read.proofs.{Asking.stays_failed, MetFaults.query_met}
 use Rattle.sql_read.proofs.Selecting.{commits_none, none_understood}
 
 -- a query shows nothing of a write

@@ -3,20 +3,14 @@ use Rattle.std.proofs.Common.{◌≡◌, ℕ, ◌+◌, ◌<◌, Bool, true, fals
 use Rattle.std.specs.Prelude.{◌==◌}
 use Rattle.std.specs.List.{flat_map}
 use Rattle.std.proofs.lemmas.Bool.{eq-eqb, eqb-true}
-use Rattle.std.proofs.lemmas.List.{map-append}
-use Rattle.std.proofs.lemmas.Simd.{map-map}
+use Rattle.std.proofs.lemmas.{List.map-append, Simd.map-map}
 use Rattle.store_columns.specs.Flat.{challenge_rows, listed_rows, owned_by}
 use Rattle.store_columns.specs.declared.flat_rows.Owned.{Owned}
 use Rattle.model_laws.proofs.Basics.{each, each_both, less_differs, more_differs}
 use Rattle.model_laws.proofs.RowLists.{ascends_above, ascends_map}
 use Rattle.model_laws.specs.Ordered.{Ascends}
-use Rattle.desk_model.specs.Kept.{EachOf}
-use Rattle.desk_model.specs.Derived.{numbers_of}
-use Rattle.desk_model.specs.Tables.{Tables}
-use Rattle.desk_model.specs.declared.rows.AuthorizationRow.{AuthorizationRow}
-use Rattle.desk_model.specs.declared.rows.ChallengeRow.{ChallengeRow}
-use Rattle.desk_model.specs.declared.rows.Listed.{Listed}
-use Rattle.desk_model.specs.declared.rows.OrderRow.{OrderRow}
+use Rattle.desk_model.specs.{Kept.EachOf, Derived.numbers_of, Tables.Tables}
+use Rattle.desk_model.specs.declared.rows.{AuthorizationRow.AuthorizationRow, ChallengeRow.ChallengeRow, Listed.Listed, OrderRow.OrderRow}
 use Rattle.model_lives.specs.LookUps.{challenges, orders_listing, owners_of, places}
 use Rattle.sql_tables.specs.Layouts.{challenge_layout}
 use Rattle.store_book.specs.Nesting.{child_rows}

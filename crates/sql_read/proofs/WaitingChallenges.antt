@@ -2,23 +2,16 @@
 use Rattle.std.proofs.Common.{◌≡◌, ℕ, Bool, true, false, cond, List, [], ◌∷◌, map, filter, refl, sym, ap, ◌∙◌}
 use Rattle.std.specs.Prelude.{◌==◌, ◌&&◌}
 use Rattle.std.specs.List.{list_any}
-use Rattle.std.proofs.lemmas.List.Sorted.{list_any-IsPermutation}
-use Rattle.std.proofs.lemmas.Simd.{map-map}
+use Rattle.std.proofs.lemmas.{List.Sorted.list_any-IsPermutation, Simd.map-map}
 use Rattle.store_columns.specs.Flat.{challenge_rows, owned_by}
 use Rattle.store_columns.specs.declared.flat_rows.Owned.{Owned}
-use Rattle.model_laws.specs.Distinct.{Distinct}
-use Rattle.model_laws.specs.Ordered.{Ascends}
+use Rattle.model_laws.specs.{Distinct.Distinct, Ordered.Ascends}
 use Rattle.model_laws.proofs.Basics.{each, list_any-map, list_any-same}
-use Rattle.desk_model.specs.Kept.{EachOf}
-use Rattle.desk_model.specs.Legal.{is_processing_challenge}
-use Rattle.desk_model.specs.Tables.{Tables}
-use Rattle.desk_model.specs.declared.rows.AuthorizationRow.{AuthorizationRow}
-use Rattle.desk_model.specs.declared.rows.ChallengeRow.{ChallengeRow}
+use Rattle.desk_model.specs.{Kept.EachOf, Legal.is_processing_challenge, Tables.Tables}
+use Rattle.desk_model.specs.declared.rows.{AuthorizationRow.AuthorizationRow, ChallengeRow.ChallengeRow}
 use Rattle.model_lives.specs.LookUps.{AreNumbers, AreWaiting, owners_processing}
-use Rattle.model_lives.proofs.Found.{any_filter}
-use Rattle.model_lives.proofs.Loading.{any_flat}
-use Rattle.sql_tables.specs.Layouts.{challenge_layout}
-use Rattle.sql_tables.specs.Sorted.{sorted_by}
+use Rattle.model_lives.proofs.{Found.any_filter, Loading.any_flat}
+use Rattle.sql_tables.specs.{Layouts.challenge_layout, Sorted.sorted_by}
 use Rattle.sql_tables.proofs.Sorting.{filter_ascending, sorted_moves}
 use Rattle.sql_read.proofs.Lists.{filter-map}
 use Rattle.sql_read.proofs.UnderLemmas.{authorizations_have, own_ascend}

@@ -3,16 +3,13 @@ use Rattle.std.proofs.Common.{◌≡◌, ℕ, ◌∷◌, [], List, map, true, fi
 use Rattle.std.specs.List.Sorted.{IsPermutation}
 use Rattle.std.proofs.lemmas.List.Sorted.{All-permutation, IsPermutation-map, IsPermutation-sym, IsPermutation-trans}
 use Rattle.sqlite.specs.Held.{Held, state}
-use Rattle.sqlite.specs.Schema.{Schema}
-use Rattle.sqlite.specs.State.{Shown}
-use Rattle.sqlite.specs.Store.{Ghosts}
+use Rattle.sqlite.specs.{Schema.Schema, State.Shown, Store.Ghosts}
 use Rattle.sqlite.specs.declared.types.Value.TheVariants.{Int}
 use Rattle.sqlite_value.specs.Order.{Row}
 use Rattle.sqlite_sql.specs.Query.{Output}
 use Rattle.store_columns.specs.Columns.{listed_columns}
 use Rattle.store_columns.specs.Flat.{challenge_rows, key_rows, listed_rows}
-use Rattle.store_columns.specs.declared.columns.OrderAuthzColumns.{OrderAuthzColumns}
-use Rattle.store_columns.specs.declared.flat_rows.Owned.{Owned}
+use Rattle.store_columns.specs.declared.{columns.OrderAuthzColumns.OrderAuthzColumns, flat_rows.Owned.Owned}
 use Rattle.model_laws.proofs.Basics.{each_all}
 use Rattle.desk_model.specs.Tables.{Tables}
 use Rattle.desk_model.specs.declared.rows.Listed.{Listed}
@@ -21,10 +18,8 @@ use Rattle.sql_tables.specs.Holds.{Holds, HoldsListed}
 use Rattle.sql_tables.specs.Images.{listed_cells, listed_params}
 use Rattle.sql_tables.specs.Layouts.{challenge_layout, key_layout}
 use Rattle.sql_tables.specs.Sorted.{sorted_by}
-use Rattle.sql_read.specs.AllTables.{AreFirstReadable}
-use Rattle.sql_read.specs.BookShown.{HoldsIn}
+use Rattle.sql_read.specs.{AllTables.AreFirstReadable, BookShown.HoldsIn, Shown.IsShown}
 use Rattle.sql_read.specs.Failures.{HasTexts, IsReadable}
-use Rattle.sql_read.specs.Shown.{IsShown}
 use Rattle.sql_read.specs.Spelled.{FitsListed, listed_in}
 use Rattle.sql_read.specs.declared.formats.Format.{Format}
 use Rattle.sql_read.specs.declared.formats.Format.TheVariants.{First, Second}
@@ -37,11 +32,9 @@ use Rattle.sql_schema.specs.declared.nonces.TheConstants as nonce
 use Rattle.sql_schema.specs.declared.orders.TheConstants as ord
 use Rattle.sql_schema.specs.declared.listed.TheConstants as ord_authz
 use Rattle.sql_read.proofs.Answered.{all_rows, answers, by, picked, shown_somehow}
-use Rattle.sql_read.proofs.Failing.{reading_fails}
-use Rattle.sql_read.proofs.FoundRows.{Keeps}
+use Rattle.sql_read.proofs.{Failing.reading_fails, FoundRows.Keeps, Lists.filter-all}
 use Rattle.sql_read.proofs.KeptRows.{accounts_kept, authorizations_kept, challenges_kept, format_kept, keys_kept, nonces_kept, number_of, orders_kept, schema_of}
 use Rattle.sql_read.proofs.KeyedReadings.{HasRowsIn, columns_of, shown_whole}
-use Rattle.sql_read.proofs.Lists.{filter-all}
 use Rattle.sql_read.proofs.Readings.{accounts_reading, authorizations_reading, challenges_reading, keys_reading, listed_reading}
 use Rattle.sql_read.proofs.Readings.{meta_reading, nonces_reading, orders_reading}
 use Rattle.sql_read.proofs.TableColumns.{all_fit, listed_back, listed_fits, listed_project}

@@ -1,21 +1,16 @@
 -- A desk in format 1, made format 2, is the same desk.
 use Rattle.std.proofs.Common.{◌≡◌, [], false, Result, Ok, Err, OnOk, sym, ap, subst, ◌∙◌}
-use Rattle.sqlite.specs.State.{State}
-use Rattle.sqlite.specs.Tree.{Trees}
+use Rattle.sqlite.specs.{State.State, Tree.Trees, Effect.Database}
 use Rattle.sql_write.specs.Committing.{HasCommitted, IsLeft}
-use Rattle.sqlite.specs.Effect.{Database}
 use Rattle.store_columns.specs.Flat.{challenge_rows, key_rows}
 use Rattle.model_laws.proofs.FirstKeys.{rows_under}
 use Rattle.model_laws.specs.Placing.{puts}
-use Rattle.desk_model.specs.History.{clock}
-use Rattle.desk_model.specs.Tables.{Tables}
+use Rattle.desk_model.specs.{History.clock, Tables.Tables}
 use Rattle.sql_upgrade.specs.FirstDesks.{BooksHaveAdditions, BringsDesk, PicturesAreFirstDesks, UpgradesDesk}
 use Rattle.sql_upgrade.specs.declared.additions.Additions.{Additions}
 use Rattle.sql_write.specs.Upgrading.{Upgrades}
-use Rattle.sql_tables.proofs.AnswerKeys.{keys_apart}
-use Rattle.sql_tables.proofs.Sorting.{puts_sorted}
-use Rattle.sql_tables.specs.Holds.{Holds}
-use Rattle.sql_tables.specs.Layouts.{key_layout}
+use Rattle.sql_tables.proofs.{AnswerKeys.keys_apart, Sorting.puts_sorted}
+use Rattle.sql_tables.specs.{Holds.Holds, Layouts.key_layout}
 use Rattle.sql_upgrade.proofs.FirstKeysFound.{blank_keys, first_keys_are}
 use Rattle.store_laws.proofs.FlatTexts.{picture_is_stored_book}
 

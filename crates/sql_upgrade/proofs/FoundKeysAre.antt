@@ -7,34 +7,23 @@ use Rattle.sqlite.specs.Store.{Ghosts}
 use Rattle.store_columns.specs.Columns.{account_columns, authorization_columns, challenge_columns}
 use Rattle.store_columns.specs.Flat.{answer_key, bare_row, challenge_rows, key_rows, owned_by, without_challenges}
 use Rattle.store_columns.specs.Limits.{IsStoredAccount, IsStoredAuthorization, IsStoredChallenge}
-use Rattle.store_columns.specs.declared.flat_rows.AnswerKey.{AnswerKey}
-use Rattle.store_columns.specs.declared.flat_rows.Owned.{Owned}
+use Rattle.store_columns.specs.declared.flat_rows.{AnswerKey.AnswerKey, Owned.Owned}
 use Rattle.store_columns.proofs.RowsApart.{accounts-apart, authorizations-apart, challenges-apart}
 use Rattle.model_laws.proofs.Basics.{each, each-append, each-map, each_both, find-map}
 use Rattle.model_laws.proofs.RowLists.{ascends_found, ascends_map, puts_ascending}
-use Rattle.model_laws.specs.FirstLaws.{IsUnder}
-use Rattle.model_laws.specs.Ordered.{Ascends}
-use Rattle.model_laws.specs.Placing.{puts}
+use Rattle.model_laws.specs.{FirstLaws.IsUnder, Ordered.Ascends, Placing.puts}
 use Rattle.desk_model.specs.Effect.{key_in, key_numbered}
-use Rattle.desk_model.specs.Keys.{thumbprint}
-use Rattle.desk_model.specs.Kept.{EachOf}
-use Rattle.desk_model.specs.Questions.{account_on}
-use Rattle.desk_model.specs.Tables.{Tables}
-use Rattle.desk_model.specs.declared.objects.Answer.{Answer}
-use Rattle.desk_model.specs.declared.rows.AccountRow.{AccountRow}
-use Rattle.desk_model.specs.declared.rows.AuthorizationRow.{AuthorizationRow}
-use Rattle.desk_model.specs.declared.rows.ChallengeRow.{ChallengeRow}
+use Rattle.desk_model.specs.{Keys.thumbprint, Kept.EachOf, Questions.account_on, Tables.Tables}
+use Rattle.desk_model.specs.declared.{objects.Answer.Answer, rows.AccountRow.AccountRow, rows.AuthorizationRow.AuthorizationRow, rows.ChallengeRow.ChallengeRow}
 use Rattle.sql_read.proofs.FirstTables.{first_accounts, first_authorizations, first_challenges}
-use Rattle.sql_read.proofs.FoundRows.{rows_back}
-use Rattle.sql_read.proofs.Lists.{each_map_sorted}
+use Rattle.sql_read.proofs.{FoundRows.rows_back, Lists.each_map_sorted}
 use Rattle.sql_tables.specs.Layouts.{challenge_layout, key_layout}
 use Rattle.sql_tables.specs.Sorted.{sorted_by}
 use Rattle.sql_tables.proofs.Sorting.{each_sorted, sorted_rises}
 use Rattle.sql_write.specs.Upgrading.{AreKeysOf}
 use Rattle.sql_upgrade.specs.FirstDesks.{IsFirstDesk}
 use Rattle.sql_upgrade.specs.FoundKeys.{ShowsAnswers, ShowsOwners, ShowsThumbs, account_of, account_rows, found_key, row_key, row_keys, thumb_of, thumb_rows}
-use Rattle.sql_upgrade.specs.declared.key_checks.AccountThumb.{AccountThumb}
-use Rattle.sql_upgrade.specs.declared.key_checks.AuthorizationAccount.{AuthorizationAccount}
+use Rattle.sql_upgrade.specs.declared.key_checks.{AccountThumb.AccountThumb, AuthorizationAccount.AuthorizationAccount}
 use Rattle.sql_upgrade.proofs.PickedRows.{picked_alike, picked_map, picked_sorted}
 
 -- ---- one answer

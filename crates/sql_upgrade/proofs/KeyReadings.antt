@@ -1,22 +1,17 @@
 -- Tables that are read for keys, one after the other.
 use Rattle.std.proofs.Common.{◌⊎◌, inl, inr, ℕ, List, Option, Some, None, Result, Err, IfErr, IfOk, IfSome, IsSome, OnOk}
 use Rattle.sqlite.specs.Held.{Held, state}
-use Rattle.sqlite.specs.Order.{Row}
+use Rattle.sqlite.specs.{Order.Row, Store.Ghosts}
 use Rattle.sqlite.specs.State.{HasCleanDisk, IsUnchanged}
-use Rattle.sqlite.specs.Store.{Ghosts}
 use Rattle.sqlite.specs.declared.error.Error.{Error}
 use Rattle.store_book.specs.IsBook.{IsBookOfStored}
 use Rattle.store_columns.specs.declared.columns.StoredRows.{StoredRows}
 use Rattle.desk_model.specs.Tables.{Tables}
-use Rattle.sql_read.specs.AllTables.{FailsAtFirst}
+use Rattle.sql_read.specs.{AllTables.FailsAtFirst, First.AreFirstShown, FirstRows.IsFirstReadable, Reads.Reads}
 use Rattle.sql_read.specs.Failures.{FailsHere, HasTexts, IsMet, IsOutOfMemory, IsReadable, MayRead}
-use Rattle.sql_read.specs.First.{AreFirstShown}
-use Rattle.sql_read.specs.FirstRows.{IsFirstReadable}
-use Rattle.sql_read.specs.Reads.{Reads}
 use Rattle.sql_read.proofs.FirstChecked.{FailsAtRows, reads_err}
 use Rattle.sql_read.proofs.Results.{fails_then}
-use Rattle.sql_schema.specs.Failing.{IsFailure}
-use Rattle.sql_schema.specs.Stays.{Asks}
+use Rattle.sql_schema.specs.{Failing.IsFailure, Stays.Asks}
 use Rattle.sql_tables.specs.Holds.{HoldsFirst}
 use Rattle.sql_upgrade.specs.Checked.{AreChecked}
 use Rattle.sql_upgrade.specs.declared.additions.Additions.{Additions}

@@ -3,10 +3,8 @@ use Rattle.std.specs.List.{cons_option}
 use Rattle.std.specs.Prelude.{IfSome, filter_map}
 use Rattle.std.proofs.Common.{◌≡◌, ◌≢◌, inl, inr, ℕ, ◌+◌, ◌<◌, List, [], ◌∷◌, map, Option, Some, None, refl, sym, ap, ◌∙◌, arith}
 use Rattle.model_laws.proofs.RowLists.{ascends_above, ascends_from, put_before, put_first, put_past}
-use Rattle.model_laws.specs.Distinct.{Distinct}
-use Rattle.model_laws.specs.Ordered.{Ascends}
-use Rattle.desk_model.specs.Change.{put}
-use Rattle.desk_model.specs.Kept.{EachOf}
+use Rattle.model_laws.specs.{Distinct.Distinct, Ordered.Ascends}
+use Rattle.desk_model.specs.{Change.put, Kept.EachOf}
 use Rattle.sql_tables.specs.Sorted.{sorted_by}
 use Rattle.sql_tables.proofs.Keyed.{ranked}
 use Rattle.sql_tables.proofs.Sorting.{IsApart, each_sorted, sorted_rises}

@@ -1,8 +1,5 @@
 use Rattle.std.proofs.Common.{refl}
-use Rattle.sql_read.proofs.FoundRows.{finds_as}
-use Rattle.sql_read.proofs.LookUpReadings.{account_above_reading}
-use Rattle.sql_read.proofs.LookUpRows.{account_above_find}
-use Rattle.sql_read.proofs.Results.{read_then}
+use Rattle.sql_read.proofs.{FoundRows.finds_as, LookUpReadings.account_above_reading, LookUpRows.account_above_find, Results.read_then}
 use Rattle.sql_read.proofs.accounts.account_above.Goals as goal
 
 pub find_rows-requires : goal.find_rows-requires

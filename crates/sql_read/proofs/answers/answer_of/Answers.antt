@@ -1,8 +1,6 @@
 use Rattle.std.proofs.Common.{◌∙◌, refl, sym}
 use Rattle.sqlite.specs.Held.{state}
-use Rattle.sql_read.proofs.FoundRows.{finds_as}
-use Rattle.sql_read.proofs.LookUpReadings.{keys_of_reading}
-use Rattle.sql_read.proofs.LookUpRows.{keys_of_find}
+use Rattle.sql_read.proofs.{FoundRows.finds_as, LookUpReadings.keys_of_reading, LookUpRows.keys_of_find}
 use Rattle.sql_read.proofs.Results.{failed_as, fails_then}
 use Rattle.sql_read.specs.LookUpFaults.{IsOfMemoryOrDisk}
 use Rattle.sql_read.proofs.answers.answer_of.Goals as goal

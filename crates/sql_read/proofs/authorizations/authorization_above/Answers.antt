@@ -1,11 +1,8 @@
 use Rattle.std.proofs.Common.{refl}
 use Rattle.model_laws.proofs.Keeps.{each-filter}
 use Rattle.model_lives.specs.Above.{first_of, authorizations_above}
-use Rattle.sql_read.proofs.FoundRows.{finds_as}
-use Rattle.sql_read.proofs.Lists.{each_take}
-use Rattle.sql_read.proofs.LookUpReadings.{authorization_above_reading}
-use Rattle.sql_read.proofs.LookUpRows.{authorization_above_find}
-use Rattle.sql_read.proofs.UnderLemmas.{authorizations_have}
+use Rattle.sql_read.proofs.{FoundRows.finds_as, Lists.each_take, LookUpReadings.authorization_above_reading, LookUpRows.authorization_above_find}
+use Rattle.sql_read.proofs.{UnderLemmas.authorizations_have}
 use Rattle.sql_read.proofs.authorizations.authorization_above.Goals as goal
 
 pub find_parents-requires : goal.find_parents-requires

@@ -1,9 +1,6 @@
 use Rattle.std.proofs.Common.{refl}
 use Rattle.model_lives.specs.declared.queries.AuthorizationsWhere.TheVariants as authorizations_by
-use Rattle.sql_read.proofs.FoundRows.{finds_as}
-use Rattle.sql_read.proofs.LookUpReadings.{authorizations_asked}
-use Rattle.sql_read.proofs.LookUpRows.{authorizations_find}
-use Rattle.sql_read.proofs.Results.{read_then}
+use Rattle.sql_read.proofs.{FoundRows.finds_as, LookUpReadings.authorizations_asked, LookUpRows.authorizations_find, Results.read_then}
 use Rattle.sql_read.proofs.authorizations.bare_authorizations.Goals as goal
 
 pub find_rows-requires : goal.find_rows-requires

@@ -1,16 +1,12 @@
 use Rattle.std.proofs.Common.{ap, arith, map, ◌∙◌}
-use Rattle.sqlite.specs.Held.{state}
-use Rattle.sqlite.specs.State.{HasCleanDisk}
+use Rattle.sqlite.specs.{Held.state, State.HasCleanDisk}
 use Rattle.model_lives.specs.Above.{challenges_above, first_of}
 use Rattle.sql_schema.proofs.StaysLemmas.{asks_then}
 use Rattle.sql_tables.proofs.Holding.{holds_still}
 use Rattle.sql_read.proofs.AboveRows.{challenge_above_find, first_bare}
-use Rattle.sql_read.proofs.LookUpReadings.{challenge_above_reading}
-use Rattle.sql_read.proofs.KeyRows.{keys_above}
+use Rattle.sql_read.proofs.{LookUpReadings.challenge_above_reading, KeyRows.keys_above, LookUpFaults.caused_behind, Failing.may_read_still}
 use Rattle.sql_read.proofs.Results.{failed_as, unchanged_after}
 use Rattle.sql_read.specs.LookUpFaults.{IsOfMemoryOrDisk}
-use Rattle.sql_read.proofs.LookUpFaults.{caused_behind}
-use Rattle.sql_read.proofs.Failing.{may_read_still}
 use Rattle.sql_read.proofs.authorizations.challenge_above.Goals as goal
 
 pub find_owned-requires : goal.find_owned-requires

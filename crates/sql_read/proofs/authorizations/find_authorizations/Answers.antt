@@ -2,10 +2,7 @@ use Rattle.std.proofs.Common.{subst, sym}
 use Rattle.model_laws.proofs.Keeps.{each-filter}
 use Rattle.model_lives.specs.LookUps.{authorizations_where}
 use Rattle.sql_read.specs.Selecting.{IsQuery}
-use Rattle.sql_read.proofs.FoundRows.{finds_as}
-use Rattle.sql_read.proofs.LookUpReadings.{authorizations_asked}
-use Rattle.sql_read.proofs.LookUpRows.{authorizations_find}
-use Rattle.sql_read.proofs.UnderLemmas.{authorizations_have}
+use Rattle.sql_read.proofs.{FoundRows.finds_as, LookUpReadings.authorizations_asked, LookUpRows.authorizations_find, UnderLemmas.authorizations_have}
 use Rattle.sql_read.proofs.authorizations.find_authorizations.Goals as goal
 
 pub find_parents_by-requires : goal.find_parents_by-requires

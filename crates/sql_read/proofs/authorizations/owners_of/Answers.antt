@@ -1,15 +1,10 @@
 use Rattle.std.proofs.Common.{map, filter, ap, ◌==◌, ◌∙◌, refl}
-use Rattle.std.proofs.lemmas.Simd.{map-map}
-use Rattle.std.proofs.lemmas.Result.{IfOk-weaker}
+use Rattle.std.proofs.lemmas.{Simd.map-map, Result.IfOk-weaker}
 use Rattle.sqlite.specs.Held.{state}
 use Rattle.store_columns.specs.Flat.{bare_row, challenge_rows}
-use Rattle.sql_read.proofs.FoundRows.{finds_as}
-use Rattle.sql_read.proofs.LookUpRows.{challenges_numbered_find}
-use Rattle.sql_read.proofs.LookUpReadings.{challenges_numbered_reading}
-use Rattle.sql_read.proofs.UnderLemmas.{owners_are}
-use Rattle.sql_read.proofs.Results.{failed_as}
+use Rattle.sql_read.proofs.{FoundRows.finds_as, LookUpRows.challenges_numbered_find, LookUpReadings.challenges_numbered_reading, UnderLemmas.owners_are}
+use Rattle.sql_read.proofs.{Results.failed_as, LookUpFaults.all_of_memory}
 use Rattle.sql_read.specs.LookUpFaults.{IsOfMemoryOrDisk}
-use Rattle.sql_read.proofs.LookUpFaults.{all_of_memory}
 use Rattle.sql_read.proofs.authorizations.owners_of.Goals as goal
 
 pub find_rows-requires : goal.find_rows-requires

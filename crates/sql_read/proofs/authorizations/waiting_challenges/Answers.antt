@@ -1,19 +1,14 @@
 use Rattle.std.proofs.Common.{map, ap, arith, refl, subst, sym, ◌∙◌}
 use Rattle.std.proofs.lemmas.Result.{IfOk-weaker}
-use Rattle.sqlite.specs.Held.{state}
-use Rattle.sqlite.specs.State.{HasCleanDisk}
+use Rattle.sqlite.specs.{Held.state, State.HasCleanDisk}
 use Rattle.model_lives.specs.LookUps.{AreWaiting}
 use Rattle.sql_schema.proofs.StaysLemmas.{asks_then}
 use Rattle.sql_tables.proofs.Holding.{holds_still}
-use Rattle.sql_read.proofs.KeyRows.{keys_waiting}
+use Rattle.sql_read.proofs.{KeyRows.keys_waiting, FoundRows.finds_as, LookUpRows.challenges_processing_find, LookUpFaults.caused_behind, Failing.may_read_still}
 use Rattle.sql_read.proofs.LookUpReadings.{challenges_processing_reading, text}
-use Rattle.sql_read.proofs.FoundRows.{finds_as}
-use Rattle.sql_read.proofs.LookUpRows.{challenges_processing_find}
 use Rattle.sql_read.proofs.Results.{failed_as, unchanged_after}
 use Rattle.sql_read.proofs.WaitingChallenges.{are_waiting, found_waiting, numbered}
 use Rattle.sql_read.specs.LookUpFaults.{IsOfMemoryOrDisk}
-use Rattle.sql_read.proofs.LookUpFaults.{caused_behind}
-use Rattle.sql_read.proofs.Failing.{may_read_still}
 use Rattle.sql_read.proofs.authorizations.waiting_challenges.Goals as goal
 
 pub find_rows-requires : goal.find_rows-requires

@@ -1,9 +1,7 @@
 use Rattle.std.proofs.Common.{ap, inl, inr}
 use Rattle.sql_read.specs.declared.formats.Format.TheVariants.{Second}
 use Rattle.sql_read.proofs.BookChecks.{checks_failed, checks_stopped, checks_then, in_format}
-use Rattle.sql_read.proofs.Readings.{authorizations_reading}
-use Rattle.sql_read.proofs.ShownTables.{authorizations_shown}
-use Rattle.sql_read.proofs.WholeTables.{authorizations_whole}
+use Rattle.sql_read.proofs.{Readings.authorizations_reading, ShownTables.authorizations_shown, WholeTables.authorizations_whole}
 use Rattle.sql_read.proofs.checked.check_authorizations.Goals as goal
 
 pub check_table-requires-clause-query : goal.check_table-requires-clause-query

@@ -3,9 +3,7 @@ use Rattle.sqlite.specs.Held.{state}
 use Rattle.sql_read.specs.BookShown.{Checks, ShowsKeysIn}
 use Rattle.sql_read.specs.declared.formats.Format.TheVariants.{Second}
 use Rattle.sql_read.proofs.BookChecks.{checks_failed, checks_last, checks_stopped, checks_then, in_format}
-use Rattle.sql_read.proofs.Readings.{challenges_reading}
-use Rattle.sql_read.proofs.ShownTables.{challenges_shown}
-use Rattle.sql_read.proofs.WholeTables.{challenges_whole}
+use Rattle.sql_read.proofs.{Readings.challenges_reading, ShownTables.challenges_shown, WholeTables.challenges_whole}
 use Rattle.sql_read.proofs.checked.check_challenges.Goals as goal
 
 pub check_table-requires-clause-query : goal.check_table-requires-clause-query

@@ -1,8 +1,7 @@
 use Rattle.std.proofs.Common.{inr, subst}
 use Rattle.store_book.specs.BookRows.{AreKeys}
 use Rattle.sql_read.proofs.BookChecks.{checks_failed, checks_last, checks_stopped, table_as}
-use Rattle.sql_read.proofs.Readings.{keys_reading}
-use Rattle.sql_read.proofs.WholeTables.{keys_whole}
+use Rattle.sql_read.proofs.{Readings.keys_reading, WholeTables.keys_whole}
 use Rattle.sql_read.proofs.checked.check_keys.Goals as goal
 
 pub check_table-requires-clause-query : goal.check_table-requires-clause-query

@@ -1,8 +1,7 @@
 use Rattle.std.proofs.Common.{inl}
 use Rattle.sql_read.proofs.BookChecks.{checks_failed, checks_stopped, checks_then}
 use Rattle.sql_read.specs.declared.formats.Format.TheVariants.{Second}
-use Rattle.sql_read.proofs.Readings.{meta_reading}
-use Rattle.sql_read.proofs.WholeTables.{meta_whole}
+use Rattle.sql_read.proofs.{Readings.meta_reading, WholeTables.meta_whole}
 use Rattle.sql_read.proofs.checked.check_meta.Goals as goal
 
 pub check_table-requires-clause-query : goal.check_table-requires-clause-query

@@ -2,8 +2,7 @@ use Rattle.std.proofs.Common.{inl, inr, subst}
 use Rattle.model_laws.specs.Ordered.{IsTable}
 use Rattle.sql_read.specs.declared.formats.Format.TheVariants.{Second}
 use Rattle.sql_read.proofs.BookChecks.{checks_failed, checks_stopped, checks_then, in_format, table_as}
-use Rattle.sql_read.proofs.Readings.{nonces_reading}
-use Rattle.sql_read.proofs.WholeTables.{nonces_whole}
+use Rattle.sql_read.proofs.{Readings.nonces_reading, WholeTables.nonces_whole}
 use Rattle.sql_read.proofs.checked.check_nonces.Goals as goal
 
 pub check_table-requires-clause-query : goal.check_table-requires-clause-query

@@ -1,5 +1,4 @@
-use Rattle.sql_read.proofs.BookOfShown.{book_shown}
-use Rattle.sql_read.proofs.Results.{read_then}
+use Rattle.sql_read.proofs.{BookOfShown.book_shown, Results.read_then}
 use Rattle.sql_read.proofs.checked.has_book_rows.Goals as goal
 
 pub returns-clause-book : goal.returns-clause-book

@@ -1,7 +1,6 @@
 use Rattle.std.proofs.Common.{[], IfErr, inl, inr, refl, ◌∙◌, rules, arith}
 use Rattle.std.specs.Prelude.{◌⊎◌}
-use Rattle.sqlite.specs.Held.{state}
-use Rattle.sqlite.specs.State.{HasCleanDisk}
+use Rattle.sqlite.specs.{Held.state, State.HasCleanDisk}
 use Rattle.sql_schema.specs.Stays.{Asks}
 use Rattle.sql_schema.proofs.StaysLemmas.{asks_then, stays_unchanged}
 use Rattle.sql_read.specs.Failures.{FailsHere, IsMet, IsOutOfMemory}

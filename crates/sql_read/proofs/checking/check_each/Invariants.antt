@@ -1,6 +1,5 @@
 use Rattle.std.proofs.Common.{◌≡◌}
-use Rattle.sqlite.specs.Held.{state}
-use Rattle.sqlite.specs.State.{HasCleanDisk}
+use Rattle.sqlite.specs.{Held.state, State.HasCleanDisk}
 use Rattle.sql_schema.specs.Stays.{Asks}
 use Rattle.sql_read.specs.Checking.{GoesOn, HasGivenRows}
 use Rattle.sql_read.proofs.checking.check_each.Given as goal

@@ -1,6 +1,5 @@
 use Rattle.std.proofs.Common.{inl, inr, subst, sym}
-use Rattle.sql_read.specs.BookShown.{ShowsNonces}
-use Rattle.sql_read.specs.First.{ShowsFirstMeta}
+use Rattle.sql_read.specs.{BookShown.ShowsNonces, First.ShowsFirstMeta}
 use Rattle.sql_read.specs.FirstRows.{IsFirstMeta, IsWithRows}
 use Rattle.sql_read.specs.declared.formats.Format.TheVariants.{First}
 use Rattle.sql_read.proofs.FirstChecked.{reads_err, reads_ok, tables_then}

@@ -2,13 +2,10 @@ use Rattle.std.proofs.Common.{◌≡◌, IfOk, ap, inr, map, subst, ◌∙◌}
 use Rattle.std.specs.List.{filter_map}
 use Rattle.std.specs.Prelude.{◌⊎◌}
 use Rattle.sql_schema.specs.Failing.{IsFailure}
-use Rattle.sql_read.specs.AllTables.{FailsAtFirst}
-use Rattle.sql_read.specs.Failures.{IsOutOfMemory}
+use Rattle.sql_read.specs.{AllTables.FailsAtFirst, Failures.IsOutOfMemory}
 use Rattle.sql_read.specs.First.{blank_key, raised_meta}
-use Rattle.sql_read.proofs.FirstLoading.{first_columns}
-use Rattle.sql_read.proofs.WholeTables.{first_readable}
+use Rattle.sql_read.proofs.{FirstLoading.first_columns, WholeTables.first_readable, Results.failed_as}
 use Rattle.sql_read.specs.declared.formats.Format.TheVariants.{First}
-use Rattle.sql_read.proofs.Results.{failed_as}
 use Rattle.sql_read.proofs.first.load_first.Goals as goal
 
 pub returns-in_err-read-clause-fails : goal.returns-in_err-read-clause-fails

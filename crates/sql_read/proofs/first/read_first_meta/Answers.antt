@@ -1,12 +1,10 @@
 use Rattle.std.proofs.Common.{inl, inr, refl}
 use Rattle.sqlite.specs.Held.{state}
 use Rattle.sql_read.specs.Spelled.{meta_in}
-use Rattle.sql_read.proofs.FirstChecked.{reads_err}
+use Rattle.sql_read.proofs.{FirstChecked.reads_err, Readings.meta_reading, ShownRows.shown_now}
 use Rattle.sql_read.proofs.MetFaults.{memory_is_none, no_device}
 use Rattle.sql_read.specs.declared.formats.Format.TheVariants.{Second}
-use Rattle.sql_read.proofs.Readings.{meta_reading}
 use Rattle.sql_read.proofs.Results.{fails_then, found_then, read_then}
-use Rattle.sql_read.proofs.ShownRows.{shown_now}
 use Rattle.sql_schema.specs.declared.meta.TheConstants as meta
 use Rattle.sql_read.proofs.first.read_first_meta.Goals as goal
 

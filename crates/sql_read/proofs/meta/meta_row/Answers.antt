@@ -1,8 +1,7 @@
 use Rattle.std.proofs.Common.{sym, ◌∙◌}
 use Rattle.sqlite.specs.Held.{state}
 use Rattle.sql_read.specs.declared.formats.Format.TheVariants.{Second}
-use Rattle.sql_read.proofs.LookUpRows.{meta_find}
-use Rattle.sql_read.proofs.Readings.{meta_reading}
+use Rattle.sql_read.proofs.{LookUpRows.meta_find, Readings.meta_reading}
 use Rattle.sql_read.proofs.Results.{failed_as, fails_then}
 use Rattle.sql_read.specs.LookUpFaults.{IsOfMemoryOrDisk}
 use Rattle.sql_read.proofs.meta.meta_row.Goals as goal

@@ -1,6 +1,4 @@
-use Rattle.sql_read.proofs.EarliestRows.{issue_find}
-use Rattle.sql_read.proofs.LookUpReadings.{issue_reading}
-use Rattle.sql_read.proofs.Results.{read_then}
+use Rattle.sql_read.proofs.{EarliestRows.issue_find, LookUpReadings.issue_reading, Results.read_then}
 use Rattle.sql_read.proofs.nonces.earliest_issue.Goals as goal
 
 pub earliest-requires : goal.earliest-requires

@@ -1,9 +1,6 @@
 use Rattle.std.proofs.Common.{subst, sym}
 use Rattle.sql_read.specs.Selecting.{IsQuery}
-use Rattle.sql_read.proofs.FoundRows.{finds_as}
-use Rattle.sql_read.proofs.LookUpReadings.{nonces_asked}
-use Rattle.sql_read.proofs.LookUpRows.{nonces_find}
-use Rattle.sql_read.proofs.Results.{read_then}
+use Rattle.sql_read.proofs.{FoundRows.finds_as, LookUpReadings.nonces_asked, LookUpRows.nonces_find, Results.read_then}
 use Rattle.sql_read.proofs.nonces.find_nonces.Goals as goal
 
 pub find_rows_by-requires : goal.find_rows_by-requires

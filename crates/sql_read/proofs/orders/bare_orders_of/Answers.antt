@@ -1,9 +1,6 @@
 use Rattle.std.proofs.Common.{refl}
 use Rattle.model_lives.specs.declared.queries.OrdersWhere.TheVariants as orders_by
-use Rattle.sql_read.proofs.FoundRows.{finds_as}
-use Rattle.sql_read.proofs.LookUpReadings.{orders_asked}
-use Rattle.sql_read.proofs.LookUpRows.{orders_find}
-use Rattle.sql_read.proofs.Results.{read_then}
+use Rattle.sql_read.proofs.{FoundRows.finds_as, LookUpReadings.orders_asked, LookUpRows.orders_find, Results.read_then}
 use Rattle.sql_read.proofs.orders.bare_orders_of.Goals as goal
 
 pub find_rows-requires : goal.find_rows-requires

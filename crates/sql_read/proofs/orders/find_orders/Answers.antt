@@ -2,10 +2,7 @@ use Rattle.std.proofs.Common.{subst, sym}
 use Rattle.model_laws.proofs.Keeps.{each-filter}
 use Rattle.model_lives.specs.LookUps.{orders_where}
 use Rattle.sql_read.specs.Selecting.{IsQuery}
-use Rattle.sql_read.proofs.FoundRows.{finds_as}
-use Rattle.sql_read.proofs.LookUpReadings.{orders_asked}
-use Rattle.sql_read.proofs.LookUpRows.{orders_find}
-use Rattle.sql_read.proofs.UnderLemmas.{orders_have}
+use Rattle.sql_read.proofs.{FoundRows.finds_as, LookUpReadings.orders_asked, LookUpRows.orders_find, UnderLemmas.orders_have}
 use Rattle.sql_read.proofs.orders.find_orders.Goals as goal
 
 pub find_parents_by-requires : goal.find_parents_by-requires

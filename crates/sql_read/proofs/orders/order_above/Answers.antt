@@ -1,11 +1,7 @@
 use Rattle.std.proofs.Common.{refl}
 use Rattle.model_laws.proofs.Keeps.{each-filter}
 use Rattle.model_lives.specs.Above.{first_of, orders_above}
-use Rattle.sql_read.proofs.FoundRows.{finds_as}
-use Rattle.sql_read.proofs.Lists.{each_take}
-use Rattle.sql_read.proofs.LookUpReadings.{order_above_reading}
-use Rattle.sql_read.proofs.LookUpRows.{order_above_find}
-use Rattle.sql_read.proofs.UnderLemmas.{orders_have}
+use Rattle.sql_read.proofs.{FoundRows.finds_as, Lists.each_take, LookUpReadings.order_above_reading, LookUpRows.order_above_find, UnderLemmas.orders_have}
 use Rattle.sql_read.proofs.orders.order_above.Goals as goal
 
 pub find_parents-requires : goal.find_parents-requires

@@ -1,13 +1,9 @@
 use Rattle.std.proofs.Common.{map, ap, ◌∙◌, refl}
 use Rattle.std.proofs.lemmas.Result.{IfOk-weaker}
 use Rattle.sqlite.specs.Held.{state}
-use Rattle.sql_read.proofs.FoundRows.{finds_as}
-use Rattle.sql_read.proofs.ListedOrder.{listing_find}
-use Rattle.sql_read.proofs.LookUpReadings.{listing_reading}
-use Rattle.sql_read.proofs.UnderLemmas.{listing_is}
-use Rattle.sql_read.proofs.Results.{failed_as}
+use Rattle.sql_read.proofs.{FoundRows.finds_as, ListedOrder.listing_find, LookUpReadings.listing_reading, UnderLemmas.listing_is, Results.failed_as}
+use Rattle.sql_read.proofs.{LookUpFaults.all_of_memory}
 use Rattle.sql_read.specs.LookUpFaults.{IsOfMemoryOrDisk}
-use Rattle.sql_read.proofs.LookUpFaults.{all_of_memory}
 use Rattle.sql_read.proofs.orders.orders_listing.Goals as goal
 
 pub find_rows-requires : goal.find_rows-requires

@@ -1,6 +1,5 @@
 use Rattle.std.proofs.Common.{subst}
-use Rattle.sqlite.specs.Held.{state}
-use Rattle.sqlite.specs.State.{Shown}
+use Rattle.sqlite.specs.{Held.state, State.Shown}
 use Rattle.sql_read.proofs.Results.{read_then}
 use Rattle.sql_read.proofs.parents.find_owned.Goals as goal
 

@@ -1,16 +1,12 @@
 use Rattle.std.proofs.Common.{◌∙◌, ◌<◌, ◌≤◌, [], ap, arith, length, length-set, refl, sym}
-use Rattle.std.proofs.lemmas.List.{take_all}
-use Rattle.std.proofs.lemmas.Result.{IfOk-from_err}
+use Rattle.std.proofs.lemmas.{List.take_all, Result.IfOk-from_err}
 use Rattle.sqlite.proofs.Callers.{unchanged_then}
-use Rattle.sqlite.specs.Held.{state}
-use Rattle.sqlite.specs.State.{HasCleanDisk}
+use Rattle.sqlite.specs.{Held.state, State.HasCleanDisk}
 use Rattle.sql_schema.proofs.StaysLemmas.{asks_then}
 use Rattle.sql_tables.proofs.Holding.{holds_still}
 use Rattle.sql_read.proofs.NestLemmas.{filled_failed, filled_first, filled_next, filled_on, left_next, same_next, written_over}
-use Rattle.sql_read.proofs.Results.{failed_as}
+use Rattle.sql_read.proofs.{Results.failed_as, LookUpFaults.caused_behind, Failing.may_read_still}
 use Rattle.sql_read.specs.LookUpFaults.{IsOfMemoryOrDisk}
-use Rattle.sql_read.proofs.LookUpFaults.{caused_behind}
-use Rattle.sql_read.proofs.Failing.{may_read_still}
 use Rattle.sql_read.proofs.parents.find_parents.Goals as goal
 
 pub find_rows-requires : goal.find_rows-requires

@@ -1,9 +1,7 @@
 use Rattle.sqlite.proofs.StateLemmas.{survives_weaker}
 use Rattle.sqlite.specs.Values.{bound}
 use Rattle.sql_read.proofs.Asking.{stays_queried, unchanged_queried}
-use Rattle.sql_read.proofs.MetFaults.{query_met}
-use Rattle.sql_read.proofs.Results.{fails_then}
-use Rattle.sql_read.proofs.Selecting.{commits_none}
+use Rattle.sql_read.proofs.{MetFaults.query_met, Results.fails_then, Selecting.commits_none}
 use Rattle.sql_read.proofs.query.all_rows.Goals as goal
 
 pub returns-clause-unchanged : goal.returns-clause-unchanged

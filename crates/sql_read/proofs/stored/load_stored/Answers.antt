@@ -1,8 +1,7 @@
 use Rattle.std.proofs.lemmas.Result.{IfOk-from_err}
 use Rattle.sql_read.specs.AllTables.{FailsAtTable}
 use Rattle.sql_schema.specs.Failing.{IsFailure}
-use Rattle.sql_read.proofs.Loading.{shown_columns}
-use Rattle.sql_read.proofs.Results.{failed_as}
+use Rattle.sql_read.proofs.{Loading.shown_columns, Results.failed_as}
 use Rattle.sql_read.proofs.WholeTables.{first_readable, keys_whole}
 use Rattle.sql_read.specs.declared.formats.Format.TheVariants.{Second}
 use Rattle.sql_read.proofs.stored.load_stored.Goals as goal

@@ -9,8 +9,7 @@ use Rattle.sql_schema.specs.declared.orders.TheConstants as ord
 use Rattle.sql_schema.specs.declared.listed.TheConstants as ord_authz
 use Rattle.sql_read.specs.declared.formats.Format.TheVariants.{Second}
 use Rattle.sql_read.proofs.ReadsChain.{reads_first, reads_more}
-use Rattle.sql_read.proofs.Readings.{accounts_reading, authorizations_reading, challenges_reading, listed_reading}
-use Rattle.sql_read.proofs.Readings.{meta_reading, nonces_reading, orders_reading}
+use Rattle.sql_read.proofs.Readings.{accounts_reading, authorizations_reading, challenges_reading, listed_reading, meta_reading, nonces_reading, orders_reading}
 use Rattle.sql_read.proofs.stored.read_first_tables.Goals as goal
 
 pub read_query-metas-requires : goal.read_query-metas-requires

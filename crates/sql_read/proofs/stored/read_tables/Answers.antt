@@ -1,7 +1,6 @@
 use Rattle.sql_read.specs.Spelled.{FitsKey, key_in}
 use Rattle.sql_schema.specs.declared.keys.TheConstants as chall_key
-use Rattle.sql_read.proofs.ReadsChain.{reads_more}
-use Rattle.sql_read.proofs.Readings.{keys_reading}
+use Rattle.sql_read.proofs.{ReadsChain.reads_more, Readings.keys_reading}
 use Rattle.sql_read.proofs.stored.read_tables.Goals as goal
 
 pub then_read-requires : goal.then_read-requires

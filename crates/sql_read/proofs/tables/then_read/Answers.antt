@@ -5,8 +5,7 @@ use Rattle.sqlite.specs.Held.{state}
 use Rattle.sql_schema.proofs.StaysLemmas.{asks_nothing}
 use Rattle.sql_schema.specs.Failing.{IsFailure}
 use Rattle.sql_read.specs.Failures.{FailsToRead}
-use Rattle.sql_read.proofs.Results.{failed_as}
-use Rattle.sql_read.proofs.ShownRows.{shown_now}
+use Rattle.sql_read.proofs.{Results.failed_as, ShownRows.shown_now}
 use Rattle.sql_read.proofs.tables.then_read.Goals as goal
 
 pub read_query-requires : goal.read_query-requires

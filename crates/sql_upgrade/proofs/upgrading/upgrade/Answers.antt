@@ -2,10 +2,7 @@ use Rattle.sqlite.specs.Held.{state}
 use Rattle.sqlite.proofs.StateLemmas.{survives_weaker}
 use Rattle.std.proofs.Common.{IfErr, List, subst}
 use Rattle.store_columns.specs.declared.flat_rows.AnswerKey.{AnswerKey}
-use Rattle.sql_write.specs.Numbers.{FitsUpgrade}
-use Rattle.sql_write.specs.Refusals.{IsCause}
-use Rattle.sql_write.specs.Statements.{upgrade_statements}
-use Rattle.sql_write.specs.Upgrading.{Upgrades}
+use Rattle.sql_write.specs.{Numbers.FitsUpgrade, Refusals.IsCause, Statements.upgrade_statements, Upgrading.Upgrades}
 use Rattle.sql_upgrade.specs.FirstDesks.{UpgradesDesk}
 use Rattle.sql_upgrade.proofs.FirstDesksKept.{committed_as, desk_brought, desks_upgrade, left_as}
 use Rattle.sql_upgrade.proofs.upgrading.upgrade.Goals as goal

@@ -1,21 +1,15 @@
 use Rattle.std.proofs.Common.{◌≡◌, map, ap, arith, subst, ◌∙◌}
 use Rattle.sqlite.proofs.Callers.{unchanged_then}
-use Rattle.sqlite.specs.Held.{state}
-use Rattle.sqlite.specs.State.{HasCleanDisk}
+use Rattle.sqlite.specs.{Held.state, State.HasCleanDisk}
 use Rattle.store_columns.specs.Flat.{bare, challenge_rows}
 use Rattle.desk_model.specs.Kept.{EachOf}
 use Rattle.desk_model.specs.declared.rows.AuthorizationRow.{AuthorizationRow}
 use Rattle.sql_schema.proofs.StaysLemmas.{asks_then}
 use Rattle.sql_tables.proofs.Holding.{holds_still}
-use Rattle.sql_read.specs.Keys.{HasItsKey}
-use Rattle.sql_read.specs.Under.{rows_under}
+use Rattle.sql_read.specs.{Keys.HasItsKey, Under.rows_under, LookUpFaults.IsOfMemoryOrDisk}
 use Rattle.sql_read.proofs.KeyRows.{bare_under, keys_under}
-use Rattle.sql_read.proofs.LookUpRows.{challenges_of_find}
-use Rattle.sql_read.proofs.LookUpReadings.{challenges_of_reading}
-use Rattle.sql_read.proofs.Results.{failed_as}
-use Rattle.sql_read.specs.LookUpFaults.{IsOfMemoryOrDisk}
+use Rattle.sql_read.proofs.{LookUpRows.challenges_of_find, LookUpReadings.challenges_of_reading, Results.failed_as, Failing.may_read_still}
 use Rattle.sql_read.proofs.LookUpFaults.{caused_behind, failed}
-use Rattle.sql_read.proofs.Failing.{may_read_still}
 use Rattle.sql_read.proofs.authorizations.AuthorizationRowParent.nest.Goals as goal
 
 pub find_owned-requires : goal.find_owned-requires

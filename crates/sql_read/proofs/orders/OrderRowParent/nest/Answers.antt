@@ -2,11 +2,8 @@ use Rattle.std.proofs.Common.{map, ap, ◌∙◌}
 use Rattle.sqlite.specs.Held.{state}
 use Rattle.store_columns.specs.Flat.{listed_rows}
 use Rattle.desk_model.specs.declared.rows.OrderRow.{OrderRow}
-use Rattle.sql_read.specs.Under.{rows_under}
-use Rattle.sql_read.proofs.ListedOrder.{listed_by_find}
-use Rattle.sql_read.proofs.LookUpReadings.{listed_by_reading}
-use Rattle.sql_read.proofs.Results.{failed_as}
-use Rattle.sql_read.specs.LookUpFaults.{IsOfMemoryOrDisk}
+use Rattle.sql_read.specs.{Under.rows_under, LookUpFaults.IsOfMemoryOrDisk}
+use Rattle.sql_read.proofs.{ListedOrder.listed_by_find, LookUpReadings.listed_by_reading, Results.failed_as}
 use Rattle.sql_read.proofs.orders.OrderRowParent.nest.Goals as goal
 
 pub find_owned-requires : goal.find_owned-requires
