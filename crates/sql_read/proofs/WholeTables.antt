@@ -38,7 +38,7 @@ use Rattle.sql_read.proofs.KeyedReadings.{HasRowsIn, columns_of, shown_whole}
 use Rattle.sql_read.proofs.Readings.{accounts_reading, authorizations_reading, challenges_reading, keys_reading, listed_reading}
 use Rattle.sql_read.proofs.Readings.{meta_reading, nonces_reading, orders_reading}
 use Rattle.sql_read.proofs.TableColumns.{all_fit, listed_back, listed_fits, listed_project}
-use Rattle.sql_read.proofs.TableFacts.{IsReadingOf, TableFacts, account_facts, authorization_facts, cells, challenge_facts, columns, key_facts}
+use Rattle.sql_read.proofs.TableFacts.{IsReadingOf, TableFacts, account_facts, authorization_facts, challenge_facts, columns, key_facts}
 use Rattle.sql_read.proofs.TableFacts.{formatted_facts, nonce_facts, order_facts}
 
 -- ---- a table by number
