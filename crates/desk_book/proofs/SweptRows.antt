@@ -1,17 +1,13 @@
 -- Rows that are looked up at a moment: those that stand, with their statuses then.
 use Rattle.std.proofs.Common.{◌≡◌, ℕ, ◌+◌, Option, None, Bool, true, false, cond, List, [], ◌∷◌, map, Some, refl, sym, ap, ◌∙◌}
 use Rattle.std.specs.Prelude.{◌==◌, ◌||◌, find, is_some}
-use Rattle.std.specs.List.{list_any}
-use Rattle.std.specs.Option.{option_map}
-use Rattle.desk_model.specs.Tables.{Tables}
+use Rattle.std.specs.{List.list_any, Option.option_map}
+use Rattle.desk_model.specs.{Tables.Tables, Name.Name}
 use Rattle.desk_model.specs.Effect.{has_row, is_overdue, falls, swept, swept_authorization, swept_order}
-use Rattle.desk_model.specs.Name.{Name}
 use Rattle.desk_model.specs.Questions.{authorization_on, challenge_of, order_on, owner_on, serves, serving_on}
 use Rattle.model_laws.proofs.Basics.{find-map}
-use Rattle.desk_model.specs.declared.rows.AuthorizationRow.{AuthorizationRow}
-use Rattle.desk_model.specs.declared.rows.ChallengeRow.{ChallengeRow}
-use Rattle.desk_model.specs.declared.rows.OrderRow.{OrderRow}
-use Rattle.desk_model.specs.declared.status.AuthzStatus.{AuthzStatus}
+use Rattle.desk_model.specs.declared.{rows.AuthorizationRow.AuthorizationRow, rows.ChallengeRow.ChallengeRow, rows.OrderRow.OrderRow}
+use Rattle.desk_model.specs.declared.{status.AuthzStatus.AuthzStatus}
 use Rattle.desk_model.specs.declared.status.AuthzStatus.TheVariants as authz
 use Rattle.desk_model.specs.declared.status.OrderStatus.{OrderStatus}
 use Rattle.desk_model.specs.declared.status.OrderStatus.TheVariants as order

@@ -1,13 +1,9 @@
 -- The names that an order asks for, as they are looked up, are those that the rules give an authorization.
 use Rattle.std.proofs.Common.{◌≡◌, ℕ, List, [], ◌∷◌, Bool, true, false, Option, Some, None, refl}
 use Rattle.std.specs.Prelude.{if◌then◌else◌, option_and_then}
-use Rattle.desk_model.specs.Asked.{target_names}
-use Rattle.desk_model.specs.Legal.{has_length}
-use Rattle.desk_model.specs.Limits.{most_names}
-use Rattle.desk_model.specs.Payload.{new_order}
+use Rattle.desk_model.specs.{Asked.target_names, Legal.has_length, Limits.most_names, Payload.new_order}
 use Rattle.desk_model.specs.Rules.{names_asked, names_of, subproblems}
-use Rattle.desk_model.specs.declared.payload.Identifier.{Identifier}
-use Rattle.desk_model.specs.declared.call.Target.{Target}
+use Rattle.desk_model.specs.declared.{payload.Identifier.Identifier, call.Target.Target}
 use Rattle.desk_model.specs.declared.call.Target.TheVariants as to
 use Rattle.desk_model.specs.declared.reply.Subproblem.{Subproblem}
 use Rattle.identifiers.specs.AskedOrders.{order_by, order_if, order_names, target_order}

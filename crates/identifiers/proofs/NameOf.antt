@@ -3,12 +3,9 @@ use Rattle.std.proofs.Common.{◌≡◌, ◌≢◌, ◌↔◌, ℕ, zero, suc, �
 use Rattle.std.specs.Prelude.{◌==◌, ◌||◌, nat_eq, drop, codes, if◌then◌else◌, option_and_then, unwrap_or, All, Option, Some, None}
 use Rattle.std.specs.List.{list_any, starts_with}
 use Rattle.std.proofs.lemmas.Bool.{ne_eqb, eq-eqb}
-use Rattle.std.proofs.lemmas.Bool.Decides.{Decides-eqb}
+use Rattle.std.proofs.lemmas.{Bool.Decides.Decides-eqb, List.Folds.list_any_none, Slice.Eq.starts_is}
 use Rattle.std.proofs.lemmas.List.Elements.{All-head, All-weaker}
-use Rattle.std.proofs.lemmas.List.Folds.{list_any_none}
-use Rattle.std.proofs.lemmas.Slice.Eq.{starts_is}
-use Rattle.desk_model.specs.BaseName.{is_base_name}
-use Rattle.desk_model.specs.Name.{Name}
+use Rattle.desk_model.specs.{BaseName.is_base_name, Name.Name}
 use Rattle.desk_model.specs.Names.{IsNameOf, mark_of, ascii_form, name_of, name_with}
 
 -- a mark and what stands behind it are read in one way

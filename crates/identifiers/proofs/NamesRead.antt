@@ -1,12 +1,9 @@
 -- What the identifiers of an order stand for, by one more of them.
 use Rattle.std.proofs.Common.{◌≡◌, ◌<◌, ◌+◌, ℕ, List, [], ◌∷◌, ◌++◌, Option, Some, None, length, take, drop, get_or, refl, sym, ap, ◌∙◌, append_assoc}
 use Rattle.std.proofs.lemmas.List.{at_drop_more, take_more}
-use Rattle.desk_model.specs.Name.{Name}
-use Rattle.desk_model.specs.Names.{name_of}
+use Rattle.desk_model.specs.{Name.Name, Names.name_of}
 use Rattle.desk_model.specs.Rules.{and_name, and_subproblem, fault_of, kept, names_in, subproblems}
-use Rattle.desk_model.specs.declared.payload.Identifier.{Identifier}
-use Rattle.desk_model.specs.declared.refusal.Refusal.{Refusal}
-use Rattle.desk_model.specs.declared.reply.Subproblem.{Subproblem}
+use Rattle.desk_model.specs.declared.{payload.Identifier.Identifier, refusal.Refusal.Refusal, reply.Subproblem.Subproblem}
 
 -- the subproblems and the different names that were found in the first of some identifiers
 pub record AreFound (ids : List Identifier) (index : ℕ) (faulty : List Subproblem) (names : List Name) : Type 0 where

@@ -1,6 +1,5 @@
 use Rattle.std.proofs.Common.{◌∙◌, ap, sym}
-use Rattle.std.specs.Prelude.{option_copied}
-use Rattle.std.specs.Option.{option_map}
+use Rattle.std.specs.{Prelude.option_copied, Option.option_map}
 use Rattle.desk_model.specs.Effect.{swept_authorization}
 use Rattle.desk_book.proofs.SweptRows.{authorization-found, swept_authorization_on}
 use Rattle.desk_book.proofs.at_moment.authorization_at.Goals as goal

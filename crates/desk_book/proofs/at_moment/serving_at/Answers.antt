@@ -1,10 +1,8 @@
 use Rattle.std.proofs.Common.{◌∙◌, ◌+◌, ap, sym}
 use Rattle.std.specs.Prelude.{find, option_copied}
 use Rattle.std.specs.Option.{option_map}
-use Rattle.desk_model.specs.Effect.{swept_authorization}
-use Rattle.desk_model.specs.Questions.{serves}
-use Rattle.desk_model.specs.declared.rows.AuthorizationRow.{AuthorizationRow}
-use Rattle.desk_model.specs.declared.rows.Meta.{Meta}
+use Rattle.desk_model.specs.{Effect.swept_authorization, Questions.serves}
+use Rattle.desk_model.specs.declared.rows.{AuthorizationRow.AuthorizationRow, Meta.Meta}
 use Rattle.desk_book.proofs.SweptRows.{swept_serving_on}
 use Rattle.desk_book.proofs.at_moment.serving_at.Goals as goal
 

@@ -1,7 +1,6 @@
 use Rattle.std.proofs.Common.{◌≡◌, ◌+◌}
 use Rattle.std.specs.Prelude.{find}
-use Rattle.desk_model.specs.Effect.{swept_authorization}
-use Rattle.desk_model.specs.Questions.{serves}
+use Rattle.desk_model.specs.{Effect.swept_authorization, Questions.serves}
 use Rattle.desk_book.proofs.serving.serving_row.Given as goal
 
 abbrev pub invariant-loop-row : goal.invariant-loop-row

@@ -1,8 +1,6 @@
 use Rattle.std.proofs.Common.{◌≡◌, drop}
 use Rattle.std.specs.List.{list_any}
-use Rattle.desk_model.specs.Derived.{authorization_numbered}
-use Rattle.desk_model.specs.Effect.{is_overdue}
-use Rattle.desk_model.specs.Lookup.{holds}
+use Rattle.desk_model.specs.{Derived.authorization_numbered, Effect.is_overdue, Lookup.holds}
 use Rattle.desk_book.proofs.sweep.any_overdue.Given as goal
 
 abbrev pub invariant-loop-one : goal.invariant-loop-one

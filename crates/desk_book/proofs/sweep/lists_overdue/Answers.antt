@@ -1,7 +1,5 @@
 use Rattle.std.proofs.Common.{◌∙◌, ap, sym}
-use Rattle.desk_model.specs.Lookup.{holds}
-use Rattle.desk_model.specs.Effect.{is_overdue}
-use Rattle.desk_model.specs.Derived.{authorization_numbered}
+use Rattle.desk_model.specs.{Lookup.holds, Effect.is_overdue, Derived.authorization_numbered}
 use Rattle.model_laws.proofs.Basics.{list_any-map}
 use Rattle.std.specs.List.{list_any}
 use Rattle.desk_book.proofs.sweep.lists_overdue.Goals as goal

@@ -1,6 +1,5 @@
 use Rattle.std.proofs.Common.{◌≡◌, ◌++◌, map, filter}
-use Rattle.desk_model.specs.Change.{authorizations_expired}
-use Rattle.desk_model.specs.Effect.{is_overdue}
+use Rattle.desk_model.specs.{Change.authorizations_expired, Effect.is_overdue}
 use Rattle.desk_model.specs.declared.rows.AuthorizationRow.{AuthorizationRow}
 use Rattle.desk_model.specs.declared.status.AuthzStatus.TheVariants as authz
 use Rattle.desk_model.specs.declared.rows.Change.TheVariants.{PutAuthorization}

@@ -1,6 +1,5 @@
 use Rattle.std.proofs.Common.{◌≡◌, ◌++◌, map, filter}
-use Rattle.desk_model.specs.Change.{orders_fallen}
-use Rattle.desk_model.specs.Effect.{falls}
+use Rattle.desk_model.specs.{Change.orders_fallen, Effect.falls}
 use Rattle.desk_model.specs.declared.rows.OrderRow.{OrderRow}
 use Rattle.desk_model.specs.declared.status.OrderStatus.TheVariants as order
 use Rattle.desk_model.specs.declared.rows.Change.TheVariants.{PutOrder}

@@ -1,7 +1,6 @@
 use Rattle.std.proofs.Common.{Some, None, ap, subst, ◌≡◌, ◌∙◌}
 use Rattle.std.specs.Prelude.{IfOk, MatchResult}
-use Rattle.desk_model.specs.Names.{name_of}
-use Rattle.desk_model.specs.Rules.{fault_of}
+use Rattle.desk_model.specs.{Names.name_of, Rules.fault_of}
 use Rattle.identifiers.specs.declared.identified.Identified.{Identified}
 use Rattle.identifiers.proofs.NamesRead.{faulty-next, named-next}
 use Rattle.identifiers.proofs.identified.read_each.Goals as goal

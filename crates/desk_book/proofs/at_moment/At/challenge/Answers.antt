@@ -1,8 +1,7 @@
 use Rattle.std.proofs.Common.{◌≡◌, ◌∙◌, true, false, ap, sym}
 use Rattle.std.specs.Prelude.{is_some, option_copied, option_map}
 use Rattle.model_laws.proofs.Finds.{found_passes}
-use Rattle.desk_model.specs.Effect.{has_row}
-use Rattle.desk_model.specs.Questions.{challenge_of}
+use Rattle.desk_model.specs.{Effect.has_row, Questions.challenge_of}
 use Rattle.desk_book.proofs.SweptRows.{challenge_there}
 use Rattle.desk_book.proofs.at_moment.At.challenge.Goals as goal
 

@@ -1,6 +1,5 @@
 use Rattle.std.proofs.Common.{◌∙◌, ap}
-use Rattle.std.specs.Prelude.{find}
-use Rattle.std.specs.Prelude.{◌==◌}
+use Rattle.std.specs.Prelude.{find, ◌==◌}
 use Rattle.desk_book.proofs.KeyedRows.{lookup-find}
 use Rattle.desk_book.proofs.table.Table.get.Goals as goal
 

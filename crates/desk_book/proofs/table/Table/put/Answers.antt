@@ -1,7 +1,5 @@
-use Rattle.std.proofs.Common.{◌∙◌, ap}
-use Rattle.std.specs.Map.{values_of}
-use Rattle.std.specs.BTreeMap.{insert_entry}
-use Rattle.std.proofs.Common.{nat_cmp}
+use Rattle.std.proofs.Common.{◌∙◌, ap, nat_cmp}
+use Rattle.std.specs.{Map.values_of, BTreeMap.insert_entry}
 use Rattle.desk_model.specs.Change.{put}
 use Rattle.desk_book.proofs.KeyedRows.{insert-put, IsKeyed-insert}
 use Rattle.desk_book.proofs.table.Table.put.Goals as goal
