@@ -11,10 +11,9 @@ use Rattle.std.proofs.lemmas.List.Sorted.{IsPermutation-sym}
 use Rattle.std.proofs.lemmas.Map.Keys.{IsDistinct-from_sorted, IsDistinct-IsPermutation, Less-from_sorted, sorted_from_all_adjacent}
 use Rattle.desk_model.specs.Kept.{EachOf}
 use Rattle.model_laws.specs.Distinct.{Distinct}
-use Rattle.store_book.proofs.Nests.{append-nil}
+use Rattle.std.proofs.lemmas.List.{append-nil}
 use Rattle.store_book.proofs.SortedLists.{equal_flips, strictly-from_distinct}
-use Rattle.model_laws.proofs.Basics.{each-map}
-use Rattle.model_laws.proofs.Distinctness.{map-distinct}
+use Rattle.model_laws.proofs.Distinctness.{distinct-map, map-distinct}
 
 -- an order that says less
 less : (r : Ordering) → is_lt r ≡ true → r ≡ Ordering.Less
@@ -86,17 +85,13 @@ unfolding IsDistinct
 values-distinct e value same [] h = tt
 values-distinct e value same (k ∷ ks) h = (all-apart e value same k ks h.0, values-distinct e value same ks h.1)
 
-distinct-map : {X Y : Type 0} (value : X → Y) (xs : List X) → Distinct value xs → Distinct (λ y. y) (map value xs)
-distinct-map value [] h = tt
-distinct-map value (x ∷ xs) h = (each-map (λ y. value x ≢ y) value xs h.0, distinct-map value xs h.1)
-
 -- rows whose keys are these have different ones exactly where no key stands twice
 pub distinct-rows : {K X Y : Type 0} (c : K → K → Ordering) (key : K → Y) (value : X → Y) →
     ((k l : K) → key k ≡ key l → is_eq (c k l) ≡ true) → ((k l : K) → is_eq (c k l) ≡ true → key k ≡ key l) →
     (ks : List K) (xs : List X) → map key ks ≡ map value xs → (r : Bool) → IsTrue r ↔ IsDistinct (eq_by_cmp c) ks → IsTrue r ↔ Distinct value xs
 distinct-rows c key value equal same ks xs are r says = (
-  λ yes. map-distinct value xs (subst (Distinct (λ y. y)) are (distinct-map key ks (distinct-values (eq_by_cmp c) key equal ks (says.0 yes)))),
-  λ apart. says.1 (values-distinct (eq_by_cmp c) key same ks (map-distinct key ks (subst (Distinct (λ y. y)) (sym are) (distinct-map value xs apart)))),
+  λ yes. map-distinct value xs (subst (Distinct (λ y. y)) are (distinct-map (λ y. y) key ks (distinct-values (eq_by_cmp c) key equal ks (says.0 yes)))),
+  λ apart. says.1 (values-distinct (eq_by_cmp c) key same ks (map-distinct key ks (subst (Distinct (λ y. y)) (sym are) (distinct-map (λ y. y) value xs apart)))),
 )
 
 -- numbers are equal exactly where the order says so

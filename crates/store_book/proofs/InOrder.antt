@@ -1,14 +1,15 @@
 -- Rows in the order of their keys are those of a book.
-use Rattle.std.proofs.Common.{◌≡◌, ◌<◌, ◌≤◌, ◌+◌, ℕ, Bool, true, false, cond, List, [], ◌∷◌, ◌++◌, map, filter, Option, Some, None, refl, sym, ap, subst, ◌∙◌, arith, nat_cmp}
+use Rattle.std.proofs.Common.{◌≡◌, ◌<◌, ◌≤◌, ◌+◌, ℕ, Bool, true, false, cond, List, [], ◌∷◌, map, filter, Option, Some, None, refl, sym, ap, subst, ◌∙◌, arith, nat_cmp}
 use Rattle.std.specs.Prelude.{◌==◌, IsSome, option_map}
 use Rattle.std.specs.List.{cons_option}
 use Rattle.std.specs.List.Sorted.{IsPermutation}
 use Rattle.std.specs.Cmp.{nat_cmp_total}
 use Rattle.std.specs.Ordering.{eq_by_cmp}
 use Rattle.std.proofs.lemmas.Bool.{eqb-true}
+use Rattle.std.proofs.lemmas.List.{map-id}
 use Rattle.std.proofs.lemmas.List.Sorted.{IsPermutation-map, IsPermutation-refl}
 use Rattle.std.proofs.lemmas.Map.Keys.{IsDistinct-IsPermutation}
-use Rattle.store_columns.specs.Flat.{answer_key, bare_row, challenge_rows, key_rows, owned_by}
+use Rattle.store_columns.specs.Flat.{answer_key, bare_row, challenge_rows, key_rows}
 use Rattle.store_columns.specs.Limits.{AreStored, IsStoredAuthorization, IsStoredListed, IsStoredOrder}
 use Rattle.store_columns.specs.declared.flat_rows.AnswerKey.{AnswerKey}
 use Rattle.store_columns.specs.declared.flat_rows.BareChallenge.{BareChallenge}
@@ -34,6 +35,8 @@ use Rattle.store_book.specs.Joining.{with_answer}
 use Rattle.store_book.specs.Nesting.{IsNestOf}
 use Rattle.store_book.proofs.Distinctness.{distinct-rows, equal-numbers, numbers-equal, values-distinct}
 use Rattle.store_book.proofs.SortedLists.{equal_flips}
+use Rattle.store_book.proofs.Joins.{bare_so, unmapped_up}
+use Rattle.store_book.proofs.SoundBooks.{all_numbers}
 use Rattle.store_book.specs.BookRows.{AreBookRows, IsAmong, PlacesRise, RowsAreBooks, answered_numbers}
 use Rattle.store_book.proofs.Owners.{each_of_owner, found_among, is_of, nests_of, picked_of, rows_of, with_rows}
 
@@ -44,10 +47,6 @@ pub record Answered (cs : List (Owned BareChallenge)) (ks : List AnswerKey) : Ty
   pub rows : List (Owned ChallengeRow)
   pub bare : map bare_row rows ≡ cs
   pub keys : key_rows rows ≡ ks
-
--- a bare challenge that was answered at this moment
-abbrev bare_so : Owned BareChallenge → Option ℕ → Owned BareChallenge
-bare_so c o = record c { row = record c.row { answered = o } }
 
 -- where there is a key for each that was answered, in their order, there are such
 pub answers : (cs : List (Owned BareChallenge)) (ks : List AnswerKey) → map (λ k. k.challenge) ks ≡ answered_numbers cs → Answered cs ks
@@ -71,11 +70,6 @@ answers (c ∷ cs) ks same = by c.row.answered (answers cs) ks same
           bare = λ i. bare_so c (Some date) ∷ rest.bare i;
           keys = λ i. (record { challenge = sym first i; thumb = k.thumb }) ∷ rest.keys i;
         }
-
--- rows ascend as their images do
-unmapped_up : {X Y : Type 0} (f : X → Y) (key : Y → ℕ) (n : ℕ) (xs : List X) → Ascends key n (map f xs) → Ascends (λ x. key (f x)) n xs
-unmapped_up f key n [] up = tt
-unmapped_up f key n (x ∷ xs) up = (up.0, unmapped_up f key (key (f x) + 1) xs up.1)
 
 -- ---- the rows of one owner
 
@@ -103,30 +97,14 @@ places_ascend n k (r ∷ rs) low up = by (r.owner == n) refl (λ k low. places_a
 
 -- ---- numbers that differ in some order
 
--- each for itself
-same_again : (xs : List ℕ) → map (λ n. n) xs ≡ xs
-same_again [] = refl
-same_again (x ∷ xs) = ap (λ l. x ∷ l) (same_again xs)
-
 -- they differ in any other
 distinct_moved : {X : Type 0} (number : X → ℕ) (xs ys : List X) → IsPermutation xs ys → Distinct number xs → Distinct number ys
 distinct_moved number xs ys moved apart =
     let before = values-distinct (eq_by_cmp nat_cmp) (λ n. n) (λ m n e. equal-numbers m n e) (map number xs) (distinct-map (λ n. n) number xs apart) in
     let after = IsDistinct-IsPermutation (eq_by_cmp nat_cmp) (equal_flips nat_cmp nat_cmp_total) (map number xs) (map number ys)
     (IsPermutation-map number xs ys moved) before in
-    (distinct-rows nat_cmp (λ n. n) number (λ m n e. numbers-equal m n e) (λ m n e. equal-numbers m n e) (map number ys) ys (same_again (map number ys)) true
+    (distinct-rows nat_cmp (λ n. n) number (λ m n e. numbers-equal m n e) (λ m n e. equal-numbers m n e) (map number ys) ys (map-id (map number ys)) true
     (λ _. after, λ _. refl)).0 refl
-
--- the numbers of challenges, with or without their owner
-owned_numbers : (n : ℕ) (cs : List ChallengeRow) (rest : List (Owned ChallengeRow)) (more : List ChallengeRow)
-    → map (λ c. c.row.number) rest ≡ map (λ c. c.number) more
-    → map (λ c. c.row.number) (owned_by n cs ++ rest) ≡ map (λ c. c.number) (cs ++ more)
-owned_numbers n [] rest more same = same
-owned_numbers n (c ∷ cs) rest more same = ap (λ l. c.number ∷ l) (owned_numbers n cs rest more same)
-
-all_numbers : (rows : List AuthorizationRow) → map (λ c. c.row.number) (challenge_rows rows) ≡ map (λ c. c.number) (challenges_of rows)
-all_numbers [] = refl
-all_numbers (a ∷ rows) = owned_numbers a.number a.challenges (challenge_rows rows) (challenges_of rows) (all_numbers rows)
 
 -- ---- the book
 

@@ -7,7 +7,7 @@ use Rattle.std.proofs.lemmas.List.Sorted.{All-permutation, IsPermutation-sym, Is
 use Rattle.desk_model.specs.Kept.{EachOf}
 use Rattle.std.proofs.lemmas.Map.Keys.{IsDistinct-IsPermutation}
 use Rattle.std.proofs.lemmas.Option.{same_Some}
-use Rattle.std.specs.List.{AllByRecursion, cons_option, filter_map}
+use Rattle.std.specs.List.{AllByRecursion, cons_option}
 use Rattle.std.proofs.lemmas.List.Elements.{All-from_recursion, recursion_from_All}
 use Rattle.std.specs.List.Sorted.{IsPermutation, IsSorted, IsStrictlySortedBy}
 use Rattle.std.specs.Ordering.{eq_by_cmp}
@@ -21,11 +21,12 @@ use Rattle.model_laws.specs.Distinct.{Distinct}
 use Rattle.model_laws.specs.Ordered.{Ascends}
 use Rattle.desk_model.specs.declared.objects.Answer.{Answer}
 use Rattle.desk_model.specs.declared.rows.ChallengeRow.{ChallengeRow}
+use Rattle.store_book.specs.BookRows.{answered_numbers}
 use Rattle.store_book.specs.Joining.{AreJoined, HaveRows, merged, next, split_by, with_answer}
 use Rattle.store_book.specs.Nesting.{by_number}
 use Rattle.store_book.proofs.Distinctness.{equal-numbers, values-distinct}
 use Rattle.store_book.proofs.OrderedRows.{by_number-total, same_by_number}
-use Rattle.store_book.proofs.SortedLists.{equal_flips, strictly-from_distinct}
+use Rattle.store_book.proofs.SortedLists.{equal_flips, or_passes, strictly-from_distinct}
 use Rattle.store_book.proofs.Swapped.{lifted, picked-permutation}
 
 -- the number of a challenge
@@ -60,7 +61,7 @@ abbrev Has : List (Owned BareChallenge) → List AnswerKey → List (Owned Chall
 Has bs ks rows = (map bare_row rows ≡ bs) × (key_rows rows ≡ ks)
 
 -- a bare challenge that was answered at this moment
-abbrev bare_so : Owned BareChallenge → Option ℕ → Owned BareChallenge
+abbrev pub bare_so : Owned BareChallenge → Option ℕ → Owned BareChallenge
 bare_so b o = record b { row = record b.row { answered = o } }
 
 -- one more challenge
@@ -126,7 +127,7 @@ sorted_up key xs ys distinct moved sorted =
     (IsDistinct-IsPermutation (eq_by_cmp (by_number key)) (equal_flips (by_number key) (by_number-total key)) xs ys moved apart))
 
 -- rows ascend as their images do
-unmapped_up : {X Y : Type 0} (f : X → Y) (key : Y → ℕ) (n : ℕ) (xs : List X) → Ascends key n (map f xs) → Ascends (λ x. key (f x)) n xs
+pub unmapped_up : {X Y : Type 0} (f : X → Y) (key : Y → ℕ) (n : ℕ) (xs : List X) → Ascends key n (map f xs) → Ascends (λ x. key (f x)) n xs
 unmapped_up f key n [] up = tt
 unmapped_up f key n (x ∷ xs) up = (up.0, unmapped_up f key (key (f x) + 1) xs up.1)
 
@@ -198,11 +199,6 @@ first_or_apart : {X : Type 0} (key : X → ℕ) (y : X) (ys : List X) → EachOf
 first_or_apart key y [] h = tt
 first_or_apart key y (z ∷ zs) h = (inr h.0, first_or_apart key y zs h.1)
 
--- what passes, or is that one
-or_that : {X : Type 0} (P : X → Type 0) (y : X) (ys : List X) → AllByRecursion P ys → AllByRecursion (λ z. (z ≡ y) ⊎ P z) ys
-or_that P y [] h = tt
-or_that P y (z ∷ zs) h = (inr h.0, or_that P y zs h.1)
-
 -- passes, where its number is another
 not_that : {X : Type 0} (key : X → ℕ) (P : X → Type 0) (y : X) (xs : List X) → EachOf (λ z. key y ≢ key z) xs → AllByRecursion (λ z. (z ≡ y) ⊎ P z) xs
     → AllByRecursion P xs
@@ -231,11 +227,7 @@ same_numbered {X} key (x ∷ xs) (y ∷ ys) among same distinct =
     ]
 
     tails : (P : X → Type 0) → AllByRecursion P ys → AllByRecursion P xs
-    tails P h = not_that key P y xs (apart_as key (key y) xs ys rest distinct.0) ((among (λ z. (z ≡ y) ⊎ P z) (inl refl, or_that P y ys h)).1)
-
--- the numbers of the challenges that were answered
-abbrev answered_numbers : List (Owned BareChallenge) → List ℕ
-answered_numbers bs = filter_map (λ b. option_map (λ _. b.row.number) b.row.answered) bs
+    tails P h = not_that key P y xs (apart_as key (key y) xs ys rest distinct.0) ((among (λ z. (z ≡ y) ⊎ P z) (inl refl, or_passes P y ys h)).1)
 
 numbers_of_keys : (cs : List (Owned ChallengeRow)) → map (λ k. k.challenge) (key_rows cs) ≡ answered_numbers (map bare_row cs)
 numbers_of_keys [] = refl

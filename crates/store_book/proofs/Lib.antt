@@ -16,4 +16,4 @@ pub mod SortedLists
 pub mod SoundBooks
 pub mod StableSorts
 pub mod Steps
-mod Swapped
+pub mod Swapped

@@ -2,6 +2,7 @@
 use Rattle.std.proofs.Common.{◌≡◌, ℕ, List, [], ◌∷◌, ◌++◌, map, refl, sym, ap, ◌∙◌}
 use Rattle.std.specs.List.Sorted.{IsSorted, IsPermutation}
 use Rattle.std.proofs.lemmas.List.Sorted.{IsPermutation-sym, IsPermutation-trans, IsPermutation-map}
+use Rattle.std.proofs.lemmas.List.{append-nil}
 use Rattle.desk_model.specs.Kept.{EachOf}
 use Rattle.model_laws.specs.Ordered.{Ascends}
 use Rattle.model_laws.proofs.RowLists.{ascends_map}
@@ -38,11 +39,6 @@ bare-parents : {P T : Type 0} (number : P → ℕ) (children : P → List T) (wi
 bare-parents number children with_children laws [] h = refl
 bare-parents number children with_children laws (p ∷ ps) h =
     λ i. (ap (λ l. with_children p l) (sym h.0) ∙ laws.same p) i ∷ bare-parents number children with_children laws ps h.1 i
-
--- nothing behind a list
-pub append-nil : {X : Type 0} (xs : List X) → xs ++ [] ≡ xs
-append-nil [] = refl
-append-nil (x ∷ xs) = ap (λ l. x ∷ l) (append-nil xs)
 
 -- nesting that leaves nothing gives rows with these parents and these children
 pub nests-rows : {P T : Type 0} (number : P → ℕ) (children : P → List T) (with_children : P → List T → P) (child_number : T → ℕ) →

@@ -13,6 +13,7 @@ use Rattle.model_laws.specs.Ordered.{Ascends}
 use Rattle.model_laws.proofs.Basics.{each-map, each_all, eq_turn, find-map}
 use Rattle.model_laws.proofs.Distinctness.{ascends_distinct, distinct-map}
 use Rattle.model_laws.specs.Distinct.{Distinct}
+use Rattle.model_laws.proofs.Keeps.{each-filter}
 use Rattle.model_laws.proofs.RowLists.{ascends_map}
 use Rattle.desk_model.specs.Kept.{EachOf}
 use Rattle.store_book.specs.Nesting.{IsNesting, IsNestOf, child_rows}
@@ -32,16 +33,8 @@ with_rows number with_children rs p = with_children p (rows_of (number p) rs)
 
 -- ---- what holds of all rows holds of an owner's
 
-pub each_filter : {X : Type 0} (P : X → Type 0) (p : X → Bool) (xs : List X) → EachOf P xs → EachOf P (filter p xs)
-each_filter P p [] h = tt
-each_filter {X} P p (x ∷ xs) h = by (p x) (each_filter P p xs h.1)
-  where
-    by : (b : Bool) → EachOf P (filter p xs) → EachOf P (cond b (x ∷ filter p xs) (filter p xs))
-    by true rest = (h.0, rest)
-    by false rest = rest
-
 pub each_of_owner : {T : Type 0} (P : T → Type 0) (n : ℕ) (rs : List (Owned T)) → EachOf (λ r. P r.row) rs → EachOf P (rows_of n rs)
-each_of_owner P n rs h = each-map P (λ r. r.row) (filter (is_of n) rs) (each_filter (λ r. P r.row) (is_of n) rs h)
+each_of_owner P n rs h = each-map P (λ r. r.row) (filter (is_of n) rs) (each-filter (λ r. P r.row) (is_of n) rs h)
 
 -- ---- a number among others
 

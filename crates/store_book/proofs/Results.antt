@@ -1,13 +1,8 @@
 -- What follows of an answer.
-use Rattle.std.proofs.Common.{◌≡◌, List, [], ◌∷◌, map, Result, Ok, Err, refl, ap}
+use Rattle.std.proofs.Common.{Result, Ok, Err}
 use Rattle.std.specs.Prelude.{IfOk}
 
 -- of what was told
 pub told_by : {A E : Type 0} {P Q : A → Type 0} (r : Result A E) → IfOk r P → ((a : A) → P a → Q a) → IfOk r Q
 told_by (Ok a) p so = so a p
 told_by (Err e) p so = tt
-
--- each item itself
-pub each_itself : {X : Type 0} (xs : List X) → map (λ x. x) xs ≡ xs
-each_itself [] = refl
-each_itself (x ∷ xs) = ap (λ l. x ∷ l) (each_itself xs)

@@ -64,7 +64,7 @@ not_first {X} c o P x (y ∷ ys) above h = (
 )
 
 -- each of these is that one, or passes
-or_passes : {X : Type 0} (P : X → Type 0) (x : X) (xs : List X) → AllByRecursion P xs → AllByRecursion (λ y. (y ≡ x) ⊎ P y) xs
+pub or_passes : {X : Type 0} (P : X → Type 0) (x : X) (xs : List X) → AllByRecursion P xs → AllByRecursion (λ y. (y ≡ x) ⊎ P y) xs
 or_passes P x [] h = tt
 or_passes P x (y ∷ ys) h = (inr h.0, or_passes P x ys h.1)
 

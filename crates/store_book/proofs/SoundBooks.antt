@@ -210,7 +210,8 @@ owned_numbers : (n : ℕ) (cs : List ChallengeRow) (rest : List (Owned Challenge
 owned_numbers n [] rest more same = same
 owned_numbers n (c ∷ cs) rest more same = ap (λ l. c.number ∷ l) (owned_numbers n cs rest more same)
 
-all_numbers : (rows : List AuthorizationRow) → map (λ c. c.row.number) (challenge_rows rows) ≡ map (λ c. c.number) (challenges_of rows)
+-- those of all
+pub all_numbers : (rows : List AuthorizationRow) → map (λ c. c.row.number) (challenge_rows rows) ≡ map (λ c. c.number) (challenges_of rows)
 all_numbers [] = refl
 all_numbers (a ∷ rows) = owned_numbers a.number a.challenges (challenge_rows rows) (challenges_of rows) (all_numbers rows)
 

@@ -1,29 +1,25 @@
 -- What is made of each element moves with it.
 use Rattle.std.proofs.Common.{◌≡◌, ℕ, ◌+◌, ◌-◌, ◌<◌, take, drop, true, false, Bool, Option, Some, None, append_assoc, length-append}
-use Rattle.std.proofs.Common.{List, [], ◌∷◌, ◌++◌, refl, sym, ap, ◌∙◌, map, length, set, slice_index_or, arith, IsPermutation}
+use Rattle.std.proofs.Common.{List, [], ◌∷◌, ◌++◌, refl, sym, ap, ◌∙◌, map, length, get_or, set, slice_index_or, arith, IsPermutation}
 use Rattle.std.proofs.lemmas.List.Sorted.{IsPermutation-trans, IsPermutation-keeps, IsPermutation-refl, IsPermutation-swap}
 use Rattle.std.proofs.lemmas.List.Sorted.{IsPermutation-append_left, IsPermutation-append_right, IsPermutation-append_comm}
+use Rattle.std.proofs.Math.ListN.{get_or-map}
 use Rattle.std.proofs.lemmas.List.Edits.{swap_is}
-use Rattle.std.proofs.lemmas.List.{get_or-drop, get_or-map, map-set, length-map, set-get_or, take-append-drop}
+use Rattle.std.proofs.lemmas.List.{get_or-drop, map-set, length-map, set-get_or, take-append-drop}
 use Rattle.std.proofs.lemmas.List.{drop_more, length-take-le, length-drop, set_at, set_comm}
 use Rattle.std.proofs.lemmas.List.Concat.{flat_map-append}
 use Rattle.std.specs.List.{cons_option, filter_map, flat_map, swap}
 use Rattle.std.proofs.lemmas.Bool.{ltb-true, ltb-false}
 use lib.Dec.{ltb}
 
--- a list with two places swapped
-map-swap : {X Y : Type 0} (f : X → Y) (xs : List X) (i j : ℕ) (d : X) → i < length xs → j < length xs → map f (swap xs i j) ≡ swap (map f xs) i j
-map-swap f xs i j d a b =
-    let long : length (map f xs) ≡ length xs = length-map xs f in
-    rw (
-      sym (swap_is xs i j d a b),
-      map-set f (set xs i (slice_index_or xs j d)) j (slice_index_or xs i d),
-      map-set f xs i (slice_index_or xs j d),
-      sym
-          (swap_is (map f xs) i j (f d) (rw long a) (rw long b)),
-      get_or-map f xs j d (f d) b,
-      get_or-map f xs i d (f d) a,
-    ) refl
+-- two elements change places as what is made of them does
+map-swap : {X Y : Type 0} (f : X → Y) (xs : List X) (i j : ℕ) → map f (swap xs i j) ≡ swap (map f xs) i j
+map-swap f [] i j = refl
+map-swap f (d ∷ ys) i j =
+    let xs = d ∷ ys in
+    map-set f (set xs i (get_or xs j d)) j (get_or xs i d)
+    ∙ ap (λ l. set l j (f (get_or xs i d))) (map-set f xs i (get_or xs j d))
+    ∙ (λ t. set (set (map f xs) i (sym (get_or-map f xs j d) t)) j (sym (get_or-map f xs i d) t))
 
 -- three parts with the first and the last in each other's place
 three-parts : {B : Type 0} (p q r t : List B) → IsPermutation (p ++ (q ++ (r ++ t))) (r ++ (q ++ (p ++ t)))
@@ -108,21 +104,12 @@ picked-permutation h xs ys moved =
 
 -- a list whose image is another list in another order stands in that order
 pub lifted : {X Y : Type 0} (f : X → Y) (xs : List X) (ys : List Y) → IsPermutation (map f xs) ys → (zs : List X) × IsPermutation xs zs × (map f zs ≡ ys)
-lifted {X} {Y} f xs ys moved =
+lifted {X} f xs ys moved =
     IsPermutation-keeps (map f xs) (λ l. (zs : List X) × IsPermutation xs zs × (map f zs ≡ l)) (xs, IsPermutation-refl xs, refl)
-    (λ l i j a b h. step l i j a b h) ys moved
-  where
-    step : (l : List Y) (i j : ℕ) → i < length l → j < length l → ((zs : List X) × IsPermutation xs zs × (map f zs ≡ l))
-        → (zs : List X) × IsPermutation xs zs × (map f zs ≡ swap l i j)
-    step l i j a b h =
-        let long : length l ≡ length h.0 = sym (ap length h.2) ∙ length-map h.0 f in
-        let a0 : i < length h.0 = omega (arith, a, long) in
-        let b0 : j < length h.0 = omega (arith, b, long) in (
-          swap h.0 i j,
-          IsPermutation-trans xs h.0 (swap h.0 i j) h.1 (IsPermutation-swap h.0 (swap h.0 i j) i j a0 b0 refl),
-          map-swapped h.0 i j a0 b0 ∙ ap (λ m. swap m i j) h.2,
-        )
-      where
-        map-swapped : (zs : List X) (i j : ℕ) → i < length zs → j < length zs → map f (swap zs i j) ≡ swap (map f zs) i j
-        map-swapped [] i j a b = absurd (omega (arith, a))
-        map-swapped (z ∷ zs) i j a b = map-swap f (z ∷ zs) i j z a b
+    (λ l i j low lower h.
+    let long : length l ≡ length h.0 = sym (ap length h.2) ∙ length-map h.0 f in (
+      swap h.0 i j,
+      IsPermutation-trans xs h.0 (swap h.0 i j) h.1
+          (IsPermutation-swap h.0 (swap h.0 i j) i j (omega (arith, low, long)) (omega (arith, lower, long)) refl),
+      map-swap f h.0 i j ∙ ap (λ m. swap m i j) h.2,
+    )) ys moved

@@ -2,7 +2,7 @@ use Rattle.std.proofs.Common.{◌∙◌, sym, ap, nat_cmp, is_eq}
 use Rattle.std.proofs.lemmas.List.{take_all}
 use Rattle.std.specs.Cmp.Lexicographic.{nat_list_cmp_total, same_text, slice_cmp, texts_ties}
 use Rattle.store_book.proofs.Distinctness.{distinct-rows, equal_self}
-use Rattle.store_book.proofs.Results.{each_itself}
+use Rattle.std.proofs.lemmas.List.{map-id}
 use Rattle.store_book.proofs.accounts.have_distinct_texts.Goals as goal
 
 pub returns : goal.returns
@@ -11,5 +11,5 @@ returns c =
     (λ k l same. ap (λ t. is_eq (slice_cmp nat_cmp k.now t)) (sym same) ∙ equal_self (slice_cmp nat_cmp) nat_list_cmp_total k.now)
     (λ k l equal. same_text k.now l.now (sym (texts_ties k.now l.now ∙ equal)))
     c.loop-key.texts.items c.args.keys.now
-    (c.loop-key.invariant ∙ take_all c.loop-key.key-index c.args.keys.now c.loop-key-test.false ∙ sym (each_itself c.args.keys.now))
+    (c.loop-key.invariant ∙ take_all c.loop-key.key-index c.args.keys.now c.loop-key-test.false ∙ sym (map-id c.args.keys.now))
     c.are_distinct.result c.are_distinct.ensures

@@ -1,4 +1,4 @@
-use Rattle.std.proofs.Common.{◌++◌, ap, length, map, sym, ◌∙◌}
+use Rattle.std.proofs.Common.{ap, length, map, sym, ◌∙◌}
 use Rattle.std.specs.Prelude.{◌==◌}
 use Rattle.store_book.proofs.Steps.{none_behind}
 use Rattle.store_book.proofs.keys.KeyCheckRowCheckChallKeyColumns.finish.Goals as goal
