@@ -4,9 +4,8 @@ use Rattle.std.proofs.Common.{cond, Some, Result, Ok, Err, arith, refl}
 use Rattle.std.specs.Prelude.{◌==◌, find, get_or, HoldsAt, IsSome, is_ok}
 use Rattle.std.specs.List.Sorted.{IsBinarySearchResult}
 use Rattle.std.proofs.lemmas.Bool.{eq-eqb, eqb-true}
-use Rattle.std.proofs.lemmas.List.Sorted.{searched}
+use Rattle.std.proofs.lemmas.{List.Sorted.searched, Bool.Decides.nat_tests}
 use Rattle.model_laws.specs.Ordered.{Ascends}
-use Rattle.std.proofs.lemmas.Bool.Decides.{nat_tests}
 use Rattle.store_book.specs.BookRows.{IsAmong, Rise}
 
 -- numbers that tie are equal

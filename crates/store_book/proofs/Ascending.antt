@@ -2,8 +2,7 @@
 use Rattle.std.proofs.Common.{◌≡◌, ℕ, ◌+◌, ◌≤◌, ◌<◌, Bool, true, List, [], ◌∷◌, ◌++◌, length, drop, get_or, refl, sym, ap, ◌∙◌, arith}
 use Rattle.std.specs.Prelude.{◌&&◌, nat_le}
 use Rattle.std.specs.List.{list_all}
-use Rattle.desk_model.specs.Change.{put}
-use Rattle.desk_model.specs.Kept.{EachOf}
+use Rattle.desk_model.specs.{Change.put, Kept.EachOf}
 use Rattle.model_laws.specs.Ordered.{Ascends}
 use Rattle.store_book.specs.Nesting.{ascends}
 use Rattle.std.proofs.lemmas.Bool.{and_parts, le-leb, leb-true}

@@ -6,12 +6,10 @@ use Rattle.std.specs.Cmp.{IsTotalOrder}
 use Rattle.std.specs.List.{AllByRecursion, IsAllAdjacentAnswer, IsDistinct}
 use Rattle.std.specs.List.Sorted.{IsSorted, IsStrictlySortedBy, IsPermutation}
 use Rattle.std.specs.Ordering.{eq_by_cmp, ordering_reverse}
-use Rattle.std.proofs.lemmas.Bool.Decides.{nat_tests}
-use Rattle.std.proofs.lemmas.List.Sorted.{IsPermutation-sym}
+use Rattle.std.proofs.lemmas.{Bool.Decides.nat_tests, List.Sorted.IsPermutation-sym, List.append-nil}
 use Rattle.std.proofs.lemmas.Map.Keys.{IsDistinct-from_sorted, IsDistinct-IsPermutation, Less-from_sorted, sorted_from_all_adjacent}
 use Rattle.desk_model.specs.Kept.{EachOf}
 use Rattle.model_laws.specs.Distinct.{Distinct}
-use Rattle.std.proofs.lemmas.List.{append-nil}
 use Rattle.store_book.proofs.SortedLists.{equal_flips, strictly-from_distinct}
 use Rattle.model_laws.proofs.Distinctness.{distinct-map, map-distinct}
 

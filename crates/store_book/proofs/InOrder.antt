@@ -1,42 +1,26 @@
 -- Rows in the order of their keys are those of a book.
 use Rattle.std.proofs.Common.{◌≡◌, ◌<◌, ◌≤◌, ◌+◌, ℕ, Bool, true, false, cond, List, [], ◌∷◌, map, filter, Option, Some, None, refl, sym, ap, subst, ◌∙◌, arith, nat_cmp}
 use Rattle.std.specs.Prelude.{◌==◌, IsSome, option_map}
-use Rattle.std.specs.List.{cons_option}
-use Rattle.std.specs.List.Sorted.{IsPermutation}
-use Rattle.std.specs.Cmp.{nat_cmp_total}
-use Rattle.std.specs.Ordering.{eq_by_cmp}
-use Rattle.std.proofs.lemmas.Bool.{eqb-true}
-use Rattle.std.proofs.lemmas.List.{map-id}
+use Rattle.std.specs.{List.cons_option, List.Sorted.IsPermutation, Cmp.nat_cmp_total, Ordering.eq_by_cmp}
+use Rattle.std.proofs.lemmas.{Bool.eqb-true, List.map-id, Map.Keys.IsDistinct-IsPermutation}
 use Rattle.std.proofs.lemmas.List.Sorted.{IsPermutation-map, IsPermutation-refl}
-use Rattle.std.proofs.lemmas.Map.Keys.{IsDistinct-IsPermutation}
 use Rattle.store_columns.specs.Flat.{answer_key, bare_row, challenge_rows, key_rows}
 use Rattle.store_columns.specs.Limits.{AreStored, IsStoredAuthorization, IsStoredListed, IsStoredOrder}
-use Rattle.store_columns.specs.declared.flat_rows.AnswerKey.{AnswerKey}
-use Rattle.store_columns.specs.declared.flat_rows.BareChallenge.{BareChallenge}
-use Rattle.store_columns.specs.declared.flat_rows.FlatRows.{FlatRows}
-use Rattle.store_columns.specs.declared.flat_rows.Owned.{Owned}
+use Rattle.store_columns.specs.declared.flat_rows.{AnswerKey.AnswerKey, BareChallenge.BareChallenge, FlatRows.FlatRows, Owned.Owned}
 use Rattle.model_laws.specs.Distinct.{Distinct}
 use Rattle.model_laws.specs.Ordered.{Ascends, Below}
 use Rattle.model_laws.proofs.Basics.{each, each-map, each_all, each_of_map}
 use Rattle.model_laws.proofs.Distinctness.{ascends_distinct, distinct-map, map-distinct}
 use Rattle.model_laws.proofs.RowLists.{ascends_filter, ascends_map}
-use Rattle.desk_model.specs.Kept.{EachOf}
+use Rattle.desk_model.specs.{Kept.EachOf, Tables.Tables}
 use Rattle.desk_model.specs.Questions.{account_on, authorization_on}
-use Rattle.desk_model.specs.Tables.{Tables}
-use Rattle.desk_model.specs.declared.rows.AccountRow.{AccountRow}
-use Rattle.desk_model.specs.declared.rows.AuthorizationRow.{AuthorizationRow}
-use Rattle.desk_model.specs.declared.rows.ChallengeRow.{ChallengeRow}
-use Rattle.desk_model.specs.declared.rows.Listed.{Listed}
-use Rattle.desk_model.specs.declared.rows.Meta.{Meta}
-use Rattle.desk_model.specs.declared.rows.OrderRow.{OrderRow}
-use Rattle.store_book.specs.FaultNumbers.{challenges_of}
+use Rattle.desk_model.specs.declared.rows.{AccountRow.AccountRow, AuthorizationRow.AuthorizationRow, ChallengeRow.ChallengeRow, Listed.Listed, Meta.Meta}
+use Rattle.desk_model.specs.declared.rows.{OrderRow.OrderRow}
+use Rattle.store_book.specs.{FaultNumbers.challenges_of, Joining.with_answer, Nesting.IsNestOf}
 use Rattle.store_book.specs.IsBook.{AreDistinct, AreInOrder, HaveReferences, IsBookOf, KeepCounters, ListsFound}
-use Rattle.store_book.specs.Joining.{with_answer}
-use Rattle.store_book.specs.Nesting.{IsNestOf}
 use Rattle.store_book.proofs.Distinctness.{distinct-rows, equal-numbers, numbers-equal, values-distinct}
-use Rattle.store_book.proofs.SortedLists.{equal_flips}
+use Rattle.store_book.proofs.{SortedLists.equal_flips, SoundBooks.all_numbers}
 use Rattle.store_book.proofs.Joins.{bare_so, unmapped_up}
-use Rattle.store_book.proofs.SoundBooks.{all_numbers}
 use Rattle.store_book.specs.BookRows.{AreBookRows, IsAmong, PlacesRise, RowsAreBooks, answered_numbers}
 use Rattle.store_book.proofs.Owners.{each_of_owner, found_among, is_of, nests_of, picked_of, rows_of, with_rows}
 

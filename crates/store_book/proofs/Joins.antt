@@ -2,28 +2,20 @@
 use Rattle.std.proofs.Common.{◌≡◌, ◌≢◌, ◌⊎◌, ◌==◌, inl, inr, ℕ, ◌+◌, ◌<◌, Bool, true, false, cond, List, [], ◌∷◌, map, Option, Some, None, option_map}
 use Rattle.std.proofs.Common.{refl, sym, ap, subst, ◌∙◌, arith, nat_cmp, Ordering}
 use Rattle.std.proofs.lemmas.Bool.{eq-eqb, eqb-true}
-use Rattle.std.proofs.lemmas.Bool.Decides.{nat_tests}
+use Rattle.std.proofs.lemmas.{Bool.Decides.nat_tests, Map.Keys.IsDistinct-IsPermutation, Option.same_Some}
 use Rattle.std.proofs.lemmas.List.Sorted.{All-permutation, IsPermutation-sym, IsPermutation-trans}
 use Rattle.desk_model.specs.Kept.{EachOf}
-use Rattle.std.proofs.lemmas.Map.Keys.{IsDistinct-IsPermutation}
-use Rattle.std.proofs.lemmas.Option.{same_Some}
 use Rattle.std.specs.List.{AllByRecursion, cons_option}
 use Rattle.std.proofs.lemmas.List.Elements.{All-from_recursion, recursion_from_All}
 use Rattle.std.specs.List.Sorted.{IsPermutation, IsSorted, IsStrictlySortedBy}
 use Rattle.std.specs.Ordering.{eq_by_cmp}
 use Rattle.store_columns.specs.Flat.{answer_key, bare_row, key_rows}
-use Rattle.store_columns.specs.declared.flat_rows.AnswerKey.{AnswerKey}
-use Rattle.store_columns.specs.declared.flat_rows.BareChallenge.{BareChallenge}
-use Rattle.store_columns.specs.declared.flat_rows.Owned.{Owned}
-use Rattle.model_laws.proofs.Distinctness.{distinct-map}
-use Rattle.model_laws.proofs.RowLists.{ascends_from}
-use Rattle.model_laws.specs.Distinct.{Distinct}
-use Rattle.model_laws.specs.Ordered.{Ascends}
-use Rattle.desk_model.specs.declared.objects.Answer.{Answer}
-use Rattle.desk_model.specs.declared.rows.ChallengeRow.{ChallengeRow}
-use Rattle.store_book.specs.BookRows.{answered_numbers}
+use Rattle.store_columns.specs.declared.flat_rows.{AnswerKey.AnswerKey, BareChallenge.BareChallenge, Owned.Owned}
+use Rattle.model_laws.proofs.{Distinctness.distinct-map, RowLists.ascends_from}
+use Rattle.model_laws.specs.{Distinct.Distinct, Ordered.Ascends}
+use Rattle.desk_model.specs.declared.{objects.Answer.Answer, rows.ChallengeRow.ChallengeRow}
+use Rattle.store_book.specs.{BookRows.answered_numbers, Nesting.by_number}
 use Rattle.store_book.specs.Joining.{AreJoined, HaveRows, merged, next, split_by, with_answer}
-use Rattle.store_book.specs.Nesting.{by_number}
 use Rattle.store_book.proofs.Distinctness.{equal-numbers, values-distinct}
 use Rattle.store_book.proofs.OrderedRows.{by_number-total, same_by_number}
 use Rattle.store_book.proofs.SortedLists.{equal_flips, or_passes, strictly-from_distinct}

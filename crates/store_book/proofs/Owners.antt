@@ -2,19 +2,16 @@
 use Rattle.std.proofs.Common.{◌≡◌, ◌≢◌, ℕ, Bool, true, false, cond, List, [], ◌∷◌, ◌++◌, map, filter, Option, Some, None, refl, sym, ap, subst, ◌∙◌}
 use Rattle.std.specs.Prelude.{◌==◌, find, filter_map, not, IsSome, option_map}
 use Rattle.std.specs.List.{cons_option, flat_map}
-use Rattle.std.proofs.lemmas.List.Elements.{filter_map-append}
+use Rattle.std.proofs.lemmas.{List.Elements.filter_map-append, Bool.eqb-true}
 use Rattle.std.specs.List.Sorted.{IsPermutation}
-use Rattle.std.proofs.lemmas.Bool.{eqb-true}
 use Rattle.std.proofs.lemmas.List.Sorted.{IsPermutation-append_right, IsPermutation-cons, IsPermutation-filter_both, IsPermutation-middle}
 use Rattle.std.proofs.lemmas.List.Sorted.{IsPermutation-refl, IsPermutation-sym, IsPermutation-trans}
 use Rattle.store_columns.specs.declared.flat_rows.Owned.{Owned}
 use Rattle.store_columns.specs.Flat.{owned_by}
-use Rattle.model_laws.specs.Ordered.{Ascends}
+use Rattle.model_laws.specs.{Ordered.Ascends, Distinct.Distinct}
 use Rattle.model_laws.proofs.Basics.{each-map, each_all, eq_turn, find-map}
 use Rattle.model_laws.proofs.Distinctness.{ascends_distinct, distinct-map}
-use Rattle.model_laws.specs.Distinct.{Distinct}
-use Rattle.model_laws.proofs.Keeps.{each-filter}
-use Rattle.model_laws.proofs.RowLists.{ascends_map}
+use Rattle.model_laws.proofs.{Keeps.each-filter, RowLists.ascends_map}
 use Rattle.desk_model.specs.Kept.{EachOf}
 use Rattle.store_book.specs.Nesting.{IsNesting, IsNestOf, child_rows}
 use Rattle.store_book.specs.BookRows.{IsAmong}

@@ -2,12 +2,9 @@
 use Rattle.std.proofs.Common.{◌≡◌, List, [], ◌∷◌, ◌++◌, sym, ap, ◌∙◌, append_assoc}
 use Rattle.std.specs.List.{flat_map}
 use Rattle.std.proofs.lemmas.List.Concat.{flat_map-append}
-use Rattle.desk_model.specs.Entry.{History}
-use Rattle.desk_model.specs.History.{clock}
-use Rattle.desk_model.specs.Legal.{Legal}
+use Rattle.desk_model.specs.{Entry.History, History.clock, Legal.Legal}
 use Rattle.desk_model.specs.Tables.{Tables, picture}
-use Rattle.desk_model.specs.declared.rows.AuthorizationRow.{AuthorizationRow}
-use Rattle.desk_model.specs.declared.rows.StatusFault.{StatusFault}
+use Rattle.desk_model.specs.declared.rows.{AuthorizationRow.AuthorizationRow, StatusFault.StatusFault}
 use Rattle.desk_model.specs.Derived.{account_faults, authorization_faults, challenge_faults, order_faults, sorted_challenges, status_faults}
 use Rattle.model_laws.proofs.Faults.{no_faults}
 use Rattle.store_book.specs.FaultNumbers.{challenges_of}

@@ -4,9 +4,7 @@ use Rattle.std.specs.Prelude.{Option, Some, None, Bool, true, false, ◌&&◌}
 use Rattle.std.specs.List.{list_all}
 use Rattle.std.proofs.lemmas.List.{at_drop_all, at_drop_more}
 use Rattle.desk_model.specs.Derived.{and_status, authorization_numbered, numbers_of, stored_statuses}
-use Rattle.desk_model.specs.declared.rows.AuthorizationRow.{AuthorizationRow}
-use Rattle.desk_model.specs.declared.rows.Listed.{Listed}
-use Rattle.desk_model.specs.declared.status.AuthzStatus.{AuthzStatus}
+use Rattle.desk_model.specs.declared.{rows.AuthorizationRow.AuthorizationRow, rows.Listed.Listed, status.AuthzStatus.AuthzStatus}
 
 -- what one row gives, and what is left
 pub slice-step : {X Y : Type 0} (all_of : List X → List Y) (one_of : X → List Y) →

@@ -4,8 +4,7 @@ use Rattle.std.specs.Prelude.{◌==◌, nat_le}
 use Rattle.std.specs.List.{flat_map}
 use Rattle.std.specs.List.Sorted.{IsNonDecreasingBy, IsStableByKey}
 use Rattle.std.proofs.lemmas.Bool.{leb-false, leb-true}
-use Rattle.desk_model.specs.declared.rows.ChallengeRow.{ChallengeRow}
-use Rattle.desk_model.specs.declared.rows.StatusFault.{StatusFault}
+use Rattle.desk_model.specs.declared.rows.{ChallengeRow.ChallengeRow, StatusFault.StatusFault}
 use Rattle.desk_model.specs.Derived.{chall_code, derived_challenge, challenge_faults, insert_challenge, sorted_challenges}
 use Rattle.desk_model.specs.declared.rows.StatusFault.TheVariants as fault
 use Rattle.store_book.specs.FaultNumbers.{fault_number}

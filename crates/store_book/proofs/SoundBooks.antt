@@ -1,41 +1,28 @@
 -- The tests of a book's tables, and that one book at most has given rows.
 use Rattle.std.proofs.Common.{◌≡◌, ℕ, ◌+◌, ◌++◌, ◌<◌, Bool, true, List, [], ◌∷◌, map, refl, sym, ap, ◌∙◌, arith, subst}
 use Rattle.std.specs.Prelude.{◌&&◌, ◌↔◌, IsSome, IsTrue, nat_le}
-use Rattle.std.specs.List.{list_all}
-use Rattle.std.proofs.lemmas.Bool.Decides.{nat_tests}
-use Rattle.std.specs.List.Sorted.{IsPermutation}
+use Rattle.std.specs.{List.list_all, List.Sorted.IsPermutation}
+use Rattle.std.proofs.lemmas.{Bool.Decides.nat_tests, Bool.and_parts}
 use Rattle.std.proofs.lemmas.List.Sorted.{IsPermutation-map, IsPermutation-refl, IsPermutation-sym, IsPermutation-trans}
 use Rattle.desk_model.specs.Questions.{account_on, authorization_on}
-use Rattle.desk_model.specs.Tables.{Tables}
-use Rattle.desk_model.specs.declared.rows.AuthorizationRow.{AuthorizationRow}
-use Rattle.desk_model.specs.declared.rows.ChallengeRow.{ChallengeRow}
-use Rattle.desk_model.specs.declared.rows.Listed.{Listed}
-use Rattle.desk_model.specs.declared.rows.OrderRow.{OrderRow}
+use Rattle.desk_model.specs.{Tables.Tables, Kept.EachOf}
+use Rattle.desk_model.specs.declared.rows.{AuthorizationRow.AuthorizationRow, ChallengeRow.ChallengeRow, Listed.Listed, OrderRow.OrderRow}
 use Rattle.model_laws.proofs.Basics.{each}
 use Rattle.store_columns.proofs.RowsApart.{rows-apart}
 use Rattle.store_columns.specs.Columns.{rows_columns}
 use Rattle.store_columns.specs.Limits.{AreStored, IsStoredAuthorization, IsStoredOrder}
-use Rattle.store_columns.specs.declared.columns.StoredRows.{StoredRows}
+use Rattle.store_columns.specs.declared.{columns.StoredRows.StoredRows, flat_rows.Owned.Owned, flat_rows.FlatRows.FlatRows}
 use Rattle.model_laws.specs.Ordered.{Ascends, Below}
 use Rattle.store_columns.specs.Flat.{answer_key, bare_row, challenge_rows, key_rows, listed_rows, owned_by, without_challenges, without_listed}
-use Rattle.store_columns.specs.declared.flat_rows.Owned.{Owned}
 use Rattle.model_laws.proofs.Distinctness.{distinct-map, map-distinct}
 use Rattle.model_laws.specs.Distinct.{Distinct}
-use Rattle.desk_model.specs.Kept.{EachOf}
-use Rattle.store_book.specs.FaultNumbers.{challenges_of}
+use Rattle.store_book.specs.{FaultNumbers.challenges_of, Nesting.IsNestOf}
 use Rattle.store_book.specs.Joined.{AreFlat, AreMoved, IsBookOfJoined, JoinsRows, joined}
 use Rattle.store_book.specs.declared.joined_rows.JoinedRows.{JoinedRows}
-use Rattle.store_book.proofs.Joins.{same_rows}
-use Rattle.store_book.proofs.Swapped.{picked-permutation}
+use Rattle.store_book.proofs.{Joins.same_rows, Swapped.picked-permutation, Nests.same_nest, OrderedRows.same_ascending, SortedLists.same_single}
 use Rattle.store_book.specs.IsBook.{AreDistinct, AreInOrder, HaveReferences, IsBook, IsBookOf, IsSound, KeepCounters, ListsFound}
-use Rattle.store_book.specs.Nesting.{IsNestOf}
 use Rattle.store_book.specs.Tests.{are_given, has_row_of, have_references, keep_counters}
-use Rattle.store_columns.specs.declared.flat_rows.FlatRows.{FlatRows}
 use Rattle.store_book.proofs.Ascending.{EachOf-from_test, list_all-true}
-use Rattle.store_book.proofs.Nests.{same_nest}
-use Rattle.store_book.proofs.OrderedRows.{same_ascending}
-use Rattle.store_book.proofs.SortedLists.{same_single}
-use Rattle.std.proofs.lemmas.Bool.{and_parts}
 
 given-below : (m n : ℕ) → nat_le m n ≡ true → m < n + 1
 given-below m n h = grind (arith, nat_tests)

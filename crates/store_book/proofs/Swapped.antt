@@ -3,11 +3,8 @@ use Rattle.std.proofs.Common.{◌≡◌, ℕ, ◌+◌, ◌-◌, ◌<◌, take, d
 use Rattle.std.proofs.Common.{List, [], ◌∷◌, ◌++◌, refl, sym, ap, ◌∙◌, map, length, get_or, set, slice_index_or, arith, IsPermutation}
 use Rattle.std.proofs.lemmas.List.Sorted.{IsPermutation-trans, IsPermutation-keeps, IsPermutation-refl, IsPermutation-swap}
 use Rattle.std.proofs.lemmas.List.Sorted.{IsPermutation-append_left, IsPermutation-append_right, IsPermutation-append_comm}
-use Rattle.std.proofs.Math.ListN.{get_or-map}
-use Rattle.std.proofs.lemmas.List.Edits.{swap_is}
-use Rattle.std.proofs.lemmas.List.{get_or-drop, map-set, length-map, set-get_or, take-append-drop}
-use Rattle.std.proofs.lemmas.List.{drop_more, length-take-le, length-drop, set_at, set_comm}
-use Rattle.std.proofs.lemmas.List.Concat.{flat_map-append}
+use Rattle.std.proofs.{Math.ListN.get_or-map, lemmas.List.Edits.swap_is, lemmas.List.Concat.flat_map-append}
+use Rattle.std.proofs.lemmas.List.{get_or-drop, map-set, length-map, set-get_or, take-append-drop, drop_more, length-take-le, length-drop, set_at, set_comm}
 use Rattle.std.specs.List.{cons_option, filter_map, flat_map, swap}
 use Rattle.std.proofs.lemmas.Bool.{ltb-true, ltb-false}
 use lib.Dec.{ltb}

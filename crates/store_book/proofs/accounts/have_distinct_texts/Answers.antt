@@ -1,8 +1,7 @@
 use Rattle.std.proofs.Common.{◌∙◌, sym, ap, nat_cmp, is_eq}
-use Rattle.std.proofs.lemmas.List.{take_all}
+use Rattle.std.proofs.lemmas.List.{take_all, map-id}
 use Rattle.std.specs.Cmp.Lexicographic.{nat_list_cmp_total, same_text, slice_cmp, texts_ties}
 use Rattle.store_book.proofs.Distinctness.{distinct-rows, equal_self}
-use Rattle.std.proofs.lemmas.List.{map-id}
 use Rattle.store_book.proofs.accounts.have_distinct_texts.Goals as goal
 
 pub returns : goal.returns

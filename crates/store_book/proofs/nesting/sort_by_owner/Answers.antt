@@ -1,5 +1,4 @@
-use Rattle.std.proofs.Common.{rules}
-use Rattle.std.proofs.lemmas.List.Sorted.{answers_always}
+use Rattle.std.proofs.{Common.rules, lemmas.List.Sorted.answers_always}
 use Rattle.store_book.proofs.nesting.sort_by_owner.Goals as goal
 
 pub returns-clause-sorted : goal.returns-clause-sorted

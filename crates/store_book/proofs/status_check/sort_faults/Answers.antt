@@ -1,6 +1,5 @@
-use Rattle.std.proofs.Common.{rules}
+use Rattle.std.proofs.{Common.rules, lemmas.Result.on_ok_weaker}
 use Rattle.std.proofs.lemmas.List.Sorted.{answers_always, IsNonDecreasingBy-from_sort}
-use Rattle.std.proofs.lemmas.Result.{on_ok_weaker}
 use Rattle.store_book.specs.FaultNumbers.{fault_number}
 use Rattle.store_book.proofs.SortedFaults.{sorted-faults}
 use Rattle.store_book.proofs.status_check.sort_faults.Goals as goal

@@ -1,11 +1,9 @@
 use Rattle.std.proofs.Common.{◌≡◌, subst}
 use Rattle.std.proofs.lemmas.Result.{err_from_is_err_and}
 use Rattle.desk_model.specs.Tables.{Tables}
-use Rattle.store_book.specs.IsBook.{IsSound}
-use Rattle.store_book.specs.Joined.{IsBookOfJoined}
+use Rattle.store_book.specs.{IsBook.IsSound, Joined.IsBookOfJoined}
 use Rattle.store_book.specs.declared.rows_fault.RowsFault.TheVariants.{NotABook}
-use Rattle.store_book.proofs.Outcomes.{outcome_and}
-use Rattle.store_book.proofs.SoundBooks.{same-tables}
+use Rattle.store_book.proofs.{Outcomes.outcome_and, SoundBooks.same-tables}
 use Rattle.store_book.proofs.stored_book.book_of_rows.Goals as goal
 
 pub returns-in_err-book : goal.returns-in_err-book
