@@ -141,6 +141,10 @@ module _ {S C : Type 0} (v : Sight S C) where
     pub answered : Answered v old told new
     pub says : P told
 
+  -- these calls, of which something else is so, too
+  abbrev pub of_calls : {P : List Told → Type 0} {old new : DeskState S} (Q : List Told → Type 0) (are : AreCalls P old new) → Q are.told → AreCalls Q old new
+  of_calls Q are says = record { told = are.told; answered = are.answered; says = says }
+
   -- no call
   pub no_call : (P : List Told → Type 0) → P [] → (old new : DeskState S) → new ≡ old → AreCalls P old new
   no_call P none old new same = subst (AreCalls P old) (sym same) (record { told = []; answered = not_one; says = none })
@@ -165,14 +169,9 @@ module _ {S C : Type 0} (v : Sight S C) where
   -- one more, or none
   pub once_more : (P : List Told → Type 0) (old mid new : DeskState S) → AreCalls P old mid → ActsOnce v mid new → AreCalls (OrOneMore P) old new
   once_more P old mid new before (inl same) =
-      subst (AreCalls (OrOneMore P) old) (sym same)
-      (record { told = before.told; answered = before.answered; says = (before.told, before.says, inl refl) })
+      subst (AreCalls (OrOneMore P) old) (sym same) (of_calls (OrOneMore P) before (before.told, before.says, inl refl))
   once_more P old mid new before (inr one) = acts_more P old mid new one.call one.result one.meets before
 
   -- of which anything is so
   abbrev pub Any : List Told → Type 0
   Any told = Unit {0}
-
-  -- calls, whichever they are
-  pub any_calls : (P : List Told → Type 0) (old new : DeskState S) → AreCalls P old new → AreCalls Any old new
-  any_calls P old new are = record { told = are.told; answered = are.answered; says = tt }

@@ -13,8 +13,8 @@ use Rattle.app_batch.specs.LineRequests.{IsRequestOf, call_of}
 use Rattle.app_batch.specs.Said.{RepliesTo, Says}
 use Rattle.app_batch.specs.InTurn.{AnswersEach, AnswersFirst, AreLines, Stops, StopsBehind, not_one, one_more, silent, unread, unwritten}
 use Rattle.app_words.specs.declared.command.Target.{Target}
-use Rattle.app_commands.specs.Deeds.{Adopts, AnswersLines, AnswersReader, BehindClock, ByDesk, ChecksStatuses, FailsToAdopt, IsTold, ListsRows, Revokes, RevokesTarget, Serves}
-use Rattle.app_commands.specs.Deeds.{ServesCount, TellsAbout, TellsPage, adopted, ask_of, clocked, clockless, served, unadopted, unserved}
+use Rattle.app_commands.specs.Deeds.{Adopts, AnswersLines, AnswersReader, BehindClock, ByDesk, FailsToAdopt, IsTold, Revokes, RevokesTarget, Serves}
+use Rattle.app_commands.specs.Deeds.{ServesCount, adopted, ask_of, clocked, clockless, served, unadopted, unserved}
 use Rattle.app_commands.specs.declared.fault.Fault.{Fault}
 use Rattle.desk_http.specs.InTurn.{ServesAll, ServesClient, ServesMany}
 use Rattle.desk_http.specs.InTurn as turn
@@ -44,17 +44,16 @@ use Rattle.app_files.specs.Doing.{Doing}
 use Rattle.app_files.specs.Endings.{IsDoneOver}
 use Rattle.app_lives.specs.Kept.{Answered, HasLife}
 use Rattle.app_lives.specs.Kept as kept
-use Rattle.app_reports.specs.declared.about.Beside.{Beside}
-use Rattle.app_reports.specs.declared.form.Form.{Form}
-use Rattle.app_reports.specs.Listed.{Roster, accounts_roster, authorizations_roster, orders_roster}
+use Rattle.app_reports.specs.Reported.{Reports}
+use Rattle.app_reports.specs.declared.fault.ReportFault.{ReportFault}
 use Rattle.http_routes.specs.Lines.{Spells, line_text}
 use Rattle.http_routes.specs.declared.lines.Line.{Line}
 use Rattle.http_routes.specs.declared.request.Request.{Request}
 use Rattle.http_routes.specs.declared.request.Request.TheVariants as request
-use Rattle.app_lives.specs.Left.{IsOver, LeavesAsIs, LeavesLife, LivesOn, WordsLeave}
+use Rattle.app_lives.specs.Left.{IsOver, LeavesDesk, LeavesLife, LivesOn, WordsLeave}
 use Rattle.app_lives.specs.Told.{TellsAny, TellsBatch, TellsLines, TellsRevocation, asked, no_line, refused}
 use Rattle.app_lives.proofs.Copies.{copies_hold_desk}
-use Rattle.app_lives.proofs.Chains.{Any, AreCalls, OrOneMore, any_calls, honest_at_first, left_behind, no_call, once_more}
+use Rattle.app_lives.proofs.Chains.{Any, AreCalls, OrOneMore, honest_at_first, left_behind, no_call, of_calls, once_more}
 
 -- no line was read
 none_read : (bytes : Option (List ℕ)) → IfSome bytes (λ xs. AreLines xs [] (unwrap_or bytes []))
@@ -103,53 +102,40 @@ module _ {S C : Type 0} (v : Sight S C) where
       once_more v P old mid new before (line_acts v (λ (t : List ℕ). t) mid new line (Err why) says)
   stop_calls P was is old mid new before (unwritten line text says) = once_more v P old mid new before (said_acts mid new line text says)
 
+  -- the first lines of a reader, and one call more at most
+  of_first : (bytes was written is : Option (List ℕ)) (left : List ℕ) (desk mid ended : DeskState S) (how : Result ℕ Fault)
+      → (first : AnswersFirst v bytes was left written desk mid) → (are : AreCalls v (OrOneMore v (TellsLines first.lines first.said)) desk ended)
+      → (how ≡ Ok 0 → (left ≡ []) × (are.told ≡ are.says.0)) → (is ≡ written) ⊎ (how ≡ Ok 1) → AreCalls v (TellsBatch bytes was is how) desk ended
+  of_first bytes was written is left desk mid ended how first are whole ends =
+      of_calls v (TellsBatch bytes was is how) are (record {
+        lines = first.lines;
+        unread = left;
+        read = first.read;
+        said = first.said;
+        written = written;
+        appended = first.written;
+        telling = are.says.0;
+        tells = are.says.1;
+        all = are.says.2;
+        whole = whole;
+        ends = ends;
+      })
+
   -- all lines of a reader, or the first ones
   all_lines : (bytes was is : Option (List ℕ)) (desk ended : DeskState S) (how : Result ℕ Fault) → AnswersFirst v bytes was [] is desk ended
       → AreCalls v (TellsBatch bytes was is how) desk ended
   all_lines bytes was is desk ended how first =
       let are : AreCalls v (TellsLines first.lines first.said) desk ended = lines_calls desk ended first.lines first.said first.answered in
-      record {
-        told = are.told;
-        answered = are.answered;
-        says = record {
-          lines = first.lines;
-          unread = [];
-          read = first.read;
-          said = first.said;
-          written = is;
-          appended = first.written;
-          telling = are.told;
-          tells = are.says;
-          all = inl refl;
-          whole = λ _. (refl, refl);
-          ends = inl refl;
-        };
-      }
+      of_first bytes was is is [] desk ended ended how first (of_calls v (OrOneMore v (TellsLines first.lines first.said)) are (are.told, are.says, inl refl))
+      (λ _. (refl, refl)) (inl refl)
 
   first_lines : (bytes was is : Option (List ℕ)) (desk ended : DeskState S) (how : Result ℕ Fault) → how ≡ Ok 1 → StopsBehind v bytes was is desk ended
       → AreCalls v (TellsBatch bytes was is how) desk ended
   first_lines bytes was is desk ended how one stops =
       let first : AnswersFirst v bytes was stops.left stops.written desk stops.mid = stops.first in
-      let before : AreCalls v (TellsLines first.lines first.said) desk stops.mid = lines_calls desk stops.mid first.lines first.said first.answered in
-      let are : AreCalls v (OrOneMore v (TellsLines first.lines first.said)) desk ended =
-      stop_calls (TellsLines first.lines first.said) stops.written is desk stops.mid ended before stops.stops in
-      record {
-        told = are.told;
-        answered = are.answered;
-        says = record {
-          lines = first.lines;
-          unread = stops.left;
-          read = first.read;
-          said = first.said;
-          written = stops.written;
-          appended = first.written;
-          telling = are.says.0;
-          tells = are.says.1;
-          all = are.says.2;
-          whole = λ none. absurd (cc (one, none));
-          ends = inr one;
-        };
-      }
+      of_first bytes was stops.written is stops.left desk stops.mid ended how first
+      (stop_calls (TellsLines first.lines first.said) stops.written is desk stops.mid ended
+      (lines_calls desk stops.mid first.lines first.said first.answered) stops.stops) (λ none. absurd (cc (one, none))) (inr one)
 
   batch_calls : (bytes was is : Option (List ℕ)) (desk ended : DeskState S) (how : Result ℕ Fault) → AnswersLines v bytes was is desk ended how
       → AreCalls v (TellsBatch bytes was is how) desk ended
@@ -220,7 +206,7 @@ module _ {S C : Type 0} (v : Sight S C) where
 
   -- calls, and one more or none
   calls_on : (old mid new : DeskState S) → AreCalls v (Any v) old mid → ActsOnce v mid new → AreCalls v (Any v) old new
-  calls_on old mid new before acts = any_calls v (OrOneMore v (Any v)) old new (once_more v (Any v) old mid new before acts)
+  calls_on old mid new before acts = of_calls v (Any v) (once_more v (Any v) old mid new before acts) tt
 
   module _ (causes : Causes S) where
     -- a connection does nothing to a desk, or what an answer to one call does
@@ -365,23 +351,12 @@ module _ {D : Type 0} (g : disk.Ghosts D) where
         left = λ left may. it.left left.trees may;
       }
 
-  -- each word
-  about_leaves : (b : Beside) (was is : Option (List ℕ)) → LeavesAsIs g (TellsAbout b was is)
-  about_leaves b was is bytes how done F over left may =
-      (keeps_opened F done over (done.did.reads.honest over.honest)).left left.trees (done.did.reads.left over.honest left.trees may)
+  -- a word that only read leaves what there was
+  as_read : {R : Type 0} {bytes : Image} {does : Doing Fault} {how : Result ℕ Fault} {outcome : Result R ReportFault} (F : History)
+      (done : IsDoneOver g bytes does how) → IsOver g F done → Reports stored done.opened done.ended outcome → LeavesDesk g F done.ended
+  as_read F done over reads left may = (keeps_opened F done over (reads.honest over.honest)).left left.trees (reads.left over.honest left.trees may)
 
-  page_leaves : (was is : Option (List ℕ)) → LeavesAsIs g (TellsPage was is)
-  page_leaves was is bytes how done F over left may =
-      (keeps_opened F done over (done.did.reads.honest over.honest)).left left.trees (done.did.reads.left over.honest left.trees may)
-
-  list_leaves : {X : Type 0} (r : Roster X) (was is : Option (List ℕ)) → LeavesAsIs g (ListsRows r was is)
-  list_leaves r was is bytes how done F over left may =
-      (keeps_opened F done over (done.did.reads.honest over.honest)).left left.trees (done.did.reads.left over.honest left.trees may)
-
-  check_leaves : (f : Form) (was is : Option (List ℕ)) → LeavesAsIs g (ChecksStatuses f was is)
-  check_leaves f was is bytes how done F over left may =
-      (keeps_opened F done over (done.did.reads.honest over.honest)).left left.trees (done.did.reads.left over.honest left.trees may)
-
+  -- each other word
   revoke_leaves : (what : Target) (was is : Option (List ℕ)) → LivesOn g (RevokesTarget what was is) (TellsRevocation what)
   revoke_leaves what was is bytes how done F over =
       left_over (TellsRevocation what how) F done over
@@ -405,12 +380,12 @@ module _ {D : Type 0} (g : disk.Ghosts D) where
 
   pub words_leave : WordsLeave g
   words_leave = record {
-    about = about_leaves;
-    page = page_leaves;
-    status = λ filter f. list_leaves (orders_roster filter f);
-    accounts = λ f. list_leaves (accounts_roster f);
-    authorizations = λ filter f. list_leaves (authorizations_roster filter f);
-    check = check_leaves;
+    about = λ b was is bytes how done F over. as_read F done over done.did.reads;
+    page = λ was is bytes how done F over. as_read F done over done.did.reads;
+    status = λ filter f was is bytes how done F over. as_read F done over done.did.reads;
+    accounts = λ f was is bytes how done F over. as_read F done over done.did.reads;
+    authorizations = λ filter f was is bytes how done F over. as_read F done over done.did.reads;
+    check = λ f was is bytes how done F over. as_read F done over done.did.reads;
     revoke = revoke_leaves;
     batch = batch_leaves;
     backup = copies_hold_desk g;
