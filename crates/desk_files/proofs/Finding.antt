@@ -111,24 +111,14 @@ module _ {D : Type 0} {g : disk.Ghosts D} where
   pub found_files_are_opened : FoundFilesAreOpened g
   found_files_are_opened conn files T fresh opened found has =
       let now = found_database conn files has.0 (reads_files conn files opened found) has.1 has.2.holds.sound in
-      record {
-        is_open = opened.0.is_open;
-        idle = opened.0.autocommit;
-        unlimited = fresh.unlimited;
-        settled = opened.0.clean;
-        desk = subst (λ db. IsDesk db T) now has.2;
-      }
+      let desk = subst (λ db. IsDesk db T) now has.2 in
+      record { is_open = opened.0.is_open; idle = opened.0.autocommit; unlimited = fresh.unlimited; settled = opened.0.clean; desk = desk }
 
   pub first_files_are_opened : FirstFilesAreOpened g
   first_files_are_opened conn files T fresh opened found has =
       let now = found_database conn files has.0 (reads_files conn files opened found) has.1 has.2.holds.sound in
-      record {
-        is_open = opened.0.is_open;
-        idle = opened.0.autocommit;
-        unlimited = fresh.unlimited;
-        settled = opened.0.clean;
-        desk = subst (λ db. IsFirstDesk db T) now has.2;
-      }
+      let desk = subst (λ db. IsFirstDesk db T) now has.2 in
+      record { is_open = opened.0.is_open; idle = opened.0.autocommit; unlimited = fresh.unlimited; settled = opened.0.clean; desk = desk }
 
   -- trees without an object have no other schema
   pub empty_files_are_opened : EmptyFilesAreOpened g

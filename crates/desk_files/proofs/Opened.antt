@@ -4,7 +4,7 @@ use Rattle.std.specs.Prelude.{IsTrue}
 use Rattle.sqlite_disk.specs.declared.Disk as disk
 use Rattle.sqlite_store.specs.declared.store.FileStore.{FileStore}
 use Rattle.sqlite.specs.Files.{IsEmpty, IsOpened, file_state}
-use Rattle.sqlite.specs.Held.{Held}
+use Rattle.sqlite.specs.Held.{Held, IsNew}
 use Rattle.sqlite.specs.Recovery.{Image}
 use Rattle.sqlite.specs.Start.{FindsIn}
 use Rattle.sqlite.specs.State.{State, HasCleanDisk, Survives}
@@ -23,7 +23,7 @@ use Rattle.sql_upgrade.specs.FirstDesks.{HasFirst}
 use Rattle.desk_files.specs.Formats.{AreOfFirst, HasEither}
 use Rattle.desk_files.specs.LeftFiles.{AreOfOpening, LeftFiles, file_sight, schema_in}
 use Rattle.desk_files.proofs.Finding.{empty_files_are_opened, first_files_are_opened, found_files_are_opened, reads_files}
-use Rattle.desk_files.specs.Opening.{Connects, IsEarly, IsTaken, LeavesNewDesk}
+use Rattle.desk_files.specs.Opening.{IsEarly, IsTaken, LeavesNewDesk}
 
 -- by cases on a test
 pub by_cases : (test : Bool) (P : Type 0) → (test ≡ true → P) → (test ≡ false → P) → P
@@ -62,20 +62,21 @@ module _ {D : Type 0} {g : disk.Ghosts D} where
     pub first : (T : Tables) → AreOfFirst files.trees T → HasFirst (file_state conn) T
 
   -- it is so, where the disk was clean until later
-  pub files_found : (image : Image) (conn : Held (FileStore D g)) → Connects image conn → (new : State)
+  pub files_found : (image : Image) (conn : Held (FileStore D g)) → IsNew conn → (HasCleanDisk (file_state conn) → IsOpened conn)
+      → (HasCleanDisk (file_state conn) → FindsIn image (file_state conn)) → (new : State)
       → doubt (file_state conn).is_clean ≤ doubt new.is_clean → HasCleanDisk new → (files : LeftFiles) → files.image ≡ image → HasFound files conn
-  files_found image conn connects new le clean files same =
+  files_found image conn fresh opens finds new le clean files same =
       let early : HasCleanDisk (file_state conn) = omega (arith, le, clean) in
-      let opened = connects.opened early in
-      let found = subst (λ i. FindsIn i (file_state conn)) (sym same) (connects.found early) in
+      let opened = opens early in
+      let found = subst (λ i. FindsIn i (file_state conn)) (sym same) (finds early) in
       let first : (T : Tables) → AreOfFirst files.trees T → HasFirst (file_state conn) T =
-      λ T is. first_files_are_opened conn files T connects.fresh opened found is in
+      λ T is. first_files_are_opened conn files T fresh opened found is in
       record {
         is_open = opened.0.is_open;
         trees = found.holds files.trees files.holds;
         schema = (reads_files conn files opened found).schema;
         desk = λ T has. elim has [
-          | inl desk ↦ inl (found_files_are_opened conn files T connects.fresh opened found desk)
+          | inl desk ↦ inl (found_files_are_opened conn files T fresh opened found desk)
           | inr is ↦ inr (first T is)
         ];
         first = first;
@@ -108,8 +109,9 @@ module _ {D : Type 0} {g : disk.Ghosts D} where
     pub opened : IsOpened conn
 
   -- it has no object
-  pub nothing_found : (image : Image) (conn : Held (FileStore D g)) → Connects image conn → HasCleanDisk (file_state conn) → image.db ≡ [] → IsOnNothing conn
-  nothing_found image conn connects clean none =
-      let opened = connects.opened clean in
-      let found = empty_files_are_opened conn image none opened (connects.found clean) in
+  pub nothing_found : (image : Image) (conn : Held (FileStore D g)) → (HasCleanDisk (file_state conn) → IsOpened conn)
+      → (HasCleanDisk (file_state conn) → FindsIn image (file_state conn)) → HasCleanDisk (file_state conn) → image.db ≡ [] → IsOnNothing conn
+  nothing_found image conn opens finds clean none =
+      let opened = opens clean in
+      let found = empty_files_are_opened conn image none opened (finds clean) in
       record { schema = found.0; empty = found.1; opened = opened }

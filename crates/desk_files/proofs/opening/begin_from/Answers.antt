@@ -9,99 +9,90 @@ use Rattle.desk_files.specs.LeftFiles.{files_have}
 use Rattle.desk_files.proofs.Finding.{in_todays, keeps_within}
 use Rattle.desk_files.proofs.Opened.{files_found, is_free, new_desk_left, nothing_found, opening_left, taken_left}
 use Rattle.desk_files.proofs.Refused.{if_there}
-use Rattle.desk_files.specs.Opening.{Connects}
 use Rattle.desk_files.proofs.opening.begin_from.Goals as goal
 
 pub returns-in-Ok-begin-clause-opened : goal.returns-in-Ok-begin-clause-opened
 returns-in-Ok-begin-clause-opened g c none clean files same T has =
-    let connected = c.in-Ok.ensures in
+    let conn = c.in-Ok.ensures in
     let opened = c.in-Ok-begin.ensures in
-    let connects : Connects (image_at g.S.Start) c.in-Ok.conn = record { fresh = connected.fresh; opened = connected.opened; found = connected.found } in
-    let found = files_found (image_at g.S.Start) c.in-Ok.conn connects (file_state c.in-Ok-begin.store.conn) opened.honest clean files same in
+    let found = files_found _ c.in-Ok.conn conn.fresh conn.opened conn.found (file_state c.in-Ok-begin.store.conn) opened.honest clean files same in
     keeps_within _ files_have _ in_todays c.in-Ok-begin.store T (opened.opened none clean T (found.desk T has))
 
 pub returns-in-Ok-begin-clause-made : goal.returns-in-Ok-begin-clause-made
 returns-in-Ok-begin-clause-made g c =
-    let connected = c.in-Ok.ensures in
+    let conn = c.in-Ok.ensures in
     let made = c.in-Ok-begin.ensures in
-    let connects : Connects (image_at g.S.Start) c.in-Ok.conn = record { fresh = connected.fresh; opened = connected.opened; found = connected.found } in
     if_there c.args.first made.made (λ first it clean none.
     let early : HasCleanDisk (file_state c.in-Ok.conn) = omega (arith, made.honest, clean) in
-    let nothing = nothing_found (image_at g.S.Start) c.in-Ok.conn connects early none in
-    keeps_within _ files_have _ in_todays c.in-Ok-begin.store _ (it clean nothing.schema connects.fresh.unlimited))
+    let nothing = nothing_found (image_at g.S.Start) c.in-Ok.conn conn.opened conn.found early none in
+    keeps_within _ files_have _ in_todays c.in-Ok-begin.store _ (it clean nothing.schema conn.fresh.unlimited))
 
 pub returns-in-Err-begin-clause-unopened : goal.returns-in-Err-begin-clause-unopened
 returns-in-Err-begin-clause-unopened g c none clean files same T has =
-    let connected = c.in-Ok.ensures in
+    let conn = c.in-Ok.ensures in
     let failed = c.in-Err-begin.ensures in
-    let connects : Connects (image_at g.S.Start) c.in-Ok.conn = record { fresh = connected.fresh; opened = connected.opened; found = connected.found } in
-    let found = files_found (image_at g.S.Start) c.in-Ok.conn connects (file_state c.in-Err-begin.unopened.conn) failed.honest clean files same in
+    let found = files_found _ c.in-Ok.conn conn.fresh conn.opened conn.found (file_state c.in-Err-begin.unopened.conn) failed.honest clean files same in
     failed.unopened none clean T (found.desk T has)
 
 pub returns-in-Err-begin-clause-left : goal.returns-in-Err-begin-clause-left
 returns-in-Err-begin-clause-left g c none clean files same trees may =
-    let connected = c.in-Ok.ensures in
+    let conn = c.in-Ok.ensures in
     let failed = c.in-Err-begin.ensures in
-    let connects : Connects (image_at g.S.Start) c.in-Ok.conn = record { fresh = connected.fresh; opened = connected.opened; found = connected.found } in
-    let found = files_found (image_at g.S.Start) c.in-Ok.conn connects (file_state c.in-Err-begin.unopened.conn) failed.honest clean files same in
+    let found = files_found _ c.in-Ok.conn conn.fresh conn.opened conn.found (file_state c.in-Err-begin.unopened.conn) failed.honest clean files same in
     opening_left files c.in-Ok.conn found trees (failed.left none clean found.is_open trees may)
 
 pub returns-in-Err-begin-clause-spared : goal.returns-in-Err-begin-clause-spared
 returns-in-Err-begin-clause-spared g c none early clean files same trees may =
-    let connected = c.in-Ok.ensures in
+    let conn = c.in-Ok.ensures in
     let failed = c.in-Err-begin.ensures in
-    let connects : Connects (image_at g.S.Start) c.in-Ok.conn = record { fresh = connected.fresh; opened = connected.opened; found = connected.found } in
-    let found = files_found (image_at g.S.Start) c.in-Ok.conn connects (file_state c.in-Err-begin.unopened.conn) failed.honest clean files same in
+    let found = files_found _ c.in-Ok.conn conn.fresh conn.opened conn.found (file_state c.in-Err-begin.unopened.conn) failed.honest clean files same in
     failed.spared none early clean found.is_open trees may ∙ found.trees
 
 pub returns-in-Err-begin-clause-unmade : goal.returns-in-Err-begin-clause-unmade
 returns-in-Err-begin-clause-unmade g c =
-    let connected = c.in-Ok.ensures in
+    let conn = c.in-Ok.ensures in
     let failed = c.in-Err-begin.ensures in
-    let connects : Connects (image_at g.S.Start) c.in-Ok.conn = record { fresh = connected.fresh; opened = connected.opened; found = connected.found } in
     if_there c.args.first failed.unmade (λ first it clean none.
     let early : HasCleanDisk (file_state c.in-Ok.conn) = omega (arith, failed.honest, clean) in
-    let nothing = nothing_found (image_at g.S.Start) c.in-Ok.conn connects early none in
+    let nothing = nothing_found (image_at g.S.Start) c.in-Ok.conn conn.opened conn.found early none in
     new_desk_left first.policy first.at (λ (trees : Trees). trees ≡ (file_state c.in-Ok.conn).committed.trees) IsEmpty c.in-Err-begin.unopened.fault
     (file_state c.in-Err-begin.unopened.conn) (λ trees same. subst IsEmpty (sym same) nothing.empty)
     (it clean nothing.schema nothing.opened.0.is_open))
 
 pub returns-in-Ok-begin-clause-free : goal.returns-in-Ok-begin-clause-free
 returns-in-Ok-begin-clause-free g c =
-    let connected = c.in-Ok.ensures in
+    let conn = c.in-Ok.ensures in
     let made = c.in-Ok-begin.ensures in
-    let connects : Connects (image_at g.S.Start) c.in-Ok.conn = record { fresh = connected.fresh; opened = connected.opened; found = connected.found } in
     if_there c.args.first made.taken (λ first it clean files same.
-    let found = files_found (image_at g.S.Start) c.in-Ok.conn connects (file_state c.in-Ok-begin.store.conn) made.honest clean files same in
+    let found = files_found _ c.in-Ok.conn conn.fresh conn.opened conn.found (file_state c.in-Ok-begin.store.conn) made.honest clean files same in
     is_free files c.in-Ok.conn found it)
 
 pub returns-in-Err-begin-clause-taken : goal.returns-in-Err-begin-clause-taken
 returns-in-Err-begin-clause-taken g c =
-    let connected = c.in-Ok.ensures in
+    let conn = c.in-Ok.ensures in
     let failed = c.in-Err-begin.ensures in
-    let connects : Connects (image_at g.S.Start) c.in-Ok.conn = record { fresh = connected.fresh; opened = connected.opened; found = connected.found } in
     if_there c.args.first failed.taken (λ first it clean files same taken.
-    let found = files_found (image_at g.S.Start) c.in-Ok.conn connects (file_state c.in-Err-begin.unopened.conn) failed.honest clean files same in
+    let found = files_found _ c.in-Ok.conn conn.fresh conn.opened conn.found (file_state c.in-Err-begin.unopened.conn) failed.honest clean files same in
     taken_left files c.in-Ok.conn found c.in-Err-begin.unopened.fault (file_state c.in-Err-begin.unopened.conn)
     (it (subst (λ schema. IsTrue (uses_names schema)) found.schema taken) found.is_open))
 
 pub returns-in-Err-begin-clause-failed : goal.returns-in-Err-begin-clause-failed
 returns-in-Err-begin-clause-failed g c none =
-    let connected = c.in-Ok.ensures in
+    let conn = c.in-Ok.ensures in
     let failed = c.in-Err-begin.ensures in
     record {
       from = c.in-Ok.conn;
-      connects = record { fresh = connected.fresh; opened = connected.opened; found = connected.found };
+      connects = record { fresh = conn.fresh; opened = conn.opened; found = conn.found };
       failed = failed.failed none;
       newer = failed.newer none;
     }
 
 pub returns-in-Err-begin-clause-making : goal.returns-in-Err-begin-clause-making
 returns-in-Err-begin-clause-making g c =
-    let connected = c.in-Ok.ensures in
+    let conn = c.in-Ok.ensures in
     let failed = c.in-Err-begin.ensures in
     if_there c.args.first failed.making (λ first it. record {
       from = c.in-Ok.conn;
-      connects = record { fresh = connected.fresh; opened = connected.opened; found = connected.found };
+      connects = record { fresh = conn.fresh; opened = conn.opened; found = conn.found };
       failed = it;
     })
