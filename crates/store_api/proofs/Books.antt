@@ -1,5 +1,5 @@
 -- The rows of a book that a call touches are a book.
-use Rattle.std.proofs.Common.{◌≡◌, ◌≢◌, ℕ, ◌+◌, max, List, [], ◌∷◌, ◌++◌, filter, Some, refl, ap, ◌∙◌, true, false, Bool, cond}
+use Rattle.std.proofs.Common.{◌≡◌, ◌≢◌, ℕ, ◌+◌, max, List, [], ◌∷◌, filter, Some, refl, ap, ◌∙◌, true, false, Bool, cond}
 use Rattle.std.specs.Prelude.{◌==◌, ◌&&◌, find, is_some, IsSome}
 use Rattle.std.specs.List.{flat_map}
 use Rattle.std.proofs.lemmas.Bool.{and_from, or_left, or_right}
@@ -14,7 +14,8 @@ use Rattle.desk_model.specs.declared.call.Call.{Call}
 use Rattle.desk_model.specs.declared.rows.AccountRow.{AccountRow}
 use Rattle.desk_model.specs.declared.rows.Listed.{Listed}
 use Rattle.model_laws.specs.Distinct.{Distinct}
-use Rattle.model_laws.proofs.Basics.{each, each_both, each-append, list_any-map}
+use Rattle.model_laws.proofs.Basics.{each, each_both, each_parts, each-append, list_any-map}
+use Rattle.model_laws.proofs.Distinctness.{distinct-append, distinct_parts}
 use Rattle.model_laws.proofs.Recorded.{below_filter}
 use Rattle.model_laws.proofs.RowLists.{ascends_filter}
 use Rattle.model_laws.proofs.Finds.{found_passes}
@@ -51,44 +52,25 @@ distinct_filter value p (x ∷ xs) h = by (p x) (distinct_filter value p xs h.1)
 -- what holds of the parts of all items holds of the parts of those that pass
 flat_filtered : {X Y : Type 0} (P : Y → Type 0) (f : X → List Y) (p : X → Bool) (xs : List X) → EachOf P (flat_map f xs) → EachOf P (flat_map f (filter p xs))
 flat_filtered P f p [] h = tt
-flat_filtered P f p (x ∷ xs) h = by (p x) (flat_filtered P f p xs (back (f x) h))
+flat_filtered P f p (x ∷ xs) h = let parts = each_parts P (f x) (flat_map f xs) h in by (p x) parts.0 (flat_filtered P f p xs parts.1)
   where
-    back : (ys : List _) → EachOf P (ys ++ flat_map f xs) → EachOf P (flat_map f xs)
-    back [] k = k
-    back (y ∷ ys) k = back ys k.1
-
-    front : (ys : List _) → EachOf P (ys ++ flat_map f xs) → EachOf P ys
-    front [] k = tt
-    front (y ∷ ys) k = (k.0, front ys k.1)
-
-    by : (b : Bool) → EachOf P (flat_map f (filter p xs)) → EachOf P (flat_map f (cond b (x ∷ filter p xs) (filter p xs)))
-    by true k = each-append P (f x) (flat_map f (filter p xs)) (front (f x) h) k
-    by false k = k
+    by : (b : Bool) → EachOf P (f x) → EachOf P (flat_map f (filter p xs)) → EachOf P (flat_map f (cond b (x ∷ filter p xs) (filter p xs)))
+    by true own k = each-append P (f x) (flat_map f (filter p xs)) own k
+    by false own k = k
 
 -- values that stand once in the parts of all items do so in those of the items that pass
 distinct_flat : {X Y Z : Type 0} (value : Y → Z) (f : X → List Y) (p : X → Bool) (xs : List X) → Distinct value (flat_map f xs) →
     Distinct value (flat_map f (filter p xs))
 distinct_flat value f p [] h = tt
-distinct_flat value f p (x ∷ xs) h = by (p x) (distinct_flat value f p xs (back (f x) h))
+distinct_flat value f p (x ∷ xs) h =
+    let parts = distinct_parts value (f x) (flat_map f xs) h in by (p x) parts.0 parts.1 (distinct_flat value f p xs parts.2)
   where
-    back : (ys : List _) → Distinct value (ys ++ flat_map f xs) → Distinct value (flat_map f xs)
-    back [] k = k
-    back (y ∷ ys) k = back ys k.1
-
-    front : (ys : List _) (y : _) → EachOf (λ z. value y ≢ value z) (ys ++ flat_map f xs) →
-        EachOf (λ z. value y ≢ value z) ys × EachOf (λ z. value y ≢ value z) (flat_map f xs)
-    front [] y k = (tt, k)
-    front (z ∷ ys) y k = let rest = front ys y k.1 in ((k.0, rest.0), rest.1)
-
-    join : (ys : List _) → Distinct value (ys ++ flat_map f xs) → Distinct value (flat_map f (filter p xs)) → Distinct value (ys ++ flat_map f (filter p xs))
-    join [] k d = d
-    join (y ∷ ys) k d =
-        let parts = front ys y k.0 in
-        (each-append _ ys (flat_map f (filter p xs)) parts.0 (flat_filtered (λ z. value y ≢ value z) f p xs parts.1), join ys k.1 d)
-
-    by : (b : Bool) → Distinct value (flat_map f (filter p xs)) → Distinct value (flat_map f (cond b (x ∷ filter p xs) (filter p xs)))
-    by true d = join (f x) h d
-    by false d = d
+    by : (b : Bool) → Distinct value (f x) → EachOf (λ y. EachOf (λ z. value y ≢ value z) (flat_map f xs)) (f x) →
+        Distinct value (flat_map f (filter p xs)) → Distinct value (flat_map f (cond b (x ∷ filter p xs) (filter p xs)))
+    by true own apart d =
+        distinct-append value (f x) (flat_map f (filter p xs)) own d
+        (each _ _ (f x) (λ y all. flat_filtered (λ z. value y ≢ value z) f p xs all) apart)
+    by false own apart d = d
 
 -- ---- references
 

@@ -5,7 +5,7 @@ use Rattle.std.specs.Option.{MatchOption}
 use Rattle.std.proofs.lemmas.Result.{on_ok_weaker}
 use Rattle.model_laws.specs.Placing.{puts}
 use Rattle.store_api.specs.Finding.{Finds, LacksMemory}
-use Rattle.store_api.proofs.Gathered.{into_if_found, put_if_found}
+use Rattle.store_api.proofs.Gathered.{into_if_found}
 use Rattle.store_api.proofs.Readings.{reads_failing, reads_found, reads_then, stands_read}
 use Rattle.desk_model.specs.Tables.{Tables}
 use Rattle.store_api.specs.Sight.{ForTables, Reads, Sight}
@@ -64,17 +64,6 @@ module _ {S C : Type 0} {v : Sight S C} where
   pub finds_as : {A : Type 0} {old new : S} {P : Tables → Type 0} {r q : Result A StorageFault} → r ≡ q → Finds v old new r P → Finds v old new q P
   finds_as {A} {old} {new} {P} same finds = subst (λ r. Finds v old new r P) same finds
 
-  -- what was found is put into a table
-  pub finds_put : {V X B : Type 0} {old new : S} (number : X → ℕ) (items : V → List X) (rows_of : Tables → List X) (rows later : List X)
-      (looked : Result V StorageFault) (r : Result B StorageFault) →
-      Reads v old new looked → ForTables v old new (λ T. IfOk looked (λ vs. items vs ≡ rows_of T)) →
-      IfOk looked (λ vs. OnOk r (later ≡ puts number (items vs) rows)) → IfOk looked (λ _. IfErr r LacksMemory) → IfErr looked (λ why. r ≡ Err why) →
-      Finds v old new r (λ T. later ≡ puts number (rows_of T) rows)
-  finds_put number items rows_of rows later looked r read are put_now lacks passed = record {
-    reads = reads_found looked r read lacks passed;
-    found = λ honest T held. put_if_found number items looked r (rows_of T) rows later put_now passed (are honest T held);
-  }
-
   -- what was found is put into a table in some way
   pub finds_into : {V X B : Type 0} {old new : S} (into : List X → List X → List X) (items : V → List X) (rows_of : Tables → List X) (rows later : List X)
       (looked : Result V StorageFault) (r : Result B StorageFault) →
@@ -85,6 +74,15 @@ module _ {S C : Type 0} {v : Sight S C} where
     reads = reads_found looked r read lacks passed;
     found = λ honest T held. into_if_found into items looked r (rows_of T) rows later put_now passed (are honest T held);
   }
+
+  -- and by number
+  pub finds_put : {V X B : Type 0} {old new : S} (number : X → ℕ) (items : V → List X) (rows_of : Tables → List X) (rows later : List X)
+      (looked : Result V StorageFault) (r : Result B StorageFault) →
+      Reads v old new looked → ForTables v old new (λ T. IfOk looked (λ vs. items vs ≡ rows_of T)) →
+      IfOk looked (λ vs. OnOk r (later ≡ puts number (items vs) rows)) → IfOk looked (λ _. IfErr r LacksMemory) → IfErr looked (λ why. r ≡ Err why) →
+      Finds v old new r (λ T. later ≡ puts number (rows_of T) rows)
+  finds_put number items rows_of rows later looked r read are put_now lacks passed =
+      finds_into (puts number) items rows_of rows later looked r read are put_now lacks passed
 
 -- an option as a slice
 pub listed_as : {X : Type 0} (o : Option X) (xs ys : List X) → MatchOption o (xs ≡ []) (λ x. xs ≡ x ∷ []) → option_to_list o ≡ ys → xs ≡ ys

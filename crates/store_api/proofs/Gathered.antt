@@ -32,15 +32,7 @@ put_passed number p row before rest table later all next put_now so_far =
     by true = refl
     by false = refl
 
--- what was found is put, where there was no fault
-pub put_if_found : {F V B X : Type 0} (number : X → ℕ) (items : V → List X) (found : Result V F) (r : Result B F) (xs rows later : List X) →
-    IfOk found (λ vs. OnOk r (later ≡ puts number (items vs) rows)) → IfErr found (λ why. r ≡ Err why) → IfOk found (λ vs. items vs ≡ xs) →
-    OnOk r (later ≡ puts number xs rows)
-put_if_found number items (Ok vs) (Ok done) xs rows later put_now passed looked = put_now ∙ ap (λ l. puts number l rows) looked
-put_if_found number items (Ok vs) (Err why) xs rows later put_now passed looked = tt
-put_if_found number items (Err why) r xs rows later put_now passed looked = subst (λ q. OnOk q (later ≡ puts number xs rows)) (sym passed) tt
-
--- and in whatever way it is put
+-- what was found is put in some way, where there was no fault
 pub into_if_found : {F V B X : Type 0} (into : List X → List X → List X) (items : V → List X) (found : Result V F) (r : Result B F) (xs rows later : List X) →
     IfOk found (λ vs. OnOk r (later ≡ into (items vs) rows)) → IfErr found (λ why. r ≡ Err why) → IfOk found (λ vs. items vs ≡ xs) →
     OnOk r (later ≡ into xs rows)

@@ -1,7 +1,7 @@
 -- Look-ups of numbers, row by row.
 use Rattle.std.proofs.Common.{◌≡◌, ℕ, List, [], ◌∷◌, ◌++◌, map, filter, refl, sym, ap, ◌∙◌, true, false, Bool, cond}
 use Rattle.std.proofs.Common.{append-nil, append_assoc}
-use Rattle.std.proofs.Common.{◌≢◌, ◌+◌, ◌<◌, add-one, drop, drop-cons, get_or, length}
+use Rattle.std.proofs.Common.{◌≢◌, ◌+◌, ◌<◌, drop, get_or, length}
 use Rattle.std.specs.Prelude.{◌==◌}
 use Rattle.std.specs.List.{flat_map}
 use Rattle.std.proofs.lemmas.Bool.{eq-eqb, ne_eqb}
@@ -12,6 +12,8 @@ use Rattle.desk_model.specs.Tables.{Tables}
 use Rattle.desk_model.specs.declared.rows.AuthorizationRow.{AuthorizationRow}
 use Rattle.desk_model.specs.declared.rows.OrderRow.{OrderRow}
 use Rattle.model_lives.specs.LookUps.{orders_listing, owners_of}
+use Rattle.store_book.proofs.SliceLoops.{one-more}
+use Rattle.store_book.proofs.StableSorts.{filter-dropped, filter-kept}
 
 -- what is picked of the items of all rows is what is picked of each row's
 picked-flat_map : {X Y Z : Type 0} (value : Y → Z) (test : Y → Bool) (items : X → List Y) (xs : List X) →
@@ -59,22 +61,27 @@ owners_of_rows T n =
     ∙ flat_map-same _ _ (λ (r : AuthorizationRow).
     picked-map (λ (p : ℕ × ℕ). p.1) (λ (p : ℕ × ℕ). p.0 == n) (λ c. (c.number, r.number)) r.challenges) T.authorizations
 
--- what is found for the next one goes to the end of the numbers before
+-- what one more gives goes to the end of what was found, and what is left gives the rest
+pub row_next : {X Y : Type 0} (of : List X → List Y) (x : X) (own : List Y) (before rest : List X) (found later all : List Y) → before ≡ x ∷ rest →
+    of (x ∷ rest) ≡ own ++ of rest → later ≡ found ++ own → found ++ of before ≡ all → later ++ of rest ≡ all
+row_next of x own before rest found later all next gives is h =
+    ap (λ l. l ++ of rest) is ∙ append_assoc found own (of rest) ∙ ap (λ l. found ++ l) (sym (ap of next ∙ gives)) ∙ h
+
+-- one that gives nothing is passed over
+pub row_over : {X Y : Type 0} (of : List X → List Y) (x : X) (before rest : List X) (found all : List Y) → before ≡ x ∷ rest → of (x ∷ rest) ≡ of rest →
+    found ++ of before ≡ all → found ++ of rest ≡ all
+row_over of x before rest found all next gives h = ap (λ l. found ++ l) (sym (ap of next ∙ gives)) ∙ h
+
+-- what is found for the next one
 pub found_next : {X Y : Type 0} (f : X → List Y) (x : X) (before rest : List X) (found later all : List Y) → before ≡ x ∷ rest → later ≡ found ++ f x →
-    found ++ flat_map f before ≡ all →
-    later ++ flat_map f rest ≡ all
-found_next f x before rest found later all next is h =
-    ap (λ l. l ++ flat_map f rest) is ∙ append_assoc found (f x) (flat_map f rest) ∙ ap (λ l. found ++ flat_map f l) (sym next) ∙ h
+    found ++ flat_map f before ≡ all → later ++ flat_map f rest ≡ all
+found_next f x before rest found later all next is h = row_next (flat_map f) x (f x) before rest found later all next refl is h
 
 -- behind the last one all are found
 pub found_all : {X Y : Type 0} (f : X → List Y) (rest : List X) (found all : List Y) → rest ≡ [] → found ++ flat_map f rest ≡ all → found ≡ all
 found_all f rest found all none h = sym (append-nil found) ∙ ap (λ l. found ++ flat_map f l) (sym none) ∙ h
 
 -- ---- numbers of the items of a slice that are picked
-
--- what is left is one more and the rest
-pub one_more : {X : Type 0} (xs : List X) (i : ℕ) (d : X) → i < length xs → drop i xs ≡ get_or xs i d ∷ drop (i + 1) xs
-one_more xs i d low = drop-cons xs i d low ∙ ap (λ j. get_or xs i d ∷ drop j xs) (sym (add-one i))
 
 -- an item that is picked adds its number
 pub picked_next : {X : Type 0} (n k : ℕ) (number : X → ℕ) (xs : List X) (i : ℕ) (d : X) (found later all : List ℕ) → i < length xs →
@@ -83,14 +90,9 @@ pub picked_next : {X : Type 0} (n k : ℕ) (number : X → ℕ) (xs : List X) (i
     found ++ map (λ y. n) (filter (λ y. number y == k) (drop i xs)) ≡ all →
     later ++ map (λ y. n) (filter (λ y. number y == k) (drop (i + 1) xs)) ≡ all
 picked_next {X} n k number xs i d found later all low same is h =
-    let picked = λ (ys : List X). map (λ (y : X). n) (filter (λ (y : X). number y == k) ys) in
-    let rest = drop (i + 1) xs in
-    ap (λ l. l ++ picked rest) is
-    ∙ append_assoc found (n ∷ []) (picked rest)
-    ∙ ap (λ b. found ++ map (λ (y : X). n) (cond b (get_or xs i d ∷ filter (λ y. number y == k) rest) (filter (λ y. number y == k) rest)))
-    (sym (eq-eqb (number (get_or xs i d)) k same))
-    ∙ ap (λ l. found ++ picked l) (sym (one_more xs i d low))
-    ∙ h
+    row_next (λ (ys : List X). map (λ (y : X). n) (filter (λ (y : X). number y == k) ys)) (get_or xs i d) (n ∷ []) (drop i xs) (drop (i + 1) xs)
+    found later all (one-more xs i d low)
+    (ap (map (λ (y : X). n)) (filter-kept (λ y. number y == k) (get_or xs i d) (drop (i + 1) xs) (eq-eqb (number (get_or xs i d)) k same))) is h
 
 -- one that is not adds nothing
 pub passed_over : {X : Type 0} (n k : ℕ) (number : X → ℕ) (xs : List X) (i : ℕ) (d : X) (found later all : List ℕ) → i < length xs →
@@ -100,9 +102,6 @@ pub passed_over : {X : Type 0} (n k : ℕ) (number : X → ℕ) (xs : List X) (i
     later ++ map (λ y. n) (filter (λ y. number y == k) (drop (i + 1) xs)) ≡ all
 passed_over {X} n k number xs i d found later all low other is h =
     let picked = λ (ys : List X). map (λ (y : X). n) (filter (λ (y : X). number y == k) ys) in
-    let rest = drop (i + 1) xs in
-    ap (λ l. l ++ picked rest) is
-    ∙ ap (λ b. found ++ map (λ (y : X). n) (cond b (get_or xs i d ∷ filter (λ y. number y == k) rest) (filter (λ y. number y == k) rest)))
-    (sym (ne_eqb (number (get_or xs i d)) k other))
-    ∙ ap (λ l. found ++ picked l) (sym (one_more xs i d low))
-    ∙ h
+    ap (λ l. l ++ picked (drop (i + 1) xs)) is
+    ∙ row_over picked (get_or xs i d) (drop i xs) (drop (i + 1) xs) found all (one-more xs i d low)
+    (ap (map (λ (y : X). n)) (filter-dropped (λ y. number y == k) (get_or xs i d) (drop (i + 1) xs) (ne_eqb (number (get_or xs i d)) k other))) h

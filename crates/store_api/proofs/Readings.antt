@@ -1,15 +1,10 @@
 -- Look-ups one after the other.
-use Rattle.std.proofs.Common.{◌≡◌, ◌⊎◌, Result, Ok, Err, IfErr, IfOk, IsErrAnd, inl, inr, subst, sym, ◌∙◌}
+use Rattle.std.proofs.Common.{◌≡◌, ◌⊎◌, Result, Ok, Err, IfErr, IfOk, IsErrAnd, inl, inr, subst, sym}
 use Rattle.std.specs.Result.{result_and}
-use Rattle.store_api.specs.Sight.{FailsBy, ForTables, LeavesStanding, Reads, Sight, Stands}
+use Rattle.store_api.specs.Sight.{FailsBy, ForTables, Reads, Sight, Stands}
 use Rattle.store_api.specs.declared.fault.StorageFault.{StorageFault}
 use Rattle.store_api.specs.declared.fault.StorageFault.TheVariants as fault
 use Rattle.store_api.specs.Finding.{LacksMemory}
-
--- a fault that is known to be one of memory
-pub lacks_by : {A : Type 0} (r : Result A StorageFault) → IsErrAnd r LacksMemory → IfErr r LacksMemory
-lacks_by (Ok a) is = tt
-lacks_by (Err why) is = is
 
 module _ {S C : Type 0} {v : Sight S C} where
   -- what was not read stands
@@ -97,10 +92,6 @@ module _ {S C : Type 0} {v : Sight S C} where
       Reads v old new found → IfOk found (λ _. IfErr r LacksMemory) → IfErr found (λ why. r ≡ Err why) →
       Reads v old new r
   reads_found found r read lacks passed = reads_of_tables found r read (λ honest T held. lacks) passed
-
-  -- what was read stands, whatever came of it
-  pub standing_of : {A : Type 0} {old new : S} (r : Result A StorageFault) → Reads v old new r → LeavesStanding v old new r
-  standing_of r read = record { honest = read.honest; left = read.left; tables = read.tables; without_memory = read.without_memory }
 
   -- a result that is another
   pub read_as : {A : Type 0} {old new : S} {r q : Result A StorageFault} → Reads v old new r → r ≡ q → Reads v old new q

@@ -19,6 +19,7 @@ use Rattle.model_lives.specs.LookUps.{AreWaiting, waiting_of}
 use Rattle.model_lives.specs.Thinned.{waiting_challenges, with_challenges, without_challenges}
 use Rattle.model_lives.proofs.Lists.{filtered_each}
 use Rattle.store_api.proofs.Lacking.{rows_one}
+use Rattle.store_api.proofs.Pairs.{row_next}
 use Rattle.store_api.specs.Nesting.{joined, nested}
 use Rattle.store_columns.specs.Flat.{owned_by}
 use Rattle.store_columns.specs.declared.flat_rows.Owned.{Owned}
@@ -51,13 +52,9 @@ pub kept_next : {X Y : Type 0} (value : X → Y) (test : X → Bool) (x : X) (be
     found ++ map value (filter test before) ≡ all →
     later ++ map value (filter test rest) ≡ all
 kept_next value test x before rest found later all next is h =
-    ap (λ l. l ++ map value (filter test rest)) is
-    ∙ append_assoc found (map value (filter test (x ∷ []))) (map value (filter test rest))
-    ∙ ap (λ l. found ++ l) (by (test x))
-    ∙ ap (λ l. found ++ map value (filter test l)) (sym next)
-    ∙ h
+    row_next (λ l. map value (filter test l)) x (map value (filter test (x ∷ []))) before rest found later all next (by (test x)) is h
   where
-    by : (b : Bool) → map value (cond b (x ∷ []) []) ++ map value (filter test rest) ≡ map value (cond b (x ∷ filter test rest) (filter test rest))
+    by : (b : Bool) → map value (cond b (x ∷ filter test rest) (filter test rest)) ≡ map value (cond b (x ∷ []) []) ++ map value (filter test rest)
     by true = refl
     by false = refl
 
