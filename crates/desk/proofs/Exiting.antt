@@ -1,5 +1,5 @@
 -- The exits of a call over an open store.
-use Rattle.std.proofs.Common.{◌≡◌, List, [], ◌∷◌, Option, refl, sym, ap, subst, ◌∙◌, Result, Ok, Err, inl, inr, arith, true, false}
+use Rattle.std.proofs.Common.{◌≡◌, List, [], ◌∷◌, Option, refl, sym, subst, Result, Ok, Err, inl, inr, arith, true, false}
 use Rattle.std.proofs.lemmas.Bool.{eqb-true}
 use Rattle.std.specs.Prelude.{nat_eq, length, IfErr, IsErrAnd}
 use Rattle.desk_model.specs.Entry.{History}
@@ -17,10 +17,12 @@ use Rattle.store_laws.proofs.FlatTexts.{picture_is_stored_book}
 use Rattle.desk_core.specs.Decided.{IsDecision, IsFaultOf}
 use Rattle.core_rules.specs.declared.fault.CoreFault.{CoreFault}
 use Rattle.core_rules.specs.declared.fault.CoreFault.TheVariants as core
+use Rattle.store_api.proofs.Readings.{stands_both, stands_read}
 use Rattle.store_api.specs.Sight.{Sight, Keeps, Stands}
 use Rattle.store_api.specs.Storing.{Causes, Fit, IsCutFrom, Loads, Saving, SavesFrom}
 use Rattle.store_api.specs.declared.fault.StorageFault.{StorageFault}
 use Rattle.store_api.specs.declared.fault.StorageFault.TheVariants as storagefault
+use Rattle.desk.proofs.Running.{declines}
 use Rattle.desk.specs.Causes.{IsCaused}
 use Rattle.desk.specs.Faults.{closes, core_fault, storage_fault}
 use Rattle.desk.specs.Answers.{Answers, ExitsBy, IsAnswered, IsBroken}
@@ -66,26 +68,9 @@ fits F call changes reply d =
 module _ {S C : Type 0} (v : Sight S C) where
   -- ---- stores that stand
 
-  -- what stands through one call and the next stands through both
-  stands_then : (old mid new : S) → Stands v old mid → Stands v mid new → Stands v old new
-  stands_then old mid new one next =
-      record {
-        honest = λ h. one.honest (next.honest h);
-        left = λ h c l. one.left (next.honest h) c (next.left h c l);
-        tables = λ h T held. next.tables h T (one.tables (next.honest h) T held);
-      }
-
   -- what stands keeps its tables
   keeps_on : (old new : S) (T : Tables) → v.is_honest new → Stands v old new → Keeps v old T → Keeps v new T
   keeps_on old new T h stands keeps = record { tables = stands.tables h T keeps.tables; left = λ c l. keeps.left c (stands.left h c l) }
-
-  -- what was not touched stands
-  pub stands_here : (here : S) → Stands v here here
-  stands_here here = record { honest = λ h. h; left = λ h c l. l; tables = λ h T held. held }
-
-  -- after a load
-  pub loaded : (call : Call) (old new : S) (book : Tables) → Loads v call old new (Ok book) → Stands v old new
-  loaded call old new book l = record { honest = l.reads.honest; left = l.reads.left; tables = l.reads.tables }
 
   -- changes that were not saved, out of memory
   unwritten : (R : Type 0) (old new : S) (part : Tables) (changes : List Change) (cause : StorageFault) → SavesFrom v part changes old new (failed R cause) →
@@ -97,34 +82,17 @@ module _ {S C : Type 0} (v : Sight S C) where
   -- ---- exits, by a history
 
   -- the call is declined
-  declines : (F : History) (call : Call) (new : S) (e : CoreFault) → IsFaultOf F call e → Keeps v new (picture F) → ExitsBy v F call (core_fault e) new
-  declines F call new core.Memory is keeps = record { cause = tt; keeps = keeps }
-  declines F call new core.Moment is keeps = record { cause = is; keeps = keeps }
-  declines F call new core.ShortRandom is keeps = record { cause = is; keeps = keeps }
-  declines F call new core.Full is keeps = record { cause = is; keeps = keeps }
+  is_declined : (F : History) (call : Call) (new : S) (e : CoreFault) → IsFaultOf F call e → Keeps v new (picture F) → ExitsBy v F call (core_fault e) new
+  is_declined F call new core.Memory is keeps = record { cause = tt; keeps = keeps }
+  is_declined F call new core.Moment is keeps = record { cause = is; keeps = keeps }
+  is_declined F call new core.ShortRandom is keeps = record { cause = is; keeps = keeps }
+  is_declined F call new core.Full is keeps = record { cause = is; keeps = keeps }
 
-  -- the call changes nothing
-  answers_alone : (F : History) (call : Call) (new : S) (changes : List Change) (reply : Reply) → changes ≡ [] → IsDecision F call changes reply →
-      Keeps v new (picture F) → IsAnswered v F call reply new
-  answers_alone F call new changes reply none d keeps =
-      record {
-        faultless = d.faultless;
-        decided = d.replies;
-        stays_legal = d.stays_legal;
-        keeps = subst (Keeps v new) (sym (ap (λ cs. applied cs (picture F)) none) ∙ d.makes) keeps;
-      }
-
-  -- the changes are saved
-  answers_saved : {R : Type 0} (F : History) (call : Call) (old new : S) (part : Tables) (changes : List Change) (reply : Reply) (done : R) → v.is_honest new →
-      IsCutFrom part (picture F) → IsDecision F call changes reply → Keeps v old (picture F) → SavesFrom v part changes old new (Ok done) →
-      IsAnswered v F call reply new
-  answers_saved F call old new part changes reply done h cut d keeps s =
-      record {
-        faultless = d.faultless;
-        decided = d.replies;
-        stays_legal = d.stays_legal;
-        keeps = subst (Keeps v new) d.makes (s.saved h (picture F) cut (fits F call changes reply d) keeps.tables);
-      }
+  -- the store keeps the tables with the changes
+  answers : (F : History) (call : Call) (new : S) (changes : List Change) (reply : Reply) → IsDecision F call changes reply →
+      Keeps v new (applied changes (picture F)) → IsAnswered v F call reply new
+  answers F call new changes reply d keeps =
+      record { faultless = d.faultless; decided = d.replies; stays_legal = d.stays_legal; keeps = subst (Keeps v new) d.makes keeps }
 
   -- a stop leaves all of them or none
   either : {R : Type 0} (F : History) (call : Call) (old new : S) (part : Tables) (changes : List Change) (reply : Reply) (result : Result R StorageFault) →
@@ -162,12 +130,7 @@ module _ {S C : Type 0} (v : Sight S C) where
   pub unread : (call : Call) (here : S) (result : Result Reply DeskFault) → IsFormedCall call → Faults result deskfault.Memory → Answers v call here here result
   unread call here (Ok reply) formed is = absurd is
   unread call here (Err why) formed is =
-      record {
-        formed = formed;
-        honest = λ h. h;
-        unchanged = λ going. stands_here here;
-        exit = λ h F legal keeps. subst (λ w. ExitsBy v F call w here) (sym is) (record { cause = tt; keeps = keeps });
-      }
+      subst (λ w. Answers v call here here (Err w)) (sym is) (declines v call here formed)
 
   -- the decision is a fault
   pub refused : (call : Call) (old new : S) (book : Tables) (e : CoreFault) (result : Result Reply DeskFault) → IsFormedCall call →
@@ -177,10 +140,10 @@ module _ {S C : Type 0} (v : Sight S C) where
       record {
         formed = formed;
         honest = l.reads.honest;
-        unchanged = λ going. loaded call old new book l;
+        unchanged = λ going. stands_read l.reads;
         exit =
             λ h F legal keeps. subst (λ w. ExitsBy v F call w new) (sym is)
-            (declines F call new e (refuses F legal (l.part h F legal keeps.tables)) (keeps_on old new (picture F) h (loaded call old new book l) keeps));
+            (is_declined F call new e (refuses F legal (l.part h F legal keeps.tables)) (keeps_on old new (picture F) h (stands_read l.reads) keeps));
       }
 
   -- the decision changes nothing
@@ -192,8 +155,8 @@ module _ {S C : Type 0} (v : Sight S C) where
         honest = l.reads.honest;
         unchanged = tt;
         exit =
-            λ h F legal keeps. answers_alone F call new changes reply none (decides F legal (l.part h F legal keeps.tables))
-            (keeps_on old new (picture F) h (loaded call old new book l) keeps);
+            λ h F legal keeps. answers F call new changes reply (decides F legal (l.part h F legal keeps.tables))
+            (subst (λ cs. Keeps v new (applied cs (picture F))) (sym none) (keeps_on old new (picture F) h (stands_read l.reads) keeps));
       }
 
   -- its changes are saved
@@ -207,8 +170,9 @@ module _ {S C : Type 0} (v : Sight S C) where
         exit =
             λ h F legal keeps.
             let enough = l.part (s.honest h) F legal keeps.tables in
-            answers_saved F call mid new book changes reply done h (enough.kept, enough.cut) (decides F legal enough)
-            (keeps_on old mid (picture F) (s.honest h) (loaded call old mid book l) keeps) s;
+            let d = decides F legal enough in
+            answers F call new changes reply d (s.saved h (picture F) (enough.kept, enough.cut) (fits F call changes reply d)
+            ((stands_read l.reads).tables (s.honest h) (picture F) keeps.tables));
       }
 
   -- they are not
@@ -222,20 +186,20 @@ module _ {S C : Type 0} (v : Sight S C) where
         honest = λ h. l.reads.honest (s.honest h);
         unchanged =
             subst (λ w. closes w ≡ false → Stands v old new) (sym is)
-            (λ going. stands_then old mid new (loaded call old mid book l) (unwritten R mid new book changes cause s going));
+            (λ going. stands_both (stands_read l.reads) (unwritten R mid new book changes cause s going));
         exit =
             λ h F legal keeps.
             let enough = l.part (s.honest h) F legal keeps.tables in
             subst (λ w. ExitsBy v F call w new) (sym is)
             (save_fails R F call mid new book changes reply cause h (enough.kept, enough.cut) (decides F legal enough)
-            (keeps_on old mid (picture F) (s.honest h) (loaded call old mid book l) keeps) s);
+            (keeps_on old mid (picture F) (s.honest h) (stands_read l.reads) keeps) s);
       }
 
   -- ---- what faults come from
 
   module _ (causes : Causes S) where
     -- a fault of a decision comes of no store
-    core_caused : (old new : S) (e : CoreFault) → IsCaused v causes old new (core_fault e)
+    pub core_caused : (old new : S) (e : CoreFault) → IsCaused v causes old new (core_fault e)
     core_caused old new core.Memory = tt
     core_caused old new core.Moment = tt
     core_caused old new core.ShortRandom = tt
@@ -248,19 +212,13 @@ module _ {S C : Type 0} (v : Sight S C) where
     storage_caused old mid new saving storagefault.Device stood is = record { from = mid; stood = stood; saving = saving; cause = is }
     storage_caused old mid new saving storagefault.Reopen stood is = record { from = mid; stood = stood; saving = saving; cause = is }
 
-    -- want of memory comes of no store
-    pub memory_caused : (old new : S) (result : Result Reply DeskFault) → Faults result deskfault.Memory → IfErr result (IsCaused v causes old new)
-    memory_caused old new (Ok reply) is = absurd is
-    memory_caused old new (Err why) is = subst (IsCaused v causes old new) (sym is) tt
-
     -- and so of results
-    pub core_result_caused : (old new : S) (e : CoreFault) (result : Result Reply DeskFault) → Faults result (core_fault e) →
+    pub result_caused : (old new : S) (why : DeskFault) (result : Result Reply DeskFault) → IsCaused v causes old new why → Faults result why →
         IfErr result (IsCaused v causes old new)
-    core_result_caused old new e (Ok reply) is = absurd is
-    core_result_caused old new e (Err why) is = subst (IsCaused v causes old new) (sym is) (core_caused old new e)
+    result_caused old new why (Ok reply) caused is = absurd is
+    result_caused old new why (Err e) caused is = subst (IsCaused v causes old new) (sym is) caused
 
     pub storage_result_caused : (old mid new : S) (saving : Option Saving) (cause : StorageFault) (result : Result Reply DeskFault)
         → Stands v old mid → causes saving mid new cause → Faults result (storage_fault cause) → IfErr result (IsCaused v causes old new)
-    storage_result_caused old mid new saving cause (Ok reply) stood caused is = absurd is
-    storage_result_caused old mid new saving cause (Err why) stood caused is =
-        subst (IsCaused v causes old new) (sym is) (storage_caused old mid new saving cause stood caused)
+    storage_result_caused old mid new saving cause result stood caused is =
+        result_caused old new (storage_fault cause) result (storage_caused old mid new saving cause stood caused) is

@@ -1,11 +1,13 @@
 use Rattle.std.proofs.Common.{None, subst}
 use Rattle.desk.specs.Answers.{Answers}
-use Rattle.desk.proofs.Exiting.{loaded, memory_caused, stands_here, storage_result_caused, unread}
+use Rattle.store_api.proofs.Readings.{stands_here, stands_read}
+use Rattle.desk.specs.declared.fault.DeskFault.TheVariants as deskfault
+use Rattle.desk.proofs.Exiting.{result_caused, storage_result_caused, unread}
 use Rattle.desk.proofs.desk.attempt.Goals as goal
 
 pub returns-in_err-parsed-clause-caused : goal.returns-in_err-parsed-clause-caused
 returns-in_err-parsed-clause-caused g c =
-    memory_caused g.K.Storage.sight g.K.Storage.causes c.args.store.now c.args.store.now _ c.from_residual.ensures.1
+    result_caused g.K.Storage.sight g.K.Storage.causes c.args.store.now c.args.store.now deskfault.Memory _ tt c.from_residual.ensures.1
 
 pub returns-in_err-parsed-clause-exit : goal.returns-in_err-parsed-clause-exit
 returns-in_err-parsed-clause-exit g c = unread g.K.Storage.sight c.args.call.now c.args.store.now _ c.keep_form.ensures c.from_residual.ensures.1
@@ -13,12 +15,11 @@ returns-in_err-parsed-clause-exit g c = unread g.K.Storage.sight c.args.call.now
 pub returns-in_err-part-clause-caused : goal.returns-in_err-part-clause-caused
 returns-in_err-part-clause-caused g c =
     storage_result_caused g.K.Storage.sight g.K.Storage.causes c.args.store.now c.args.store.now c.load_part.new.self None c.in_err-part.field-0.0 _
-    (stands_here g.K.Storage.sight c.args.store.now) c.in_err-part.ensures.caused c.from_residual-in_err-part.ensures.1
+    stands_here c.in_err-part.ensures.caused c.from_residual-in_err-part.ensures.1
 
 pub returns-clause-caused : goal.returns-clause-caused
 returns-clause-caused g c =
-    c.attempt_by-attempted.ensures.caused c.args.store.now
-    (loaded g.K.Storage.sight c.in_ok-parsed.parsed c.args.store.now c.load_part.new.self c.in_ok-part.part c.in_ok-part.ensures.loads)
+    c.attempt_by-attempted.ensures.caused c.args.store.now (stands_read c.in_ok-part.ensures.loads.reads)
 
 pub returns-clause-exit : goal.returns-clause-exit
 returns-clause-exit g c =

@@ -1,13 +1,15 @@
 use Rattle.std.proofs.Common.{◌≡◌, [], Some, sym, ap, subst, ◌∙◌, length}
 use Rattle.desk_model.specs.Run.{IsFormedCall}
 use Rattle.std.specs.Prelude.{nat_eq}
-use Rattle.desk.proofs.Exiting.{answered_alone, core_result_caused, nothing, refused, saved, storage_result_caused}
+use Rattle.desk.specs.Faults.{core_fault}
+use Rattle.desk.proofs.Exiting.{answered_alone, core_caused, nothing, refused, result_caused, saved, storage_result_caused}
 use Rattle.desk.proofs.Exiting.{storage_result_in_time, unsaved}
 use Rattle.desk.proofs.desk.attempt_by.Goals as goal
 
 pub returns-in_err-outcome-clause-caused : goal.returns-in_err-outcome-clause-caused
 returns-in_err-outcome-clause-caused g c was stood =
-    core_result_caused g.K.Storage.sight g.K.Storage.causes was c.args.store.now c.in_err-outcome.field-0.0 _ c.from_residual.ensures.1
+    result_caused g.K.Storage.sight g.K.Storage.causes was c.args.store.now (core_fault c.in_err-outcome.field-0.0) _
+    (core_caused g.K.Storage.sight g.K.Storage.causes was c.args.store.now c.in_err-outcome.field-0.0) c.from_residual.ensures.1
 
 pub returns-in_err-outcome-clause-exit : goal.returns-in_err-outcome-clause-exit
 returns-in_err-outcome-clause-exit g c was loads =
