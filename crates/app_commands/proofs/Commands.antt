@@ -5,9 +5,8 @@ use Rattle.sqlite.specs.Recovery.{Image}
 use Rattle.sqlite_disk.specs.declared.Disk as disk
 use Rattle.app_words.specs.declared.command.Command.{Command}
 use Rattle.app_words.specs.declared.command.Command.TheVariants as command
-use Rattle.app_commands.specs.Filters.{IsUnasked}
+use Rattle.app_commands.specs.{Filters.IsUnasked, Faults.IsOfOpening}
 use Rattle.app_commands.specs.Deeds.{ChecksStatuses, ListsRows}
-use Rattle.app_commands.specs.Faults.{IsOfOpening}
 use Rattle.app_commands.specs.Statuses.{Ends, EndsList, EndsMake, EndsOverFiles, EndsUnasked, IsToldMade, form_of, terms_in_memory}
 use Rattle.app_commands.specs.declared.filters.Unasked.{Unasked}
 use Rattle.app_commands.specs.declared.filters.Unasked.TheVariants as unasked
@@ -17,8 +16,7 @@ use Rattle.desk.specs.declared.fault.DeskFault.TheVariants as deskfault
 use Rattle.desk_model.specs.Tables.{Tables}
 use Rattle.desk_model.specs.Terms.{Terms, are_terms}
 use Rattle.store_api.specs.declared.fault.StorageFault.TheVariants.{Memory}
-use Rattle.desk_store.specs.declared.open_fault.OpenFault.{OpenFault}
-use Rattle.desk_store.specs.declared.open_fault.OpenFault.TheVariants.{Storage}
+use Rattle.desk_store.specs.declared.open_fault.{OpenFault.OpenFault, OpenFault.TheVariants.Storage}
 use Rattle.app_files.specs.Doing.{Deed}
 use Rattle.app_files.specs.Endings.{EndsInMemory, EndsMaking, unmade_in_memory}
 use Rattle.app_files.specs.declared.left.Left.{Left}

@@ -8,13 +8,9 @@ use Rattle.app_commands.specs.declared.fault.Fault.TheVariants as fault
 use Rattle.desk_http.specs.InTurn.{ServesAll}
 use Rattle.desk_http.specs.declared.serve_fault.ServeFault.{ServeFault}
 use Rattle.desk_http.specs.declared.serve_fault.ServeFault.TheVariants as servefault
-use Rattle.desk.specs.Faults.{closes}
-use Rattle.desk.specs.Office.{AnswersOffice}
-use Rattle.desk.specs.SeenDesks.{IsSeenOn}
-use Rattle.desk.specs.State.{DeskState}
+use Rattle.desk.specs.{Faults.closes, Office.AnswersOffice, SeenDesks.IsSeenOn, State.DeskState}
 use Rattle.desk.specs.declared.fault.DeskFault.{DeskFault}
-use Rattle.store_api.specs.Sight.{Sight}
-use Rattle.store_api.specs.Storing.{Causes}
+use Rattle.store_api.specs.{Sight.Sight, Storing.Causes}
 
 -- the end of what was done is this fault
 abbrev Fails : Result ℕ Fault → Fault → Type 0

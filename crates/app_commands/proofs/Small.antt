@@ -7,10 +7,8 @@ use Rattle.app_words.specs.declared.command.Command.{Command}
 use Rattle.app_words.specs.declared.command.Command.TheVariants as command
 use Rattle.app_words.specs.declared.command.Target.{Target}
 use Rattle.app_commands.specs.Asked.{IsSaid, RevokesServed, refused, revoked, unheard}
-use Rattle.app_commands.specs.Deeds.{AnswersReader, ChecksStatuses, ListsRows, RevokesTarget, ServesCount, TellsAbout, TellsPage}
-use Rattle.app_commands.specs.Deeds.{AnswersLines, ByDesk, IsTold, Revokes, Serves}
-use Rattle.app_commands.specs.Deeds.{adopted, clocked, clockless, served, unadopted, unserved}
-use Rattle.app_commands.specs.Deeds.{how_checked, how_listed, how_served}
+use Rattle.app_commands.specs.Deeds.{AnswersReader, ChecksStatuses, ListsRows, RevokesTarget, ServesCount, TellsAbout, TellsPage, AnswersLines, ByDesk, IsTold}
+use Rattle.app_commands.specs.Deeds.{Revokes, Serves, adopted, clocked, clockless, served, unadopted, unserved, how_checked, how_listed, how_served}
 use Rattle.app_commands.specs.Faults.{IsOfOpening}
 use Rattle.app_commands.specs.Statuses.{EndsBackUp, IsToldCopied}
 use Rattle.app_commands.specs.Statuses.{Ends, EndsBy, EndsList, EndsMake, EndsOverFiles, IsToldMade, form_of, status_of, terms_in_memory, terms_of}
@@ -20,17 +18,13 @@ use Rattle.desk.specs.State.{DeskState}
 use Rattle.desk.specs.declared.fault.DeskFault.{DeskFault}
 use Rattle.desk_model.specs.Terms.{Terms}
 use Rattle.desk_model.specs.declared.refusal.Refusal.{Refusal}
-use Rattle.store_api.specs.Sight.{Sight}
-use Rattle.store_api.specs.Storing.{Causes}
+use Rattle.store_api.specs.{Sight.Sight, Storing.Causes}
 use Rattle.desk_store.specs.declared.open_fault.OpenFault.{OpenFault}
 use Rattle.app_files.specs.Doing.{Deed}
 use Rattle.app_files.specs.Endings.{EndsInMemory, unopened}
 use Rattle.app_files.specs.Endings as ending
 use Rattle.app_files.specs.declared.left.Left.{Left}
-use Rattle.app_reports.specs.declared.fault.ReportFault.{ReportFault}
-use Rattle.app_reports.specs.declared.about.Beside.{Beside}
-use Rattle.app_reports.specs.declared.faults.Checked.{Checked}
-use Rattle.app_reports.specs.declared.form.Form.{Form}
+use Rattle.app_reports.specs.declared.{fault.ReportFault.ReportFault, about.Beside.Beside, faults.Checked.Checked, form.Form.Form}
 use Rattle.app_reports.specs.Listed.{Roster, accounts_roster, authorizations_roster, orders_roster}
 use Rattle.app_reports.specs.declared.form.Form.TheVariants as form
 

@@ -3,8 +3,7 @@ use Rattle.std.proofs.Common.{◌≡◌, Result, Ok, Err, inl, inr}
 use Rattle.std.specs.Prelude.{IfErr, false}
 use Rattle.desk_model.specs.Entry.{History}
 use Rattle.desk_model.specs.Tables.{Tables, picture}
-use Rattle.desk_model.specs.declared.call.Call.{Call}
-use Rattle.desk_model.specs.declared.reply.Reply.{Reply}
+use Rattle.desk_model.specs.declared.{call.Call.Call, reply.Reply.Reply}
 use Rattle.store_api.specs.Sight.{Sight, Stands}
 use Rattle.desk.specs.Answers.{Answers, Exits, ExitsBy, IsBroken, IsDeclined, IsEither}
 use Rattle.desk.specs.Faults.{closes}

@@ -2,8 +2,7 @@
 use Rattle.std.proofs.Common.{◌≡◌, inl, inr, ℕ, zero, suc, List, [], Option, Result, Ok, Err, refl, subst, sym}
 use Rattle.std.specs.Prelude.{OnOk}
 use Rattle.sqlite.specs.Files.{image_of, over_files}
-use Rattle.sqlite.specs.Recovery.{Image}
-use Rattle.sqlite.specs.WalReads.{AreClean}
+use Rattle.sqlite.specs.{Recovery.Image, WalReads.AreClean}
 use Rattle.sqlite_disk.specs.declared.Disk as disk
 use Rattle.sqlite_disk.specs.declared.Files.{Files}
 use Rattle.sqlite_store.specs.declared.store.FileStore.{FileStore}
@@ -11,18 +10,15 @@ use Rattle.app_commands.specs.Deeds.{ChecksStatuses, how_checked}
 use Rattle.app_commands.specs.Faults.{IsOfOpening}
 use Rattle.app_commands.specs.Statuses.{EndsOverFiles, IsToldCopied}
 use Rattle.app_commands.specs.declared.fault.Fault.{Fault}
-use Rattle.desk_model.specs.Entry.{History}
-use Rattle.desk_model.specs.Tables.{picture}
+use Rattle.desk_model.specs.{Entry.History, Tables.picture}
 use Rattle.desk_files.specs.LeftFiles.{HoldDesk, LeftFiles, file_sight}
 use Rattle.desk_store.specs.Desks.{store_sight}
-use Rattle.desk_store.specs.declared.open_fault.OpenFault.{OpenFault}
-use Rattle.desk_store.specs.declared.store.Store.{Store}
+use Rattle.desk_store.specs.declared.{open_fault.OpenFault.OpenFault, store.Store.Store}
 use Rattle.app_files.specs.Doing.{OverStore}
 use Rattle.app_files.specs.Endings.{IsClosed, IsDoneOver, IsLeft, IsTold, done, unopened}
 use Rattle.app_files.specs.declared.left.Left.{Left}
 use Rattle.app_files.specs.declared.left.Left.TheVariants as rest
-use Rattle.app_reports.specs.declared.fault.ReportFault.{ReportFault}
-use Rattle.app_reports.specs.declared.faults.Checked.{Checked}
+use Rattle.app_reports.specs.declared.{fault.ReportFault.ReportFault, faults.Checked.Checked}
 use Rattle.app_reports.specs.declared.form.Form.TheVariants as form
 use Rattle.app_lives.specs.Left.{CopiesHoldDesk}
 

@@ -6,14 +6,12 @@ use Rattle.app_commands.specs.Deeds.{AnswersReader, ChecksStatuses, ListsRows, R
 use Rattle.app_commands.specs.declared.fault.Fault.{Fault}
 use Rattle.desk.specs.Seen.{Told}
 use Rattle.model_lives.proofs.Extends.{histories_are_legal}
-use Rattle.desk_model.specs.Entry.{History}
+use Rattle.desk_model.specs.{Entry.History, Tables.picture}
 use Rattle.desk_model.specs.Life.{Reopened, history, kept_calls}
-use Rattle.desk_model.specs.Tables.{picture}
 use Rattle.desk_files.proofs.Finding.{in_todays}
 use Rattle.desk_files.specs.LeftFiles.{LeftFiles, file_sight}
 use Rattle.desk_store.specs.Desks.{AreOfDesk, store_sight}
-use Rattle.app_files.specs.Doing.{Doing}
-use Rattle.app_files.specs.Endings.{IsDoneOver}
+use Rattle.app_files.specs.{Doing.Doing, Endings.IsDoneOver}
 use Rattle.app_reports.specs.Listed.{accounts_roster, authorizations_roster, orders_roster}
 use Rattle.app_lives.proofs.Joined.{history_on, kept_on, lives_on, replied_on}
 use Rattle.app_lives.proofs.Leaving.{words_leave}

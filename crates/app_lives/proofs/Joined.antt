@@ -1,10 +1,8 @@
 -- A life that goes on in another one.
 use Rattle.std.proofs.Common.{◌≡◌, ◌∙◌, List, [], ◌∷◌, ◌++◌, true, false, None, IsTrue, ap, refl, subst, sym}
 use Rattle.desk.specs.Seen.{replied}
-use Rattle.desk_model.specs.Decide.{decide}
-use Rattle.desk_model.specs.Entry.{History}
+use Rattle.desk_model.specs.{Decide.decide, Entry.History, Run.fault}
 use Rattle.desk_model.specs.Life.{Event, Faulted, IsLife, MayHappen, Reopened, Replied, Stopped, history, is_running, kept_calls, step}
-use Rattle.desk_model.specs.Run.{fault}
 
 -- the events of a life and those of a later one, which begins with an opening
 abbrev joined : (later before : List Event) → List Event

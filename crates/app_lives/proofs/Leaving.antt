@@ -2,9 +2,7 @@
 use Rattle.std.proofs.KnownBytes.{Appends-nil}
 use Rattle.std.specs.Prelude.{IfSome}
 use Rattle.std.proofs.Common.{◌≡◌, ◌∙◌, ◌⊎◌, ℕ, zero, suc, List, [], ◌∷◌, ◌++◌, false, Option, None, Some, Result, Ok, Err, inl, inr, refl, subst, sym, unwrap_or}
-use Rattle.sqlite.specs.Files.{over_files}
-use Rattle.sqlite.specs.Recovery.{Image}
-use Rattle.sqlite.specs.Tree.{Trees}
+use Rattle.sqlite.specs.{Files.over_files, Recovery.Image, Tree.Trees}
 use Rattle.sqlite_disk.specs.declared.Disk as disk
 use Rattle.sqlite_store.specs.declared.store.FileStore.{FileStore}
 use Rattle.app_batch.proofs.Acting.{line_acts}
@@ -20,35 +18,25 @@ use Rattle.desk_http.specs.InTurn.{ServesAll, ServesClient, ServesMany}
 use Rattle.desk_http.specs.InTurn as turn
 use Rattle.desk_http.specs.declared.serve_fault.ServeFault.{ServeFault}
 use Rattle.desk_http.specs.declared.serve_fault.ServeFault.TheVariants as servefault
-use Rattle.desk.specs.Answers.{is_closed_after}
-use Rattle.desk.specs.Meets.{ActsOnce}
+use Rattle.desk.specs.{Answers.is_closed_after, Meets.ActsOnce, Seen.Told, State.DeskState}
 use Rattle.desk.specs.Office.{AnswersOffice, office_call}
-use Rattle.desk.specs.Seen.{Told}
-use Rattle.desk.specs.State.{DeskState}
 use Rattle.desk.specs.declared.fault.DeskFault.{DeskFault}
 use Rattle.desk_http.proofs.Acting.{once_acts}
-use Rattle.desk_http.specs.declared.sending.IoFault.{IoFault}
-use Rattle.desk_http.specs.declared.serving.Served.{Served}
-use Rattle.desk_model.specs.Entry.{History}
-use Rattle.desk_model.specs.History.{terms}
-use Rattle.desk_model.specs.Legal.{Legal}
-use Rattle.desk_model.specs.Tables.{picture}
-use Rattle.desk_model.specs.declared.refusal.Refusal.{Refusal}
-use Rattle.desk_model.specs.declared.reply.Reply.{Reply}
+use Rattle.desk_http.specs.declared.{sending.IoFault.IoFault, serving.Served.Served}
+use Rattle.desk_model.specs.{Entry.History, History.terms, Legal.Legal, Tables.picture}
+use Rattle.desk_model.specs.declared.{refusal.Refusal.Refusal, reply.Reply.Reply}
 use Rattle.store_api.proofs.Readings.{reads_then, stands_both}
 use Rattle.store_api.specs.Sight.{Keeps, Sight, Stands}
 use Rattle.store_api.specs.Storing.{Causes}
 use Rattle.desk_store.specs.Desks.{store_sight}
 use Rattle.desk_store.specs.declared.store.Store.{Store}
-use Rattle.app_files.specs.Doing.{Doing}
-use Rattle.app_files.specs.Endings.{IsDoneOver}
+use Rattle.app_files.specs.{Doing.Doing, Endings.IsDoneOver}
 use Rattle.app_lives.specs.Kept.{Answered, HasLife}
 use Rattle.app_lives.specs.Kept as kept
 use Rattle.app_reports.specs.Reported.{Reports}
 use Rattle.app_reports.specs.declared.fault.ReportFault.{ReportFault}
 use Rattle.http_routes.specs.Lines.{Spells, line_text}
-use Rattle.http_routes.specs.declared.lines.Line.{Line}
-use Rattle.http_routes.specs.declared.request.Request.{Request}
+use Rattle.http_routes.specs.declared.{lines.Line.Line, request.Request.Request}
 use Rattle.http_routes.specs.declared.request.Request.TheVariants as request
 use Rattle.app_lives.specs.Left.{IsOver, LeavesDesk, LeavesLife, LivesOn, WordsLeave}
 use Rattle.app_lives.specs.Told.{TellsAny, TellsBatch, TellsLines, TellsRevocation, asked, no_line, refused}

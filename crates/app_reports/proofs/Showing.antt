@@ -2,12 +2,9 @@
 use Rattle.std.proofs.KnownBytes.{Appends-nil, Appends-trans}
 use Rattle.std.proofs.lemmas.Bool.{le-ltb, lt-ltb, ltb-false, ltb-true}
 use Rattle.std.proofs.lemmas.List.{take-append-le, take_all}
-use Rattle.std.proofs.lemmas.List.Concat.{flat_map-append}
-use Rattle.std.proofs.lemmas.List.Elements.{filter-append}
+use Rattle.std.proofs.lemmas.List.{Concat.flat_map-append, Elements.filter-append}
 use Rattle.std.proofs.Common.{◌≡◌, ◌∙◌, ◌++◌, ◌-◌, ◌^◌, Bool, true, false, List, [], ◌∷◌, ℕ, ap, append_assoc, append-nil, arith, cond, filter, length, length-append, min, nat_lt, refl, subst, sym, take}
-use Rattle.std.specs.Io.KnownBytes.{Appends}
-use Rattle.std.specs.List.{flat_map}
-use Rattle.std.specs.Prelude.{Option}
+use Rattle.std.specs.{Io.KnownBytes.Appends, List.flat_map, Prelude.Option}
 use Rattle.app_reports.specs.Page.{IsShown, ShowsFirst, if_room}
 
 -- of one more the first ones are one more, where there is room

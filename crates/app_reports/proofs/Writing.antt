@@ -2,9 +2,7 @@
 use Rattle.std.proofs.KnownBytes.{Appends-nil, Appends-trans}
 use Rattle.std.proofs.Common.{◌≡◌, ◌∙◌, ◌<◌, ◌≤◌, ◌+◌, ◌++◌, List, [], ℕ, ap, append_assoc, append-nil, drop, get_or, length, refl, subst, sym}
 use Rattle.std.proofs.lemmas.List.{at_drop_all, at_drop_more}
-use Rattle.std.specs.Io.KnownBytes.{Appends}
-use Rattle.std.specs.List.{flat_map}
-use Rattle.std.specs.Prelude.{Option}
+use Rattle.std.specs.{Io.KnownBytes.Appends, List.flat_map, Prelude.Option}
 
 module _ {X : Type 0} (text : X → List ℕ) where
   -- what was written, then the texts of what is left, are those of all

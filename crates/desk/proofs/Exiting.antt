@@ -2,15 +2,9 @@
 use Rattle.std.proofs.Common.{◌≡◌, List, [], ◌∷◌, Option, refl, sym, subst, Result, Ok, Err, inl, inr, arith, true, false}
 use Rattle.std.proofs.lemmas.Bool.{eqb-true}
 use Rattle.std.specs.Prelude.{nat_eq, length, IfErr, IsErrAnd}
-use Rattle.desk_model.specs.Entry.{History}
-use Rattle.desk_model.specs.Legal.{Legal}
+use Rattle.desk_model.specs.{Entry.History, Legal.Legal, Change.applied, Decide.after, Run.IsFormedCall}
 use Rattle.desk_model.specs.Tables.{Tables, picture}
-use Rattle.desk_model.specs.Change.{applied}
-use Rattle.desk_model.specs.Decide.{after}
-use Rattle.desk_model.specs.Run.{IsFormedCall}
-use Rattle.desk_model.specs.declared.call.Call.{Call}
-use Rattle.desk_model.specs.declared.reply.Reply.{Reply}
-use Rattle.desk_model.specs.declared.rows.Change.{Change}
+use Rattle.desk_model.specs.declared.{call.Call.Call, reply.Reply.Reply, rows.Change.Change}
 use Rattle.model_lives.specs.IsEnough.{IsEnoughFor}
 use Rattle.store_book.specs.IsBook.{IsStoredBook}
 use Rattle.store_laws.proofs.FlatTexts.{picture_is_stored_book}

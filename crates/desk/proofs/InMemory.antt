@@ -2,8 +2,7 @@
 use Rattle.std.proofs.Common.{refl, sym, ◌∙◌, Err, inl}
 use Rattle.desk_model.specs.Tables.{Tables}
 use Rattle.desk_model.specs.declared.call.Call.{Call}
-use Rattle.store_api.specs.InMemory.{in_memory}
-use Rattle.store_api.specs.Storing.{Loads}
+use Rattle.store_api.specs.{InMemory.in_memory, Storing.Loads}
 use Rattle.store_api.specs.declared.fault.StorageFault.{StorageFault}
 use Rattle.store_api.specs.declared.fault.StorageFault.TheVariants as storagefault
 

@@ -1,23 +1,16 @@
 -- What is seen of a desk is a life.
 use Rattle.std.proofs.Common.{◌≡◌, List, [], ◌∷◌, ◌++◌, Bool, true, false, refl, sym, ap, subst, ◌∙◌, append_assoc, Result, Ok, Err, inl, inr}
-use Rattle.desk_model.specs.Entry.{History}
-use Rattle.desk_model.specs.Legal.{Legal}
-use Rattle.desk_model.specs.Tables.{picture}
-use Rattle.desk_model.specs.Decide.{decide}
-use Rattle.desk_model.specs.Run.{IsFormedCall}
+use Rattle.desk_model.specs.{Entry.History, Legal.Legal, Tables.picture, Decide.decide, Run.IsFormedCall}
 use Rattle.desk_model.specs.Life.{Event, Replied, Faulted, Stopped, Reopened, IsLife, history, kept_calls, made_by, EndedRowsStay}
-use Rattle.desk_model.specs.declared.call.Call.{Call}
-use Rattle.desk_model.specs.declared.reply.Reply.{Reply}
-use Rattle.model_lives.proofs.Ended.{ended_stays}
-use Rattle.model_lives.proofs.Nonces.{nonces_serve_once}
+use Rattle.desk_model.specs.declared.{call.Call.Call, reply.Reply.Reply}
+use Rattle.model_lives.proofs.{Ended.ended_stays, Nonces.nonces_serve_once}
 use Rattle.model_lives.proofs.Extends.{acknowledged_stays, histories_are_legal, histories_are_of_calls, life_before, replies_are_decided}
 use Rattle.store_api.specs.Sight.{Sight, Keeps, Opens}
 use Rattle.desk.specs.Answers.{Exits, IsEither}
 use Rattle.desk.proofs.Policies.{policy_stays}
-use Rattle.desk.specs.Seen.{Place, runs, rests, Seen, seen_reply, seen_fault, seen_stop, seen_end, seen_open, seen_failure}
-use Rattle.desk.specs.Seen.{place_after, told_by, replied, IsExit, IsExitInPlace, IsExitOfStop, MaySee, MaySeeOn, MaySeeOff}
-use Rattle.desk.specs.Seen.{IsSeen, IsAt, RunsIn, SeenIsLived, Follows, AreKeptOf, SeenIsOfCalls, RepliesAreKept}
-use Rattle.desk.specs.Seen.{NonceServesOnce, NoncesSeenOnce, EndedSeenStays}
+use Rattle.desk.specs.Seen.{Place, runs, rests, Seen, seen_reply, seen_fault, seen_stop, seen_end, seen_open, seen_failure, place_after, told_by, replied}
+use Rattle.desk.specs.Seen.{IsExit, IsExitInPlace, IsExitOfStop, MaySee, MaySeeOn, MaySeeOff, IsSeen, IsAt, RunsIn, SeenIsLived, Follows, AreKeptOf}
+use Rattle.desk.specs.Seen.{SeenIsOfCalls, RepliesAreKept, NonceServesOnce, NoncesSeenOnce, EndedSeenStays}
 use Rattle.desk.specs.declared.fault.DeskFault.{DeskFault}
 use Rattle.desk.specs.declared.fault.DeskFault.TheVariants as deskfault
 

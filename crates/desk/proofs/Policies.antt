@@ -1,13 +1,9 @@
 -- No call changes the policy.
 use Rattle.std.proofs.Common.{◌≡◌, List, [], ◌∷◌, ℕ, true, false, refl, ◌∙◌}
-use Rattle.desk_model.specs.Entry.{History}
+use Rattle.desk_model.specs.{Entry.History, Decide.decide, Life.made_by}
 use Rattle.desk_model.specs.History.{moment_of, record_all, terms, terms_after}
 use Rattle.desk_model.specs.Legal.{BeginsMade, EachFollows, Legal, is_empty, may_follow}
-use Rattle.desk_model.specs.Decide.{decide}
-use Rattle.desk_model.specs.Life.{made_by}
-use Rattle.desk_model.specs.declared.call.Call.{Call}
-use Rattle.desk_model.specs.declared.entry.Entry.{Entry}
-use Rattle.desk_model.specs.declared.entry.Entry.TheVariants.{Made as made}
+use Rattle.desk_model.specs.declared.{call.Call.Call, entry.Entry.Entry, entry.Entry.TheVariants.Made as made}
 use Rattle.model_laws.proofs.Step.{follows_before}
 
 -- an entry that may follow others leaves the terms

@@ -4,14 +4,10 @@ use Rattle.std.proofs.Common.{◌⊎◌, inl, inr, None, Some, Option, Result, O
 use Rattle.std.specs.Prelude.{◌↔◌}
 use Rattle.std.proofs.Math.Seq.{drop-cons, take-suc}
 use Rattle.std.proofs.lemmas.List.{drop_all}
-use Rattle.desk_model.specs.Entry.{History}
-use Rattle.desk_model.specs.Legal.{Legal}
-use Rattle.desk_model.specs.Limits.{last_moment}
-use Rattle.desk_model.specs.Tables.{picture}
+use Rattle.desk_model.specs.{Entry.History, Legal.Legal, Limits.last_moment, Tables.picture}
 use Rattle.desk_model.specs.Decide.{decide, after}
 use Rattle.desk_model.specs.Run.{IsFormedCall, fault, run, and_reply}
-use Rattle.desk_model.specs.declared.call.Call.{Call}
-use Rattle.desk_model.specs.declared.reply.Reply.{Reply}
+use Rattle.desk_model.specs.declared.{call.Call.Call, reply.Reply.Reply}
 use Rattle.store_api.specs.Sight.{Sight, Keeps}
 use Rattle.store_api.specs.Storing.{Causes}
 use Rattle.desk.specs.Answers.{Answers, ExitsBy}

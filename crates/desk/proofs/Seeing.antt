@@ -1,7 +1,6 @@
 -- What a run promises may be seen.
 use Rattle.std.proofs.Common.{◌≡◌, List, [], ◌∷◌, ◌++◌, length, take, drop, refl, sym, ap, subst, ◌∙◌, append_assoc, None, Some, Option, Ok, Err}
-use Rattle.desk_model.specs.declared.call.Call.{Call}
-use Rattle.desk_model.specs.declared.reply.Reply.{Reply}
+use Rattle.desk_model.specs.declared.{call.Call.Call, reply.Reply.Reply}
 use Rattle.store_api.specs.Sight.{Sight}
 use Rattle.desk.specs.Runs.{AnswersAll, EndsBy}
 use Rattle.desk.specs.Seen.{Place, runs, Seen, seen_reply, seen_fault, seen_stop, seen_end, seen_open, seen_failure}

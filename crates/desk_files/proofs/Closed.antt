@@ -6,14 +6,10 @@ use Rattle.sqlite_disk.specs.declared.Files.{Files}
 use Rattle.sqlite_store.specs.declared.store.FileStore.{FileStore}
 use Rattle.sqlite_store.specs.Laws.{stays_at}
 use Rattle.sqlite.specs.Closing.{HoldsAlone, IsCopied}
-use Rattle.sqlite.specs.Effect.{Database}
+use Rattle.sqlite.specs.{Effect.Database, Files.file_state, Recovery.Image, Tree.Trees, WalFiles.outcomes}
 use Rattle.sqlite.proofs.Theorems.{opens_again}
 use Rattle.sqlite.specs.FileStore.{recovers, state, view}
-use Rattle.sqlite.specs.Files.{file_state}
 use Rattle.sqlite.specs.Held.{AreDatabases, Held}
-use Rattle.sqlite.specs.Recovery.{Image}
-use Rattle.sqlite.specs.Tree.{Trees}
-use Rattle.sqlite.specs.WalFiles.{outcomes}
 use Rattle.desk_model.specs.Tables.{Tables}
 use Rattle.desk_store.specs.Desks.{AreOfDesk, HasDesk, IsDesk}
 use Rattle.desk_store.specs.declared.store.Store.{Store}

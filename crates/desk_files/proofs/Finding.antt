@@ -7,17 +7,12 @@ use Rattle.sqlite_catalog.proofs.ReadLemmas.{lists_once}
 use Rattle.sqlite_catalog.specs.Listing.{IsSound, Lists}
 use Rattle.sqlite_trees.specs.Objects.{catalog_tree}
 use Rattle.sqlite.specs.Effect.{Database, IsDatabase}
-use Rattle.sqlite.specs.FileStore.{recovers}
+use Rattle.sqlite.specs.{FileStore.recovers, Schema.Schema, Start.FindsIn, Tree.Trees}
 use Rattle.sqlite.specs.Files.{IsEmpty, IsOpened, file_state}
 use Rattle.sqlite.specs.Held.{AreDatabases, Held}
-use Rattle.sqlite.specs.Schema.{Schema}
-use Rattle.sqlite.specs.Start.{FindsIn}
-use Rattle.sqlite.specs.Tree.{Trees}
-use Rattle.sqlite.proofs.ListingLemmas.{empty_is_sound}
-use Rattle.sqlite.proofs.Theorems.{opens_again}
+use Rattle.sqlite.proofs.{ListingLemmas.empty_is_sound, Theorems.opens_again}
 use Rattle.desk_model.specs.Tables.{Tables}
-use Rattle.sql_schema.specs.Names.{uses_key_table}
-use Rattle.sql_schema.specs.Schema.{no_schema}
+use Rattle.sql_schema.specs.{Names.uses_key_table, Schema.no_schema}
 use Rattle.store_api.specs.Sight.{Sight, Keeps}
 use Rattle.desk_store.specs.Desks.{AreOfDesk, IsDesk}
 use Rattle.desk_store.specs.declared.store.Store.{Store}

@@ -5,16 +5,11 @@ use Rattle.sqlite_disk.specs.declared.Disk as disk
 use Rattle.sqlite_store.specs.declared.store.FileStore.{FileStore}
 use Rattle.sqlite.specs.Files.{IsEmpty, IsOpened, file_state}
 use Rattle.sqlite.specs.Held.{Held, IsNew}
-use Rattle.sqlite.specs.Recovery.{Image}
-use Rattle.sqlite.specs.Start.{FindsIn}
+use Rattle.sqlite.specs.{Recovery.Image, Start.FindsIn, Tree.Trees, View.doubt}
 use Rattle.sqlite.specs.State.{State, HasCleanDisk, Survives}
-use Rattle.sqlite.specs.Tree.{Trees}
-use Rattle.sqlite.specs.View.{doubt}
-use Rattle.desk_model.specs.Tables.{Tables}
-use Rattle.desk_model.specs.Terms.{Terms}
+use Rattle.desk_model.specs.{Tables.Tables, Terms.Terms}
 use Rattle.sql_schema.specs.Names.{uses_key_table, uses_names}
-use Rattle.sql_schema.specs.Schema.{no_schema}
-use Rattle.sql_schema.specs.Stays.{Asks}
+use Rattle.sql_schema.specs.{Schema.no_schema, Stays.Asks}
 use Rattle.store_api.specs.declared.fault.StorageFault.TheVariants as fault
 use Rattle.desk_store.specs.Opening.{IsUpgraded}
 use Rattle.desk_store.specs.declared.open_fault.OpenFault.{OpenFault}

@@ -5,12 +5,10 @@ use Rattle.sqlite_disk.specs.declared.Files.{Files}
 use Rattle.sqlite_disk.specs.Disk.{MoreFaults}
 use Rattle.sqlite.specs.Files.{FailsToOpenFiles, HoldsDatabase, faults_left, faults_of, image_of}
 use Rattle.sqlite.specs.Recovery.{Image}
-use Rattle.sqlite.specs.declared.error.Error.{Error}
-use Rattle.sqlite.specs.declared.file.Leftover.{Leftover}
+use Rattle.sqlite.specs.declared.{error.Error.Error, file.Leftover.Leftover}
 use Rattle.store_api.specs.declared.fault.StorageFault.TheVariants as fault
 use Rattle.desk_store.specs.Making.{IsOfStorage}
-use Rattle.desk_files.specs.LeftFiles.{LeftFiles}
-use Rattle.desk_files.specs.Opening.{fault_of_refusal}
+use Rattle.desk_files.specs.{LeftFiles.LeftFiles, Opening.fault_of_refusal}
 
 -- what is so of what there is
 pub if_there : {A : Type 0} (o : Option A) {P Q : A → Type 0} → IfSome o P → ((a : A) → P a → Q a) → IfSome o Q

@@ -1,10 +1,8 @@
 -- What serving one request does to a desk: nothing, or what its answer to one call does.
 use Rattle.std.proofs.Common.{ℕ, List, Option, Some, None, Result, Ok, Err, Bool, inl, inr}
 use Rattle.std.specs.Prelude.{MatchResult}
-use Rattle.desk_model.specs.declared.call.Call.{Call}
-use Rattle.desk_model.specs.declared.reply.Reply.{Reply}
-use Rattle.store_api.specs.Sight.{Sight}
-use Rattle.store_api.specs.Storing.{Causes}
+use Rattle.desk_model.specs.declared.{call.Call.Call, reply.Reply.Reply}
+use Rattle.store_api.specs.{Sight.Sight, Storing.Causes}
 use Rattle.desk.specs.Meets.{ActsOnce, Meets}
 use Rattle.desk.specs.State.{DeskState}
 use Rattle.desk.specs.declared.fault.DeskFault.{DeskFault}
@@ -16,8 +14,7 @@ use Rattle.desk_http.specs.declared.saying.Cause.{Cause}
 use Rattle.desk_http.specs.declared.saying.Cause.TheVariants as cause
 use Rattle.desk_http.specs.declared.sending.IoFault.{IoFault}
 use Rattle.desk_http.specs.declared.sending.IoFault.TheVariants as iofault
-use Rattle.desk_http.specs.declared.serving.Served.{Served}
-use Rattle.desk_http.specs.declared.telling.Told.{Told}
+use Rattle.desk_http.specs.declared.{serving.Served.Served, telling.Told.Told}
 
 module _ {S C : Type 0} (v : Sight S C) (causes : Causes S) where
   -- as a desk answers a call

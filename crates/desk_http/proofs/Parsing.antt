@@ -3,8 +3,7 @@ use Rattle.std.proofs.Common.{◌≡◌, ℕ, List, Option, Some, None, Result, 
 use Rattle.std.specs.Prelude.{IfSome}
 use Rattle.std.specs.declared.alloc.AllocError.{AllocError}
 use Rattle.desk_model.specs.declared.reply.Reply.{Reply}
-use Rattle.store_api.specs.Sight.{Sight}
-use Rattle.store_api.specs.Storing.{Causes}
+use Rattle.store_api.specs.{Sight.Sight, Storing.Causes}
 use Rattle.desk.specs.State.{DeskState}
 use Rattle.desk.specs.declared.fault.DeskFault.{DeskFault}
 use Rattle.http_routes.specs.declared.request.Request.{Request}

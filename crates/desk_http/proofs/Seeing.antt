@@ -1,17 +1,12 @@
 -- What serving connections one after the other does may be seen.
 use Rattle.std.proofs.Common.{ℕ, zero, suc, Err, subst, sym, inl, Option, Some, None, Result}
-use Rattle.store_api.specs.Sight.{Sight}
-use Rattle.store_api.specs.Storing.{Causes}
-use Rattle.desk.specs.SeenDesks.{IsSeenOn}
-use Rattle.desk.specs.State.{DeskState}
+use Rattle.store_api.specs.{Sight.Sight, Storing.Causes}
+use Rattle.desk.specs.{SeenDesks.IsSeenOn, State.DeskState, Meets.ActsOnce}
 use Rattle.desk.specs.declared.fault.DeskFault.{DeskFault}
 use Rattle.desk.proofs.SeeingDesks.{seen_once_more, seen_untouched}
-use Rattle.desk.specs.Meets.{ActsOnce}
 use Rattle.desk_http.proofs.Acting.{once_acts}
-use Rattle.desk_http.specs.declared.sending.IoFault.{IoFault}
-use Rattle.desk_http.specs.declared.serving.Served.{Served}
+use Rattle.desk_http.specs.declared.{sending.IoFault.IoFault, serving.Served.Served, serve_fault.ServeFault.ServeFault}
 use Rattle.desk_http.specs.InTurn.{ServesClient, ServesMany, ServesNext, ServesOne, parsed, unread}
-use Rattle.desk_http.specs.declared.serve_fault.ServeFault.{ServeFault}
 use Rattle.desk_http.specs.declared.serve_fault.ServeFault.TheVariants as servefault
 
 module _ {S C : Type 0} (v : Sight S C) (causes : Causes S) where

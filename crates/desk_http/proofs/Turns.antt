@@ -1,7 +1,6 @@
 -- Connections that are served one after the other.
 use Rattle.std.proofs.Common.{◌≡◌, ◌<◌, Err, ℕ, ◌+◌, Bool, true, Option, None, Some, add-one, arith, false, inl, inr}
-use Rattle.store_api.specs.Sight.{Sight}
-use Rattle.store_api.specs.Storing.{Causes}
+use Rattle.store_api.specs.{Sight.Sight, Storing.Causes}
 use Rattle.desk.specs.State.{DeskState}
 use Rattle.desk.specs.declared.fault.DeskFault.{DeskFault}
 use Rattle.desk_http.specs.InTurn.{Ends, IsOfMachine, ServesAll, ServesMany, ServesNext, ServesOne, ended_by}

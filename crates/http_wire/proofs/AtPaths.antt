@@ -6,8 +6,7 @@ use Rattle.http_routes.specs.declared.routes.Resource.{Resource}
 use Rattle.http_routes.proofs.Leads.{to_account, to_authorization, to_certificate, to_challenge, to_directory, to_finalize}
 use Rattle.http_routes.proofs.Leads.{to_key_change, to_new_account, to_new_nonce, to_new_order, to_order, to_orders}
 use Rattle.http_routes.proofs.Resources.{one_resource}
-use Rattle.http_wire.specs.UrlLaws.{ShownUrlsAreServed}
-use Rattle.http_wire.specs.Served.{IsServed}
+use Rattle.http_wire.specs.{UrlLaws.ShownUrlsAreServed, Served.IsServed}
 
 -- what is served at a path is served at its URL
 at_path : (t : Terms) (path : List ℕ) (x : Resource) → IsResourceAt path x → IsServed t x (t.base ++ path)

@@ -4,8 +4,7 @@ use Rattle.std.proofs.Common.{Ok, Err, append_assoc, append-nil}
 use Rattle.std.proofs.lemmas.List.{drop_all, length-append, length-take, take-append-le, take_all}
 use Rattle.std.specs.Prelude.{IfOk, IfSome, option_map}
 use Rattle.std.specs.Io.KnownBytes.{IsAtEnd}
-use Rattle.http_wire.specs.Head.{Adds}
-use Rattle.http_wire.specs.ParsedRequest.{IsBody}
+use Rattle.http_wire.specs.{Head.Adds, ParsedRequest.IsBody}
 
 -- a body that was begun whole
 pub begun_whole : {V E : Type 0} (items : V → List ℕ) (known : Option (List ℕ)) (begun : List ℕ) (count : ℕ) (res : Result (Option V) E) → count ≤ length begun

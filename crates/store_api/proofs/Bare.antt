@@ -3,18 +3,13 @@ use Rattle.std.proofs.Common.{◌≡◌, ℕ, List, [], ◌∷◌, ◌++◌, map
 use Rattle.std.specs.Prelude.{◌==◌, is_some, nat_lt, option_map}
 use Rattle.std.specs.List.{filter, flat_map}
 use Rattle.std.proofs.lemmas.Grind.{flat_map-append}
-use Rattle.desk_model.specs.Change.{put}
-use Rattle.desk_model.specs.Derived.{numbers_of}
-use Rattle.desk_model.specs.Tables.{Tables}
-use Rattle.desk_model.specs.declared.rows.AuthorizationRow.{AuthorizationRow}
-use Rattle.desk_model.specs.declared.rows.OrderRow.{OrderRow}
+use Rattle.desk_model.specs.{Change.put, Derived.numbers_of, Tables.Tables}
+use Rattle.desk_model.specs.declared.rows.{AuthorizationRow.AuthorizationRow, OrderRow.OrderRow}
 use Rattle.model_laws.proofs.Basics.{find-map}
-use Rattle.model_laws.specs.Ordered.{IsOrdered}
-use Rattle.model_laws.specs.Placing.{puts}
+use Rattle.model_laws.specs.{Ordered.IsOrdered, Placing.puts}
 use Rattle.model_lives.specs.IsEnough.{has_work, is_worked_on}
-use Rattle.model_lives.specs.Loaded.{listed_authorizations}
+use Rattle.model_lives.specs.{Loaded.listed_authorizations, Thinned.without_challenges}
 use Rattle.model_lives.specs.LookUps.{AreNumbers, authorizations_numbered, bare_authorizations, orders_processing, owners_processing}
-use Rattle.model_lives.specs.Thinned.{without_challenges}
 use Rattle.model_lives.proofs.Lists.{filter_nothing}
 use Rattle.model_lives.proofs.WorkLoading.{listed_loaded, work_loaded}
 use Rattle.store_api.proofs.Missing.{missings_put}

@@ -4,21 +4,15 @@ use Rattle.std.specs.Prelude.{◌==◌, ◌&&◌, find, is_some, IsSome}
 use Rattle.std.specs.List.{flat_map}
 use Rattle.std.proofs.lemmas.Bool.{and_from, or_left, or_right}
 use Rattle.store_book.specs.IsBook.{HaveReferences, IsBook}
-use Rattle.desk_model.specs.Questions.{account_on}
-use Rattle.desk_model.specs.Tables.{Tables}
-use Rattle.desk_model.specs.Kept.{EachOf}
+use Rattle.desk_model.specs.{Questions.account_on, Tables.Tables, Kept.EachOf}
 use Rattle.desk_model.specs.declared.call.Ask.{Ask}
 use Rattle.desk_model.specs.declared.call.Ask.TheVariants as ask
 use Rattle.desk_model.specs.declared.call.OfficeAsk.TheVariants as office
-use Rattle.desk_model.specs.declared.call.Call.{Call}
-use Rattle.desk_model.specs.declared.rows.AccountRow.{AccountRow}
-use Rattle.desk_model.specs.declared.rows.Listed.{Listed}
+use Rattle.desk_model.specs.declared.{call.Call.Call, rows.AccountRow.AccountRow, rows.Listed.Listed}
 use Rattle.model_laws.specs.Distinct.{Distinct}
 use Rattle.model_laws.proofs.Basics.{each, each_both, each_parts, each-append, list_any-map}
 use Rattle.model_laws.proofs.Distinctness.{distinct-append, distinct_parts}
-use Rattle.model_laws.proofs.Recorded.{below_filter}
-use Rattle.model_laws.proofs.RowLists.{ascends_filter}
-use Rattle.model_laws.proofs.Finds.{found_passes}
+use Rattle.model_laws.proofs.{Recorded.below_filter, RowLists.ascends_filter, Finds.found_passes}
 use Rattle.desk_model.specs.Touched.{is_first_authorization, is_named_account, is_touched_account, is_touched_authorization}
 use Rattle.desk_model.specs.Touched.{is_touched_nonce, is_touched_order, lists, only_meta, touched, touched_at, touched_rows}
 use Rattle.model_lives.proofs.Lists.{each_member, filtered_each, turned}

@@ -1,26 +1,18 @@
 -- The rows that are enough for an ask, by what it needs.
 use Rattle.std.proofs.Common.{◌≡◌, ℕ, List, [], ◌∷◌, ◌++◌, ap, append_assoc, filter, map, refl, sym, ◌∙◌, true, false, Bool}
 use Rattle.std.proofs.lemmas.List.Folds.{flat_map-map}
-use Rattle.model_laws.specs.Ordered.{IsOrdered}
-use Rattle.model_laws.specs.Placing.{puts}
+use Rattle.model_laws.specs.{Ordered.IsOrdered, Placing.puts}
 use Rattle.model_laws.proofs.RowLists.{puts_append}
-use Rattle.desk_model.specs.Touched.{is_named_account}
-use Rattle.model_lives.proofs.Found.{found_table}
+use Rattle.desk_model.specs.{Touched.is_named_account, Tables.Tables}
+use Rattle.model_lives.proofs.Found.{found_table, IsFound, found_both, found_by, found_filter}
 use Rattle.model_lives.proofs.Loading.{accounts_named, of_account}
 use Rattle.store_api.proofs.Missing.{missings_put}
-use Rattle.std.specs.List.{list_any}
-use Rattle.std.specs.Prelude.{◌||◌, bytes_eq}
+use Rattle.std.specs.List.{list_any, flat_map}
+use Rattle.std.specs.Prelude.{◌||◌, bytes_eq, ◌&&◌, if◌then◌else◌}
 use Rattle.model_lives.specs.Loaded.{account_numbers, keys, new_keys}
-use Rattle.model_lives.specs.LookUps.{accounts_with_key}
-use Rattle.model_lives.proofs.Found.{IsFound, found_both, found_by, found_filter}
+use Rattle.model_lives.specs.LookUps.{accounts_with_key, accounts_numbered}
 use Rattle.store_api.specs.Needing.{keyed_accounts, missings, with_named}
-use Rattle.std.specs.Prelude.{◌&&◌, if◌then◌else◌}
-use Rattle.std.specs.List.{flat_map}
-use Rattle.desk_model.specs.Tables.{Tables}
-use Rattle.desk_model.specs.declared.call.Ask.{Ask}
-use Rattle.desk_model.specs.declared.rows.AccountRow.{AccountRow}
-use Rattle.desk_model.specs.declared.rows.AuthorizationRow.{AuthorizationRow}
-use Rattle.model_lives.specs.LookUps.{accounts_numbered}
+use Rattle.desk_model.specs.declared.{call.Ask.Ask, rows.AccountRow.AccountRow, rows.AuthorizationRow.AuthorizationRow}
 use Rattle.model_lives.specs.Few.{needs_holders}
 use Rattle.model_lives.specs.FewLoaded.{few_accounts, holders_of, moved_authorizations, opened_orders, restated_authorizations}
 use Rattle.model_lives.specs.Loaded.{accounts_once, authorizations_once, listing_orders, named_accounts, past_authorizations, past_orders}

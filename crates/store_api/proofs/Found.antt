@@ -1,7 +1,6 @@
 -- Look-ups whose rows are put into tables, one after the other.
 use Rattle.std.proofs.Common.{◌≡◌, ℕ, Option, None, Some, List, [], ◌∷◌, Result, Ok, Err, IfErr, IfOk, IsErrAnd, OnOk, subst, ◌∙◌}
-use Rattle.std.specs.Prelude.{option_to_list}
-use Rattle.std.specs.Option.{MatchOption}
+use Rattle.std.specs.{Prelude.option_to_list, Option.MatchOption}
 use Rattle.std.proofs.lemmas.Result.{on_ok_weaker}
 use Rattle.model_laws.specs.Placing.{puts}
 use Rattle.store_api.specs.Finding.{Finds, LacksMemory}

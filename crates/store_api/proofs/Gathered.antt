@@ -1,8 +1,7 @@
 -- Rows that are looked up one number after the other, each put into its place.
 use Rattle.std.proofs.Common.{◌≡◌, ℕ, Bool, true, false, cond, refl, filter, List, [], ◌∷◌, ◌++◌}
 use Rattle.std.proofs.Common.{Result, Ok, Err, IfErr, IfOk, OnOk, ap, append-nil, subst, sym, ◌∙◌}
-use Rattle.std.specs.List.{flat_map}
-use Rattle.std.specs.Result.{result_and}
+use Rattle.std.specs.{List.flat_map, Result.result_and}
 use Rattle.model_laws.specs.Placing.{puts}
 use Rattle.model_laws.proofs.RowLists.{puts_append}
 

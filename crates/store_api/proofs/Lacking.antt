@@ -6,14 +6,8 @@ use Rattle.std.specs.List.{filter, flat_map}
 use Rattle.std.proofs.lemmas.Bool.{eqb-true, or_right}
 use Rattle.std.proofs.lemmas.List.{map-append}
 use Rattle.desk_model.specs.Asked.{asked_names, asks_orders}
-use Rattle.desk_model.specs.Change.{put}
-use Rattle.desk_model.specs.Derived.{numbers_of}
-use Rattle.desk_model.specs.Kept.{EachOf}
-use Rattle.desk_model.specs.Tables.{Tables}
-use Rattle.desk_model.specs.declared.call.Ask.{Ask}
-use Rattle.desk_model.specs.declared.rows.AccountRow.{AccountRow}
-use Rattle.desk_model.specs.declared.rows.AuthorizationRow.{AuthorizationRow}
-use Rattle.desk_model.specs.declared.rows.OrderRow.{OrderRow}
+use Rattle.desk_model.specs.{Change.put, Derived.numbers_of, Kept.EachOf, Tables.Tables}
+use Rattle.desk_model.specs.declared.{call.Ask.Ask, rows.AccountRow.AccountRow, rows.AuthorizationRow.AuthorizationRow, rows.OrderRow.OrderRow}
 use Rattle.model_laws.proofs.Basics.{each, find-map, map-each, more_differs}
 use Rattle.model_laws.proofs.RowLists.{ascends_above, ascends_found, puts_append}
 use Rattle.model_laws.specs.Ordered.{Ascends, IsOrdered}

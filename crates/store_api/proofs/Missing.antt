@@ -3,8 +3,7 @@ use Rattle.std.proofs.Common.{◌≡◌, ℕ, List, [], ◌∷◌, ◌++◌, fil
 use Rattle.std.specs.Prelude.{◌==◌, ◌&&◌, ◌||◌, is_some}
 use Rattle.std.specs.List.{flat_map, list_any}
 use Rattle.std.proofs.lemmas.Bool.{eqb-true}
-use Rattle.model_laws.specs.Ordered.{Ascends}
-use Rattle.model_laws.specs.Placing.{puts}
+use Rattle.model_laws.specs.{Ordered.Ascends, Placing.puts}
 use Rattle.model_laws.proofs.Basics.{each, each_both, list_any-same}
 use Rattle.model_laws.proofs.RowLists.{ascends_found, puts_append}
 use Rattle.model_lives.proofs.Cut.{at_number, numbered}

@@ -1,11 +1,9 @@
 -- The rows that are looked up first, by what an ask names.
 use Rattle.std.proofs.Common.{◌≡◌, ◌++◌, [], ℕ, List}
-use Rattle.std.specs.Prelude.{if◌then◌else◌}
-use Rattle.std.specs.List.{flat_map}
+use Rattle.std.specs.{Prelude.if◌then◌else◌, List.flat_map}
 use Rattle.desk_model.specs.Asked.{asks_authorizations, asks_orders}
 use Rattle.desk_model.specs.Tables.{Tables}
-use Rattle.desk_model.specs.declared.call.Ask.{Ask}
-use Rattle.desk_model.specs.declared.rows.AccountRow.{AccountRow}
+use Rattle.desk_model.specs.declared.{call.Ask.Ask, rows.AccountRow.AccountRow}
 use Rattle.model_lives.specs.Loaded.{account_numbers, accounts_once, authorization_numbers, challenge_numbers, first_authorizations, named_accounts}
 use Rattle.model_lives.specs.Loaded.{named_orders, order_numbers, own_orders, past_authorizations, past_orders}
 use Rattle.model_lives.specs.LookUps.{authorizations_numbered, authorizations_of, orders_numbered, orders_of, owners_of}

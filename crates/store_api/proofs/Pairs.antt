@@ -1,16 +1,12 @@
 -- Look-ups of numbers, row by row.
-use Rattle.std.proofs.Common.{◌≡◌, ℕ, List, [], ◌∷◌, ◌++◌, map, filter, refl, sym, ap, ◌∙◌, true, false, Bool, cond}
-use Rattle.std.proofs.Common.{append-nil, append_assoc}
-use Rattle.std.proofs.Common.{◌≢◌, ◌+◌, ◌<◌, drop, get_or, length}
+use Rattle.std.proofs.Common.{◌≡◌, ℕ, List, [], ◌∷◌, ◌++◌, map, filter, refl, sym, ap, ◌∙◌, true, false, Bool, cond, append-nil, append_assoc, ◌≢◌, ◌+◌, ◌<◌}
+use Rattle.std.proofs.Common.{drop, get_or, length}
 use Rattle.std.specs.Prelude.{◌==◌}
 use Rattle.std.specs.List.{flat_map}
 use Rattle.std.proofs.lemmas.Bool.{eq-eqb, ne_eqb}
-use Rattle.std.proofs.lemmas.List.{map-append}
-use Rattle.std.proofs.lemmas.List.Elements.{filter-append}
-use Rattle.std.proofs.lemmas.Simd.{map-map}
+use Rattle.std.proofs.lemmas.{List.map-append, List.Elements.filter-append, Simd.map-map}
 use Rattle.desk_model.specs.Tables.{Tables}
-use Rattle.desk_model.specs.declared.rows.AuthorizationRow.{AuthorizationRow}
-use Rattle.desk_model.specs.declared.rows.OrderRow.{OrderRow}
+use Rattle.desk_model.specs.declared.rows.{AuthorizationRow.AuthorizationRow, OrderRow.OrderRow}
 use Rattle.model_lives.specs.LookUps.{orders_listing, owners_of}
 use Rattle.store_book.proofs.SliceLoops.{one-more}
 use Rattle.store_book.proofs.StableSorts.{filter-dropped, filter-kept}

@@ -2,9 +2,8 @@
 use Rattle.std.proofs.Common.{◌≡◌, ℕ, max, sym, subst}
 use Rattle.std.proofs.Math.Nat.{le-max_right}
 use Rattle.std.specs.Prelude.{Result, Ok, Err, IfOk}
-use Rattle.desk_model.specs.History.{clock}
+use Rattle.desk_model.specs.{History.clock, Touched.touched}
 use Rattle.desk_model.specs.Tables.{Tables, picture}
-use Rattle.desk_model.specs.Touched.{touched}
 use Rattle.desk_model.specs.declared.call.Call.{Call}
 use Rattle.model_laws.specs.Ordered.{IsOrdered}
 use Rattle.model_laws.proofs.Recorded.{tables_ordered}

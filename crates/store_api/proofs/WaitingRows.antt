@@ -1,15 +1,10 @@
 -- Challenges that wait, and the authorizations under which they are put.
-use Rattle.std.proofs.Common.{◌≡◌, ℕ, List, [], ◌∷◌, ◌++◌, map, find, Some, None, refl, sym, ap, ◌∙◌, true, false, Bool, cond}
-use Rattle.std.proofs.Common.{append-nil, append_assoc}
+use Rattle.std.proofs.Common.{◌≡◌, ℕ, List, [], ◌∷◌, ◌++◌, map, find, Some, None, refl, sym, ap, ◌∙◌, true, false, Bool, cond, append-nil, append_assoc}
 use Rattle.std.specs.Prelude.{◌==◌}
 use Rattle.std.specs.List.{filter, flat_map, list_any}
-use Rattle.std.proofs.lemmas.List.{map-append}
-use Rattle.std.proofs.lemmas.List.Elements.{filter-append}
-use Rattle.std.proofs.lemmas.Simd.{map-map}
-use Rattle.desk_model.specs.Change.{put}
-use Rattle.desk_model.specs.Tables.{Tables}
-use Rattle.desk_model.specs.declared.rows.AuthorizationRow.{AuthorizationRow}
-use Rattle.desk_model.specs.declared.rows.ChallengeRow.{ChallengeRow}
+use Rattle.std.proofs.lemmas.{List.map-append, List.Elements.filter-append, Simd.map-map}
+use Rattle.desk_model.specs.{Change.put, Tables.Tables}
+use Rattle.desk_model.specs.declared.rows.{AuthorizationRow.AuthorizationRow, ChallengeRow.ChallengeRow}
 use Rattle.model_laws.specs.Ordered.{Ascends, IsOrdered}
 use Rattle.model_laws.specs.Placing.{puts}
 use Rattle.model_laws.proofs.Basics.{each, eq_turn, map-each}
@@ -18,8 +13,7 @@ use Rattle.model_lives.specs.IsEnough.{has_work}
 use Rattle.model_lives.specs.LookUps.{AreWaiting, waiting_of}
 use Rattle.model_lives.specs.Thinned.{waiting_challenges, with_challenges, without_challenges}
 use Rattle.model_lives.proofs.Lists.{filtered_each}
-use Rattle.store_api.proofs.Lacking.{rows_one}
-use Rattle.store_api.proofs.Pairs.{row_next}
+use Rattle.store_api.proofs.{Lacking.rows_one, Pairs.row_next}
 use Rattle.store_api.specs.Nesting.{joined, nested}
 use Rattle.store_columns.specs.Flat.{owned_by}
 use Rattle.store_columns.specs.declared.flat_rows.Owned.{Owned}

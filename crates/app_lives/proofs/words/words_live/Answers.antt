@@ -1,5 +1,4 @@
-use Rattle.app_lives.proofs.Going.{words_go_on}
-use Rattle.app_lives.proofs.Leaving.{words_leave}
+use Rattle.app_lives.proofs.{Going.words_go_on, Leaving.words_leave}
 use Rattle.app_lives.proofs.words.words_live.Goals as goal
 
 pub returns-clause-left : goal.returns-clause-left

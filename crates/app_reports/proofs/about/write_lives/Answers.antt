@@ -1,6 +1,5 @@
 use Rattle.std.proofs.Common.{◌++◌, OnOk, codes, subst}
-use Rattle.std.specs.Fmt.{decimal}
-use Rattle.std.specs.Io.KnownBytes.{Appends}
+use Rattle.std.specs.{Fmt.decimal, Io.KnownBytes.Appends}
 use Rattle.app_reports.proofs.about.write_lives.Goals as goal
 
 pub returns : goal.returns

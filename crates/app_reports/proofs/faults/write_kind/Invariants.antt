@@ -1,8 +1,7 @@
 use Rattle.std.proofs.Common.{◌≡◌, ◌-◌, ◌^◌}
 use Rattle.store_api.specs.Sight.{ForTables, Stands}
 use Rattle.store_passes.specs.Left.{faults_above, faults_of}
-use Rattle.app_reports.proofs.Printing.{Writes}
-use Rattle.app_reports.proofs.Searching.{Searches}
+use Rattle.app_reports.proofs.{Printing.Writes, Searching.Searches}
 use Rattle.app_reports.proofs.faults.write_kind.Given as goal
 
 abbrev pub invariant-loop-fault : goal.invariant-loop-fault

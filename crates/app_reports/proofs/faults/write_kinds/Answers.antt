@@ -1,7 +1,6 @@
 use Rattle.std.proofs.Common.{rules, ◌≢◌, ◌↔◌, ◌+◌, List, [], ◌∷◌, IsTrue, ap, drop, get_or, subst, sym}
 use Rattle.std.proofs.lemmas.List.{at_drop_more, drop_all}
-use Rattle.std.specs.Io.KnownBytes.{Appends}
-use Rattle.std.specs.List.{flat_map}
+use Rattle.std.specs.{Io.KnownBytes.Appends, List.flat_map}
 use Rattle.store_passes.proofs.Alls.{kinds_make_all}
 use Rattle.store_passes.specs.Left.{faults_of}
 use Rattle.store_passes.specs.declared.fault_kind.FaultKind.{FaultKind}

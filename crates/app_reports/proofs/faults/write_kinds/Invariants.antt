@@ -2,8 +2,7 @@ use Rattle.std.proofs.Common.{◌≡◌, drop}
 use Rattle.std.specs.List.{flat_map}
 use Rattle.store_api.specs.Sight.{ForTables, Stands}
 use Rattle.store_passes.specs.Left.{faults_of}
-use Rattle.app_reports.proofs.Printing.{Writes}
-use Rattle.app_reports.proofs.Searching.{Searches}
+use Rattle.app_reports.proofs.{Printing.Writes, Searching.Searches}
 use Rattle.app_reports.proofs.faults.write_kinds.Given as goal
 
 abbrev pub invariant-loop-kind : goal.invariant-loop-kind

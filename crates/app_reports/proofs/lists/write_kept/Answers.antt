@@ -1,7 +1,6 @@
 use Rattle.std.proofs.Common.{rules, ◌∙◌, ◌∷◌, ap, arith, subst, sym}
 use Rattle.model_lives.specs.Above.{above}
-use Rattle.store_passes.proofs.Alls.{books_in_order}
-use Rattle.store_passes.proofs.Rows.{all_above}
+use Rattle.store_passes.proofs.{Alls.books_in_order, Rows.all_above}
 use Rattle.store_passes.specs.Left.{IsRowAfter}
 use Rattle.app_reports.proofs.Listing.{lists_none, lists_turn}
 use Rattle.app_reports.proofs.lists.write_kept.Goals as goal

@@ -2,8 +2,7 @@ use Rattle.std.proofs.Common.{◌≡◌, [], Some, sym, ap, subst, ◌∙◌, le
 use Rattle.desk_model.specs.Run.{IsFormedCall}
 use Rattle.std.specs.Prelude.{nat_eq}
 use Rattle.desk.specs.Faults.{core_fault}
-use Rattle.desk.proofs.Exiting.{answered_alone, core_caused, nothing, refused, result_caused, saved, storage_result_caused}
-use Rattle.desk.proofs.Exiting.{storage_result_in_time, unsaved}
+use Rattle.desk.proofs.Exiting.{answered_alone, core_caused, nothing, refused, result_caused, saved, storage_result_caused, storage_result_in_time, unsaved}
 use Rattle.desk.proofs.desk.attempt_by.Goals as goal
 
 pub returns-in_err-outcome-clause-caused : goal.returns-in_err-outcome-clause-caused

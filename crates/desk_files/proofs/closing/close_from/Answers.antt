@@ -1,6 +1,5 @@
 use Rattle.std.proofs.Common.{subst}
-use Rattle.sqlite.specs.Closing.{IsCopied}
-use Rattle.sqlite.specs.Files.{FailsToClose}
+use Rattle.sqlite.specs.{Closing.IsCopied, Files.FailsToClose}
 use Rattle.desk_files.proofs.Closed.{ends_as_stop, has_closed, left_of}
 use Rattle.desk_files.proofs.closing.close_from.Goals as goal
 

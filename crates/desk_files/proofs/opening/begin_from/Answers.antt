@@ -1,8 +1,6 @@
 use Rattle.std.proofs.Common.{◌≡◌, ◌∙◌, arith, subst, sym}
 use Rattle.sqlite.specs.Files.{IsEmpty, file_state}
-use Rattle.sqlite.specs.State.{HasCleanDisk}
-use Rattle.sqlite.specs.Tree.{Trees}
-use Rattle.sqlite.specs.WalFiles.{image_at}
+use Rattle.sqlite.specs.{State.HasCleanDisk, Tree.Trees, WalFiles.image_at}
 use Rattle.std.specs.Prelude.{IsTrue}
 use Rattle.sql_schema.specs.Names.{uses_names}
 use Rattle.desk_files.specs.LeftFiles.{files_have}

@@ -1,7 +1,6 @@
 use Rattle.std.proofs.Common.{ℕ, ◌+◌, Bool, List, ap₂, cond, subst, sym}
 use Rattle.sqlite_disk.specs.Events.{Event, replay}
-use Rattle.sqlite.specs.Recovery.{Image}
-use Rattle.sqlite.specs.WalFiles.{image_at}
+use Rattle.sqlite.specs.{Recovery.Image, WalFiles.image_at}
 use Rattle.desk_files.proofs.Refused.{if_there, refuses_no_database}
 use Rattle.desk_store.specs.Making.{IsOfStorage}
 use Rattle.desk_files.proofs.opening.connect.Goals as goal

@@ -1,8 +1,7 @@
 use Rattle.std.proofs.Common.{sym, subst, ◌∙◌}
 use Rattle.store_api.specs.Sight.{Keeps}
 use Rattle.desk_store.specs.Desks.{store_sight}
-use Rattle.sqlite.specs.Held.{state}
-use Rattle.sqlite.specs.State.{HasCleanDisk}
+use Rattle.sqlite.specs.{Held.state, State.HasCleanDisk}
 use Rattle.desk_files.proofs.Adopting.{reads_keeps}
 use Rattle.desk_files.proofs.stored_desk.adopt.Goals as goal
 

@@ -1,7 +1,6 @@
 use Rattle.std.proofs.Common.{inl, inr}
 use Rattle.std.proofs.lemmas.Result.{IfErr-weaker, IfOk-weaker, MatchResult-weaker}
-use Rattle.desk_model.specs.History.{first_history}
-use Rattle.desk_model.specs.Tables.{picture}
+use Rattle.desk_model.specs.{History.first_history, Tables.picture}
 use Rattle.desk_store.specs.Making.{IsNewDesk}
 use Rattle.sqlite.specs.Held.{state}
 use Rattle.desk_files.proofs.Adopting.{clean_before, left_on, of_storage, still_made, survived}

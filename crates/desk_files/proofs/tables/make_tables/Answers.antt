@@ -1,6 +1,5 @@
 use Rattle.std.proofs.Common.{◌≡◌, ◌≤◌, false, inl, inr, refl, subst, sym, le_refl}
-use Rattle.sqlite.specs.Held.{state}
-use Rattle.sqlite.specs.View.{doubt}
+use Rattle.sqlite.specs.{Held.state, View.doubt}
 use Rattle.sql_schema.specs.Names.{uses_names}
 use Rattle.desk_store.specs.declared.open_fault.OpenFault.TheVariants.{NotADesk}
 use Rattle.desk_files.proofs.Opened.{by_cases}

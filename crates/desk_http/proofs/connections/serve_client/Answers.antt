@@ -1,6 +1,4 @@
-use Rattle.std.proofs.Common.{refl}
-use Rattle.std.proofs.KnownBytes.{Keeps-refl}
-use Rattle.std.proofs.lemmas.Result.{IfOk-weaker}
+use Rattle.std.proofs.{Common.refl, KnownBytes.Keeps-refl, lemmas.Result.IfOk-weaker}
 use Rattle.desk_http.specs.InTurn.{parsed, unread}
 use Rattle.desk_http.proofs.connections.serve_client.Goals as goal
 

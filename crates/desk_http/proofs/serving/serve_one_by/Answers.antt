@@ -1,5 +1,4 @@
-use Rattle.std.proofs.Common.{refl}
-use Rattle.std.proofs.KnownBytes.{Keeps-refl}
+use Rattle.std.proofs.{Common.refl, KnownBytes.Keeps-refl}
 use Rattle.desk_http.proofs.serving.serve_one_by.Goals as goal
 
 pub returns-in-Ok-clause-served : goal.returns-in-Ok-clause-served

@@ -1,5 +1,4 @@
-use Rattle.http_wire.specs.ParsedRequest.{IsPlan}
-use Rattle.http_wire.specs.Spelled.{IsRequestWith}
+use Rattle.http_wire.specs.{ParsedRequest.IsPlan, Spelled.IsRequestWith}
 use Rattle.http_routes.specs.declared.request.Request.TheVariants as request
 use Rattle.http_wire.specs.declared.plan.Plan.TheVariants as plan
 use Rattle.http_wire.proofs.Asked.{request_behind, whatever_is_left}

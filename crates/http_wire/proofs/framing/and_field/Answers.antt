@@ -1,5 +1,4 @@
-use Rattle.std.proofs.Common.{◌≡◌, true, false, sym, ◌∙◌}
-use Rattle.std.proofs.Common.{append-nil}
+use Rattle.std.proofs.Common.{◌≡◌, true, false, sym, ◌∙◌, append-nil}
 use Rattle.http_wire.specs.Framing.{same_name, values_of}
 use Rattle.http_wire.proofs.Fields.{values_snoc}
 use Rattle.http_wire.proofs.framing.and_field.Goals as goal

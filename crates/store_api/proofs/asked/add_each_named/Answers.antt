@@ -2,8 +2,7 @@ use Rattle.std.proofs.Common.{refl}
 use Rattle.std.specs.List.{flat_map}
 use Rattle.store_api.proofs.Found.{fails_behind, finds_then}
 use Rattle.store_api.proofs.Gathered.{gathered}
-use Rattle.desk_model.specs.declared.rows.AccountRow.{AccountRow}
-use Rattle.desk_model.specs.declared.rows.AuthorizationRow.{AuthorizationRow}
+use Rattle.desk_model.specs.declared.rows.{AccountRow.AccountRow, AuthorizationRow.AuthorizationRow}
 use Rattle.model_lives.specs.Loaded.{authorizations_for}
 use Rattle.store_api.proofs.asked.add_each_named.Goals as goal
 

@@ -1,6 +1,5 @@
 use Rattle.std.proofs.Common.{◌≡◌}
-use Rattle.std.specs.Prelude.{Ok}
-use Rattle.std.specs.List.{flat_map}
+use Rattle.std.specs.{Prelude.Ok, List.flat_map}
 use Rattle.model_laws.specs.Placing.{puts}
 use Rattle.store_api.specs.Finding.{Finds}
 use Rattle.model_lives.specs.Loaded.{authorizations_for}

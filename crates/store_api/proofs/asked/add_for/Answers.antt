@@ -3,8 +3,7 @@ use Rattle.std.proofs.lemmas.Result.{IfOk-weaker}
 use Rattle.store_api.proofs.Found.{finds_put}
 use Rattle.desk_model.specs.Name.{same_name}
 use Rattle.desk_model.specs.declared.rows.AuthorizationRow.{AuthorizationRow}
-use Rattle.model_lives.specs.Loaded.{authorizations_for}
-use Rattle.model_lives.specs.LookUps.{authorizations_named}
+use Rattle.model_lives.specs.{Loaded.authorizations_for, LookUps.authorizations_named}
 use Rattle.store_api.proofs.asked.add_for.Goals as goal
 
 pub returns : goal.returns

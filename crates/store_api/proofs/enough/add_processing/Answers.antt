@@ -1,10 +1,8 @@
 use Rattle.std.proofs.Common.{◌≡◌, [], ap, ◌∙◌}
 use Rattle.store_api.proofs.Found.{finds_as, finds_put, finds_then}
-use Rattle.store_api.proofs.Bare.{worked_on}
-use Rattle.store_api.proofs.Gathered.{put_into_none}
+use Rattle.store_api.proofs.{Bare.worked_on, Gathered.put_into_none}
 use Rattle.store_api.proofs.enough.add_processing.Goals as goal
-use Rattle.desk_model.specs.declared.rows.AuthorizationRow.{AuthorizationRow}
-use Rattle.desk_model.specs.declared.rows.OrderRow.{OrderRow}
+use Rattle.desk_model.specs.declared.rows.{AuthorizationRow.AuthorizationRow, OrderRow.OrderRow}
 use Rattle.desk_model.specs.Derived.{numbers_of}
 use Rattle.model_lives.proofs.WorkLoading.{processing_loaded}
 use Rattle.model_lives.specs.LookUps.{bare_authorizations, orders_processing}

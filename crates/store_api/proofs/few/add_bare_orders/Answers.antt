@@ -4,8 +4,7 @@ use Rattle.store_api.proofs.Found.{fails_behind, finds_as, finds_into, finds_the
 use Rattle.store_api.proofs.Lacking.{lacking_append}
 use Rattle.store_api.proofs.few.add_bare_orders.Goals as goal
 use Rattle.store_api.specs.Needing.{lacking}
-use Rattle.desk_model.specs.declared.rows.AccountRow.{AccountRow}
-use Rattle.desk_model.specs.declared.rows.OrderRow.{OrderRow}
+use Rattle.desk_model.specs.declared.rows.{AccountRow.AccountRow, OrderRow.OrderRow}
 use Rattle.model_lives.specs.LookUps.{bare_orders_of}
 
 pub loop-account-preserved : goal.loop-account-preserved

@@ -1,10 +1,7 @@
 use Rattle.std.proofs.Common.{◌≡◌}
-use Rattle.std.specs.Prelude.{Ok}
-use Rattle.std.specs.List.{flat_map}
-use Rattle.store_api.specs.Finding.{Finds}
-use Rattle.store_api.specs.Needing.{lacking}
-use Rattle.desk_model.specs.declared.rows.AccountRow.{AccountRow}
-use Rattle.desk_model.specs.declared.rows.OrderRow.{OrderRow}
+use Rattle.std.specs.{Prelude.Ok, List.flat_map}
+use Rattle.store_api.specs.{Finding.Finds, Needing.lacking}
+use Rattle.desk_model.specs.declared.rows.{AccountRow.AccountRow, OrderRow.OrderRow}
 use Rattle.model_lives.specs.LookUps.{bare_orders_of}
 use Rattle.store_api.proofs.few.add_bare_orders.Given as goal
 

@@ -1,11 +1,10 @@
 use Rattle.std.proofs.Common.{ap, map, ◌∙◌, ◌++◌, []}
 use Rattle.model_laws.specs.Placing.{puts}
-use Rattle.store_api.proofs.FewRows.{moved_are, opened_are, restated_are}
+use Rattle.store_api.proofs.FewRows.{moved_are, opened_are, restated_are, holders_missing, named_missing}
 use Rattle.store_api.proofs.Found.{fails_behind, finds_both, finds_failing, finds_fourth}
 use Rattle.store_api.proofs.Gathered.{put_into_none}
 use Rattle.std.specs.List.{flat_map}
 use Rattle.desk_model.specs.Derived.{numbers_of}
-use Rattle.store_api.proofs.FewRows.{holders_missing, named_missing}
 use Rattle.store_api.proofs.few.add_few.Goals as goal
 use Rattle.store_api.specs.Needing.{lacking, missings, with_named}
 use Rattle.desk_model.specs.Tables.{Tables}
@@ -13,10 +12,7 @@ use Rattle.model_lives.proofs.FewLoading.{loaded_few}
 use Rattle.model_lives.specs.LookUps.{accounts_numbered, bare_authorizations, bare_orders_of, orders_numbered}
 use Rattle.std.specs.Prelude.{if◌then◌else◌, not}
 use Rattle.store_api.proofs.Lacking.{needed_authorizations, needed_orders}
-use Rattle.desk_model.specs.declared.objects.Nonce.{Nonce}
-use Rattle.desk_model.specs.declared.rows.AccountRow.{AccountRow}
-use Rattle.desk_model.specs.declared.rows.AuthorizationRow.{AuthorizationRow}
-use Rattle.desk_model.specs.declared.rows.OrderRow.{OrderRow}
+use Rattle.desk_model.specs.declared.{objects.Nonce.Nonce, rows.AccountRow.AccountRow, rows.AuthorizationRow.AuthorizationRow, rows.OrderRow.OrderRow}
 use Rattle.model_lives.specs.FewLoaded.{moved_authorizations, opened_orders, restated_authorizations}
 use Rattle.model_lives.specs.Loaded.{authorizations_asked_of, found_nonces}
 

@@ -3,8 +3,7 @@ use Rattle.model_laws.specs.Placing.{puts}
 use Rattle.store_api.proofs.Found.{fails_behind, finds_failing, finds_third}
 use Rattle.store_api.proofs.few.add_holders.Goals as goal
 use Rattle.store_api.specs.Needing.{holders_by, missings, moved_by}
-use Rattle.desk_model.specs.declared.rows.AccountRow.{AccountRow}
-use Rattle.desk_model.specs.declared.rows.AuthorizationRow.{AuthorizationRow}
+use Rattle.desk_model.specs.declared.rows.{AccountRow.AccountRow, AuthorizationRow.AuthorizationRow}
 use Rattle.model_lives.specs.LookUps.{accounts_numbered}
 
 pub returns : goal.returns

@@ -1,11 +1,9 @@
 use Rattle.std.proofs.Common.{[], ap, sym, ◌∙◌}
-use Rattle.std.specs.Prelude.{if◌then◌else◌}
-use Rattle.std.specs.List.{flat_map}
+use Rattle.std.specs.{Prelude.if◌then◌else◌, List.flat_map}
 use Rattle.store_api.proofs.Found.{finds_so}
 use Rattle.store_api.proofs.few.add_listed.Goals as goal
 use Rattle.store_api.specs.Needing.{lacking}
-use Rattle.desk_model.specs.declared.rows.AccountRow.{AccountRow}
-use Rattle.desk_model.specs.declared.rows.OrderRow.{OrderRow}
+use Rattle.desk_model.specs.declared.rows.{AccountRow.AccountRow, OrderRow.OrderRow}
 use Rattle.model_lives.specs.LookUps.{bare_orders_of}
 
 pub returns-then-asked : goal.returns-then-asked

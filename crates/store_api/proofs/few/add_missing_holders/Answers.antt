@@ -2,8 +2,7 @@ use Rattle.std.proofs.Common.{ap, map, sym, ◌∙◌}
 use Rattle.store_api.proofs.Found.{fails_behind, finds_then}
 use Rattle.store_api.proofs.few.add_missing_holders.Goals as goal
 use Rattle.store_api.specs.Needing.{missings}
-use Rattle.desk_model.specs.declared.rows.AccountRow.{AccountRow}
-use Rattle.desk_model.specs.declared.rows.AuthorizationRow.{AuthorizationRow}
+use Rattle.desk_model.specs.declared.rows.{AccountRow.AccountRow, AuthorizationRow.AuthorizationRow}
 use Rattle.model_lives.specs.LookUps.{accounts_numbered}
 
 pub loop-row-preserved : goal.loop-row-preserved

@@ -1,9 +1,7 @@
 use Rattle.std.proofs.Common.{◌≡◌, map}
 use Rattle.std.specs.Prelude.{Ok}
-use Rattle.store_api.specs.Finding.{Finds}
-use Rattle.store_api.specs.Needing.{missings}
-use Rattle.desk_model.specs.declared.rows.AccountRow.{AccountRow}
-use Rattle.desk_model.specs.declared.rows.AuthorizationRow.{AuthorizationRow}
+use Rattle.store_api.specs.{Finding.Finds, Needing.missings}
+use Rattle.desk_model.specs.declared.rows.{AccountRow.AccountRow, AuthorizationRow.AuthorizationRow}
 use Rattle.model_lives.specs.LookUps.{accounts_numbered}
 use Rattle.store_api.proofs.few.add_missing_holders.Given as goal
 

@@ -5,8 +5,7 @@ use Rattle.model_laws.specs.Placing.{puts}
 use Rattle.store_api.proofs.Found.{fails_behind, finds_failing, finds_third, listed_as}
 use Rattle.store_api.proofs.Gathered.{put_by, put_then}
 use Rattle.store_api.proofs.few.add_moved.Goals as goal
-use Rattle.desk_model.specs.declared.rows.AccountRow.{AccountRow}
-use Rattle.desk_model.specs.declared.rows.AuthorizationRow.{AuthorizationRow}
+use Rattle.desk_model.specs.declared.rows.{AccountRow.AccountRow, AuthorizationRow.AuthorizationRow}
 use Rattle.model_lives.specs.LookUps.{authorizations_numbered, authorizations_of, owners_of}
 
 pub returns : goal.returns

@@ -1,6 +1,5 @@
 use Rattle.std.proofs.Common.{[], ap, refl, sym, ◌∙◌}
-use Rattle.std.specs.Prelude.{if◌then◌else◌}
-use Rattle.std.specs.List.{flat_map}
+use Rattle.std.specs.{Prelude.if◌then◌else◌, List.flat_map}
 use Rattle.model_laws.specs.Placing.{puts}
 use Rattle.store_api.proofs.Found.{finds_so, listed_as}
 use Rattle.store_api.proofs.Gathered.{put_by}

@@ -3,8 +3,7 @@ use Rattle.std.specs.Prelude.{if◌then◌else◌}
 use Rattle.store_api.proofs.Found.{finds_so}
 use Rattle.store_api.proofs.few.add_needed_holders.Goals as goal
 use Rattle.store_api.specs.Needing.{missings}
-use Rattle.desk_model.specs.declared.rows.AccountRow.{AccountRow}
-use Rattle.desk_model.specs.declared.rows.AuthorizationRow.{AuthorizationRow}
+use Rattle.desk_model.specs.declared.rows.{AccountRow.AccountRow, AuthorizationRow.AuthorizationRow}
 use Rattle.model_lives.specs.LookUps.{accounts_numbered}
 
 pub returns-then-needed : goal.returns-then-needed

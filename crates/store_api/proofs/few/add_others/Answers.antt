@@ -4,8 +4,7 @@ use Rattle.store_api.proofs.Found.{finds_failing, finds_then}
 use Rattle.store_api.proofs.few.add_others.Goals as goal
 use Rattle.store_api.specs.Needing.{missings}
 use Rattle.desk_model.specs.Derived.{numbers_of}
-use Rattle.desk_model.specs.declared.rows.AuthorizationRow.{AuthorizationRow}
-use Rattle.desk_model.specs.declared.rows.OrderRow.{OrderRow}
+use Rattle.desk_model.specs.declared.rows.{AuthorizationRow.AuthorizationRow, OrderRow.OrderRow}
 use Rattle.model_lives.specs.LookUps.{bare_authorizations}
 
 pub returns : goal.returns

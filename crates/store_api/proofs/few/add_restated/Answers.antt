@@ -7,8 +7,7 @@ use Rattle.store_api.proofs.Gathered.{of_two, put_then}
 use Rattle.store_api.proofs.few.add_restated.Goals as goal
 use Rattle.desk_model.specs.declared.rows.AuthorizationRow.{AuthorizationRow}
 use Rattle.desk_model.specs.declared.status.AuthzStatus.TheVariants as authz
-use Rattle.model_lives.specs.Loaded.{past_authorizations}
-use Rattle.model_lives.specs.LookUps.{authorizations_past}
+use Rattle.model_lives.specs.{Loaded.past_authorizations, LookUps.authorizations_past}
 
 pub returns : goal.returns
 returns g c =

@@ -1,9 +1,8 @@
 use Rattle.std.proofs.Common.{ap, ◌∙◌}
 use Rattle.std.specs.Option.{option_map}
 use Rattle.model_laws.specs.Placing.{puts}
-use Rattle.store_api.proofs.FewRows.{themselves}
+use Rattle.store_api.proofs.{FewRows.themselves, Gathered.put_then}
 use Rattle.store_api.proofs.Found.{finds_failing, finds_then}
-use Rattle.store_api.proofs.Gathered.{put_then}
 use Rattle.store_api.proofs.few.add_wanted.Goals as goal
 use Rattle.desk_model.specs.declared.rows.AuthorizationRow.{AuthorizationRow}
 use Rattle.model_lives.specs.Loaded.{authorizations_asked_of}

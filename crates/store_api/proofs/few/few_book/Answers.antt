@@ -1,11 +1,9 @@
 use Rattle.std.proofs.Common.{ap, max, ◌∙◌}
 use Rattle.std.proofs.lemmas.Result.{IfOk-from_err}
-use Rattle.desk_model.specs.declared.call.Call.{Call}
-use Rattle.desk_model.specs.declared.rows.Meta.{Meta}
+use Rattle.desk_model.specs.declared.{call.Call.Call, rows.Meta.Meta}
 use Rattle.model_lives.specs.Few.{needed_rows}
-use Rattle.store_api.proofs.Gathered.{made_of}
+use Rattle.store_api.proofs.{Gathered.made_of, Tabled.book_are}
 use Rattle.store_api.proofs.Readings.{reads_and, reads_failing, reads_then, stands_read}
-use Rattle.store_api.proofs.Tabled.{book_are}
 use Rattle.store_api.proofs.few.few_book.Goals as goal
 
 pub returns-clause-reads : goal.returns-clause-reads

@@ -5,8 +5,7 @@ use Rattle.store_api.proofs.Missing.{missings_append}
 use Rattle.store_api.proofs.listed.add_bare_listed.Goals as goal
 use Rattle.store_api.specs.Needing.{missings}
 use Rattle.desk_model.specs.Derived.{numbers_of}
-use Rattle.desk_model.specs.declared.rows.AuthorizationRow.{AuthorizationRow}
-use Rattle.desk_model.specs.declared.rows.OrderRow.{OrderRow}
+use Rattle.desk_model.specs.declared.rows.{AuthorizationRow.AuthorizationRow, OrderRow.OrderRow}
 use Rattle.model_lives.specs.LookUps.{bare_authorizations}
 
 pub loop-order-preserved : goal.loop-order-preserved

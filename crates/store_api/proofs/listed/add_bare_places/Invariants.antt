@@ -1,7 +1,6 @@
 use Rattle.std.proofs.Common.{◌≡◌, drop}
 use Rattle.std.specs.Prelude.{Ok}
-use Rattle.store_api.specs.Finding.{Finds}
-use Rattle.store_api.specs.Needing.{missings}
+use Rattle.store_api.specs.{Finding.Finds, Needing.missings}
 use Rattle.desk_model.specs.Derived.{numbers_of}
 use Rattle.desk_model.specs.declared.rows.AuthorizationRow.{AuthorizationRow}
 use Rattle.model_lives.specs.LookUps.{bare_authorizations}

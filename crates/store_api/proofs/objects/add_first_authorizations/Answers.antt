@@ -5,8 +5,7 @@ use Rattle.model_laws.specs.Placing.{puts}
 use Rattle.store_api.proofs.Found.{fails_behind, finds_both, finds_failing, finds_fourth, listed_as}
 use Rattle.store_api.proofs.Gathered.{of_two, put_by, put_then}
 use Rattle.store_api.proofs.objects.add_first_authorizations.Goals as goal
-use Rattle.desk_model.specs.declared.rows.AccountRow.{AccountRow}
-use Rattle.desk_model.specs.declared.rows.AuthorizationRow.{AuthorizationRow}
+use Rattle.desk_model.specs.declared.rows.{AccountRow.AccountRow, AuthorizationRow.AuthorizationRow}
 use Rattle.desk_model.specs.declared.status.AuthzStatus.TheVariants as authz
 use Rattle.model_lives.specs.Loaded.{past_authorizations}
 use Rattle.model_lives.specs.LookUps.{authorizations_numbered, authorizations_of, authorizations_past, owners_of}

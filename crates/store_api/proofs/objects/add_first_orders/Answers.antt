@@ -5,8 +5,7 @@ use Rattle.model_laws.specs.Placing.{puts}
 use Rattle.store_api.proofs.Found.{fails_behind, finds_failing, finds_third, listed_as}
 use Rattle.store_api.proofs.Gathered.{of_three, put_by, put_then}
 use Rattle.store_api.proofs.objects.add_first_orders.Goals as goal
-use Rattle.desk_model.specs.declared.rows.AccountRow.{AccountRow}
-use Rattle.desk_model.specs.declared.rows.OrderRow.{OrderRow}
+use Rattle.desk_model.specs.declared.rows.{AccountRow.AccountRow, OrderRow.OrderRow}
 use Rattle.desk_model.specs.declared.status.OrderStatus.TheVariants as order
 use Rattle.model_lives.specs.Loaded.{past_orders}
 use Rattle.model_lives.specs.LookUps.{orders_numbered, orders_of, orders_past}

@@ -1,11 +1,8 @@
-use Rattle.std.specs.List.{flat_map}
-use Rattle.std.specs.Option.{option_map}
+use Rattle.std.specs.{List.flat_map, Option.option_map}
 use Rattle.store_api.proofs.Found.{fails_behind, finds_both, finds_failing, finds_fourth}
 use Rattle.store_api.proofs.Gathered.{put_then}
 use Rattle.store_api.proofs.objects.add_further.Goals as goal
-use Rattle.desk_model.specs.declared.rows.AccountRow.{AccountRow}
-use Rattle.desk_model.specs.declared.rows.AuthorizationRow.{AuthorizationRow}
-use Rattle.desk_model.specs.declared.rows.OrderRow.{OrderRow}
+use Rattle.desk_model.specs.declared.rows.{AccountRow.AccountRow, AuthorizationRow.AuthorizationRow, OrderRow.OrderRow}
 use Rattle.model_lives.specs.Loaded.{authorizations_asked_of, listed_authorizations}
 use Rattle.model_lives.specs.LookUps.{accounts_numbered}
 

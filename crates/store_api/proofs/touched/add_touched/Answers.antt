@@ -5,10 +5,7 @@ use Rattle.store_api.proofs.Found.{fails_behind, finds_both, finds_failing, find
 use Rattle.store_api.proofs.Gathered.{put_by, put_by_both, put_into_none, put_then}
 use Rattle.store_api.proofs.NamedRows.{authorizations_are, orders_are}
 use Rattle.store_api.proofs.touched.add_touched.Goals as goal
-use Rattle.desk_model.specs.declared.objects.Nonce.{Nonce}
-use Rattle.desk_model.specs.declared.rows.AccountRow.{AccountRow}
-use Rattle.desk_model.specs.declared.rows.AuthorizationRow.{AuthorizationRow}
-use Rattle.desk_model.specs.declared.rows.OrderRow.{OrderRow}
+use Rattle.desk_model.specs.declared.{objects.Nonce.Nonce, rows.AccountRow.AccountRow, rows.AuthorizationRow.AuthorizationRow, rows.OrderRow.OrderRow}
 use Rattle.model_lives.specs.Loaded.{account_numbers, authorizations_once, first_authorizations, found_authorizations, found_nonces, found_orders}
 use Rattle.model_lives.specs.Loaded.{keys, listed_authorizations, listing_orders, named_accounts, named_orders}
 use Rattle.model_lives.specs.Loaded.{new_keys, orders_once, own_orders, past_orders, asked_authorizations}

@@ -1,8 +1,6 @@
 use Rattle.std.proofs.Common.{◌≡◌, ℕ, ap, max, refl, sym, ◌∙◌}
 use Rattle.std.proofs.lemmas.Result.{IfOk-from_err}
-use Rattle.desk_model.specs.Asked.{asked_names}
-use Rattle.desk_model.specs.Tables.{Tables}
-use Rattle.desk_model.specs.Touched.{touched}
+use Rattle.desk_model.specs.{Asked.asked_names, Tables.Tables, Touched.touched}
 use Rattle.desk_model.specs.declared.call.Ask.{Ask}
 use Rattle.desk_model.specs.declared.call.Ask.TheVariants as ask
 use Rattle.desk_model.specs.declared.call.Call.{Call}
@@ -10,8 +8,7 @@ use Rattle.desk_model.specs.declared.call.OfficeAsk.TheVariants as office
 use Rattle.desk_model.specs.declared.rows.Meta.{Meta}
 use Rattle.model_lives.proofs.Loading.{loaded_touched}
 use Rattle.model_lives.specs.Loaded.{loaded_at}
-use Rattle.store_api.proofs.Gathered.{made_of}
-use Rattle.store_api.proofs.Tabled.{book_are}
+use Rattle.store_api.proofs.{Gathered.made_of, Tabled.book_are}
 use Rattle.store_api.proofs.Readings.{reads_and, reads_failing, reads_then, stands_read}
 use Rattle.store_api.proofs.touched.touched_book.Goals as goal
 

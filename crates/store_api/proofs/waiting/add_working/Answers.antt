@@ -1,17 +1,14 @@
 use Rattle.std.proofs.Common.{ap, map, subst, sym, ◌∙◌}
 use Rattle.std.proofs.lemmas.Simd.{map-map}
 use Rattle.std.specs.List.{list_any}
-use Rattle.desk_model.specs.declared.rows.AuthorizationRow.{AuthorizationRow}
-use Rattle.desk_model.specs.declared.rows.ChallengeRow.{ChallengeRow}
+use Rattle.desk_model.specs.declared.rows.{AuthorizationRow.AuthorizationRow, ChallengeRow.ChallengeRow}
 use Rattle.model_laws.specs.Ordered.{Ascends}
 use Rattle.model_lives.specs.LookUps.{bare_authorizations}
-use Rattle.store_api.proofs.Bare.{bare_working}
-use Rattle.store_api.proofs.Found.{finds_third}
+use Rattle.store_api.proofs.{Bare.bare_working, Found.finds_third}
 use Rattle.store_api.proofs.Readings.{reads_standing, stands_here}
 use Rattle.store_api.proofs.WaitingRows.{nested_working, numbered, working_ascend}
 use Rattle.store_api.proofs.waiting.add_working.Goals as goal
-use Rattle.store_api.specs.Needing.{missings}
-use Rattle.store_api.specs.Nesting.{nested}
+use Rattle.store_api.specs.{Needing.missings, Nesting.nested}
 use Rattle.store_columns.specs.declared.flat_rows.Owned.{Owned}
 
 pub returns : goal.returns

@@ -1,6 +1,5 @@
 use Rattle.std.proofs.Common.{sym, subst}
-use Rattle.store_api.specs.InMemory.{in_memory}
-use Rattle.store_api.specs.Storing.{Loads}
+use Rattle.store_api.specs.{InMemory.in_memory, Storing.Loads}
 use Rattle.desk.proofs.InMemory.{only_memory}
 use Rattle.desk.proofs.memory.MemoryStorage.load_part.Goals as goal
 use Rattle.desk.proofs.memory.MemoryStorage.load_part.Goals.{in-Ok, in-Err}

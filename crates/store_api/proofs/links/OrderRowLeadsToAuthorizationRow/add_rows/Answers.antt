@@ -4,8 +4,7 @@ use Rattle.std.proofs.lemmas.List.Folds.{flat_map-map}
 use Rattle.model_laws.specs.Placing.{puts}
 use Rattle.store_api.proofs.Found.{finds_so}
 use Rattle.store_api.proofs.links.OrderRowLeadsToAuthorizationRow.add_rows.Goals as goal
-use Rattle.desk_model.specs.declared.rows.AuthorizationRow.{AuthorizationRow}
-use Rattle.desk_model.specs.declared.rows.Listed.{Listed}
+use Rattle.desk_model.specs.declared.rows.{AuthorizationRow.AuthorizationRow, Listed.Listed}
 use Rattle.model_lives.specs.LookUps.{authorizations_numbered}
 
 pub returns : goal.returns
