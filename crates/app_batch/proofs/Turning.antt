@@ -6,7 +6,8 @@ use Rattle.std.specs.Io.BufRead.{DropsThrough, drop_through, first_piece}
 use Rattle.std.specs.Io.Buffered.{reader_buffer, reader_capacity, reader_inner, reader_remaining}
 use Rattle.std.specs.Io.KnownBytes.{Appends, IsAtEnd, prepend_known}
 use Rattle.std.specs.declared.io.buffered.BufReader.{BufReader}
-use Rattle.app_batch.specs.InTurn.{AnswersEach, AnswersFirst, AnswersLine, AnswersLines, AreLines, Stops, StopsBehind, no_line, not_one, one_line_more, one_more, silent, unwritten}
+use Rattle.app_batch.specs.InTurn.{AnswersEach, AnswersFirst, AnswersLine, AnswersLines, AreLines, Stops, StopsBehind, no_line, not_one, one_line_more}
+use Rattle.app_batch.specs.InTurn.{one_more, silent, unwritten}
 use Rattle.app_batch.specs.Said.{Says, SaysNothing}
 use Rattle.app_batch.specs.declared.lines.AnswerFault.{AnswerFault}
 use Rattle.desk.specs.State.{DeskState}

@@ -1,5 +1,6 @@
 -- No word ends with a status above 3.
-use Rattle.std.proofs.Common.{◌≡◌, ◌≤◌, ℕ, List, Bool, true, false, Option, None, Some, Result, Ok, Err, IsErrAnd, zero, suc, arith, inl, inr, refl, subst, sym, unwrap_or}
+use Rattle.std.proofs.Common.{◌≡◌, ◌≤◌, ℕ, List, Bool, true, false, Option, None, Some, Result, Ok, Err, IsErrAnd, zero, suc, arith, inl, inr, refl, subst, sym}
+use Rattle.std.proofs.Common.{unwrap_or}
 use Rattle.std.specs.Prelude.{if◌then◌else◌}
 use Rattle.sqlite.specs.Recovery.{Image}
 use Rattle.sqlite_disk.specs.declared.Disk as disk

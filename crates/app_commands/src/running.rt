@@ -295,7 +295,8 @@ fn check_file<S: Start, W: Write, E: Write>(
     out: &mut W,
     errors: &mut E,
 ) -> (Result<u8, Fault>, Left<FileFrom<S>>)
-    ensures { EndsOverFiles ⟦<FileFrom<S> as Disk>⟧ (image_at S.Start) (ChecksStatuses (form_of json)) (W.contents out.old) (W.contents out.new) result.0 result.1 }
+    ensures { EndsOverFiles ⟦<FileFrom<S> as Disk>⟧ (image_at S.Start) (ChecksStatuses (form_of json)) (W.contents out.old) (W.contents out.new) result.0
+        result.1 }
 {
     let task = CheckStatuses {
         alloc: rt.alloc(),

@@ -1,5 +1,6 @@
 -- Rows that were counted so far.
-use Rattle.std.proofs.Common.{◌≡◌, ◌∙◌, ◌++◌, ◌+◌, ◌-◌, ◌^◌, List, [], ◌∷◌, ℕ, Bool, true, false, ap, append_assoc, append-nil, arith, cond, filter, length, length-append, min, refl, replicate, zero, suc, subst, sym}
+use Rattle.std.proofs.Common.{◌≡◌, ◌∙◌, ◌++◌, ◌+◌, ◌-◌, ◌^◌, List, [], ◌∷◌, ℕ, Bool, true, false, ap, append_assoc, append-nil, arith, cond, filter, length}
+use Rattle.std.proofs.Common.{length-append, min, refl, replicate, zero, suc, subst, sym}
 use Rattle.std.specs.Prelude.{◌==◌, slice_index}
 use Rattle.app_reports.specs.Tallied.{IsTally, tally_of}
 

@@ -3,7 +3,8 @@ use Rattle.std.proofs.KnownBytes.{Appends-nil, Appends-trans}
 use Rattle.std.proofs.lemmas.Bool.{le-ltb, lt-ltb, ltb-false, ltb-true}
 use Rattle.std.proofs.lemmas.List.{take-append-le, take_all}
 use Rattle.std.proofs.lemmas.List.{Concat.flat_map-append, Elements.filter-append}
-use Rattle.std.proofs.Common.{◌≡◌, ◌∙◌, ◌++◌, ◌-◌, ◌^◌, Bool, true, false, List, [], ◌∷◌, ℕ, ap, append_assoc, append-nil, arith, cond, filter, length, length-append, min, nat_lt, refl, subst, sym, take}
+use Rattle.std.proofs.Common.{◌≡◌, ◌∙◌, ◌++◌, ◌-◌, ◌^◌, Bool, true, false, List, [], ◌∷◌, ℕ, ap, append_assoc, append-nil, arith, cond, filter, length}
+use Rattle.std.proofs.Common.{length-append, min, nat_lt, refl, subst, sym, take}
 use Rattle.std.specs.{Io.KnownBytes.Appends, List.flat_map, Prelude.Option}
 use Rattle.app_reports.specs.Page.{IsShown, ShowsFirst, if_room}
 

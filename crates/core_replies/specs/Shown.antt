@@ -9,7 +9,8 @@ use Rattle.desk_model.specs.declared.{rows.AccountRow.AccountRow}
 use Rattle.desk_model.specs.Effect.{swept_authorization, swept_order}
 use Rattle.desk_model.specs.Document.{account_status_text, authorization_status_text, authorization_url, bytes_of, certificate_url, challenge_document}
 use Rattle.desk_model.specs.Document.{challenge_status_text, challenge_url, error_of, expected, finalize_url, identifier, is_listed, kind_text, listed_rows}
-use Rattle.desk_model.specs.Document.{order_error, order_status_text, order_url, order_work_document, orders_url, shown_challenges, url, validated, work_document}
+use Rattle.desk_model.specs.Document.{order_error, order_status_text, order_url, order_work_document, orders_url, shown_challenges, url, validated}
+use Rattle.desk_model.specs.Document.{work_document}
 use Rattle.desk_model.specs.Json.{list, when}
 use Rattle.desk_model.specs.Names.{dns_type, shown_name}
 use Rattle.desk_model.specs.Tokens.{base64url, token_text}

@@ -1,5 +1,6 @@
 -- What is noted of a connection that was served.
-use Rattle.std.specs.Prelude.{◌≡◌, ◌⊎◌, ℕ, Bool, true, false, List, [], ◌++◌, Option, Some, None, MatchOption, Result, Ok, Err, codes, ◌||◌, ◌&&◌, nat_eq, nat_le, if◌then◌else◌}
+use Rattle.std.specs.Prelude.{◌≡◌, ◌⊎◌, ℕ, Bool, true, false, List, [], ◌++◌, Option, Some, None, MatchOption, Result, Ok, Err, codes, ◌||◌, ◌&&◌, nat_eq}
+use Rattle.std.specs.Prelude.{nat_le, if◌then◌else◌}
 use Rattle.desk.specs.Faults.{number_of}
 use Rattle.desk_model.specs.Refusals.{refusal_of}
 use Rattle.desk_model.specs.declared.call.Ask.{Ask}

@@ -1,6 +1,7 @@
 //! Who watches the serving of a desk, and what is noted of each connection.
 ghost use Rattle.std.specs.Prelude.{◌≡◌};
-ghost use Rattle.desk_http.specs.Noted.{number_by, number_of_ask, number_of_cause, number_of_office, number_of_target, outcome_number, outcome_status, status_by};
+ghost use Rattle.desk_http.specs.Noted.{number_by, number_of_ask, number_of_cause, number_of_office, number_of_target, outcome_number, outcome_status};
+ghost use Rattle.desk_http.specs.Noted.{status_by};
 
 use crate::moment_bound::MomentBound;
 use crate::saying::Cause;

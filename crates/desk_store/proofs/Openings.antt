@@ -9,7 +9,8 @@ use Rattle.sql_schema.specs.Stays.{Asks}
 use Rattle.desk_store.specs.Opening.{OpensKnown}
 use Rattle.desk_store.specs.declared.open_fault.OpenFault.{OpenFault}
 use Rattle.desk_store.proofs.{Books.whole_still, Failing.opened_behind, Standing.desk_unchanged, Upgrading.first_unchanged}
-use Rattle.desk_store.proofs.EitherFormat.{asks_behind, back_behind, first_still, keys_behind, of_answer, of_failure, of_faults, settled_behind, upgraded_behind}
+use Rattle.desk_store.proofs.EitherFormat.{asks_behind, back_behind, first_still, keys_behind, of_answer, of_failure, of_faults, settled_behind}
+use Rattle.desk_store.proofs.EitherFormat.{upgraded_behind}
 
 -- it does and leaves what it would have done and left before that call
 pub opens_behind : {S R : Type 0} (g : Ghosts S) (old mid new : Held S) (result : Result R OpenFault) → Asks (state g old) (state g mid)

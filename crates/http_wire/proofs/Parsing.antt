@@ -175,7 +175,8 @@ complete_parsed (Some xs) (Some ys) bytes headers spans h le n says k m r =
     })
 
 -- the same, unless the reader failed
-pub complete_read : {E : Type 0} (known left : Option (List ℕ)) (bytes : List ℕ) (headers : List HeaderSpan) (spans : RequestSpans) (res : Result ParsedRequest E)
+pub complete_read : {E : Type 0} (known left : Option (List ℕ)) (bytes : List ℕ) (headers : List HeaderSpan) (spans : RequestSpans)
+    (res : Result ParsedRequest E)
     → length bytes ≤ longest_head → length headers ≡ most_fields
     → HeadSays bytes headers left (read.Complete spans) → Consumes known left bytes
     → IfOk res (λ h. h.form ≡ form_by (span_bytes bytes spans.method) (span_bytes bytes spans.path))

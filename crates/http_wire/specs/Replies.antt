@@ -1,5 +1,6 @@
 -- The text of a reply, as one function of the base, the reply and whether only its head is sent.
-use Rattle.std.specs.Prelude.{ℕ, List, [], ◌∷◌, ◌++◌, length, Bool, true, false, if◌then◌else◌, ◌&&◌, nat_le, nat_lt, not, Option, Some, None, codes, decimal, is_some, unwrap_or}
+use Rattle.std.specs.Prelude.{ℕ, List, [], ◌∷◌, ◌++◌, length, Bool, true, false, if◌then◌else◌, ◌&&◌, nat_le, nat_lt, not, Option, Some, None, codes, decimal}
+use Rattle.std.specs.Prelude.{is_some, unwrap_or}
 use Rattle.http.specs.StatusCode.{reason_phrase}
 use Rattle.serde_json.specs.Written.{compact_text}
 use Rattle.desk_model.specs.Refusals.{problem_document}

@@ -230,7 +230,8 @@ pub orders_named : (T : Tables) (a : Ask) → IsOrdered T → IsFound of_order (
 orders_named T a h = found_same of_order _ (is_named_order a) T.orders (named_orders T a)
     (each_all _ T.orders (λ o. order_listed a o.number)) (orders_at T h (order_numbers a))
 
-pub authorizations_named : (T : Tables) (a : Ask) → IsOrdered T → IsFound of_authorization (is_named_authorization a) T.authorizations (named_authorizations T a)
+pub authorizations_named : (T : Tables) (a : Ask) → IsOrdered T → IsFound of_authorization (is_named_authorization a) T.authorizations
+    (named_authorizations T a)
 authorizations_named T a h =
     found_same of_authorization _ (is_named_authorization a) T.authorizations (named_authorizations T a)
     (each_all _ T.authorizations (λ r i. authorization_listed a r.number i || challenge_listed a r i))

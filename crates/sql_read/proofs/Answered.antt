@@ -190,7 +190,8 @@ module _ {X Y : Type 0} (image : X → Row) (part : X → Y) (tree : ℕ) (tests
       )
 
   -- of all rows
-  pub answers : {schema : Schema} (text : List ℕ) → IsReading schema all_rows text tree tests project order params → ((db : Trees) → overlay db [] tree ≡ db tree)
+  pub answers : {schema : Schema} (text : List ℕ) → IsReading schema all_rows text tree tests project order params →
+      ((db : Trees) → overlay db [] tree ≡ db tree)
       → (old new : State) (xs : List X) (rows : List Row) → old.now.schema ≡ schema → old.now.trees tree ≡ map image xs
       → Shown text params old new rows
       → IsOrderedAs (picked tree tests project order) (map shown (filter test (map part xs))) rows

@@ -47,7 +47,8 @@ table_rows bare write IsStored spelled row back HasText Fits fits xs rows stored
 -- ---- look-ups
 
 -- whatever a query shows are these rows, and it is sure
-pub record Finds {S R C : Type 0} (g : Ghosts S) (spelled : Row → C) (Fits : Row → Type 0) (write : R → C) (IsStored : R → Type 0) (text : List ℕ) (params : Row)
+pub record Finds {S R C : Type 0} (g : Ghosts S) (spelled : Row → C) (Fits : Row → Type 0) (write : R → C) (IsStored : R → Type 0) (text : List ℕ)
+    (params : Row)
     (old : Held S) (found : List R) : Type 0 where
   pub shows : (new : Held S) (shown : List Row) (heads : List R) → Shown text params (state g old) (state g new) shown → EachOf IsStored heads
       → map spelled shown ≡ map write heads → heads ≡ found

@@ -23,7 +23,8 @@ use Rattle.sql_read.specs.Spelled.{FitsAccount, FitsAuthorization, FitsChallenge
 use Rattle.sql_read.specs.Spelled.{authorization_in, challenge_in, key_in, meta_in, nonce_in, order_in}
 use Rattle.sql_read.proofs.Answered.{IsReading, by, passes}
 use Rattle.sql_read.proofs.TableColumns.{IsSpelled, account_fits, account_project, account_spelled, authorization_fits, authorization_project}
-use Rattle.sql_read.proofs.TableColumns.{authorization_spelled, challenge_fits, challenge_project, challenge_spelled, formatted_spelled, key_fits, key_project, key_spelled}
+use Rattle.sql_read.proofs.TableColumns.{authorization_spelled, challenge_fits, challenge_project, challenge_spelled, formatted_spelled, key_fits, key_project}
+use Rattle.sql_read.proofs.TableColumns.{key_spelled}
 use Rattle.sql_read.proofs.TableColumns.{meta_fits, meta_project, meta_spelled, nonce_fits, nonce_project, nonce_spelled, order_fits, order_project}
 use Rattle.sql_read.proofs.TableColumns.{order_spelled}
 

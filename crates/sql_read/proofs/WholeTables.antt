@@ -33,7 +33,8 @@ use Rattle.sql_schema.specs.declared.orders.TheConstants as ord
 use Rattle.sql_schema.specs.declared.listed.TheConstants as ord_authz
 use Rattle.sql_read.proofs.Answered.{all_rows, answers, by, picked, shown_somehow}
 use Rattle.sql_read.proofs.{Failing.reading_fails, FoundRows.Keeps, Lists.filter-all}
-use Rattle.sql_read.proofs.KeptRows.{accounts_kept, authorizations_kept, challenges_kept, format_kept, keys_kept, nonces_kept, number_of, orders_kept, schema_of}
+use Rattle.sql_read.proofs.KeptRows.{accounts_kept, authorizations_kept, challenges_kept, format_kept, keys_kept, nonces_kept, number_of, orders_kept}
+use Rattle.sql_read.proofs.KeptRows.{schema_of}
 use Rattle.sql_read.proofs.KeyedReadings.{HasRowsIn, columns_of, shown_whole}
 use Rattle.sql_read.proofs.Readings.{accounts_reading, authorizations_reading, challenges_reading, keys_reading, listed_reading}
 use Rattle.sql_read.proofs.Readings.{meta_reading, nonces_reading, orders_reading}

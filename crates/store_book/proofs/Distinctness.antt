@@ -89,7 +89,8 @@ pub distinct-rows : {K X Y : Type 0} (c : K → K → Ordering) (key : K → Y) 
     (ks : List K) (xs : List X) → map key ks ≡ map value xs → (r : Bool) → IsTrue r ↔ IsDistinct (eq_by_cmp c) ks → IsTrue r ↔ Distinct value xs
 distinct-rows c key value equal same ks xs are r says = (
   λ yes. map-distinct value xs (subst (Distinct (λ y. y)) are (distinct-map (λ y. y) key ks (distinct-values (eq_by_cmp c) key equal ks (says.0 yes)))),
-  λ apart. says.1 (values-distinct (eq_by_cmp c) key same ks (map-distinct key ks (subst (Distinct (λ y. y)) (sym are) (distinct-map (λ y. y) value xs apart)))),
+  λ apart. says.1 (values-distinct (eq_by_cmp c) key same ks (map-distinct key ks
+      (subst (Distinct (λ y. y)) (sym are) (distinct-map (λ y. y) value xs apart)))),
 )
 
 -- numbers are equal exactly where the order says so

@@ -1,5 +1,6 @@
 -- Rows in the order of their keys are those of a book.
-use Rattle.std.proofs.Common.{◌≡◌, ◌<◌, ◌≤◌, ◌+◌, ℕ, Bool, true, false, cond, List, [], ◌∷◌, map, filter, Option, Some, None, refl, sym, ap, subst, ◌∙◌, arith, nat_cmp}
+use Rattle.std.proofs.Common.{◌≡◌, ◌<◌, ◌≤◌, ◌+◌, ℕ, Bool, true, false, cond, List, [], ◌∷◌, map, filter, Option, Some, None, refl, sym, ap, subst, ◌∙◌, arith}
+use Rattle.std.proofs.Common.{nat_cmp}
 use Rattle.std.specs.Prelude.{◌==◌, IsSome, option_map}
 use Rattle.std.specs.{List.cons_option, List.Sorted.IsPermutation, Cmp.nat_cmp_total, Ordering.eq_by_cmp}
 use Rattle.std.proofs.lemmas.{Bool.eqb-true, List.map-id, Map.Keys.IsDistinct-IsPermutation}

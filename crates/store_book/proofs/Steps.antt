@@ -1,5 +1,6 @@
 -- One row more.
-use Rattle.std.proofs.Common.{◌≡◌, ◌<◌, ◌≤◌, ◌+◌, inl, inr, ℕ, Bool, List, [], ◌∷◌, ◌++◌, map, Option, None, Some, Result, Ok, Err, arith, refl, sym, ap, subst, ◌∙◌}
+use Rattle.std.proofs.Common.{◌≡◌, ◌<◌, ◌≤◌, ◌+◌, inl, inr, ℕ, Bool, List, [], ◌∷◌, ◌++◌, map, Option, None, Some, Result, Ok, Err, arith, refl, sym, ap, subst}
+use Rattle.std.proofs.Common.{◌∙◌}
 use Rattle.std.specs.Prelude.{IfOk, option_to_list}
 use Rattle.std.specs.List.{cons_option}
 use Rattle.std.proofs.lemmas.List.Elements.{filter_map-append}
@@ -120,8 +121,11 @@ answered_more rows row before after pushed are =
 pub places_more : (rows : List (Owned Listed)) (row : Owned Listed) (order place : ℕ) → IsPlacedNext order place row.owner row.row.place
     → EachOf (IsPlacedUpTo order place) rows → PlacesRise rows → PlacesRise (rows ++ row ∷ [])
 places_more [] row order place next up rise = (tt, tt)
-places_more (r ∷ rows) row order place next up rise =
-    (each_more (λ s. s.owner ≡ r.owner → r.row.place < s.row.place) rows row rise.0 (λ same. above next up.0 same), places_more rows row order place next up.1 rise.1)
+places_more (r ∷ rows) row order place next up rise = (
+  each_more (λ s. s.owner ≡ r.owner → r.row.place < s.row.place) rows row rise.0 (λ same. above next up.0 same),
+  places_more rows row order place next up.1
+      rise.1,
+)
   where
     above : IsPlacedNext order place row.owner row.row.place → IsPlacedUpTo order place r → row.owner ≡ r.owner → r.row.place < row.row.place
     above (inl later) (inl earlier) same = absurd (omega (arith, later, earlier, same))
@@ -156,7 +160,8 @@ pub owned_fine : {X E : Type 0} (number owner : X → ℕ) (row : X) (old : Coun
 owned_fine number owner row old owners numbers (Ok passes) fine =
     λ first first_owners rows so_far rise table found.
     let on = counts_on number first old rows row so_far.0 table in
-    fine on.0 on.1 (subst Rise (sym so_far.2) rise) (subst (λ l. IsAmong l (owner row)) (sym so_far.2) (each_last (λ x. IsAmong first_owners (owner x)) rows row found))
+    fine on.0 on.1 (subst Rise (sym so_far.2) rise) (subst (λ l. IsAmong l (owner row)) (sym so_far.2)
+    (each_last (λ x. IsAmong first_owners (owner x)) rows row found))
 owned_fine number owner row old owners numbers (Err e) fine = tt
 
 -- the key behind those so far is the next one

@@ -37,7 +37,8 @@ returns-in_err-save-clause-exit g c was loads =
     let outcome = c.in_ok-outcome.outcome in
     unsaved g.K.Storage.sight _ c.args.call.now was c.args.store.now c.save.new.self c.args.part.now outcome.changes.items outcome.reply
     c.in_err-save.field-0.0 _
-    (subst IsFormedCall c.call.ensures c.keep_form.ensures) loads c.in_ok-outcome.ensures.decided c.in_err-save.ensures.saves c.from_residual-in_err-save.ensures.1
+    (subst IsFormedCall c.call.ensures c.keep_form.ensures) loads c.in_ok-outcome.ensures.decided c.in_err-save.ensures.saves
+    c.from_residual-in_err-save.ensures.1
 
 pub returns-clause-exit : goal.returns-clause-exit
 returns-clause-exit g c was loads =

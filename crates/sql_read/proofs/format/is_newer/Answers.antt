@@ -32,7 +32,8 @@ returns-clause-known g c clean not_told = (
 pub returns-in_err-rows-clause-fails : goal.returns-in_err-rows-clause-fails
 returns-in_err-rows-clause-fails g c clean T has may =
     failed_as c.from_residual.result c.in_err-rows.field-0.0 IsFailure
-    (desk_fails Second (state g.S.Store c.args.conn.now) (state g.S.Store c.all_rows.new.conn) T c.in_err-rows.field-0.0 has may (c.in_err-rows.ensures.err clean))
+    (desk_fails Second (state g.S.Store c.args.conn.now) (state g.S.Store c.all_rows.new.conn) T c.in_err-rows.field-0.0 has may
+    (c.in_err-rows.ensures.err clean))
     c.from_residual.ensures.1
 
 pub returns-clause-first : goal.returns-clause-first

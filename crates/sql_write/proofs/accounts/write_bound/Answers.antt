@@ -14,7 +14,8 @@ returns-in-Insert-clause-writes g c =
 
 pub returns-in-Update-clause-writes : goal.returns-in-Update-clause-writes
 returns-in-Update-clause-writes g c =
-    row_renewed g.S.Store account_texts c.args.row.now c.args.tx.now.conn.now c.run-in-Update.new.tx.conn.now c.run-in-Update.result c.args.write c.in-Update.is _
+    row_renewed g.S.Store account_texts c.args.row.now c.args.tx.now.conn.now c.run-in-Update.new.tx.conn.now c.run-in-Update.result c.args.write
+    c.in-Update.is _
     c.moved_account.ensures c.run-in-Update.ensures.ran
 
 pub returns-in_err-numbers-clause-writes : goal.returns-in_err-numbers-clause-writes

@@ -9,12 +9,14 @@ returns-in-Upsert-clause-writes g c =
 
 pub returns-in-Insert-clause-writes : goal.returns-in-Insert-clause-writes
 returns-in-Insert-clause-writes g c =
-    row_added g.S.Store authorization_texts c.args.row.now c.args.tx.now.conn.now c.run-in-Insert.new.tx.conn.now c.run-in-Insert.result c.args.write c.in-Insert.is _
+    row_added g.S.Store authorization_texts c.args.row.now c.args.tx.now.conn.now c.run-in-Insert.new.tx.conn.now c.run-in-Insert.result c.args.write
+    c.in-Insert.is _
     c.authorization_values-in-Insert.ensures c.run-in-Insert.ensures.ran
 
 pub returns-in-Update-clause-writes : goal.returns-in-Update-clause-writes
 returns-in-Update-clause-writes g c =
-    row_renewed g.S.Store authorization_texts c.args.row.now c.args.tx.now.conn.now c.run-in-Update.new.tx.conn.now c.run-in-Update.result c.args.write c.in-Update.is _
+    row_renewed g.S.Store authorization_texts c.args.row.now c.args.tx.now.conn.now c.run-in-Update.new.tx.conn.now c.run-in-Update.result c.args.write
+    c.in-Update.is _
     c.moved_authorization.ensures c.run-in-Update.ensures.ran
 
 pub returns-in_err-numbers-clause-writes : goal.returns-in_err-numbers-clause-writes

@@ -8,7 +8,8 @@ pub returns-clause-whole : goal.returns-clause-whole
 returns-clause-whole c first rows so_far = (
   record {
     table = whole_table (λ a. a.number) first.counter c.args.self.counter rows so_far.0;
-    keys = map-distinct (λ a. a.key) rows (subst (Distinct (λ k. k)) so_far.2 (rw c.deref.ensures.value at (c.in_ok-have_distinct_texts.ensures.0 c.if-not-branch.false)));
+    keys = map-distinct (λ a. a.key) rows (subst (Distinct (λ k. k)) so_far.2
+        (rw c.deref.ensures.value at (c.in_ok-have_distinct_texts.ensures.0 c.if-not-branch.false)));
   },
   so_far.1,
 )

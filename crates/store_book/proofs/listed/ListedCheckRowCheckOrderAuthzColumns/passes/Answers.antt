@@ -28,5 +28,6 @@ returns-then-has-clause-fine c first rows so_far begins =
 
 pub returns-else-has-clause-fine : goal.returns-else-has-clause-fine
 returns-else-has-clause-fine c first rows so_far begins =
-    absurd (let x = sym c.if-has.false ∙ c.has.ensures.found (subst Rise (sym so_far.2) begins.orders_rise) (subst (λ l. IsAmong l c.args.row.owner) (sym so_far.2)
+    absurd (let x = sym c.if-has.false ∙ c.has.ensures.found (subst Rise (sym so_far.2) begins.orders_rise)
+    (subst (λ l. IsAmong l c.args.row.owner) (sym so_far.2)
     (each_last (λ l. IsAmong first.orders.now l.owner) rows c.args.row begins.listed.orders_found)) in cc)

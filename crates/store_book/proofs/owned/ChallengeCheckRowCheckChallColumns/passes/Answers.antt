@@ -1,12 +1,14 @@
 use Rattle.std.proofs.Common.{subst, sym, ◌∙◌}
 use Rattle.store_book.specs.BookRows.{IsAmong, Rise}
 use Rattle.store_book.proofs.Steps.{answered_more, counts_on, each_last, each_more, up_to_more}
-use Rattle.store_book.proofs.owned.ChallengeCheckRowCheckChallColumns.passes.Goals.{then-not-passes-via-then-not-passes, then-not-passes-via-else-not-passes+then-not-has}
+use Rattle.store_book.proofs.owned.ChallengeCheckRowCheckChallColumns.passes.Goals.{then-not-passes-via-then-not-passes}
+use Rattle.store_book.proofs.owned.ChallengeCheckRowCheckChallColumns.passes.Goals.{then-not-passes-via-else-not-passes+then-not-has}
 use Rattle.store_book.proofs.owned.ChallengeCheckRowCheckChallColumns.passes.Goals as goal
 
 pub returns-clause-passed : goal.returns-clause-passed
 returns-clause-passed c _ first rows so_far = (
-  up_to_more (λ k. k.row.number) first.counter c.args.self.now.counter c.passes.new.self rows c.args.row (c.passes.ensures.counts c.if-not-passes.false) so_far.0,
+  up_to_more (λ k. k.row.number) first.counter c.args.self.now.counter c.passes.new.self rows c.args.row (c.passes.ensures.counts c.if-not-passes.false)
+      so_far.0,
   answered_more rows c.args.row c.args.self.now.answered c.push_answered.new.numbers c.in_ok-push_answered.ensures so_far.1,
   so_far.2,
   each_more (λ k. IsAmong first.authorizations.now k.owner) rows c.args.row so_far.3
