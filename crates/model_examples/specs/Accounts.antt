@@ -34,8 +34,7 @@ account_text = codes "{\"contact\":[\"mailto:a@b.example\"],\"orders\":\"https:/
 
 -- the first account
 abbrev pub FirstAccount : Type 0
-FirstAccount =
-    Answers with_nonce opening (located (codes "https://ca.example/account/1") (plain 201 (Json account_text)))
+FirstAccount = Answers with_nonce opening (located (codes "https://ca.example/account/1") (plain 201 (Json account_text)))
     (opened first_key (codes "mailto:a@b.example" ∷ []) ∷ [])
 
 -- the desk after it
@@ -62,8 +61,7 @@ knowing = asked 0 16 (signed first_key nonce_two to.NewAccount (codes "{}"))
 
 -- newAccount by a key that has an account answers that account (7.3.1)
 abbrev pub KnownKey : Type 0
-KnownKey =
-    Gives with_third_nonce knowing (located (codes "https://ca.example/account/1") (renewed nonce_four (plain 200 (Json account_text))))
+KnownKey = Gives with_third_nonce knowing (located (codes "https://ca.example/account/1") (renewed nonce_four (plain 200 (Json account_text))))
     (spent 2 ∷ issued (zeros 16) ∷ [])
 
 -- the desk after it

@@ -71,9 +71,13 @@ asked at random what = record { at = at; random = zeros random; ask = what }
 abbrev pub signed : (key nonce : List ℕ) → Target → List ℕ → Ask
 signed key nonce target payload = ask.Signed (record { target = target; key = Ok key; nonce = Some nonce; payload = payload })
 
--- by the first account, with the first nonce and the next random bytes, at 0
+-- by the first account, with the first nonce and the next random bytes, at a moment
+abbrev pub request_at : ℕ → Target → List ℕ → Call
+request_at at target payload = asked at 16 (signed first_key nonce_one target payload)
+
+-- at 0
 abbrev pub request : Target → List ℕ → Call
-request target payload = asked 0 16 (signed first_key nonce_one target payload)
+request target payload = request_at 0 target payload
 
 -- ---- histories with an open nonce, the first
 
@@ -91,5 +95,4 @@ wants base = new (simple base) (zeros 16 ∷ zeros 16 ∷ [])
 
 -- a desk made with these terms, with an order of a.example
 abbrev pub order_desk : Terms → History
-order_desk terms =
-    on 0 (ordered 1 (wants (codes "a.example") ∷ [])) ∷ on 0 (opened first_key []) ∷ on 0 (issued (zeros 16)) ∷ on 0 (made terms) ∷ []
+order_desk terms = on 0 (ordered 1 (wants (codes "a.example") ∷ [])) ∷ on 0 (opened first_key []) ∷ on 0 (issued (zeros 16)) ∷ on 0 (made terms) ∷ []

@@ -3,9 +3,10 @@ use Rattle.std.specs.Prelude.{◌≡◌, [], ◌∷◌, ◌++◌, codes, replica
 use Rattle.desk_model.specs.Contact.{contact_fault, contacts_fault}
 use Rattle.desk_model.specs.declared.call.Target.TheVariants as to
 use Rattle.desk_model.specs.declared.refusal.Refusal.TheVariants as refusal
+use Rattle.model_examples.specs.Accounts.{with_nonce}
 use Rattle.model_examples.specs.Computed.{plain, Json, located, Answers, Reads, Refuses, shows}
-use Rattle.model_examples.specs.Entries.{issued, contacts_changed, History, opened}
-use Rattle.model_examples.specs.Calls.{on, zeros, new_desk, account_desk, request, first_key}
+use Rattle.model_examples.specs.Entries.{contacts_changed, opened}
+use Rattle.model_examples.specs.Calls.{account_desk, request, first_key}
 use Rattle.model_examples.specs.Texts.{unsupported_contact, invalid_contact, no_account, plain_account}
 
 -- nothing stands behind the scheme
@@ -52,22 +53,17 @@ ElevenContacts = contacts_fault (replicate 11 (codes "tel:+1")) ≡ Some refusal
 abbrev pub FirstFault : Type 0
 FirstFault = contacts_fault (codes "mailto:a@b" ∷ codes "tel:+1" ∷ codes "abc" ∷ []) ≡ Some refusal.UnsupportedContact
 
--- a desk with one nonce
-abbrev pub nonce_desk : History
-nonce_desk = on 0 (issued (zeros 16)) ∷ new_desk
-
 -- an account with a telephone number is not opened
 abbrev pub TelephoneRefused : Type 0
-TelephoneRefused = Refuses nonce_desk (request to.NewAccount (codes "{\"contact\":[\"tel:+1\"]}")) 400 unsupported_contact
+TelephoneRefused = Refuses with_nonce (request to.NewAccount (codes "{\"contact\":[\"tel:+1\"]}")) 400 unsupported_contact
 
 -- nor one with an address that says nothing
 abbrev pub EmptyAddressRefused : Type 0
-EmptyAddressRefused = Refuses nonce_desk (request to.NewAccount (codes "{\"contact\":[\"mailto:\"]}")) 400 invalid_contact
+EmptyAddressRefused = Refuses with_nonce (request to.NewAccount (codes "{\"contact\":[\"mailto:\"]}")) 400 invalid_contact
 
 -- other contacts take the place of the old ones, as they are written
 abbrev pub ContactsReplaced : Type 0
-ContactsReplaced =
-    Answers account_desk (request (to.Account 1) (codes "{\"contact\":[\"MAILTO:a@b\"],\"status\":\"valid\"}"))
+ContactsReplaced = Answers account_desk (request (to.Account 1) (codes "{\"contact\":[\"MAILTO:a@b\"],\"status\":\"valid\"}"))
     (shows (codes "{\"contact\":[\"MAILTO:a@b\"],\"orders\":\"https://ca.example/account/1/orders\",\"status\":\"valid\"}"))
     (contacts_changed 1 (codes "MAILTO:a@b" ∷ []) ∷ [])
 
@@ -81,10 +77,9 @@ ContactsLeft = Reads account_desk (request (to.Account 1) (codes "{\"status\":\"
 
 -- where only an existing account is asked for, contacts are not looked at
 abbrev pub ExistingBeforeContacts : Type 0
-ExistingBeforeContacts = Refuses nonce_desk (request to.NewAccount (codes "{\"contact\":[\"abc\"],\"onlyReturnExisting\":true}")) 400 no_account
+ExistingBeforeContacts = Refuses with_nonce (request to.NewAccount (codes "{\"contact\":[\"abc\"],\"onlyReturnExisting\":true}")) 400 no_account
 
 -- any account may be asked for expressly
 abbrev pub NotOnlyExisting : Type 0
-NotOnlyExisting =
-    Answers nonce_desk (request to.NewAccount (codes "{\"onlyReturnExisting\":false}"))
+NotOnlyExisting = Answers with_nonce (request to.NewAccount (codes "{\"onlyReturnExisting\":false}"))
     (located (codes "https://ca.example/account/1") (plain 201 (Json plain_account))) (opened first_key [] ∷ [])

@@ -18,8 +18,7 @@ value_in text = unwrap_or (read text) json.null
 
 -- a key is read whatever stands beside its members, and in any order
 abbrev pub KeyRead : Type 0
-KeyRead =
-    IsKeyOf (value_in (codes "{\"y\":\"Ag\",\"alg\":\"ES256\",\"x\":\"AQ\",\"use\":\"sig\",\"kty\":\"EC\",\"crv\":\"P-256\"}"))
+KeyRead = IsKeyOf (value_in (codes "{\"y\":\"Ag\",\"alg\":\"ES256\",\"x\":\"AQ\",\"use\":\"sig\",\"kty\":\"EC\",\"crv\":\"P-256\"}"))
     (ec (codes "P-256") (codes "AQ") (codes "Ag"))
 
 -- a key of Ed25519 (RFC 8037, 2)
@@ -81,6 +80,5 @@ TwoContacts =
 
 -- an authorization that failed shows the challenge that was reported
 abbrev pub InvalidAuthorization : Type 0
-InvalidAuthorization =
-    Reads (on 0 (reported 2 incorrect_response) ∷ on 0 (answered 2) ∷ on 0 (answered 1) ∷ order_desk default_terms) (request (to.Authz 1) [])
+InvalidAuthorization = Reads (on 0 (reported 2 incorrect_response) ∷ on 0 (answered 2) ∷ on 0 (answered 1) ∷ order_desk default_terms) (request (to.Authz 1) [])
     (codes "{\"challenges\":[{\"error\":{\"detail\":\"the response did not match\",\"status\":403,\"type\":\"urn:ietf:params:acme:error:incorrectResponse\"},\"status\":\"invalid\",\"token\":\"AAAAAAAAAAAAAAAAAAAAAA\",\"type\":\"dns-01\",\"url\":\"https://ca.example/chall/2\"}],\"expires\":\"1970-01-31T00:00:00Z\",\"identifier\":{\"type\":\"dns\",\"value\":\"a.example\"},\"status\":\"invalid\"}")

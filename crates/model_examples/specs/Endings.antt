@@ -12,6 +12,7 @@ use Rattle.model_examples.specs.Computed.{Gives, plain, shows, Problem, Answers,
 use Rattle.model_examples.specs.Entries.{Entry, account_ended, ordered, answered, reported, good, incorrect_response, authorization_ended, finalized, certified}
 use Rattle.model_examples.specs.Entries.{deactivated, revoked, History}
 use Rattle.model_examples.specs.Calls.{on, account_desk, asked, request, wants}
+use Rattle.model_examples.specs.Offices.{Notes, Repeats, Turns}
 use Rattle.model_examples.specs.Texts.{unauthorized, unfit_report, nothing_here}
 
 -- an order of this name
@@ -20,8 +21,7 @@ order_of base = ordered 1 (wants base ∷ [])
 
 -- five orders: pending, ready, invalid after a bad report, processing and valid
 abbrev pub busy_desk : History
-busy_desk =
-    on 0 (certified 5 (codes "chain")) ∷ on 0 (finalized 5 (1 ∷ [])) ∷ on 0 (finalized 4 (1 ∷ []))
+busy_desk = on 0 (certified 5 (codes "chain")) ∷ on 0 (finalized 5 (1 ∷ [])) ∷ on 0 (finalized 4 (1 ∷ []))
     ∷ on 0 (reported 9 good) ∷ on 0 (answered 9) ∷ on 0 (reported 7 good) ∷ on 0 (answered 7)
     ∷ on 0 (reported 5 incorrect_response) ∷ on 0 (answered 5) ∷ on 0 (reported 3 good) ∷ on 0 (answered 3)
     ∷ on 0 (order_of (codes "e.example")) ∷ on 0 (order_of (codes "d.example")) ∷ on 0 (order_of (codes "c.example"))
@@ -45,14 +45,12 @@ AuthorizationsBefore = authorization_statuses busy_desk ≡ authz.Pending ∷ au
 
 -- the orders of an account, by number, without those that are invalid (7.1.2.1)
 abbrev pub OrdersListed : Type 0
-OrdersListed =
-    Reads busy_desk (request (to.Orders 1) [])
+OrdersListed = Reads busy_desk (request (to.Orders 1) [])
     (codes "{\"orders\":[\"https://ca.example/order/1\",\"https://ca.example/order/2\",\"https://ca.example/order/4\",\"https://ca.example/order/5\"]}")
 
 -- the account is deactivated by its client
 abbrev pub AccountDeactivated : Type 0
-AccountDeactivated =
-    Answers busy_desk (request (to.Account 1) (codes "{\"contact\":1,\"status\":\"deactivated\"}"))
+AccountDeactivated = Answers busy_desk (request (to.Account 1) (codes "{\"contact\":1,\"status\":\"deactivated\"}"))
     (shows (codes "{\"contact\":[],\"orders\":\"https://ca.example/account/1/orders\",\"status\":\"deactivated\"}")) (account_ended 1 deactivated ∷ [])
 
 -- the desk after it
@@ -84,7 +82,7 @@ revoked_account = codes "{\"contact\":[],\"orders\":\"https://ca.example/account
 
 -- the operator revokes an account
 abbrev pub AccountRevoked : Type 0
-AccountRevoked = Gives busy_desk (asked 0 0 (ask.Office (office.RevokeAccount 1))) (shows revoked_account) (account_ended 1 revoked ∷ [])
+AccountRevoked = Notes busy_desk (office.RevokeAccount 1) revoked_account (account_ended 1 revoked)
 
 -- the desk after it
 abbrev pub revoked_desk : History
@@ -96,15 +94,15 @@ AuthorizationsOfRevoked = authorization_statuses revoked_desk ≡ authz.Revoked 
 
 -- again: nothing changes
 abbrev pub AccountRevokedAgain : Type 0
-AccountRevokedAgain = Gives revoked_desk (asked 0 0 (ask.Office (office.RevokeAccount 1))) (shows revoked_account) []
+AccountRevokedAgain = Repeats revoked_desk (office.RevokeAccount 1) revoked_account
 
 -- an account that its client ended is not revoked
 abbrev pub DeactivatedIsNotRevoked : Type 0
-DeactivatedIsNotRevoked = Gives deactivated_desk (asked 0 0 (ask.Office (office.RevokeAccount 1))) (plain 409 (Problem false unfit_report)) []
+DeactivatedIsNotRevoked = Turns deactivated_desk (office.RevokeAccount 1) 409 unfit_report
 
 -- an account that was never opened
 abbrev pub UnknownAccountRevoked : Type 0
-UnknownAccountRevoked = Gives busy_desk (asked 0 0 (ask.Office (office.RevokeAccount 2))) (plain 404 (Problem false nothing_here)) []
+UnknownAccountRevoked = Turns busy_desk (office.RevokeAccount 2) 404 nothing_here
 
 -- the authorization of b.example, revoked
 abbrev pub revoked_authorization : List ℕ
@@ -113,16 +111,15 @@ revoked_authorization =
 
 -- the operator revokes an authorization
 abbrev pub AuthorizationRevoked : Type 0
-AuthorizationRevoked = Gives busy_desk (asked 0 0 (ask.Office (office.RevokeAuthz 2))) (shows revoked_authorization) (authorization_ended 2 revoked ∷ [])
+AuthorizationRevoked = Notes busy_desk (office.RevokeAuthz 2) revoked_authorization (authorization_ended 2 revoked)
 
 -- again: nothing changes
 abbrev pub AuthorizationRevokedAgain : Type 0
-AuthorizationRevokedAgain =
-    Gives (on 0 (authorization_ended 2 revoked) ∷ busy_desk) (asked 0 0 (ask.Office (office.RevokeAuthz 2))) (shows revoked_authorization) []
+AuthorizationRevokedAgain = Repeats (on 0 (authorization_ended 2 revoked) ∷ busy_desk) (office.RevokeAuthz 2) revoked_authorization
 
 -- one that ended otherwise is not revoked
 abbrev pub InvalidIsNotRevoked : Type 0
-InvalidIsNotRevoked = Gives busy_desk (asked 0 0 (ask.Office (office.RevokeAuthz 3))) (plain 409 (Problem false unfit_report)) []
+InvalidIsNotRevoked = Turns busy_desk (office.RevokeAuthz 3) 409 unfit_report
 
 -- nor one past its moment
 abbrev pub ExpiredIsNotRevoked : Type 0
@@ -130,4 +127,4 @@ ExpiredIsNotRevoked = Gives busy_desk (asked 2592001 0 (ask.Office (office.Revok
 
 -- an authorization that was never made
 abbrev pub UnknownAuthorizationRevoked : Type 0
-UnknownAuthorizationRevoked = Gives busy_desk (asked 0 0 (ask.Office (office.RevokeAuthz 6))) (plain 404 (Problem false nothing_here)) []
+UnknownAuthorizationRevoked = Turns busy_desk (office.RevokeAuthz 6) 404 nothing_here

@@ -69,10 +69,7 @@ FiftyWanted = (T : Tables) → wanted (bare T) 1 (map simple (names 50)) (zeros 
 
 -- so the order is recorded, whatever else the desk holds
 abbrev pub FiftyOrdered : Type 0
-FiftyOrdered =
-    (T : Tables)
-    → target_verdict (bare T) (zeros 1600) 1 (order_text (names 50)) to.NewOrder
-    ≡ orders 1 (map wants (names 50))
+FiftyOrdered = (T : Tables) → target_verdict (bare T) (zeros 1600) 1 (order_text (names 50)) to.NewOrder ≡ orders 1 (map wants (names 50))
 
 -- which takes 1600 random bytes, beside the 16 of the nonce
 abbrev pub FiftyPieces : Type 0

@@ -4,11 +4,11 @@ use Rattle.desk_model.specs.Tables.{picture}
 use Rattle.desk_model.specs.declared.call.Target.TheVariants as to
 use Rattle.desk_model.specs.declared.call.OfficeAsk.TheVariants as office
 use Rattle.desk_model.specs.declared.call.Finding.TheVariants as found
-use Rattle.model_examples.specs.Computed.{Answer, Gives, plain, located, shows, Json, Problem, Answers, Refuses}
+use Rattle.model_examples.specs.Computed.{Answer, plain, located, Json, Problem, Answers, Refuses}
 use Rattle.model_examples.specs.Entries.{Entry, opened, key_changed, account_ended, deactivated, answered, reported, good, History, incorrect_response}
 use Rattle.model_examples.specs.Calls.{on, account_desk, first_key, second_key, request}
 use Rattle.model_examples.specs.Following.{May, MayNot}
-use Rattle.model_examples.specs.Offices.{waiting_desk, http_desk, handed, report, Repeats, http_work, proved_challenge, unmatched_challenge}
+use Rattle.model_examples.specs.Offices.{waiting_desk, http_desk, report, Notes, Repeats, http_work, proved_challenge, unmatched_challenge}
 use Rattle.model_examples.specs.Texts.{malformed, bad_public_key, key_in_use, no_account, unauthorized, plain_account}
 
 -- the canonical text of a third key
@@ -141,7 +141,7 @@ key_authorization = codes "AAAAAAAAAAAAAAAAAAAAAA.NzbLsXh8uDCcd-6MNwXF4W_7noWXFZ
 
 -- and a report is matched with it
 abbrev pub ReportByOldKey : Type 0
-ReportByOldKey = Gives later_key (handed (report (found.Body key_authorization))) (shows proved_challenge) (reported 1 good ∷ [])
+ReportByOldKey = Notes later_key (report (found.Body key_authorization)) proved_challenge (reported 1 good)
 
 -- that under the second key
 abbrev pub second_authorization : List ℕ
@@ -149,16 +149,16 @@ second_authorization = codes "AAAAAAAAAAAAAAAAAAAAAA.pF1dcf6lIm6B95gxRV0_u2O1e7F
 
 -- not with the key of now
 abbrev pub ReportByNewKey : Type 0
-ReportByNewKey = Gives later_key (handed (report (found.Body second_authorization))) (shows unmatched_challenge) (reported 1 incorrect_response ∷ [])
+ReportByNewKey = Notes later_key (report (found.Body second_authorization)) unmatched_challenge (reported 1 incorrect_response)
 
--- answered after the change, it is matched with the new key
+-- the desk whose challenge was answered after the change
+abbrev pub earlier_key : History
+earlier_key = on 0 (answered 1) ∷ on 0 (key_changed 1 second_key) ∷ waiting_desk
+
+-- then it is matched with the new key
 abbrev pub AnsweredThenMatched : Type 0
-AnsweredThenMatched =
-    Gives (on 0 (answered 1) ∷ on 0 (key_changed 1 second_key) ∷ waiting_desk) (handed (report (found.Body second_authorization))) (shows proved_challenge)
-    (reported 1 good ∷ [])
+AnsweredThenMatched = Notes earlier_key (report (found.Body second_authorization)) proved_challenge (reported 1 good)
 
 -- and not with the old one
 abbrev pub AnsweredByNewKey : Type 0
-AnsweredByNewKey =
-    Gives (on 0 (answered 1) ∷ on 0 (key_changed 1 second_key) ∷ waiting_desk) (handed (report (found.Body key_authorization))) (shows unmatched_challenge)
-    (reported 1 incorrect_response ∷ [])
+AnsweredByNewKey = Notes earlier_key (report (found.Body key_authorization)) unmatched_challenge (reported 1 incorrect_response)

@@ -1,33 +1,30 @@
 -- Certificates and CSRs at the limit of their size (RFC 8555, 7.4, 7.4.2).
 use Rattle.desk_model.specs.Rules.{if_fits}
-use Rattle.std.specs.Prelude.{◌≡◌, ℕ, [], ◌∷◌, false, replicate, codes, Some, None}
-use Rattle.desk_model.specs.declared.call.Call.{Call}
-use Rattle.desk_model.specs.declared.call.Ask.TheVariants as ask
+use Rattle.std.specs.Prelude.{◌≡◌, ℕ, [], ◌∷◌, replicate, codes, Some, None}
+use Rattle.desk_model.specs.declared.call.OfficeAsk.{OfficeAsk}
 use Rattle.desk_model.specs.declared.call.OfficeAsk.TheVariants as office
-use Rattle.model_examples.specs.Computed.{Gives, plain, shows, Problem}
 use Rattle.model_examples.specs.Entries.{answered, reported, good, finalized, certified, History}
-use Rattle.model_examples.specs.Calls.{on, order_desk, default_terms, asked}
+use Rattle.model_examples.specs.Offices.{Notes, Turns}
 use Rattle.model_examples.specs.Texts.{too_large}
+use Rattle.model_examples.specs.Calls.{on, order_desk, default_terms}
 
 -- the order is processing
 abbrev pub processing_desk : History
 processing_desk = on 0 (finalized 1 (1 ∷ [])) ∷ on 0 (reported 1 good) ∷ on 0 (answered 1) ∷ order_desk default_terms
 
 -- a certificate of so many bytes is handed in
-abbrev pub certifying : ℕ → Call
-certifying n = asked 0 0 (ask.Office (office.Certify 1 (replicate n 65)))
+abbrev pub certifying : ℕ → OfficeAsk
+certifying n = office.Certify 1 (replicate n 65)
 
 -- a certificate of 65536 bytes
 abbrev pub LargestCertificate : Type 0
-LargestCertificate =
-    Gives processing_desk (certifying 65536)
-    (shows (codes
-    "{\"authorizations\":[\"https://ca.example/authz/1\"],\"certificate\":\"https://ca.example/cert/1\",\"expires\":\"1970-01-08T00:00:00Z\",\"finalize\":\"https://ca.example/order/1/finalize\",\"identifiers\":[{\"type\":\"dns\",\"value\":\"a.example\"}],\"status\":\"valid\"}"))
-    (certified 1 (replicate 65536 65) ∷ [])
+LargestCertificate = Notes processing_desk (certifying 65536)
+    (codes "{\"authorizations\":[\"https://ca.example/authz/1\"],\"certificate\":\"https://ca.example/cert/1\",\"expires\":\"1970-01-08T00:00:00Z\",\"finalize\":\"https://ca.example/order/1/finalize\",\"identifiers\":[{\"type\":\"dns\",\"value\":\"a.example\"}],\"status\":\"valid\"}")
+    (certified 1 (replicate 65536 65))
 
 -- and one more
 abbrev pub TooLargeCertificate : Type 0
-TooLargeCertificate = Gives processing_desk (certifying 65537) (plain 413 (Problem false too_large)) []
+TooLargeCertificate = Turns processing_desk (certifying 65537) 413 too_large
 
 -- the bytes of the longest CSR; its text is too long to be computed
 abbrev pub LargestCsr : Type 0

@@ -22,11 +22,8 @@ OneNameTooOften = Refuses account_desk (request to.NewOrder (order_text (map (λ
 
 -- the first identifier that is refused gives the refusal, and each is listed
 abbrev pub TwoFaultyIdentifiers : Type 0
-TwoFaultyIdentifiers =
-    Refuses account_desk
-    (request to.NewOrder (codes
-    "{\"identifiers\":[{\"type\":\"ip\",\"value\":\"a.example\"},{\"type\":\"dns\",\"value\":\"a..b\"},{\"type\":\"dns\",\"value\":\"c.example\"}]}"))
-    400
+TwoFaultyIdentifiers = Refuses account_desk (request to.NewOrder (codes
+    "{\"identifiers\":[{\"type\":\"ip\",\"value\":\"a.example\"},{\"type\":\"dns\",\"value\":\"a..b\"},{\"type\":\"dns\",\"value\":\"c.example\"}]}")) 400
     (codes "{\"detail\":\"the identifier type is not supported\",\"status\":400,\"subproblems\":[{\"detail\":\"the identifier type is not supported\",\"identifier\":{\"type\":\"ip\",\"value\":\"a.example\"},\"type\":\"urn:ietf:params:acme:error:unsupportedIdentifier\"},{\"detail\":\"the name is not accepted\",\"identifier\":{\"type\":\"dns\",\"value\":\"a..b\"},\"type\":\"urn:ietf:params:acme:error:rejectedIdentifier\"}],\"type\":\"urn:ietf:params:acme:error:unsupportedIdentifier\"}")
 
 -- a name that is none

@@ -7,12 +7,12 @@ use Rattle.desk_model.specs.declared.call.OfficeAsk.TheVariants as office
 use Rattle.desk_model.specs.declared.call.Target.TheVariants as to
 use Rattle.model_examples.specs.Computed.{Gives, refuses, located, Answers, shows}
 use Rattle.model_examples.specs.Entries.{issued, History}
-use Rattle.model_examples.specs.Calls.{on, zeros, new_desk, account_desk, first_key, asked, signed, nonce_one, nonce_two, nonce_three}
+use Rattle.model_examples.specs.Calls.{on, zeros, new_desk, account_desk, first_key, asked, request_at, signed, nonce_one, nonce_two, nonce_three}
 use Rattle.model_examples.specs.Texts.{bad_nonce, plain_account}
 
 -- the account is asked for at a moment, with a nonce of moment 0
 abbrev pub known_at : ℕ → Call
-known_at at = asked at 16 (signed first_key nonce_one to.NewAccount (codes "{}"))
+known_at at = request_at at to.NewAccount (codes "{}")
 
 -- a nonce serves to the end of its life
 abbrev pub NonceToTheEndOfItsLife : Type 0

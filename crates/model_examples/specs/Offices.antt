@@ -9,7 +9,8 @@ use Rattle.desk_model.specs.declared.call.Finding.TheVariants as found
 use Rattle.desk_model.specs.declared.call.FetchError.TheVariants as fetch
 use Rattle.desk_model.specs.declared.call.OrderProblem.{OrderProblem}
 use Rattle.model_examples.specs.Computed.{Gives, plain, shows, Problem}
-use Rattle.model_examples.specs.Entries.{opened, ordered, answered, reported, good, incorrect_response, connection, dns, finalized, certified, failed, History}
+use Rattle.model_examples.specs.Entries.{Entry, opened, ordered, answered, reported, good, incorrect_response, connection}
+use Rattle.model_examples.specs.Entries.{dns, finalized, certified, failed, History}
 use Rattle.model_examples.specs.Calls.{on, new_desk, asked, wants, second_key}
 use Rattle.model_examples.specs.Keys.{rsa_key}
 use Rattle.model_examples.specs.Texts.{malformed, nothing_here, unfit_report}
@@ -34,6 +35,10 @@ Turns F what status text = Gives F (handed what) (plain status (Problem false te
 abbrev pub Repeats : History → OfficeAsk → List ℕ → Type 0
 Repeats F what text = Gives F (handed what) (shows text) []
 
+-- answered with this document, with this entry recorded
+abbrev pub Notes : History → OfficeAsk → List ℕ → Entry → Type 0
+Notes F what text entry = Gives F (handed what) (shows text) (entry ∷ [])
+
 -- ---- what waits for the validator
 
 -- no challenge was answered
@@ -51,8 +56,7 @@ HttpWork = Repeats http_desk office.ChallengeWork http_work
 
 -- a dns-01 challenge wants its digest
 abbrev pub BothWork : Type 0
-BothWork =
-    Repeats (on 0 (answered 2) ∷ http_desk) office.ChallengeWork
+BothWork = Repeats (on 0 (answered 2) ∷ http_desk) office.ChallengeWork
     (codes "{\"challenges\":[{\"challenge\":1,\"expected\":\"AAAAAAAAAAAAAAAAAAAAAA.NzbLsXh8uDCcd-6MNwXF4W_7noWXFZAfHkxZsRGC9Xs\",\"name\":\"example.org\",\"token\":\"AAAAAAAAAAAAAAAAAAAAAA\",\"type\":\"http-01\"},{\"challenge\":2,\"expected\":\"6H4FhzYmR97XkCWAT_eXR2sP0qjpSQae4RcMSVuj2EU\",\"name\":\"example.org\",\"token\":\"AAAAAAAAAAAAAAAAAAAAAA\",\"type\":\"dns-01\"}]}")
 
 -- what is past its moment waits no longer
@@ -72,7 +76,7 @@ unmatched_challenge =
 
 -- another body than the one expected
 abbrev pub WrongBody : Type 0
-WrongBody = Gives http_desk (handed (report (found.Body []))) (shows unmatched_challenge) (reported 1 incorrect_response ∷ [])
+WrongBody = Notes http_desk (report (found.Body [])) unmatched_challenge (reported 1 incorrect_response)
 
 -- the challenge that was proved at 0
 abbrev pub proved_challenge : List ℕ
@@ -81,35 +85,32 @@ proved_challenge =
 
 -- the right one, with a line end
 abbrev pub RightBody : Type 0
-RightBody =
-    Gives http_desk (handed (report (found.Body (codes "AAAAAAAAAAAAAAAAAAAAAA.NzbLsXh8uDCcd-6MNwXF4W_7noWXFZAfHkxZsRGC9Xs" ++ 10 ∷ []))))
-    (shows proved_challenge) (reported 1 good ∷ [])
+RightBody = Notes http_desk (report (found.Body (codes "AAAAAAAAAAAAAAAAAAAAAA.NzbLsXh8uDCcd-6MNwXF4W_7noWXFZAfHkxZsRGC9Xs" ++ 10 ∷ [])))
+    proved_challenge (reported 1 good)
 
 -- the right record among others
 abbrev pub RightRecord : Type 0
-RightRecord =
-    Gives (on 0 (answered 2) ∷ waiting_desk) (handed (office.Report 2 (found.Records (codes "x" ∷ codes "6H4FhzYmR97XkCWAT_eXR2sP0qjpSQae4RcMSVuj2EU" ∷ []))))
-    (shows (codes
-    "{\"status\":\"valid\",\"token\":\"AAAAAAAAAAAAAAAAAAAAAA\",\"type\":\"dns-01\",\"url\":\"https://ca.example/chall/2\",\"validated\":\"1970-01-01T00:00:00Z\"}"))
-    (reported 2 good ∷ [])
+RightRecord = Notes (on 0 (answered 2) ∷ waiting_desk) (office.Report 2 (found.Records (codes "x" ∷ codes "6H4FhzYmR97XkCWAT_eXR2sP0qjpSQae4RcMSVuj2EU" ∷ [])))
+    (codes "{\"status\":\"valid\",\"token\":\"AAAAAAAAAAAAAAAAAAAAAA\",\"type\":\"dns-01\",\"url\":\"https://ca.example/chall/2\",\"validated\":\"1970-01-01T00:00:00Z\"}")
+    (reported 2 good)
 
 -- the challenge to which there was no connection
 abbrev pub unconnected_challenge : List ℕ
 unconnected_challenge =
     codes "{\"error\":{\"detail\":\"the validator could not connect\",\"status\":400,\"type\":\"urn:ietf:params:acme:error:connection\"},\"status\":\"invalid\",\"token\":\"AAAAAAAAAAAAAAAAAAAAAA\",\"type\":\"http-01\",\"url\":\"https://ca.example/chall/1\"}"
 
--- no connection
-abbrev pub NoConnection : Type 0
-NoConnection = Gives http_desk (handed (report (found.Error fetch.Connection))) (shows unconnected_challenge) (reported 1 connection ∷ [])
-
 -- the challenge for which no records were found
 abbrev pub unfound_challenge : List ℕ
 unfound_challenge =
     codes "{\"error\":{\"detail\":\"the validator found no records\",\"status\":400,\"type\":\"urn:ietf:params:acme:error:dns\"},\"status\":\"invalid\",\"token\":\"AAAAAAAAAAAAAAAAAAAAAA\",\"type\":\"http-01\",\"url\":\"https://ca.example/chall/1\"}"
 
+-- no connection
+abbrev pub NoConnection : Type 0
+NoConnection = Notes http_desk (report (found.Error fetch.Connection)) unconnected_challenge (reported 1 connection)
+
 -- no records
 abbrev pub NoRecordsFound : Type 0
-NoRecordsFound = Gives http_desk (handed (report (found.Error fetch.Dns))) (shows unfound_challenge) (reported 1 dns ∷ [])
+NoRecordsFound = Notes http_desk (report (found.Error fetch.Dns)) unfound_challenge (reported 1 dns)
 
 -- the challenge failed
 abbrev pub reported_desk : History
@@ -156,7 +157,7 @@ valid_order =
 
 -- a certificate makes the order valid
 abbrev pub Certifies : Type 0
-Certifies = Gives processing_desk (handed (certify (codes "chain"))) (shows valid_order) (certified 1 (codes "chain") ∷ [])
+Certifies = Notes processing_desk (certify (codes "chain")) valid_order (certified 1 (codes "chain"))
 
 -- of no bytes
 abbrev pub EmptyCertificate : Type 0
@@ -197,15 +198,13 @@ failed_order =
 
 -- the office says why it makes no certificate
 abbrev pub Fails : Type 0
-Fails = Gives processing_desk (handed (fails (codes "badCSR") (codes "key too short"))) (shows failed_order) (failed 1 short_key ∷ [])
+Fails = Notes processing_desk (fails (codes "badCSR") (codes "key too short")) failed_order (failed 1 short_key)
 
 -- a failure of its own
 abbrev pub FailsInside : Type 0
-FailsInside =
-    Gives processing_desk (handed (fails (codes "serverInternal") (codes "no signer")))
-    (shows (codes
-    "{\"authorizations\":[\"https://ca.example/authz/1\"],\"error\":{\"detail\":\"no signer\",\"status\":500,\"type\":\"urn:ietf:params:acme:error:serverInternal\"},\"expires\":\"1970-01-08T00:00:00Z\",\"finalize\":\"https://ca.example/order/1/finalize\",\"identifiers\":[{\"type\":\"dns\",\"value\":\"example.org\"}],\"status\":\"invalid\"}"))
-    (failed 1 (record { kind = codes "serverInternal"; detail = codes "no signer" }) ∷ [])
+FailsInside = Notes processing_desk (fails (codes "serverInternal") (codes "no signer"))
+    (codes "{\"authorizations\":[\"https://ca.example/authz/1\"],\"error\":{\"detail\":\"no signer\",\"status\":500,\"type\":\"urn:ietf:params:acme:error:serverInternal\"},\"expires\":\"1970-01-08T00:00:00Z\",\"finalize\":\"https://ca.example/order/1/finalize\",\"identifiers\":[{\"type\":\"dns\",\"value\":\"example.org\"}],\"status\":\"invalid\"}")
+    (failed 1 (record { kind = codes "serverInternal"; detail = codes "no signer" }))
 
 -- the order failed by it
 abbrev pub failed_desk : History
@@ -251,8 +250,7 @@ KeyOfUnknown = Turns waiting_desk (office.KeyOf 2) 404 nothing_here
 
 -- the directory
 abbrev pub Directory : Type 0
-Directory =
-    Repeats new_desk office.Directory
+Directory = Repeats new_desk office.Directory
     (codes "{\"keyChange\":\"https://ca.example/key-change\",\"newAccount\":\"https://ca.example/new-account\",\"newNonce\":\"https://ca.example/new-nonce\",\"newOrder\":\"https://ca.example/new-order\"}")
 
 -- ---- repeats of failed reports, and keys of several accounts
@@ -271,6 +269,5 @@ DnsAfterConnection = Turns (on 0 (reported 1 connection) ∷ http_desk) (report 
 
 -- a challenge asks for the key of its own account
 abbrev pub OwnKeyWork : Type 0
-OwnKeyWork =
-    Repeats (on 0 (answered 3) ∷ on 0 (ordered 2 (wants (codes "a.example") ∷ [])) ∷ on 0 (opened second_key []) ∷ waiting_desk) office.ChallengeWork
+OwnKeyWork = Repeats (on 0 (answered 3) ∷ on 0 (ordered 2 (wants (codes "a.example") ∷ [])) ∷ on 0 (opened second_key []) ∷ waiting_desk) office.ChallengeWork
     (codes "{\"challenges\":[{\"challenge\":3,\"expected\":\"AAAAAAAAAAAAAAAAAAAAAA.pF1dcf6lIm6B95gxRV0_u2O1e7FkRx6C8-vJxcZYuDw\",\"name\":\"a.example\",\"token\":\"AAAAAAAAAAAAAAAAAAAAAA\",\"type\":\"http-01\"}]}")

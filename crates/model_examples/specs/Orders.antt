@@ -7,15 +7,13 @@ use Rattle.desk_model.specs.declared.call.Call.{Call}
 use Rattle.desk_model.specs.declared.call.Ask.TheVariants as ask
 use Rattle.desk_model.specs.declared.call.Target.{Target}
 use Rattle.desk_model.specs.declared.call.Target.TheVariants as to
-use Rattle.model_examples.specs.Computed.{Gives, plain, located, renewed, Json, below}
+use Rattle.model_examples.specs.Computed.{Answer, Gives, plain, located, renewed, shows, Json, below}
 use Rattle.model_examples.specs.Calls.{on, zeros, new_desk, first_key, asked, signed, nonce_four, nonce_five, nonce_six, nonce_seven}
 use Rattle.model_examples.specs.Accounts.{opening, knowing, asking_existing, with_fifth_nonce}
 
 -- an order of two spellings of one name and of its wildcard, with so many random bytes
 abbrev pub ordering : ℕ → Call
-ordering random =
-    asked 0 random
-    (signed first_key nonce_four to.NewOrder
+ordering random = asked 0 random (signed first_key nonce_four to.NewOrder
     (codes "{\"identifiers\":[{\"type\":\"dns\",\"value\":\"Example.ORG\"},{\"type\":\"dns\",\"value\":\"example.org\"},{\"type\":\"dns\",\"value\":\"*.example.org\"}]}"))
 
 -- the name of the order
@@ -32,9 +30,7 @@ first_ordered = ordered 1 (new example_org (zeros 16 ∷ zeros 16 ∷ []) ∷ ne
 
 -- the first order: names that are equal keep their first place, a wildcard stands apart
 abbrev pub FirstOrder : Type 0
-FirstOrder =
-    Gives with_fifth_nonce (ordering 64)
-    (located (codes "https://ca.example/order/1") (renewed nonce_six (plain 201 (Json (codes
+FirstOrder = Gives with_fifth_nonce (ordering 64) (located (codes "https://ca.example/order/1") (renewed nonce_six (plain 201 (Json (codes
     "{\"authorizations\":[\"https://ca.example/authz/1\",\"https://ca.example/authz/2\"],\"expires\":\"1970-01-08T00:00:00Z\",\"finalize\":\"https://ca.example/order/1/finalize\",\"identifiers\":[{\"type\":\"dns\",\"value\":\"example.org\"},{\"type\":\"dns\",\"value\":\"*.example.org\"}],\"status\":\"pending\"}")))))
     (spent 4 ∷ issued (zeros 16) ∷ first_ordered ∷ [])
 
@@ -54,35 +50,25 @@ ShortRandomRecordsNothing = run with_fifth_nonce (ordering 63 ∷ []) ≡ (recor
 abbrev pub with_order : History
 with_order = on 0 first_ordered ∷ on 0 (issued (zeros 16)) ∷ on 0 (spent 4) ∷ with_fifth_nonce
 
--- a request that reads an object
-abbrev pub reading : Target → Call
-reading target = asked 0 16 (signed first_key nonce_five target [])
+-- the object is read with the next nonce, and the answer has one more
+abbrev pub Shown : Target → Answer → Type 0
+Shown target answer = Gives with_order (asked 0 16 (signed first_key nonce_five target [])) (renewed nonce_seven answer) (spent 5 ∷ issued (zeros 16) ∷ [])
 
 -- the authorization of the name, with a challenge of each type
 abbrev pub FirstAuthorization : Type 0
-FirstAuthorization =
-    Gives with_order (reading (to.Authz 1))
-    (renewed nonce_seven (plain 200 (Json (codes
-    "{\"challenges\":[{\"status\":\"pending\",\"token\":\"AAAAAAAAAAAAAAAAAAAAAA\",\"type\":\"http-01\",\"url\":\"https://ca.example/chall/1\"},{\"status\":\"pending\",\"token\":\"AAAAAAAAAAAAAAAAAAAAAA\",\"type\":\"dns-01\",\"url\":\"https://ca.example/chall/2\"}],\"expires\":\"1970-01-31T00:00:00Z\",\"identifier\":{\"type\":\"dns\",\"value\":\"example.org\"},\"status\":\"pending\"}"))))
-    (spent 5 ∷ issued (zeros 16) ∷ [])
+FirstAuthorization = Shown (to.Authz 1) (shows (codes
+    "{\"challenges\":[{\"status\":\"pending\",\"token\":\"AAAAAAAAAAAAAAAAAAAAAA\",\"type\":\"http-01\",\"url\":\"https://ca.example/chall/1\"},{\"status\":\"pending\",\"token\":\"AAAAAAAAAAAAAAAAAAAAAA\",\"type\":\"dns-01\",\"url\":\"https://ca.example/chall/2\"}],\"expires\":\"1970-01-31T00:00:00Z\",\"identifier\":{\"type\":\"dns\",\"value\":\"example.org\"},\"status\":\"pending\"}"))
 
 -- that of the wildcard, with the base name and the type that proves a whole zone
 abbrev pub WildcardAuthorization : Type 0
-WildcardAuthorization =
-    Gives with_order (reading (to.Authz 2))
-    (renewed nonce_seven (plain 200 (Json (codes
-    "{\"challenges\":[{\"status\":\"pending\",\"token\":\"AAAAAAAAAAAAAAAAAAAAAA\",\"type\":\"dns-01\",\"url\":\"https://ca.example/chall/3\"}],\"expires\":\"1970-01-31T00:00:00Z\",\"identifier\":{\"type\":\"dns\",\"value\":\"example.org\"},\"status\":\"pending\",\"wildcard\":true}"))))
-    (spent 5 ∷ issued (zeros 16) ∷ [])
+WildcardAuthorization = Shown (to.Authz 2) (shows (codes
+    "{\"challenges\":[{\"status\":\"pending\",\"token\":\"AAAAAAAAAAAAAAAAAAAAAA\",\"type\":\"dns-01\",\"url\":\"https://ca.example/chall/3\"}],\"expires\":\"1970-01-31T00:00:00Z\",\"identifier\":{\"type\":\"dns\",\"value\":\"example.org\"},\"status\":\"pending\",\"wildcard\":true}"))
 
 -- its challenge, with a link to it
 abbrev pub WildcardChallenge : Type 0
-WildcardChallenge =
-    Gives with_order (reading (to.Chall 3))
-    (below (codes "https://ca.example/authz/2") (renewed nonce_seven (plain 200 (Json (codes
-    "{\"status\":\"pending\",\"token\":\"AAAAAAAAAAAAAAAAAAAAAA\",\"type\":\"dns-01\",\"url\":\"https://ca.example/chall/3\"}")))))
-    (spent 5 ∷ issued (zeros 16) ∷ [])
+WildcardChallenge = Shown (to.Chall 3) (below (codes "https://ca.example/authz/2") (shows (codes
+    "{\"status\":\"pending\",\"token\":\"AAAAAAAAAAAAAAAAAAAAAA\",\"type\":\"dns-01\",\"url\":\"https://ca.example/chall/3\"}")))
 
 -- the desk gets there by the calls that were shown, in their order
 abbrev pub FirstCalls : Type 0
-FirstCalls =
-    (run new_desk (asked 0 16 (ask.NewNonce false) ∷ opening ∷ opening ∷ knowing ∷ asking_existing ∷ ordering 64 ∷ [])).history ≡ with_order
+FirstCalls = (run new_desk (asked 0 16 (ask.NewNonce false) ∷ opening ∷ opening ∷ knowing ∷ asking_existing ∷ ordering 64 ∷ [])).history ≡ with_order

@@ -1,9 +1,9 @@
 -- Payloads that have not the form that their route reads (RFC 8555, 6.3, 7.3, 7.4, 7.5).
-use Rattle.std.specs.Prelude.{ℕ, List, [], ◌∷◌, codes}
+use Rattle.std.specs.Prelude.{ℕ, List, [], codes}
 use Rattle.desk_model.specs.declared.call.Target.{Target}
 use Rattle.desk_model.specs.declared.call.Target.TheVariants as to
-use Rattle.model_examples.specs.{Computed.Refuses, Entries.issued, Texts.malformed}
-use Rattle.model_examples.specs.Calls.{on, zeros, new_desk, order_desk, default_terms, request}
+use Rattle.model_examples.specs.{Accounts.with_nonce, Computed.Refuses, Texts.malformed}
+use Rattle.model_examples.specs.Calls.{order_desk, default_terms, request}
 
 -- a request to the desk of one order is malformed
 abbrev pub IsMalformed : Target → List ℕ → Type 0
@@ -11,7 +11,7 @@ IsMalformed target payload = Refuses (order_desk default_terms) (request target 
 
 -- newAccount by a key without an account is malformed
 abbrev pub IsMalformedAccount : List ℕ → Type 0
-IsMalformedAccount payload = Refuses (on 0 (issued (zeros 16)) ∷ new_desk) (request to.NewAccount payload) 400 malformed
+IsMalformedAccount payload = Refuses with_nonce (request to.NewAccount payload) 400 malformed
 
 -- newAccount wants an object
 abbrev pub AccountOfList : Type 0

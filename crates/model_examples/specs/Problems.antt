@@ -84,8 +84,6 @@ TooLarge = Says 16 refusal.TooLarge too_large
 
 -- a subproblem has its identifier as received, and no status
 abbrev pub OneSubproblem : Type 0
-OneSubproblem =
-    compact_text
-    (problem_document
+OneSubproblem = compact_text (problem_document
     (problem refusal.RejectedIdentifier ((record { refusal = refusal.RejectedIdentifier; kind = codes "dns"; value = codes "A..b" }) ∷ [])))
     ≡ codes "{\"detail\":\"the name is not accepted\",\"status\":400,\"subproblems\":[{\"detail\":\"the name is not accepted\",\"identifier\":{\"type\":\"dns\",\"value\":\"A..b\"},\"type\":\"urn:ietf:params:acme:error:rejectedIdentifier\"}],\"type\":\"urn:ietf:params:acme:error:rejectedIdentifier\"}"

@@ -33,14 +33,12 @@ NoNonceText = Gives account_desk (with_nonce (Some (codes "AAAA"))) (refuses 400
 
 -- the key is tested behind the nonce, and before the payload
 abbrev pub BadKey : Type 0
-BadKey =
-    Refuses account_desk
+BadKey = Refuses account_desk
     (asked 0 16 (ask.Signed (record { target = to.NewAccount; key = Err (record {}); nonce = Some nonce_one; payload = codes "no object" }))) 400 bad_public_key
 
 -- a bad key without an open nonce is refused for its nonce
 abbrev pub BadKeyWithoutNonce : Type 0
-BadKeyWithoutNonce =
-    Gives account_desk (asked 0 16 (ask.Signed (record { target = to.NewAccount; key = Err (record {}); nonce = None; payload = [] })))
+BadKeyWithoutNonce = Gives account_desk (asked 0 16 (ask.Signed (record { target = to.NewAccount; key = Err (record {}); nonce = None; payload = [] })))
     (refuses 400 bad_nonce nonce_two) (issued (zeros 16) ∷ [])
 
 -- the key has no account: tested before the payload

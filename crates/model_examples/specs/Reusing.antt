@@ -105,8 +105,7 @@ ServesNoLonger = serving (proved_desk long) 101 (simple (codes "a.example")) ≡
 
 -- a second order for the name, with an authorization of its own that was proved, too
 abbrev pub twice_proved : History
-twice_proved =
-    on 0 (reported 3 good) ∷ on 0 (answered 3) ∷ on 0 (ordered 1 (wants (codes "a.example") ∷ [])) ∷ proved_desk long
+twice_proved = on 0 (reported 3 good) ∷ on 0 (answered 3) ∷ on 0 (ordered 1 (wants (codes "a.example") ∷ [])) ∷ proved_desk long
 
 -- of several the one of the least number
 abbrev pub ServesLeast : Type 0
@@ -118,8 +117,7 @@ ServesNext = serving (on 0 (authorization_ended 1 revoked) ∷ twice_proved) 0 (
 
 -- names get it, and the others new ones, with tokens from the random bytes
 abbrev pub Picks : Type 0
-Picks =
-    wanted (tables_at (proved_desk long) 0) 1 (simple (codes "a.example") ∷ simple (codes "b.example") ∷ []) (zeros 32)
+Picks = wanted (tables_at (proved_desk long) 0) 1 (simple (codes "a.example") ∷ simple (codes "b.example") ∷ []) (zeros 32)
     ≡ again 1 ∷ wants (codes "b.example") ∷ []
 
 -- ---- what is made
@@ -155,8 +153,7 @@ ReusedIsReady = status (on 0 (ordered 1 (again 1 ∷ [])) ∷ proved_desk long) 
 
 -- the first order has its certificate
 abbrev pub certified_desk : History
-certified_desk =
-    on 0 (ordered 1 (again 1 ∷ [])) ∷ on 0 (certified 1 (zeros 1)) ∷ on 0 (finalized 1 (zeros 1)) ∷ proved_desk long
+certified_desk = on 0 (ordered 1 (again 1 ∷ [])) ∷ on 0 (certified 1 (zeros 1)) ∷ on 0 (finalized 1 (zeros 1)) ∷ proved_desk long
 
 -- it stays valid when the authorization is revoked
 abbrev pub CertifiedStays : Type 0

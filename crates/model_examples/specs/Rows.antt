@@ -1,10 +1,11 @@
 -- The rows that a desk keeps, and which stored statuses are faults.
 use Rattle.desk_model.specs.declared.rows.{ChallengeRow.ChallengeRow, AuthorizationRow.AuthorizationRow, AccountRow.AccountRow, OrderRow.OrderRow}
-use Rattle.std.specs.Prelude.{◌≡◌, [], ◌∷◌, map, Some, None, codes}
+use Rattle.std.specs.Prelude.{◌≡◌, ℕ, List, [], ◌∷◌, map, Some, None, codes}
 use Rattle.desk_model.specs.Tables.{Tables, picture, tables_at}
 use Rattle.desk_model.specs.Derived.{status_faults}
 use Rattle.desk_model.specs.declared.rows.StatusFault.TheVariants as fault
 use Rattle.desk_model.specs.declared.objects.EndKind.TheVariants as kind
+use Rattle.desk_model.specs.{Name.Name, declared.objects.Kind.Kind}
 use Rattle.desk_model.specs.declared.objects.Kind.TheVariants.{Http01 as http_01, Dns01 as dns_01}
 use Rattle.desk_model.specs.declared.status.AccountStatus.TheVariants as account
 use Rattle.desk_model.specs.declared.status.OrderStatus.TheVariants as order
@@ -30,34 +31,20 @@ FirstRows =
       orders = [];
     })
 
+-- the row of a challenge as it is made
+abbrev pub made_challenge : ℕ → Kind → ChallengeRow
+made_challenge number kind = record { number = number; kind = kind; token = zeros 16; answered = None; reported = None; status = chall.Pending }
+
+-- that of an authorization made at 0
+abbrev pub made_authorization : ℕ → Name → List ChallengeRow → AuthorizationRow
+made_authorization number name challenges =
+    record { number = number; account = 1; name = name; made = 0; expires = 2592000; ended = None; challenges = challenges; status = authz.Pending }
+
 -- the rows of the first order's authorizations: a wildcard has one of its own
 abbrev pub AuthorizationRows : Type 0
-AuthorizationRows =
-    (picture with_order).authorizations
-    ≡ (record {
-      number = 1;
-      account = 1;
-      name = simple (codes "example.org");
-      made = 0;
-      expires = 2592000;
-      ended = None;
-      challenges =
-          (record { number = 1; kind = http_01; token = zeros 16; answered = None; reported = None; status = chall.Pending })
-          ∷ (record { number = 2; kind = dns_01; token = zeros 16; answered = None; reported = None; status = chall.Pending })
-          ∷ [];
-      status = authz.Pending;
-    })
-    ∷ (record {
-      number = 2;
-      account = 1;
-      name = any_example_org;
-      made = 0;
-      expires = 2592000;
-      ended = None;
-      challenges = (record { number = 3; kind = dns_01; token = zeros 16; answered = None; reported = None; status = chall.Pending }) ∷ [];
-      status = authz.Pending;
-    })
-    ∷ []
+AuthorizationRows = (picture with_order).authorizations
+    ≡ made_authorization 1 (simple (codes "example.org")) (made_challenge 1 http_01 ∷ made_challenge 2 dns_01 ∷ [])
+    ∷ made_authorization 2 any_example_org (made_challenge 3 dns_01 ∷ []) ∷ []
 
 -- the row of the first order, with its authorizations in their places
 abbrev pub OrderRows : Type 0
@@ -127,13 +114,6 @@ with_statuses T =
 
 -- faults stand by kind, then number; an order ought to follow the stored statuses of its authorizations
 abbrev pub AllFaults : Type 0
-AllFaults =
-    status_faults (with_statuses (picture with_order))
-    ≡ fault.Account 1 account.Revoked account.Valid
-    ∷ fault.Order 1 order.Pending order.Invalid
-    ∷ fault.Authz 1 authz.Expired authz.Pending
-    ∷ fault.Authz 2 authz.Expired authz.Pending
-    ∷ fault.Chall 1 chall.Valid chall.Pending
-    ∷ fault.Chall 2 chall.Valid chall.Pending
-    ∷ fault.Chall 3 chall.Valid chall.Pending
-    ∷ []
+AllFaults = status_faults (with_statuses (picture with_order)) ≡ fault.Account 1 account.Revoked account.Valid ∷ fault.Order 1 order.Pending order.Invalid
+    ∷ fault.Authz 1 authz.Expired authz.Pending ∷ fault.Authz 2 authz.Expired authz.Pending
+    ∷ fault.Chall 1 chall.Valid chall.Pending ∷ fault.Chall 2 chall.Valid chall.Pending ∷ fault.Chall 3 chall.Valid chall.Pending ∷ []

@@ -1,6 +1,5 @@
 -- Statuses over time: validation, expiry, deactivation and what orders make of them (RFC 8555, 7.1.6).
 use Rattle.std.specs.Prelude.{ℕ, List, [], ◌∷◌, false, codes}
-use Rattle.desk_model.specs.Terms.{Terms}
 use Rattle.desk_model.specs.declared.call.Call.{Call}
 use Rattle.desk_model.specs.declared.call.Ask.TheVariants as ask
 use Rattle.desk_model.specs.declared.call.OfficeAsk.TheVariants as office
@@ -9,14 +8,16 @@ use Rattle.desk_model.specs.declared.call.FetchError.TheVariants as fetch
 use Rattle.desk_model.specs.declared.call.Target.{Target}
 use Rattle.desk_model.specs.declared.call.Target.TheVariants as to
 use Rattle.model_examples.specs.Computed.{Gives, plain, renewed, shows, located, below, Json, Problem, Certificate, Answers, Reads, Refuses}
-use Rattle.model_examples.specs.Entries.{issued, spent, ordered, answered, reported, good, authorization_ended, finalized, certified, deactivated, History}
+use Rattle.model_examples.specs.Entries.{Entry, issued, spent, ordered, answered, reported, good, authorization_ended}
+use Rattle.model_examples.specs.Entries.{finalized, certified, deactivated, History}
 use Rattle.model_examples.specs.Calls.{on, zeros, order_desk, account_desk, terms_of, default_terms, first_key, asked, signed}
-use Rattle.model_examples.specs.Calls.{request, nonce_one, nonce_two, wants}
+use Rattle.model_examples.specs.Calls.{request, request_at, nonce_two, wants}
+use Rattle.model_examples.specs.Offices.{handed, Repeats}
 use Rattle.model_examples.specs.Texts.{nothing_here, unfit_report, order_not_ready, bad_csr}
 
--- nonces live 3600 seconds, orders and authorizations 100
-abbrev pub short_terms : Terms
-short_terms = terms_of 3600 100 100
+-- a desk with an order of a.example: nonces live 3600 seconds, orders and authorizations 100
+abbrev pub short_desk : History
+short_desk = order_desk (terms_of 3600 100 100)
 
 -- the key authorization of a token of zero bytes under the first key (8.1)
 abbrev pub authorization_text : List ℕ
@@ -28,7 +29,11 @@ matching at = asked at 0 (ask.Office (office.Report 1 (found.Body authorization_
 
 -- a request at a moment that reads an object
 abbrev pub reading : ℕ → Target → Call
-reading at target = asked at 16 (signed first_key nonce_one target [])
+reading at target = request_at at target []
+
+-- the client answers a challenge at a moment, and gets this document of it, with a link to the first authorization
+abbrev pub Challenged : History → ℕ → ℕ → List ℕ → List Entry → Type 0
+Challenged F at chall text entries = Answers F (request_at at (to.Chall chall) (codes "{}")) (below (codes "https://ca.example/authz/1") (shows text)) entries
 
 -- a report, or what the signing office hands in, does not fit, and nothing is recorded
 abbrev pub Unfit : History → Call → Type 0
@@ -42,19 +47,15 @@ processing_challenge = codes "{\"status\":\"processing\",\"token\":\"AAAAAAAAAAA
 
 -- the client says that a challenge can be validated (7.5.1)
 abbrev pub ChallengeAnswered : Type 0
-ChallengeAnswered =
-    Answers (order_desk short_terms) (asked 10 16 (signed first_key nonce_one (to.Chall 1) (codes "{}")))
-    (below (codes "https://ca.example/authz/1") (shows processing_challenge)) (answered 1 ∷ [])
+ChallengeAnswered = Challenged short_desk 10 1 processing_challenge (answered 1 ∷ [])
 
 -- the first challenge was answered at 10
 abbrev pub answered_desk : History
-answered_desk = on 10 (answered 1) ∷ order_desk short_terms
+answered_desk = on 10 (answered 1) ∷ short_desk
 
 -- answering again changes nothing
 abbrev pub AnswersAgain : Type 0
-AnswersAgain =
-    Answers answered_desk (asked 11 16 (signed first_key nonce_one (to.Chall 1) (codes "{}")))
-    (below (codes "https://ca.example/authz/1") (shows processing_challenge)) []
+AnswersAgain = Challenged answered_desk 11 1 processing_challenge []
 
 -- the challenge that was proved at 100
 abbrev pub valid_challenge : List ℕ
@@ -71,14 +72,12 @@ ready_desk = on 100 (reported 1 good) ∷ answered_desk
 
 -- makes the authorization valid, which then shows that challenge alone
 abbrev pub ValidAuthorization : Type 0
-ValidAuthorization =
-    Reads ready_desk (reading 100 (to.Authz 1))
+ValidAuthorization = Reads ready_desk (reading 100 (to.Authz 1))
     (codes "{\"challenges\":[{\"status\":\"valid\",\"token\":\"AAAAAAAAAAAAAAAAAAAAAA\",\"type\":\"http-01\",\"url\":\"https://ca.example/chall/1\",\"validated\":\"1970-01-01T00:01:40Z\"}],\"expires\":\"1970-01-01T00:01:40Z\",\"identifier\":{\"type\":\"dns\",\"value\":\"a.example\"},\"status\":\"valid\"}")
 
 -- and the order ready
 abbrev pub ReadyOrder : Type 0
-ReadyOrder =
-    Reads ready_desk (reading 100 (to.Order 1))
+ReadyOrder = Reads ready_desk (reading 100 (to.Order 1))
     (codes "{\"authorizations\":[\"https://ca.example/authz/1\"],\"expires\":\"1970-01-01T00:01:40Z\",\"finalize\":\"https://ca.example/order/1/finalize\",\"identifiers\":[{\"type\":\"dns\",\"value\":\"a.example\"}],\"status\":\"ready\"}")
 
 -- a second later the report comes too late
@@ -87,8 +86,7 @@ ReportTooLate = Unfit answered_desk (matching 101)
 
 -- the order is invalid
 abbrev pub ExpiredOrder : Type 0
-ExpiredOrder =
-    Reads answered_desk (reading 101 (to.Order 1))
+ExpiredOrder = Reads answered_desk (reading 101 (to.Order 1))
     (codes "{\"authorizations\":[\"https://ca.example/authz/1\"],\"expires\":\"1970-01-01T00:01:40Z\",\"finalize\":\"https://ca.example/order/1/finalize\",\"identifiers\":[{\"type\":\"dns\",\"value\":\"a.example\"}],\"status\":\"invalid\"}")
 
 -- the authorization with that challenge, past its moment
@@ -102,21 +100,17 @@ ExpiredAuthorization = Reads answered_desk (reading 101 (to.Authz 1)) expired_au
 
 -- a valid authorization expires too
 abbrev pub ValidExpires : Type 0
-ValidExpires =
-    Reads ready_desk (reading 101 (to.Authz 1))
+ValidExpires = Reads ready_desk (reading 101 (to.Authz 1))
     (codes "{\"challenges\":[{\"status\":\"valid\",\"token\":\"AAAAAAAAAAAAAAAAAAAAAA\",\"type\":\"http-01\",\"url\":\"https://ca.example/chall/1\",\"validated\":\"1970-01-01T00:01:40Z\"}],\"expires\":\"1970-01-01T00:01:40Z\",\"identifier\":{\"type\":\"dns\",\"value\":\"a.example\"},\"status\":\"expired\"}")
 
 -- an answer that comes too late is not recorded
 abbrev pub AnswerTooLate : Type 0
-AnswerTooLate =
-    Answers (order_desk short_terms) (asked 101 16 (signed first_key nonce_one (to.Chall 1) (codes "{}")))
-    (below (codes "https://ca.example/authz/1") (shows (codes
-    "{\"status\":\"pending\",\"token\":\"AAAAAAAAAAAAAAAAAAAAAA\",\"type\":\"http-01\",\"url\":\"https://ca.example/chall/1\"}")))
-    []
+AnswerTooLate = Challenged short_desk 101 1
+    (codes "{\"status\":\"pending\",\"token\":\"AAAAAAAAAAAAAAAAAAAAAA\",\"type\":\"http-01\",\"url\":\"https://ca.example/chall/1\"}") []
 
 -- an end that comes past the authorization's moment does not show: it has expired
 abbrev pub LateEnd : Type 0
-LateEnd = Reads answered_desk (asked 101 16 (signed first_key nonce_one (to.Authz 1) (codes "{\"status\":\"deactivated\"}"))) expired_authorization
+LateEnd = Reads answered_desk (request_at 101 (to.Authz 1) (codes "{\"status\":\"deactivated\"}")) expired_authorization
 
 -- ---- the same report again, and others
 
@@ -130,7 +124,7 @@ ReportContradicts = Unfit ready_desk (asked 100 0 (ask.Office (office.Report 1 (
 
 -- a challenge that nobody answered waits for no report
 abbrev pub ReportUnasked : Type 0
-ReportUnasked = Unfit (order_desk short_terms) (matching 10)
+ReportUnasked = Unfit short_desk (matching 10)
 
 -- ---- an authorization is deactivated
 
@@ -165,13 +159,12 @@ DeactivatesAgain = Reads fallen_desk deactivating deactivated_authorization
 
 -- the order that was processing is invalid
 abbrev pub ProcessingFalls : Type 0
-ProcessingFalls =
-    Reads fallen_desk (reading 0 (to.Order 1))
+ProcessingFalls = Reads fallen_desk (reading 0 (to.Order 1))
     (codes "{\"authorizations\":[\"https://ca.example/authz/1\"],\"expires\":\"1970-01-08T00:00:00Z\",\"finalize\":\"https://ca.example/order/1/finalize\",\"identifiers\":[{\"type\":\"dns\",\"value\":\"a.example\"}],\"status\":\"invalid\"}")
 
 -- and gets no certificate
 abbrev pub FallenIsNotCertified : Type 0
-FallenIsNotCertified = Unfit fallen_desk (asked 0 0 (ask.Office (office.Certify 1 (codes "chain"))))
+FallenIsNotCertified = Unfit fallen_desk (handed (office.Certify 1 (codes "chain")))
 
 -- an order that is invalid stands in no list of orders (7.1.2.1)
 abbrev pub FallenIsNotListed : Type 0
@@ -183,14 +176,12 @@ valid_desk = on 0 (authorization_ended 1 deactivated) ∷ on 0 (certified 1 (cod
 
 -- a valid order stays valid
 abbrev pub ValidStays : Type 0
-ValidStays =
-    Reads valid_desk (reading 0 (to.Order 1))
+ValidStays = Reads valid_desk (reading 0 (to.Order 1))
     (codes "{\"authorizations\":[\"https://ca.example/authz/1\"],\"certificate\":\"https://ca.example/cert/1\",\"expires\":\"1970-01-08T00:00:00Z\",\"finalize\":\"https://ca.example/order/1/finalize\",\"identifiers\":[{\"type\":\"dns\",\"value\":\"a.example\"}],\"status\":\"valid\"}")
 
 -- past its moment too
 abbrev pub ValidNeverExpires : Type 0
-ValidNeverExpires =
-    Gives (on 604801 (issued (zeros 16)) ∷ valid_desk) (asked 604801 16 (signed first_key nonce_two (to.Orders 1) []))
+ValidNeverExpires = Gives (on 604801 (issued (zeros 16)) ∷ valid_desk) (asked 604801 16 (signed first_key nonce_two (to.Orders 1) []))
     (renewed (codes "AAAAAAAAAAMAAAAAAAAAAAAAAAAAAAAA") (plain 200 (Json (codes "{\"orders\":[\"https://ca.example/order/1\"]}"))))
     (spent 2 ∷ issued (zeros 16) ∷ [])
 
@@ -210,8 +201,7 @@ whole_desk = on 0 (reported 4 good) ∷ on 0 (answered 4) ∷ half_desk
 
 -- one validated of two: the order is pending
 abbrev pub OneOfTwo : Type 0
-OneOfTwo =
-    Reads half_desk (reading 0 (to.Order 1))
+OneOfTwo = Reads half_desk (reading 0 (to.Order 1))
     (codes "{\"authorizations\":[\"https://ca.example/authz/1\",\"https://ca.example/authz/2\"],\"expires\":\"1970-01-08T00:00:00Z\",\"finalize\":\"https://ca.example/order/1/finalize\",\"identifiers\":[{\"type\":\"dns\",\"value\":\"a.example\"},{\"type\":\"dns\",\"value\":\"b.example\"}],\"status\":\"pending\"}")
 
 -- the client finalizes the order
@@ -224,8 +214,7 @@ PendingIsNotFinalized = Refuses half_desk (finalizing (codes "{\"csr\":\"AQID\"}
 
 -- both: it is ready
 abbrev pub BothOfTwo : Type 0
-BothOfTwo =
-    Reads whole_desk (reading 0 (to.Order 1))
+BothOfTwo = Reads whole_desk (reading 0 (to.Order 1))
     (codes "{\"authorizations\":[\"https://ca.example/authz/1\",\"https://ca.example/authz/2\"],\"expires\":\"1970-01-08T00:00:00Z\",\"finalize\":\"https://ca.example/order/1/finalize\",\"identifiers\":[{\"type\":\"dns\",\"value\":\"a.example\"},{\"type\":\"dns\",\"value\":\"b.example\"}],\"status\":\"ready\"}")
 
 -- a CSR of no bytes
@@ -238,9 +227,7 @@ NoCsr = Refuses whole_desk (finalizing (codes "{\"csr\":\"AQID=\"}")) 400 bad_cs
 
 -- a CSR of three bytes: the order is processing
 abbrev pub Finalizes : Type 0
-Finalizes =
-    Answers whole_desk (finalizing (codes "{\"csr\":\"AQID\"}"))
-    (located (codes "https://ca.example/order/1") (shows (codes
+Finalizes = Answers whole_desk (finalizing (codes "{\"csr\":\"AQID\"}")) (located (codes "https://ca.example/order/1") (shows (codes
     "{\"authorizations\":[\"https://ca.example/authz/1\",\"https://ca.example/authz/2\"],\"expires\":\"1970-01-08T00:00:00Z\",\"finalize\":\"https://ca.example/order/1/finalize\",\"identifiers\":[{\"type\":\"dns\",\"value\":\"a.example\"},{\"type\":\"dns\",\"value\":\"b.example\"}],\"status\":\"processing\"}")))
     (finalized 1 (1 ∷ 2 ∷ 3 ∷ []) ∷ [])
 
@@ -254,23 +241,17 @@ FinalizesOnce = Refuses finalized_desk (finalizing (codes "{\"csr\":\"AQID\"}"))
 
 -- the signing office sees its CSR and its names
 abbrev pub OrderWork : Type 0
-OrderWork = Gives finalized_desk (asked 0 0 (ask.Office office.OrderWork))
-    (shows (codes "{\"orders\":[{\"csr\":\"AQID\",\"names\":[\"a.example\",\"b.example\"],\"order\":1}]}")) []
+OrderWork = Repeats finalized_desk office.OrderWork (codes "{\"orders\":[{\"csr\":\"AQID\",\"names\":[\"a.example\",\"b.example\"],\"order\":1}]}")
 
 -- ---- what the client of a proved or pending authorization may do
 
 -- a challenge beside the one that proved the authorization is not answered any more
 abbrev pub OtherChallengeAnswered : Type 0
-OtherChallengeAnswered =
-    Answers ready_desk (asked 100 16 (signed first_key nonce_one (to.Chall 2) (codes "{}")))
-    (below (codes "https://ca.example/authz/1") (shows (codes
-    "{\"status\":\"pending\",\"token\":\"AAAAAAAAAAAAAAAAAAAAAA\",\"type\":\"dns-01\",\"url\":\"https://ca.example/chall/2\"}")))
-    []
+OtherChallengeAnswered = Challenged ready_desk 100 2
+    (codes "{\"status\":\"pending\",\"token\":\"AAAAAAAAAAAAAAAAAAAAAA\",\"type\":\"dns-01\",\"url\":\"https://ca.example/chall/2\"}") []
 
 -- a pending authorization is deactivated in its last second
 abbrev pub DeactivatesPending : Type 0
-DeactivatesPending =
-    Answers (order_desk short_terms) (asked 100 16 (signed first_key nonce_one (to.Authz 1) (codes "{\"status\":\"deactivated\"}")))
-    (shows (codes
+DeactivatesPending = Answers short_desk (request_at 100 (to.Authz 1) (codes "{\"status\":\"deactivated\"}")) (shows (codes
     "{\"challenges\":[{\"status\":\"pending\",\"token\":\"AAAAAAAAAAAAAAAAAAAAAA\",\"type\":\"http-01\",\"url\":\"https://ca.example/chall/1\"},{\"status\":\"pending\",\"token\":\"AAAAAAAAAAAAAAAAAAAAAA\",\"type\":\"dns-01\",\"url\":\"https://ca.example/chall/2\"}],\"expires\":\"1970-01-01T00:01:40Z\",\"identifier\":{\"type\":\"dns\",\"value\":\"a.example\"},\"status\":\"deactivated\"}"))
     (authorization_ended 1 deactivated ∷ [])

@@ -14,6 +14,7 @@ use Rattle.model_examples.specs.Calls.{on, zeros, account_desk, default_terms, f
 use Rattle.model_examples.specs.Calls.{nonce_one, nonce_two, nonce_four, nonce_seven, wants}
 use Rattle.model_examples.specs.Endings.{order_of, busy_desk}
 use Rattle.model_examples.specs.{Keys.rsa_key, Offices.handed}
+use Rattle.model_examples.specs.KeyChanges.{first_url, rekey}
 
 -- the numbers of the rows of tables; that of a nonce is its serial
 pub record Numbers : Type 0 where
@@ -22,6 +23,11 @@ pub record Numbers : Type 0 where
   pub authorizations : List ℕ
   pub challenges : List ℕ
   pub orders : List ℕ
+
+-- nonces, accounts, authorizations, challenges and orders of these numbers
+abbrev pub rows_of : (nonces accounts authorizations challenges orders : List ℕ) → Numbers
+rows_of nonces accounts authorizations challenges orders =
+    record { nonces = nonces; accounts = accounts; authorizations = authorizations; challenges = challenges; orders = orders }
 
 -- those of these tables
 abbrev pub numbers_in : Tables → Numbers
@@ -40,16 +46,15 @@ Touches T call rows = numbers_in (touched T call) ≡ rows
 
 -- no row beside the meta row
 abbrev pub no_rows : Numbers
-no_rows = record { nonces = []; accounts = []; authorizations = []; challenges = []; orders = [] }
+no_rows = rows_of [] [] [] [] []
 
 -- the first order with the two names that it is for, its account and the request's nonce
 abbrev pub first_order_rows : Numbers
-first_order_rows = record { nonces = 1 ∷ []; accounts = 1 ∷ []; authorizations = 1 ∷ 2 ∷ []; challenges = 1 ∷ 2 ∷ 3 ∷ 4 ∷ []; orders = 1 ∷ [] }
+first_order_rows = rows_of (1 ∷ []) (1 ∷ []) (1 ∷ 2 ∷ []) (1 ∷ 2 ∷ 3 ∷ 4 ∷ []) (1 ∷ [])
 
 -- orders 1, 3 and 4 of the first account, the first of two names, and order 2 of another; two open nonces
 abbrev pub two_clients : History
-two_clients =
-    on 0 (order_of (codes "e.example")) ∷ on 0 (order_of (codes "d.example"))
+two_clients = on 0 (order_of (codes "e.example")) ∷ on 0 (order_of (codes "d.example"))
     ∷ on 0 (ordered 2 (wants (codes "c.example") ∷ [])) ∷ on 0 (ordered 1 (wants (codes "a.example") ∷ wants (codes "b.example") ∷ []))
     ∷ on 0 (opened second_key []) ∷ on 0 (issued (zeros 16)) ∷ account_desk
 
@@ -90,14 +95,12 @@ NewNonce = Touches client_rows (asked 0 16 (ask.NewNonce false)) no_rows
 
 -- newAccount by a key that has none touches the nonce
 abbrev pub NewAccount : Type 0
-NewAccount = Touches client_rows (asked 0 16 (signed rsa_key nonce_two to.NewAccount (codes "{}"))) (record no_rows { nonces = 2 ∷ [] })
+NewAccount = Touches client_rows (asked 0 16 (signed rsa_key nonce_two to.NewAccount (codes "{}"))) (rows_of (2 ∷ []) [] [] [] [])
 
 -- a key that cannot be read has no account
 abbrev pub BadKey : Type 0
-BadKey =
-    Touches client_rows
-    (asked 0 16 (ask.Signed (record { target = to.NewAccount; key = Err (record {}); nonce = Some nonce_one; payload = codes "{}" })))
-    (record no_rows { nonces = 1 ∷ [] })
+BadKey = Touches client_rows (asked 0 16 (ask.Signed (record { target = to.NewAccount; key = Err (record {}); nonce = Some nonce_one; payload = codes "{}" })))
+    (rows_of (1 ∷ []) [] [] [] [])
 
 -- newAccount by the key of the first account, with this nonce
 abbrev pub knowing : List ℕ → Call
@@ -105,37 +108,23 @@ knowing nonce = asked 0 16 (signed first_key nonce to.NewAccount (codes "{}"))
 
 -- the row of a nonce is found by its serial, whatever its random bytes are
 abbrev pub GuessedNonce : Type 0
-GuessedNonce = Touches client_rows (knowing (codes "AAAAAAAAAAEAAAAAAAAAAAAAAAAAAAAB")) (record no_rows { nonces = 1 ∷ []; accounts = 1 ∷ [] })
+GuessedNonce = Touches client_rows (knowing (codes "AAAAAAAAAAEAAAAAAAAAAAAAAAAAAAAB")) (rows_of (1 ∷ []) (1 ∷ []) [] [] [])
 
 -- a nonce that was never issued has no row
 abbrev pub UnknownNonce : Type 0
-UnknownNonce = Touches client_rows (knowing nonce_seven) (record no_rows { accounts = 1 ∷ [] })
+UnknownNonce = Touches client_rows (knowing nonce_seven) (rows_of [] (1 ∷ []) [] [] [])
 
 -- nor has a text that spells no nonce
 abbrev pub NoNonceText : Type 0
-NoNonceText = Touches client_rows (knowing (codes "AAAA")) (record no_rows { accounts = 1 ∷ [] })
+NoNonceText = Touches client_rows (knowing (codes "AAAA")) (rows_of [] (1 ∷ []) [] [] [])
 
 -- what the first account has, with it and the request's nonce
 abbrev pub first_account_rows : Numbers
-first_account_rows =
-    record {
-      nonces = 1 ∷ [];
-      accounts = 1 ∷ [];
-      authorizations = 1 ∷ 2 ∷ 4 ∷ 5 ∷ [];
-      challenges = 1 ∷ 2 ∷ 3 ∷ 4 ∷ 7 ∷ 8 ∷ 9 ∷ 10 ∷ [];
-      orders = 1 ∷ 3 ∷ 4 ∷ [];
-    }
+first_account_rows = rows_of (1 ∷ []) (1 ∷ []) (1 ∷ 2 ∷ 4 ∷ 5 ∷ []) (1 ∷ 2 ∷ 3 ∷ 4 ∷ 7 ∷ 8 ∷ 9 ∷ 10 ∷ []) (1 ∷ 3 ∷ 4 ∷ [])
 
 -- what both accounts have, with them and the request's nonce
 abbrev pub both_accounts_rows : Numbers
-both_accounts_rows =
-    record {
-      nonces = 1 ∷ [];
-      accounts = 1 ∷ 2 ∷ [];
-      authorizations = 1 ∷ 2 ∷ 3 ∷ 4 ∷ 5 ∷ [];
-      challenges = 1 ∷ 2 ∷ 3 ∷ 4 ∷ 5 ∷ 6 ∷ 7 ∷ 8 ∷ 9 ∷ 10 ∷ [];
-      orders = 1 ∷ 2 ∷ 3 ∷ 4 ∷ [];
-    }
+both_accounts_rows = rows_of (1 ∷ []) (1 ∷ 2 ∷ []) (1 ∷ 2 ∷ 3 ∷ 4 ∷ 5 ∷ []) (1 ∷ 2 ∷ 3 ∷ 4 ∷ 5 ∷ 6 ∷ 7 ∷ 8 ∷ 9 ∷ 10 ∷ []) (1 ∷ 2 ∷ 3 ∷ 4 ∷ [])
 
 -- an account that may end: all its authorizations, and the orders that list them
 abbrev pub AccountEnds : Type 0
@@ -147,9 +136,7 @@ AccountOfAnother = Touches client_rows (request (to.Account 2) []) both_accounts
 
 -- the operator ends the other: no key, and no nonce
 abbrev pub AccountRevoked : Type 0
-AccountRevoked =
-    Touches client_rows (handed (office.RevokeAccount 2))
-    (record { nonces = []; accounts = 2 ∷ []; authorizations = 3 ∷ []; challenges = 5 ∷ 6 ∷ []; orders = 2 ∷ [] })
+AccountRevoked = Touches client_rows (handed (office.RevokeAccount 2)) (rows_of [] (2 ∷ []) (3 ∷ []) (5 ∷ 6 ∷ []) (2 ∷ []))
 
 -- the orders of an account, and what they list
 abbrev pub OrdersOfAccount : Type 0
@@ -161,32 +148,26 @@ OrdersOfAnother = Touches client_rows (request (to.Orders 2) []) both_accounts_r
 
 -- the key of an account: its row alone
 abbrev pub KeyOfAccount : Type 0
-KeyOfAccount = Touches client_rows (handed (office.KeyOf 2)) (record no_rows { accounts = 2 ∷ [] })
-
--- the text of a payload for another key, by these texts of keys
-abbrev pub rekey : (next old : List ℕ) → List ℕ
-rekey next old = codes "{\"account\":\"https://ca.example/account/1\",\"newKey\":" ++ (next ++ (codes ",\"oldKey\":" ++ (old ++ codes "}")))
+KeyOfAccount = Touches client_rows (handed (office.KeyOf 2)) (rows_of [] (2 ∷ []) [] [] [])
 
 -- a change of keys touches the account that has the new key
 abbrev pub NewKeyTaken : Type 0
-NewKeyTaken = Touches client_rows (request to.KeyChange (rekey second_key first_key)) (record no_rows { nonces = 1 ∷ []; accounts = 1 ∷ 2 ∷ [] })
+NewKeyTaken = Touches client_rows (request to.KeyChange (rekey first_url second_key first_key)) (rows_of (1 ∷ []) (1 ∷ 2 ∷ []) [] [] [])
 
 -- and no other where none has it
 abbrev pub NewKeyFree : Type 0
-NewKeyFree = Touches client_rows (request to.KeyChange (rekey rsa_key first_key)) (record no_rows { nonces = 1 ∷ []; accounts = 1 ∷ [] })
+NewKeyFree = Touches client_rows (request to.KeyChange (rekey first_url rsa_key first_key)) (rows_of (1 ∷ []) (1 ∷ []) [] [] [])
 
 -- a payload that gives no account names no key
 abbrev pub NewKeyAlone : Type 0
-NewKeyAlone =
-    Touches client_rows (request to.KeyChange (codes "{\"newKey\":" ++ (second_key ++ codes "}"))) (record no_rows { nonces = 1 ∷ []; accounts = 1 ∷ [] })
+NewKeyAlone = Touches client_rows (request to.KeyChange (codes "{\"newKey\":" ++ (second_key ++ codes "}"))) (rows_of (1 ∷ []) (1 ∷ []) [] [] [])
 
 -- ---- orders
 
 -- newOrder touches the account and the nonce, and no order
 abbrev pub NewOrder : Type 0
-NewOrder =
-    Touches client_rows (request to.NewOrder (codes "{\"identifiers\":[{\"type\":\"dns\",\"value\":\"f.example\"}]}"))
-    (record no_rows { nonces = 1 ∷ []; accounts = 1 ∷ [] })
+NewOrder = Touches client_rows (request to.NewOrder (codes "{\"identifiers\":[{\"type\":\"dns\",\"value\":\"f.example\"}]}"))
+    (rows_of (1 ∷ []) (1 ∷ []) [] [] [])
 
 -- an order: its authorizations with their challenges, its account, and no other order
 abbrev pub OneOrder : Type 0
@@ -206,19 +187,15 @@ WholeRows =
 
 -- an order of another account, with both accounts
 abbrev pub OrderOfAnother : Type 0
-OrderOfAnother =
-    Touches client_rows (request (to.Order 2) [])
-    (record { nonces = 1 ∷ []; accounts = 1 ∷ 2 ∷ []; authorizations = 3 ∷ []; challenges = 5 ∷ 6 ∷ []; orders = 2 ∷ [] })
+OrderOfAnother = Touches client_rows (request (to.Order 2) []) (rows_of (1 ∷ []) (1 ∷ 2 ∷ []) (3 ∷ []) (5 ∷ 6 ∷ []) (2 ∷ []))
 
 -- an order that was never made
 abbrev pub UnknownOrder : Type 0
-UnknownOrder = Touches client_rows (request (to.Order 5) []) (record no_rows { nonces = 1 ∷ []; accounts = 1 ∷ [] })
+UnknownOrder = Touches client_rows (request (to.Order 5) []) (rows_of (1 ∷ []) (1 ∷ []) [] [] [])
 
 -- finalize touches the order's rows
 abbrev pub Finalize : Type 0
-Finalize =
-    Touches client_rows (request (to.Finalize 3) (codes "{\"csr\":\"AQID\"}"))
-    (record { nonces = 1 ∷ []; accounts = 1 ∷ []; authorizations = 4 ∷ []; challenges = 7 ∷ 8 ∷ []; orders = 3 ∷ [] })
+Finalize = Touches client_rows (request (to.Finalize 3) (codes "{\"csr\":\"AQID\"}")) (rows_of (1 ∷ []) (1 ∷ []) (4 ∷ []) (7 ∷ 8 ∷ []) (3 ∷ []))
 
 -- so does the path of its certificate
 abbrev pub Certificate : Type 0
@@ -230,9 +207,8 @@ Certifies = Touches client_rows (handed (office.Certify 1 (codes "chain"))) (rec
 
 -- which may be why it makes no certificate
 abbrev pub Fails : Type 0
-Fails =
-    Touches client_rows (handed (office.FailOrder 2 (record { kind = codes "badCSR"; detail = codes "key too short" })))
-    (record { nonces = []; accounts = 2 ∷ []; authorizations = 3 ∷ []; challenges = 5 ∷ 6 ∷ []; orders = 2 ∷ [] })
+Fails = Touches client_rows (handed (office.FailOrder 2 (record { kind = codes "badCSR"; detail = codes "key too short" })))
+    (rows_of [] (2 ∷ []) (3 ∷ []) (5 ∷ 6 ∷ []) (2 ∷ []))
 
 -- ---- authorizations and challenges
 
@@ -246,9 +222,7 @@ OneChallenge = Touches client_rows (request (to.Chall 3) (codes "{}")) first_ord
 
 -- the operator revokes an authorization
 abbrev pub AuthorizationRevoked : Type 0
-AuthorizationRevoked =
-    Touches client_rows (handed (office.RevokeAuthz 4))
-    (record { nonces = []; accounts = 1 ∷ []; authorizations = 4 ∷ []; challenges = 7 ∷ 8 ∷ []; orders = 3 ∷ [] })
+AuthorizationRevoked = Touches client_rows (handed (office.RevokeAuthz 4)) (rows_of [] (1 ∷ []) (4 ∷ []) (7 ∷ 8 ∷ []) (3 ∷ []))
 
 -- a report of the validator on a challenge
 abbrev pub report_on : ℕ → Call
@@ -270,32 +244,26 @@ shared_rows = record client_rows { orders = map shared client_rows.orders }
 
 -- all orders that list the authorization, with all that they list, but none that lists one of these alone
 abbrev pub SharedReport : Type 0
-SharedReport =
-    Touches shared_rows (report_on 3)
-    (record { nonces = []; accounts = 1 ∷ 2 ∷ []; authorizations = 1 ∷ 2 ∷ 3 ∷ []; challenges = 1 ∷ 2 ∷ 3 ∷ 4 ∷ 5 ∷ 6 ∷ []; orders = 1 ∷ 2 ∷ [] })
+SharedReport = Touches shared_rows (report_on 3) (rows_of [] (1 ∷ 2 ∷ []) (1 ∷ 2 ∷ 3 ∷ []) (1 ∷ 2 ∷ 3 ∷ 4 ∷ 5 ∷ 6 ∷ []) (1 ∷ 2 ∷ []))
 
 -- an order takes what it lists, and not the orders that list that; its account counts beside theirs
 abbrev pub SharedOrder : Type 0
-SharedOrder =
-    Touches shared_rows (handed (office.Certify 1 (codes "chain")))
-    (record { nonces = []; accounts = 1 ∷ 2 ∷ []; authorizations = 1 ∷ 2 ∷ []; challenges = 1 ∷ 2 ∷ 3 ∷ 4 ∷ []; orders = 1 ∷ [] })
+SharedOrder = Touches shared_rows (handed (office.Certify 1 (codes "chain"))) (rows_of [] (1 ∷ 2 ∷ []) (1 ∷ 2 ∷ []) (1 ∷ 2 ∷ 3 ∷ 4 ∷ []) (1 ∷ []))
 
 -- an account that may end takes the orders that list its authorizations, and not all of its own
 abbrev pub SharedAccount : Type 0
-SharedAccount =
-    Touches shared_rows (asked 0 16 (signed second_key nonce_one (to.Account 2) []))
-    (record { nonces = 1 ∷ []; accounts = 1 ∷ 2 ∷ []; authorizations = 2 ∷ 3 ∷ 4 ∷ []; challenges = 3 ∷ 4 ∷ 5 ∷ 6 ∷ 7 ∷ 8 ∷ []; orders = 2 ∷ 3 ∷ [] })
+SharedAccount = Touches shared_rows (asked 0 16 (signed second_key nonce_one (to.Account 2) []))
+    (rows_of (1 ∷ []) (1 ∷ 2 ∷ []) (2 ∷ 3 ∷ 4 ∷ []) (3 ∷ 4 ∷ 5 ∷ 6 ∷ 7 ∷ 8 ∷ []) (2 ∷ 3 ∷ []))
 
 -- an account with authorizations and without orders: its list of orders touches none of them
 abbrev pub NoOrders : Type 0
-NoOrders = Touches shared_rows (request (to.Orders 1) []) (record no_rows { nonces = 1 ∷ []; accounts = 1 ∷ [] })
+NoOrders = Touches shared_rows (request (to.Orders 1) []) (rows_of (1 ∷ []) (1 ∷ []) [] [] [])
 
 -- ---- what falls by the passing of time
 
 -- five orders to 604800, pending, ready, invalid, processing and valid; one of another account to 604801; nonces of two moments
 abbrev pub ending_desk : History
-ending_desk =
-    on 601201 (issued (zeros 16)) ∷ on 601200 (issued (zeros 16)) ∷ on 601200 (issued (zeros 16))
+ending_desk = on 601201 (issued (zeros 16)) ∷ on 601200 (issued (zeros 16)) ∷ on 601200 (issued (zeros 16))
     ∷ on 1 (ordered 2 (wants (codes "f.example") ∷ [])) ∷ on 1 (opened second_key []) ∷ busy_desk
 
 -- its rows
@@ -308,19 +276,11 @@ nonce_at moment = asked moment 16 (ask.NewNonce false)
 
 -- the three orders that fall at 604801, what they list and their account, and the nonces past their life
 abbrev pub fallen_rows : Numbers
-fallen_rows =
-    record { nonces = 2 ∷ 3 ∷ []; accounts = 1 ∷ []; authorizations = 1 ∷ 2 ∷ 4 ∷ []; challenges = 1 ∷ 2 ∷ 3 ∷ 4 ∷ 7 ∷ 8 ∷ []; orders = 1 ∷ 2 ∷ 4 ∷ [] }
+fallen_rows = rows_of (2 ∷ 3 ∷ []) (1 ∷ []) (1 ∷ 2 ∷ 4 ∷ []) (1 ∷ 2 ∷ 3 ∷ 4 ∷ 7 ∷ 8 ∷ []) (1 ∷ 2 ∷ 4 ∷ [])
 
 -- beside these the last nonce, and the order of the other account
 abbrev pub more_rows : Numbers
-more_rows =
-    record {
-      nonces = 2 ∷ 3 ∷ 4 ∷ [];
-      accounts = 1 ∷ 2 ∷ [];
-      authorizations = 1 ∷ 2 ∷ 4 ∷ 6 ∷ [];
-      challenges = 1 ∷ 2 ∷ 3 ∷ 4 ∷ 7 ∷ 8 ∷ 11 ∷ 12 ∷ [];
-      orders = 1 ∷ 2 ∷ 4 ∷ 6 ∷ [];
-    }
+more_rows = rows_of (2 ∷ 3 ∷ 4 ∷ []) (1 ∷ 2 ∷ []) (1 ∷ 2 ∷ 4 ∷ 6 ∷ []) (1 ∷ 2 ∷ 3 ∷ 4 ∷ 7 ∷ 8 ∷ 11 ∷ 12 ∷ []) (1 ∷ 2 ∷ 4 ∷ 6 ∷ [])
 
 -- in the last second nothing falls
 abbrev pub LastSecond : Type 0
@@ -336,8 +296,7 @@ RequestAtEnd = Touches ending_rows (asked 604801 16 (signed second_key nonce_fou
 
 -- a call with an earlier moment acts at the clock
 abbrev pub EarlierMoment : Type 0
-EarlierMoment =
-    Touches (record ending_rows { meta = record ending_rows.meta { counters = record ending_rows.meta.counters { clock = 604801 } } })
+EarlierMoment = Touches (record ending_rows { meta = record ending_rows.meta { counters = record ending_rows.meta.counters { clock = 604801 } } })
     (nonce_at 0) fallen_rows
 
 -- what has fallen falls no more
@@ -350,12 +309,5 @@ AuthorizationsLast = Touches ending_rows (nonce_at 2592000) more_rows
 
 -- a second later it is, by what it lists; an order that is invalid with its authorization is not
 abbrev pub AuthorizationsEnd : Type 0
-AuthorizationsEnd =
-    Touches ending_rows (nonce_at 2592001)
-    (record {
-      nonces = 2 ∷ 3 ∷ 4 ∷ [];
-      accounts = 1 ∷ 2 ∷ [];
-      authorizations = 1 ∷ 2 ∷ 4 ∷ 5 ∷ 6 ∷ [];
-      challenges = 1 ∷ 2 ∷ 3 ∷ 4 ∷ 7 ∷ 8 ∷ 9 ∷ 10 ∷ 11 ∷ 12 ∷ [];
-      orders = 1 ∷ 2 ∷ 4 ∷ 5 ∷ 6 ∷ [];
-    })
+AuthorizationsEnd = Touches ending_rows (nonce_at 2592001)
+    (rows_of (2 ∷ 3 ∷ 4 ∷ []) (1 ∷ 2 ∷ []) (1 ∷ 2 ∷ 4 ∷ 5 ∷ 6 ∷ []) (1 ∷ 2 ∷ 3 ∷ 4 ∷ 7 ∷ 8 ∷ 9 ∷ 10 ∷ 11 ∷ 12 ∷ []) (1 ∷ 2 ∷ 4 ∷ 5 ∷ 6 ∷ []))
