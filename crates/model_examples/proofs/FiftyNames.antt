@@ -1,4 +1,4 @@
--- Fifty names, each of them plain.
+-- An order of fifty names, which is too large for its decision to be computed at once: each of its steps (RFC 8555, 7.4).
 use Rattle.std.specs.Prelude.{◌≡◌, refl, ℕ, Bool, true, not, ◌&&◌, ◌==◌, List, [], ◌∷◌, map, Option, Some}
 use Rattle.std.specs.Cmp.Lexicographic.{bytes_decides}
 use Rattle.std.specs.List.{list_all, list_any}
@@ -14,7 +14,8 @@ use Rattle.desk_model.specs.{Name.Name, Tables.Tables}
 use Rattle.model_examples.proofs.Computing.{computing}
 use Rattle.model_examples.proofs.PlainNames.{is_marked, is_plain, lowered, plain_name}
 use Rattle.model_examples.specs.Calls.{simple, zeros}
-use Rattle.model_examples.specs.Fifty.{bare, names, identifier, AreNames, FiftyIdentifiers, FiftyFaultless, FiftyTaken, FiftyKept, FiftyWanted, FiftyOrdered}
+use Rattle.model_examples.specs.Fifty.{bare, names, identifier, AreNames, FiftyIdentifiers, FiftyNames, FiftyFaultless, FiftyTaken, FiftyKept, FiftyWanted}
+use Rattle.model_examples.specs.Fifty.{FiftyOrdered}
 
 -- the text is plain, and a name in its own spelling
 abbrev is_simple : List ℕ → Bool
@@ -37,18 +38,13 @@ are_names : (xs : List (List ℕ)) → list_all is_simple xs ≡ true → AreNam
 are_names [] h = tt
 are_names (x ∷ xs) h = let parts = and_parts (is_simple x) _ h in (simple_name x parts.0, are_names xs parts.1)
 
--- the fifty names
-pub all_fifty : AreNames (names 50)
-unfolding computing
-all_fifty = are_names (names 50) refl
-
 -- identifiers of names are not faulty
-pub no_subproblems : (xs : List (List ℕ)) → AreNames xs → subproblems (map identifier xs) ≡ []
+no_subproblems : (xs : List (List ℕ)) → AreNames xs → subproblems (map identifier xs) ≡ []
 no_subproblems [] h = refl
 no_subproblems (x ∷ xs) h = rw (h.0, no_subproblems xs h.1) refl
 
 -- and give these names
-pub names_taken : (xs : List (List ℕ)) → AreNames xs → names_in (map identifier xs) ≡ map simple xs
+names_taken : (xs : List (List ℕ)) → AreNames xs → names_in (map identifier xs) ≡ map simple xs
 names_taken [] h = refl
 names_taken (x ∷ xs) h = rw (h.0, names_taken xs h.1) refl
 
@@ -59,7 +55,7 @@ unfolding check given
 in_number T = refl
 
 -- the steps of the decision, one after the other
-pub fifty_steps : FiftyIdentifiers → FiftyFaultless → FiftyTaken → FiftyKept → FiftyWanted → FiftyOrdered
+fifty_steps : FiftyIdentifiers → FiftyFaultless → FiftyTaken → FiftyKept → FiftyWanted → FiftyOrdered
 fifty_steps read faultless taken all_kept all_wanted T =
     let ids : List Identifier = map identifier (names 50) in
     ap (λ (o : Option (List Identifier)). given o refusal.Malformed (new_order_verdict (bare T) (zeros 1600) 1)) read
@@ -68,3 +64,21 @@ fifty_steps read faultless taken all_kept all_wanted T =
     ∙ ap (λ (ns : List Name). orders 1 (wanted (bare T) 1 (kept ns) (zeros 1600))) taken
     ∙ ap (λ (ns : List Name). orders 1 (wanted (bare T) 1 ns (zeros 1600))) all_kept
     ∙ ap (λ (ws : List Wanted). orders 1 ws) (all_wanted T)
+
+-- each of the fifty is a name
+pub fifty_names : FiftyNames
+unfolding computing
+fifty_names = are_names (names 50) refl
+
+-- so none is faulty
+pub fifty_faultless : FiftyFaultless
+fifty_faultless = no_subproblems (names 50) fifty_names
+
+-- and all are taken, in their order
+pub fifty_taken : FiftyTaken
+fifty_taken = names_taken (names 50) fifty_names
+
+-- so the order is recorded, whatever else the desk holds: the other steps are computed
+pub fifty_ordered : FiftyOrdered
+unfolding computing
+fifty_ordered = fifty_steps refl fifty_faultless fifty_taken refl (λ T. refl)

@@ -1,5 +1,4 @@
 pub mod Computing
-pub mod Fifty
 pub mod FiftyNames
 pub mod Formed
 pub mod Hashing

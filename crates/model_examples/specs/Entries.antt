@@ -1,13 +1,9 @@
 -- The dated facts of a desk, by the names that the model gives them.
-pub use Rattle.desk_model.specs.Entry.{History}
-pub use Rattle.desk_model.specs.declared.entry.Dated.{Dated}
-pub use Rattle.desk_model.specs.declared.entry.Entry.{Entry}
-pub use Rattle.desk_model.specs.declared.entry.Entry.TheVariants.{Made as made, Issued as issued, Spent as spent}
-pub use Rattle.desk_model.specs.declared.entry.Entry.TheVariants.{Opened as opened, ContactsChanged as contacts_changed, KeyChanged as key_changed}
-pub use Rattle.desk_model.specs.declared.entry.Entry.TheVariants.{AccountEnded as account_ended, Ordered as ordered}
-pub use Rattle.desk_model.specs.declared.entry.Entry.TheVariants.{Answered as answered, Reported as reported}
-pub use Rattle.desk_model.specs.declared.entry.Entry.TheVariants.{AuthorizationEnded as authorization_ended}
-pub use Rattle.desk_model.specs.declared.entry.Entry.TheVariants.{Finalized as finalized, Certified as certified}
+pub use Rattle.desk_model.specs.{Entry.History, declared.entry.Dated.Dated, declared.entry.Entry.Entry}
+pub use Rattle.desk_model.specs.declared.entry.Entry.TheVariants.{Made as made, Issued as issued, Spent as spent, Opened as opened}
+pub use Rattle.desk_model.specs.declared.entry.Entry.TheVariants.{ContactsChanged as contacts_changed, KeyChanged as key_changed, AccountEnded as account_ended}
+pub use Rattle.desk_model.specs.declared.entry.Entry.TheVariants.{Ordered as ordered, Answered as answered, Reported as reported}
+pub use Rattle.desk_model.specs.declared.entry.Entry.TheVariants.{AuthorizationEnded as authorization_ended, Finalized as finalized, Certified as certified}
 pub use Rattle.desk_model.specs.declared.entry.Entry.TheVariants.{Failed as failed}
 pub use Rattle.desk_model.specs.declared.entry.Ending.TheVariants.{Deactivated as deactivated, Revoked as revoked}
 pub use Rattle.desk_model.specs.declared.entry.Outcome.TheVariants.{Good as good, IncorrectResponse as incorrect_response, Connection as connection, Dns as dns}

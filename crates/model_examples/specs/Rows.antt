@@ -5,7 +5,8 @@ use Rattle.desk_model.specs.Tables.{Tables, picture, tables_at}
 use Rattle.desk_model.specs.Derived.{status_faults}
 use Rattle.desk_model.specs.declared.rows.StatusFault.TheVariants as fault
 use Rattle.desk_model.specs.declared.objects.EndKind.TheVariants as kind
-use Rattle.desk_model.specs.{Name.Name, declared.objects.Kind.Kind}
+use Rattle.desk_model.specs.Name.{Name}
+use Rattle.desk_model.specs.declared.objects.Kind.{Kind}
 use Rattle.desk_model.specs.declared.objects.Kind.TheVariants.{Http01 as http_01, Dns01 as dns_01}
 use Rattle.desk_model.specs.declared.status.AccountStatus.TheVariants as account
 use Rattle.desk_model.specs.declared.status.OrderStatus.TheVariants as order

@@ -31,14 +31,8 @@ rows_of nonces accounts authorizations challenges orders =
 
 -- those of these tables
 abbrev pub numbers_in : Tables → Numbers
-numbers_in T =
-    record {
-      nonces = map (λ n. n.serial) T.nonces;
-      accounts = map (λ a. a.number) T.accounts;
-      authorizations = map (λ a. a.number) T.authorizations;
-      challenges = map (λ c. c.number) (flat_map (λ a. a.challenges) T.authorizations);
-      orders = map (λ o. o.number) T.orders;
-    }
+numbers_in T = rows_of (map (λ n. n.serial) T.nonces) (map (λ a. a.number) T.accounts) (map (λ a. a.number) T.authorizations)
+    (map (λ c. c.number) (flat_map (λ a. a.challenges) T.authorizations)) (map (λ o. o.number) T.orders)
 
 -- of these tables the call touches the rows of these numbers
 abbrev pub Touches : Tables → Call → Numbers → Type 0
