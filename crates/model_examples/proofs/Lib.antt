@@ -1,6 +1,5 @@
 pub mod Computing
 pub mod FiftyNames
-pub mod Formed
 pub mod Hashing
 pub mod Naming
 pub mod Orders

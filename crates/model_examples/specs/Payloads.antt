@@ -9,6 +9,10 @@ use Rattle.model_examples.specs.Calls.{order_desk, default_terms, request}
 abbrev pub IsMalformed : Target → List ℕ → Type 0
 IsMalformed target payload = Refuses (order_desk default_terms) (request target payload) 400 malformed
 
+-- what is only read takes no payload
+abbrev pub IsOnlyRead : Target → Type 0
+IsOnlyRead target = IsMalformed target (codes "{}")
+
 -- newAccount by a key without an account is malformed
 abbrev pub IsMalformedAccount : List ℕ → Type 0
 IsMalformedAccount payload = Refuses with_nonce (request to.NewAccount payload) 400 malformed
@@ -51,15 +55,15 @@ AccountChangeContact = IsMalformed (to.Account 1) (codes "{\"contact\":{}}")
 
 -- the list of orders is only read
 abbrev pub OrdersWithPayload : Type 0
-OrdersWithPayload = IsMalformed (to.Orders 1) (codes "{}")
+OrdersWithPayload = IsOnlyRead (to.Orders 1)
 
 -- an order is only read
 abbrev pub OrderWithPayload : Type 0
-OrderWithPayload = IsMalformed (to.Order 1) (codes "{}")
+OrderWithPayload = IsOnlyRead (to.Order 1)
 
 -- a certificate is only read: the form is tested before the order's status
 abbrev pub CertificateWithPayload : Type 0
-CertificateWithPayload = IsMalformed (to.Cert 1) (codes "{}")
+CertificateWithPayload = IsOnlyRead (to.Cert 1)
 
 -- an authorization is read or deactivated, and nothing else
 abbrev pub AuthorizationOtherStatus : Type 0
