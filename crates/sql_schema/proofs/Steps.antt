@@ -4,7 +4,6 @@ use Rattle.sqlite.specs.Effect.{Database}
 use Rattle.sqlite.specs.State.{State, Survives}
 use Rattle.sql_schema.specs.Advances.{Advances, Performs}
 use Rattle.sql_schema.specs.Defined.{AddsKeyTable, Defines}
-use Rattle.sql_schema.specs.declared.keys.TheConstants as chall_key
 use Rattle.sql_schema.specs.{Definitions.definition_at, Schema.schema_at}
 use Rattle.sql_schema.proofs.AdvanceLemmas.{advances_then, performs_advances}
 use Rattle.sql_schema.proofs.Making.{MovesOn, makes, widens}
@@ -29,8 +28,8 @@ defines_more first old new step count low on before ran =
     advances_then first old new (Defines step) Next (Defines (step + 1)) (defines_next step first.now old.now new.now) on before last
 
 -- the table that format 1 lacks, made where there is format 1
-pub adds_key_table : (old new : State) (count : ℕ) → Performs chall_key.CREATE.now [] old new (Ok count) → Advances old new AddsKeyTable
+pub adds_key_table : (old new : State) (count : ℕ) → Performs (definition_at 15) [] old new (Ok count) → Advances old new AddsKeyTable
 adds_key_table old new count ran =
-    performs_advances chall_key.CREATE.now [] old new count AddsKeyTable (λ executes has.
-    let wide = widens (schema_at 15) (schema_at 16) chall_key.CREATE.now create_chall_key_makes old new count executes has in
+    performs_advances (definition_at 15) [] old new count AddsKeyTable (λ executes has.
+    let wide = widens (schema_at 15) (schema_at 16) (definition_at 15) create_chall_key_makes old new count executes has in
     record { sound = wide.sound; schema = wide.schema_is; empty = wide.empty; kept = wide.kept }) ran

@@ -1,4 +1,5 @@
 //! The statements on `ord_authz`, which has a row an authorization that an order lists, by its place.
+use crate::texts::Writing;
 
 // Shows the rows that a test leaves, by order and place.
 macro_rules! select {
@@ -7,18 +8,14 @@ macro_rules! select {
     };
 }
 
-/// Makes the table.
-pub const CREATE: &str =
-    "CREATE TABLE ord_authz (ord INTEGER NOT NULL REFERENCES ord (num), place INTEGER NOT NULL, authz INTEGER NOT NULL REFERENCES authz (num), PRIMARY KEY (ord, place)) STRICT";
+/// What inserts and puts what an order lists at a place; no call moves a part of it.
+pub const WRITING: Writing = (INSERT, UPSERT, UPSERT);
 
-/// Makes the index by which the orders that list an authorization are found.
-pub const INDEX_AUTHZ: &str = "CREATE INDEX ord_authz_authz ON ord_authz (authz)";
+// Inserts what an order lists at a place.
+const INSERT: &str = "INSERT INTO ord_authz (ord, place, authz) VALUES (?1, ?2, ?3)";
 
-/// Inserts what an order lists at a place.
-pub const INSERT: &str = "INSERT INTO ord_authz (ord, place, authz) VALUES (?1, ?2, ?3)";
-
-/// Puts what an order lists at a place.
-pub const UPSERT: &str =
+// Puts what an order lists at a place.
+const UPSERT: &str =
     "INSERT INTO ord_authz (ord, place, authz) VALUES (?1, ?2, ?3) ON CONFLICT (ord, place) DO UPDATE SET authz = excluded.authz";
 
 /// Shows what all orders list.

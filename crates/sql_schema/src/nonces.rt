@@ -1,30 +1,9 @@
 //! The statements on `nonce`, which has a row an open nonce.
-use crate::texts::{create, insert, select, upsert};
+use crate::columns::nonce;
+use crate::texts::{Writing, insert, select, upsert, writing};
 
-// The columns.
-macro_rules! nonce {
-    ($text:ident $($more:tt)*) => {
-        $text!(
-            "nonce",
-            ("serial", "INTEGER PRIMARY KEY", "?1"),
-            ("random", "BLOB NOT NULL", "?2"),
-            ("issued", "INTEGER NOT NULL", "?3")
-            $($more)*
-        )
-    };
-}
-
-/// Makes the table.
-pub const CREATE: &str = nonce!(create);
-
-/// Makes the index by which past nonces are found.
-pub const INDEX_ISSUED: &str = "CREATE INDEX nonce_issued ON nonce (issued)";
-
-/// Inserts a nonce.
-pub const INSERT: &str = nonce!(insert);
-
-/// Puts a nonce.
-pub const UPSERT: &str = nonce!(upsert);
+/// What inserts and puts a nonce; no call moves a part of one.
+pub const WRITING: Writing = nonce!(writing; nonce!(upsert));
 
 /// Removes a nonce.
 pub const DELETE: &str = "DELETE FROM nonce WHERE serial = ?1";

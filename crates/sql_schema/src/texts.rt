@@ -1,5 +1,8 @@
-//! The forms of statements over all columns of a table. A table gives its name and its columns: the name of each, how it is declared,
-//! and its place among the parameters. Its first column is its key.
+//! The forms of statements over all columns of a table, which gives its name and its columns.
+
+/// The statements that write rows of a table: one inserts a row, where none has its key; one puts a row in the place of the one with
+/// its key, or as a new one; and one renews the row with its key, in the columns that calls move.
+pub type Writing = (&'static str, &'static str, &'static str);
 
 /// Makes the table.
 macro_rules! create {
@@ -26,6 +29,13 @@ macro_rules! upsert {
     };
 }
 
+/// Inserts a row, puts it, or renews it by this text.
+macro_rules! writing {
+    ($table:literal, $($column:tt),*; $update:expr) => {
+        (insert!($table, $($column),*), upsert!($table, $($column),*), $update)
+    };
+}
+
 /// Shows the rows that a test leaves, in the order of their keys; what stands behind the order, if anything, may limit them.
 macro_rules! select {
     ($table:literal, ($key:literal, $kind:literal, $place:literal) $(, ($column:literal, $kinds:literal, $places:literal))*;
@@ -38,3 +48,4 @@ pub(crate) use create;
 pub(crate) use insert;
 pub(crate) use select;
 pub(crate) use upsert;
+pub(crate) use writing;

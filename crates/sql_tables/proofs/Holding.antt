@@ -45,19 +45,6 @@ module _ (db : Database) (T : Tables) (has : Holds db T) where
   pub authorizations_held : HasRows authorization_layout db T.authorizations
   authorizations_held = record { schema = has.schema; rows_are = has.authorizations; rising = has.rising.authorizations }
 
-  -- what orders list, under hidden numbers
-  pub listed_held : HasRows listed_layout db has.listed.numbered
-  listed_held = record { schema = has.schema; rows_are = has.listed.has; rising = has.listed.rising }
-
-  -- the challenges, by number
-  pub challenges_held : HasRows challenge_layout db (sorted_by challenge_layout.key (challenge_rows T.authorizations))
-  challenges_held =
-      record { schema = has.schema; rows_are = has.challenges; rising = sorted_rises challenge_layout.key (challenge_rows T.authorizations) }
-
-  -- the keys of answers, by the number of the challenge
-  pub keys_held : HasRows key_layout db (sorted_by key_layout.key (key_rows (challenge_rows T.authorizations)))
-  keys_held = record { schema = has.schema; rows_are = has.keys; rising = sorted_rises key_layout.key (key_rows (challenge_rows T.authorizations)) }
-
 -- ---- some tables
 
 -- where each tree but these is as it was

@@ -13,10 +13,9 @@ use Rattle.sqlite.specs.Rows.{Inserts, Task, Written, count_of, rowids_for, stam
 use Rattle.sqlite.specs.State.{State, Executes}
 use Rattle.sqlite.proofs.Callers.{one_step}
 use Rattle.sql_schema.proofs.Making.{same_value, went}
-use Rattle.sql_schema.specs.Advances.{Advances, Performs}
-use Rattle.sql_tables.specs.Effects.{Adds, AddsColumns, Puts}
+use Rattle.sql_tables.specs.Effects.{Adds, Puts}
 use Rattle.sql_tables.specs.Layouts.{Layout}
-use Rattle.sql_tables.proofs.Inserts.{Means, NoWorks, advances_of, becomes, has_done, no_works, ran, task_of}
+use Rattle.sql_tables.proofs.Inserts.{Carries, Means, NoWorks, becomes, carries, has_done, no_works, ran, task_of}
 use Rattle.sql_tables.proofs.Keyed.{put_ascends, put_row_as, untaken}
 use Rattle.sql_tables.proofs.Upsert.{IsPut, keeps_id, uncounts}
 use Rattle.sql_tables.proofs.UpsertStatement.{IsUpsert, inserted_terms}
@@ -78,10 +77,7 @@ inserts_by L params is text it old new x count h xs has =
 pub added_puts : {X : Type 0} (L : Layout X) (row : X) (old new : Database) → Adds L row old new → Puts L row old new
 added_puts L row old new adds rows has = (adds rows has).1
 
--- and so of each row that has the columns, whose parameters are these values
-pub advances_inserted : {X C : Type 0} (L : Layout X) (columns_of : X → C) (params_of : C → Row) {upsert : List ℕ}
-    (is : IsUpsert L (λ x. params_of (columns_of x)) upsert) (text : List ℕ) → IsInsert L is text
-    → (old new : State) (columns : C) (values : Row) → values ≡ params_of columns → (count : ℕ) → Performs text values old new (Ok count)
-    → Advances old new (AddsColumns L columns_of columns)
-advances_inserted L columns_of params_of is text it =
-    advances_of text columns_of params_of (Adds L) (inserts_by L (λ x. params_of (columns_of x)) is text it)
+-- and it does so inside a transaction, too
+pub advances_inserted : {X : Type 0} (L : Layout X) (params : X → Row) {upsert : List ℕ} (is : IsUpsert L params upsert) (text : List ℕ)
+    → IsInsert L is text → Carries text params (Adds L)
+advances_inserted L params is text it = carries text params (Adds L) (inserts_by L params is text it)

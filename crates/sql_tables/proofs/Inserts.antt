@@ -78,14 +78,17 @@ becomes L old new params rows w tally sound ends up wrote =
       others = λ t other none. ap (λ (d : Database). d.trees t) now ∙ wrote.1 t other none;
     }
 
--- what a text does of a row, it does of each that has the columns, whose parameters are these values
-pub advances_of : {X C : Type 0} (text : List ℕ) (columns_of : X → C) (params_of : C → Row) (Made : X → Database → Database → Type 0)
-    → ((old new : State) (x : X) (count : ℕ) → Executes text (params_of (columns_of x)) old new (Ok count) → Made x old.now new.now)
-    → (old new : State) (columns : C) (values : Row) → values ≡ params_of columns → (count : ℕ) → Performs text values old new (Ok count)
-    → Advances old new (λ a b. (x : X) → columns_of x ≡ columns → Made x a b)
-advances_of {X} text columns_of params_of Made makes old new columns values are count ran =
-    performs_advances text values old new count (λ a b. (x : X) → columns_of x ≡ columns → Made x a b) (λ executes x has.
-    makes old new x count (subst (λ row. Executes text row old new (Ok count)) (are ∙ ap params_of (sym has)) executes)) ran
+-- run with the parameters of a row, the text does this of it
+abbrev pub Carries : {X : Type 0} → List ℕ → (X → Row) → (X → Database → Database → Type 0) → Type 1
+Carries {X} text params Does =
+    (x : X) (old new : State) (values : Row) → values ≡ params x → (count : ℕ) → Performs text values old new (Ok count) → Advances old new (Does x)
+
+-- it does so inside a transaction, where it does so at all
+pub carries : {X : Type 0} (text : List ℕ) (params : X → Row) (Does : X → Database → Database → Type 0)
+    → ((old new : State) (x : X) (count : ℕ) → Executes text (params x) old new (Ok count) → Does x old.now new.now) → Carries text params Does
+carries text params Does does x old new values are count ran =
+    performs_advances text values old new count (Does x) (λ executes. does old new x count (subst (λ row. Executes text row old new (Ok count)) are executes))
+    ran
 
 -- ---- where no foreign key acts
 

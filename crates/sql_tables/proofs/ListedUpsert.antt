@@ -14,9 +14,8 @@ use Rattle.sqlite.specs.State.{State, Executes}
 use Rattle.store_columns.specs.Columns.{listed_columns}
 use Rattle.store_columns.specs.declared.{columns.OrderAuthzColumns.OrderAuthzColumns, flat_rows.Owned.Owned}
 use Rattle.desk_model.specs.declared.rows.Listed.{Listed}
-use Rattle.sql_schema.specs.Advances.{Advances, Performs}
 use Rattle.sql_schema.specs.Schema.{desk_schema, ord_authz_table}
-use Rattle.sql_tables.specs.Effects.{Appends, AppendsColumns, Places, PlacesColumns, is_same_place}
+use Rattle.sql_tables.specs.Effects.{Appends, Places, is_same_place}
 use Rattle.sql_tables.specs.Hidden.{IsPlaced, hidden, next, number}
 use Rattle.sql_tables.specs.Images.{listed_cells, listed_params}
 use Rattle.sql_tables.specs.Layouts.{IsRising, listed_layout}
@@ -24,7 +23,7 @@ use Rattle.sql_schema.specs.declared.listed.TheConstants as ord_authz
 use Rattle.sql_tables.proofs.Casts.{cast_int, new_kept, row_kept}
 use Rattle.sql_tables.proofs.{Found.equal_is, InsertStatement.inserts_row}
 use Rattle.sql_tables.proofs.HiddenUpsert.{clause_on, numbered_next, puts_hidden}
-use Rattle.sql_tables.proofs.Inserts.{Means, advances_of, becomes, has_done, no_works, ran, task_of}
+use Rattle.sql_tables.proofs.Inserts.{Carries, Means, becomes, carries, has_done, no_works, ran, task_of}
 use Rattle.sql_tables.proofs.Keyed.{eq_is, put_ascends, same_of_eq}
 use Rattle.sql_schema.proofs.Making.{went}
 use Rattle.std.proofs.lemmas.Bool.{and_parts}
@@ -37,11 +36,11 @@ terms = lit Null ∷ col 0 0 ∷ col 0 1 ∷ col 0 2 ∷ []
 abbrev project : List Term
 project = col 1 0 ∷ col 1 0 ∷ col 1 1 ∷ col 1 2 ∷ col 0 7 ∷ []
 
-upsert_means : Means ord_authz.UPSERT.now (InsertOr 5 Abort (Values terms 4) (clause_on (1 ∷ 2 ∷ []) 6 3 project ∷ []))
+upsert_means : Means ord_authz.WRITING.1.now (InsertOr 5 Abort (Values terms 4) (clause_on (1 ∷ 2 ∷ []) 6 3 project ∷ []))
 unfolding understood everything
 upsert_means = record { is = refl; plain = (refl, refl) }
 
-insert_means : Means ord_authz.INSERT.now (Insert 5 (Values terms 4))
+insert_means : Means ord_authz.WRITING.0.now (Insert 5 (Values terms 4))
 unfolding understood everything
 insert_means = record { is = refl; plain = (refl, refl) }
 
@@ -80,11 +79,12 @@ new_row : (x : Owned Listed) → cast_row ord_authz_table (Null ∷ listed_cells
 new_row x = new_kept ord_authz_table _ (cast_int _, (cast_int _, (cast_int _, tt)))
 
 -- the statement puts the row
-places_listed : (old new : State) (x : Owned Listed) (count : ℕ) → Executes ord_authz.UPSERT.now (listed_params (listed_columns x)) old new (Ok count)
+places_listed : (old new : State) (x : Owned Listed) (count : ℕ) → Executes ord_authz.WRITING.1.now (listed_params (listed_columns x)) old new (Ok count)
     → Places x old.now new.now
 places_listed old new x count h before has =
     let params = listed_params (listed_columns x) in
-    let did = has_done ord_authz.UPSERT.now params _ old new count has.schema (ran ord_authz.UPSERT.now params _ old new count upsert_means has.schema h) in
+    let text = ord_authz.WRITING.1.now in
+    let did = has_done text params _ old new count has.schema (ran text params _ old new count upsert_means has.schema h) in
     let done = went did.did in
     let it = puts_hidden listed_cells is_same_place (1 ∷ 2 ∷ []) (task_of old ord_authz_table params) (no_works 6) casts (λ _. refl) 3 project
     old.now.trees before x terms 4 done.0 refl has.rows_are has.rising (λ n t. clash n x t) (λ k n. refl) (λ k n y same. sets k x y same)
@@ -96,11 +96,12 @@ places_listed old new x count h before has =
     )
 
 -- and the other one appends it
-appends_listed : (old new : State) (x : Owned Listed) (count : ℕ) → Executes ord_authz.INSERT.now (listed_params (listed_columns x)) old new (Ok count)
+appends_listed : (old new : State) (x : Owned Listed) (count : ℕ) → Executes ord_authz.WRITING.0.now (listed_params (listed_columns x)) old new (Ok count)
     → Appends x old.now new.now
 appends_listed old new x count h before has =
     let params = listed_params (listed_columns x) in
-    let did = has_done ord_authz.INSERT.now params _ old new count has.schema (ran ord_authz.INSERT.now params _ old new count insert_means has.schema h) in
+    let text = ord_authz.WRITING.0.now in
+    let did = has_done text params _ old new count has.schema (ran text params _ old new count insert_means has.schema h) in
     let done = went did.did in
     let task = task_of old ord_authz_table params in
     let it = inserts_row number (hidden listed_cells) (λ _. refl) task (no_works 6) old.now.trees before (next before, x) terms 4
@@ -108,13 +109,9 @@ appends_listed old new x count h before has =
     (λ top. numbered_next listed_cells task top (old.now.trees 6) before x refl has.rows_are (new_row x)) done.1 in
     becomes listed_layout old new params _ done.0 did.tally did.sound done.2 (put_ascends number 0 (next before, x) before (omega arith) has.rising) it.1
 
--- and so of each row that has the columns, whose parameters are these values
-pub advances_listed : (old new : State) (columns : OrderAuthzColumns) (values : Row) → values ≡ listed_params columns → (count : ℕ)
-    → Performs ord_authz.UPSERT.now values old new (Ok count)
-    → Advances old new (PlacesColumns columns)
-advances_listed = advances_of ord_authz.UPSERT.now listed_columns listed_params Places places_listed
+-- inside a transaction, too
+pub advances_listed : Carries ord_authz.WRITING.1.now (λ x. listed_params (listed_columns x)) Places
+advances_listed = carries ord_authz.WRITING.1.now (λ x. listed_params (listed_columns x)) Places places_listed
 
-pub advances_appended : (old new : State) (columns : OrderAuthzColumns) (values : Row) → values ≡ listed_params columns → (count : ℕ)
-    → Performs ord_authz.INSERT.now values old new (Ok count)
-    → Advances old new (AppendsColumns columns)
-advances_appended = advances_of ord_authz.INSERT.now listed_columns listed_params Appends appends_listed
+pub advances_appended : Carries ord_authz.WRITING.0.now (λ x. listed_params (listed_columns x)) Appends
+advances_appended = carries ord_authz.WRITING.0.now (λ x. listed_params (listed_columns x)) Appends appends_listed

@@ -18,11 +18,11 @@ use Rattle.model_laws.proofs.RowLists.{ascends_filter}
 use Rattle.sql_schema.specs.Advances.{Advances, Performs}
 use Rattle.sql_schema.specs.Schema.{nonce_table}
 use Rattle.sql_schema.specs.declared.nonces.TheConstants as nonce
-use Rattle.sql_tables.specs.Effects.{Removes, RemovesNumbered}
+use Rattle.sql_tables.specs.Effects.{Removes}
 use Rattle.sql_tables.specs.Layouts.{IsRising, nonce_layout}
 use Rattle.sql_tables.proofs.Keyed.{none_out, one_or_none, without_as}
 use Rattle.sql_tables.proofs.Found.{answered, answered_none, by_key}
-use Rattle.sql_tables.proofs.Inserts.{Means, NoWorks, advances_of, becomes, edits, has_done, no_works, ran, task_of}
+use Rattle.sql_tables.proofs.Inserts.{Carries, Means, NoWorks, becomes, carries, edits, has_done, no_works, ran, task_of}
 use Rattle.sql_schema.proofs.Making.{went}
 
 -- the key of the row that goes
@@ -72,8 +72,6 @@ removes_nonce old new n count h xs has =
     (removes nonce_layout.key nonce_layout.image (λ _. refl) (task_of old nonce_table (Int (pos n) ∷ [])) (no_works 1) (λ _. refl) 0 n old.now.trees xs
     done.0 has.rows_are has.rising refl done.1)
 
--- and so of each number that is the value
-pub advances_removal : (old new : State) (serial : ℤ) (values : Row) → values ≡ Int serial ∷ [] → (count : ℕ)
-    → Performs nonce.DELETE.now values old new (Ok count)
-    → Advances old new (RemovesNumbered nonce_layout serial)
-advances_removal = advances_of nonce.DELETE.now (λ n. pos n) (λ number. Int number ∷ []) (Removes nonce_layout) removes_nonce
+-- inside a transaction, too
+pub advances_removal : Carries nonce.DELETE.now (λ n. Int (pos n) ∷ []) (Removes nonce_layout)
+advances_removal = carries nonce.DELETE.now (λ n. Int (pos n) ∷ []) (Removes nonce_layout) removes_nonce

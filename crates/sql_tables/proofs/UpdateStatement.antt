@@ -12,12 +12,11 @@ use Rattle.sqlite.specs.Rows.{Task, Updates, Written}
 use Rattle.sqlite.specs.State.{State, Executes}
 use Rattle.desk_model.specs.Change.{put}
 use Rattle.sql_schema.proofs.Making.{went}
-use Rattle.sql_schema.specs.Advances.{Advances, Performs}
-use Rattle.sql_tables.specs.Effects.{Renews, RenewsColumns}
+use Rattle.sql_tables.specs.Effects.{Renews}
 use Rattle.sql_tables.specs.Layouts.{IsRising, Layout}
 use Rattle.sql_tables.proofs.Found.{answered, by_key}
 use Rattle.sql_tables.proofs.{HiddenUpsert.has_map, UpsertStatement.IsUpsert}
-use Rattle.sql_tables.proofs.Inserts.{Means, NoWorks, advances_of, becomes, edits, has_done, no_works, ran, task_of}
+use Rattle.sql_tables.proofs.Inserts.{Carries, Means, NoWorks, becomes, carries, edits, has_done, no_works, ran, task_of}
 use Rattle.sql_tables.proofs.Keyed.{one_with, put_ascends}
 use Rattle.sql_tables.proofs.Upsert.{IsPut, edited_as}
 
@@ -58,12 +57,7 @@ renews_by L params is moved kept text it old new x count h xs has y there same k
     (updates_row L.key L.image is.table.first (task_of old L.table (moved x)) (no_works L.table.tree) is.casts is.table.low 0 it.project old.now.trees xs x y
     done.0 has.rows_are has.rising there same (it.given x) (it.sets x y same keeps) done.1)
 
--- and so of each row that has the columns, whose parameters are these values
-pub advances_renewed : {X C : Type 0} (L : Layout X) (columns_of : X → C) (params_of moved_of kept_of : C → Row) {upsert : List ℕ}
-    (is : IsUpsert L (λ x. params_of (columns_of x)) upsert) (text : List ℕ)
-    → IsUpdate L is (λ x. moved_of (columns_of x)) (λ x. kept_of (columns_of x)) text
-    → (old new : State) (columns : C) (values : Row) → values ≡ moved_of columns → (count : ℕ) → Performs text values old new (Ok count)
-    → Advances old new (RenewsColumns L kept_of columns_of columns)
-advances_renewed L columns_of params_of moved_of kept_of is text it =
-    advances_of text columns_of moved_of (Renews L (λ x. kept_of (columns_of x)))
-    (renews_by L (λ x. params_of (columns_of x)) is (λ x. moved_of (columns_of x)) (λ x. kept_of (columns_of x)) text it)
+-- inside a transaction, too
+pub advances_renewed : {X : Type 0} (L : Layout X) (params : X → Row) {upsert : List ℕ} (is : IsUpsert L params upsert) (moved kept : X → Row)
+    (text : List ℕ) → IsUpdate L is moved kept text → Carries text moved (Renews L kept)
+advances_renewed L params is moved kept text it = carries text moved (Renews L kept) (renews_by L params is moved kept text it)

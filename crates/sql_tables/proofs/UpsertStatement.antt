@@ -8,16 +8,16 @@ use Rattle.sqlite_sql.specs.Term.{Term, col, lit, eval_all}
 use Rattle.sqlite_sql.specs.Program.{overlay}
 use Rattle.sqlite_schema.specs.declared.command.{Command.TheVariants.InsertOr, Conflict.TheVariants.Abort, Source.TheVariants.Values}
 use Rattle.sqlite_rules.specs.{Cast.cast_row, Keys.conflicts}
-use Rattle.sqlite.specs.Effect.{value_rows}
+use Rattle.sqlite.proofs.Callers.{IsPlain, command_of}
+use Rattle.sqlite.specs.{Effect.value_rows, Listing.understood}
 use Rattle.sqlite.specs.Rows.{shown, stamped}
 use Rattle.sqlite.specs.State.{State, Executes}
 use Rattle.desk_model.specs.Change.{put}
 use Rattle.sql_schema.proofs.Making.{went}
-use Rattle.sql_schema.specs.Advances.{Advances, Performs}
 use Rattle.sql_schema.specs.Schema.{desk_schema}
-use Rattle.sql_tables.specs.Effects.{Puts, PutsColumns}
+use Rattle.sql_tables.specs.Effects.{Puts}
 use Rattle.sql_tables.specs.Layouts.{Layout}
-use Rattle.sql_tables.proofs.Inserts.{Means, advances_of, becomes, has_done, no_works, ran, task_of}
+use Rattle.sql_tables.proofs.Inserts.{Carries, Means, becomes, carries, has_done, no_works, ran, task_of}
 use Rattle.sql_tables.proofs.Keyed.{put_ascends, three}
 use Rattle.sql_tables.proofs.Upsert.{clause, puts_row}
 
@@ -58,6 +58,31 @@ pub record IsUpsert {X : Type 0} (L : Layout X) (params : X → Row) (text : Lis
       → eval_all (updated_terms more) ((params x ++ Int (pos (L.key x)) ∷ shown L.table (L.image x)) ∷ L.image y ∷ []) ≡ Int (pos (L.key y)) ∷ L.image x
   pub source : (x : X) → value_rows (stamped L.table (params x)) (more + 2) (length (inserted_terms more) / (more + 2)) (inserted_terms more) ≡ L.image x ∷ []
 
+-- it does, where all of this computes
+unfoldable pub upsert_as : {X : Type 0} (L : Layout X) (params : X → Row) (text : List ℕ) (place more : ℕ)
+    → command_of (understood desk_schema text)
+    ≡ InsertOr place Abort (Values (inserted_terms more) (more + 2)) (clause L.table.tree (more + 1) (updated_terms more) ∷ [])
+    → IsPlain (understood desk_schema text) → slice_get desk_schema.tables place ≡ Some L.table → L.table.is_counted ≡ false
+    → ((db : Trees) → overlay db [] L.table.tree ≡ db L.table.tree) → ((x : X) → rowid (L.image x) ≡ Int (pos (L.key x)))
+    → ((x : X) → cast_row L.table (L.image x) ≡ L.image x)
+    → ((x y : X) → conflicts (Some (0 ∷ [])) desk_schema.indexes L.table (L.image x) (L.image y) ≡ is_eq (three (L.key y) (L.key x)))
+    → ((x : X) → column (params x ++ Int (pos (L.key x)) ∷ shown L.table (L.image x)) (more + 1) ≡ Int (pos (L.key x)))
+    → ((x y : X) → L.key y ≡ L.key x
+    → eval_all (updated_terms more) ((params x ++ Int (pos (L.key x)) ∷ shown L.table (L.image x)) ∷ L.image y ∷ []) ≡ Int (pos (L.key y)) ∷ L.image x)
+    → ((x : X) → value_rows (stamped L.table (params x)) (more + 2) (length (inserted_terms more) / (more + 2)) (inserted_terms more) ≡ L.image x ∷ [])
+    → IsUpsert L params text
+upsert_as L params text at n is plain found uncounted low first casts clash given sets source = record {
+  place = at;
+  more = n;
+  means = record { is = is; plain = plain };
+  table = record { found = found; uncounted = uncounted; low = low; first = first };
+  casts = casts;
+  clash = clash;
+  given = given;
+  sets = sets;
+  source = source;
+}
+
 -- the number of the row that is there is the key of the new one
 pub sets_key : {X : Type 0} (L : Layout X) (x y : X) → L.key y ≡ L.key x
     → Int (pos (L.key y)) ∷ Int (pos (L.key y)) ∷ drop 1 (L.image x) ≡ Int (pos (L.key y)) ∷ Int (pos (L.key x)) ∷ drop 1 (L.image x)
@@ -75,10 +100,6 @@ puts_by L params text is old new x count h xs has =
     (updated_terms is.more) old.now.trees xs x (inserted_terms is.more) (is.more + 2) done.0 is.table.uncounted has.rows_are has.rising
     (is.clash x) (is.given x) (is.sets x) (is.source x) done.1)
 
--- and so of each row that has the columns, whose parameters are these values
-pub advances_by : {X C : Type 0} (L : Layout X) (columns_of : X → C) (params_of : C → Row) (text : List ℕ)
-    → IsUpsert L (λ x. params_of (columns_of x)) text
-    → (old new : State) (columns : C) (values : Row) → values ≡ params_of columns → (count : ℕ) → Performs text values old new (Ok count)
-    → Advances old new (PutsColumns L columns_of columns)
-advances_by L columns_of params_of text is =
-    advances_of text columns_of params_of (Puts L) (puts_by L (λ x. params_of (columns_of x)) text is)
+-- inside a transaction, too
+pub advances_by : {X : Type 0} (L : Layout X) (params : X → Row) (text : List ℕ) → IsUpsert L params text → Carries text params (Puts L)
+advances_by L params text is = carries text params (Puts L) (puts_by L params text is)

@@ -24,34 +24,24 @@ use Rattle.sql_tables.specs.Layouts.{HasRows, account_layout, authorization_layo
 use Rattle.sql_tables.specs.Layouts.{nonce_layout, order_layout}
 use Rattle.sql_tables.proofs.Casts.{cast_int, cast_int_or_null, cast_null, cast_text_or_null, row_kept}
 use Rattle.sql_tables.proofs.{Clashes.clash_by_key, InsertStatement.IsInsert, UpdateStatement.IsUpdate}
-use Rattle.sql_tables.proofs.UpsertStatement.{IsUpsert, sets_key}
+use Rattle.sql_tables.proofs.UpsertStatement.{IsUpsert, sets_key, upsert_as}
 
 -- ---- `meta`, in any format
 
 -- the text that puts a row
-pub meta_upsert : IsUpsert formatted_layout (λ row. meta_params (formatted_columns row)) meta.UPSERT.now
+pub meta_upsert : IsUpsert formatted_layout (λ row. meta_params (formatted_columns row)) meta.WRITING.1.now
 unfolding understood everything
-meta_upsert = record {
-  place = 0;
-  more = 11;
-  means = record { is = refl; plain = (refl, refl) };
-  table = record { found = refl; uncounted = refl; low = λ _. refl; first = λ _. refl };
-  casts = λ _. row_kept meta_table _ _ (
-    cast_null,
-    (
-      cast_int _,
-      (refl, (cast_int _, (cast_int _, (cast_int _, (cast_int _, (cast_int _, (cast_int _, (cast_int _, (cast_int _, (cast_int _, tt)))))))))),
-    ),
-  );
-  clash = clash_by_key formatted_layout (λ _. refl);
-  given = λ _. refl;
-  sets = sets_key formatted_layout;
-  source = λ _. refl;
-}
+meta_upsert =
+    upsert_as formatted_layout _ _ 0 11 refl (refl, refl) refl refl (λ _. refl) (λ _. refl)
+    (λ _. row_kept meta_table _ _
+    (cast_null, (cast_int _, (refl, (cast_int _, (cast_int _, (cast_int _, (cast_int _, (cast_int _, (cast_int _, (cast_int _, (cast_int _,
+    (cast_int _, tt)))))))))))))
+    (clash_by_key formatted_layout (λ _. refl)) (λ _. refl) (sets_key formatted_layout) (λ _. refl)
 
 -- that renews one, in the columns that calls move
-pub meta_update : IsUpdate formatted_layout meta_upsert (λ row. meta_moved (formatted_columns row)) (λ row. meta_kept (formatted_columns row)) meta.UPDATE.now
-unfolding understood everything meta_upsert
+pub meta_update : IsUpdate formatted_layout meta_upsert (λ row. meta_moved (formatted_columns row)) (λ row. meta_kept (formatted_columns row))
+    meta.WRITING.2.now
+unfolding understood everything meta_upsert upsert_as
 meta_update = record {
   project = col 1 0 ∷ col 1 0 ∷ lit Null ∷ col 1 2 ∷ col 1 3 ∷ col 1 4 ∷ col 1 5 ∷ col 1 6 ∷ col 0 1 ∷ col 0 2 ∷ col 0 3 ∷ col 0 4 ∷ col 0 5 ∷ col 0 6 ∷ [];
   means = record { is = refl; plain = (refl, refl) };
@@ -76,46 +66,32 @@ puts_known x old new puts rows has = go rows has
 -- ---- `nonce`
 
 -- the text that puts a row
-pub nonce_upsert : IsUpsert nonce_layout (λ row. nonce_params (nonce_columns row)) nonce.UPSERT.now
+pub nonce_upsert : IsUpsert nonce_layout (λ row. nonce_params (nonce_columns row)) nonce.WRITING.1.now
 unfolding understood everything
-nonce_upsert = record {
-  place = 1;
-  more = 2;
-  means = record { is = refl; plain = (refl, refl) };
-  table = record { found = refl; uncounted = refl; low = λ _. refl; first = λ _. refl };
-  casts = λ _. row_kept nonce_table _ _ (cast_null, (refl, (cast_int _, tt)));
-  clash = clash_by_key nonce_layout (λ _. refl);
-  given = λ _. refl;
-  sets = sets_key nonce_layout;
-  source = λ _. refl;
-}
+nonce_upsert =
+    upsert_as nonce_layout _ _ 1 2 refl (refl, refl) refl refl (λ _. refl) (λ _. refl)
+    (λ _. row_kept nonce_table _ _ (cast_null, (refl, (cast_int _, tt))))
+    (clash_by_key nonce_layout (λ _. refl)) (λ _. refl) (sets_key nonce_layout) (λ _. refl)
 
 -- that inserts one
-pub nonce_insert : IsInsert nonce_layout nonce_upsert nonce.INSERT.now
-unfolding understood everything nonce_upsert
+pub nonce_insert : IsInsert nonce_layout nonce_upsert nonce.WRITING.0.now
+unfolding understood everything nonce_upsert upsert_as
 nonce_insert = record { is = refl; plain = (refl, refl) }
 
 -- ---- `account`
 
 -- the text that puts a row
-pub account_upsert : IsUpsert account_layout (λ row. account_params (account_columns row)) account.UPSERT.now
+pub account_upsert : IsUpsert account_layout (λ row. account_params (account_columns row)) account.WRITING.1.now
 unfolding understood everything
-account_upsert = record {
-  place = 2;
-  more = 6;
-  means = record { is = refl; plain = (refl, refl) };
-  table = record { found = refl; uncounted = refl; low = λ _. refl; first = λ _. refl };
-  casts = λ _. row_kept account_table _ _ (cast_null, (refl, (refl, (cast_int _, (cast_int_or_null _, (cast_text_or_null _, (refl, tt)))))));
-  clash = clash_by_key account_layout (λ _. refl);
-  given = λ _. refl;
-  sets = sets_key account_layout;
-  source = λ _. refl;
-}
+account_upsert =
+    upsert_as account_layout _ _ 2 6 refl (refl, refl) refl refl (λ _. refl) (λ _. refl)
+    (λ _. row_kept account_table _ _ (cast_null, (refl, (refl, (cast_int _, (cast_int_or_null _, (cast_text_or_null _, (refl, tt))))))))
+    (clash_by_key account_layout (λ _. refl)) (λ _. refl) (sets_key account_layout) (λ _. refl)
 
 -- that renews one, in the columns that calls move
 pub account_update : IsUpdate account_layout account_upsert (λ row. account_moved (account_columns row))
-    (λ row. account_kept (account_columns row)) account.UPDATE.now
-unfolding understood everything account_upsert
+    (λ row. account_kept (account_columns row)) account.WRITING.2.now
+unfolding understood everything account_upsert upsert_as
 account_update = record {
   project = col 1 0 ∷ col 1 0 ∷ lit Null ∷ col 0 1 ∷ col 0 2 ∷ col 1 4 ∷ col 0 3 ∷ col 0 4 ∷ col 0 5 ∷ [];
   means = record { is = refl; plain = (refl, refl) };
@@ -126,36 +102,25 @@ account_update = record {
 }
 
 -- that inserts one
-pub account_insert : IsInsert account_layout account_upsert account.INSERT.now
-unfolding understood everything account_upsert
+pub account_insert : IsInsert account_layout account_upsert account.WRITING.0.now
+unfolding understood everything account_upsert upsert_as
 account_insert = record { is = refl; plain = (refl, refl) }
 
 -- ---- `ord`
 
 -- the text that puts a row
-pub order_upsert : IsUpsert order_layout (λ row. order_params (order_columns row)) ord.UPSERT.now
+pub order_upsert : IsUpsert order_layout (λ row. order_params (order_columns row)) ord.WRITING.1.now
 unfolding understood everything
-order_upsert = record {
-  place = 3;
-  more = 10;
-  means = record { is = refl; plain = (refl, refl) };
-  table = record { found = refl; uncounted = refl; low = λ _. refl; first = λ _. refl };
-  casts = λ _. row_kept ord_table _ _ (
-    cast_null,
-    (
-      cast_int _,
-      (cast_int _, (cast_int _, (cast_int_or_null _, (refl, (cast_int_or_null _, (refl, (cast_int_or_null _, (cast_text_or_null _, (refl, tt))))))))),
-    ),
-  );
-  clash = clash_by_key order_layout (λ _. refl);
-  given = λ _. refl;
-  sets = sets_key order_layout;
-  source = λ _. refl;
-}
+order_upsert =
+    upsert_as order_layout _ _ 3 10 refl (refl, refl) refl refl (λ _. refl) (λ _. refl)
+    (λ _. row_kept ord_table _ _
+    (cast_null, (cast_int _, (cast_int _, (cast_int _, (cast_int_or_null _, (refl, (cast_int_or_null _, (refl, (cast_int_or_null _,
+    (cast_text_or_null _, (refl, tt))))))))))))
+    (clash_by_key order_layout (λ _. refl)) (λ _. refl) (sets_key order_layout) (λ _. refl)
 
 -- that renews one, in the columns that calls move
-pub order_update : IsUpdate order_layout order_upsert (λ row. order_moved (order_columns row)) (λ row. order_kept (order_columns row)) ord.UPDATE.now
-unfolding understood everything order_upsert
+pub order_update : IsUpdate order_layout order_upsert (λ row. order_moved (order_columns row)) (λ row. order_kept (order_columns row)) ord.WRITING.2.now
+unfolding understood everything order_upsert upsert_as
 order_update = record {
   project = col 1 0 ∷ col 1 0 ∷ lit Null ∷ col 1 2 ∷ col 1 3 ∷ col 1 4 ∷ col 0 1 ∷ col 0 2 ∷ col 0 3 ∷ col 0 4 ∷ col 0 5 ∷ col 0 6 ∷ col 0 7 ∷ [];
   means = record { is = refl; plain = (refl, refl) };
@@ -165,32 +130,25 @@ order_update = record {
 }
 
 -- that inserts one
-pub order_insert : IsInsert order_layout order_upsert ord.INSERT.now
-unfolding understood everything order_upsert
+pub order_insert : IsInsert order_layout order_upsert ord.WRITING.0.now
+unfolding understood everything order_upsert upsert_as
 order_insert = record { is = refl; plain = (refl, refl) }
 
 -- ---- `authz`
 
 -- the text that puts a row
-pub authorization_upsert : IsUpsert authorization_layout (λ row. authorization_params (authorization_columns row)) authz.UPSERT.now
+pub authorization_upsert : IsUpsert authorization_layout (λ row. authorization_params (authorization_columns row)) authz.WRITING.1.now
 unfolding understood everything
-authorization_upsert = record {
-  place = 4;
-  more = 8;
-  means = record { is = refl; plain = (refl, refl) };
-  table = record { found = refl; uncounted = refl; low = λ _. refl; first = λ _. refl };
-  casts = λ _. row_kept authz_table _ _
-      (cast_null, (cast_int _, (refl, (cast_int _, (cast_int _, (cast_int _, (cast_int_or_null _, (cast_text_or_null _, (refl, tt)))))))));
-  clash = clash_by_key authorization_layout (λ _. refl);
-  given = λ _. refl;
-  sets = sets_key authorization_layout;
-  source = λ _. refl;
-}
+authorization_upsert =
+    upsert_as authorization_layout _ _ 4 8 refl (refl, refl) refl refl (λ _. refl) (λ _. refl)
+    (λ _. row_kept authz_table _ _
+    (cast_null, (cast_int _, (refl, (cast_int _, (cast_int _, (cast_int _, (cast_int_or_null _, (cast_text_or_null _, (refl, tt))))))))))
+    (clash_by_key authorization_layout (λ _. refl)) (λ _. refl) (sets_key authorization_layout) (λ _. refl)
 
 -- that renews one, in the columns that calls move
 pub authorization_update : IsUpdate authorization_layout authorization_upsert (λ row. authorization_moved (authorization_columns row))
-    (λ row. authorization_kept (authorization_columns row)) authz.UPDATE.now
-unfolding understood everything authorization_upsert
+    (λ row. authorization_kept (authorization_columns row)) authz.WRITING.2.now
+unfolding understood everything authorization_upsert upsert_as
 authorization_update = record {
   project = col 1 0 ∷ col 1 0 ∷ lit Null ∷ col 1 2 ∷ col 1 3 ∷ col 1 4 ∷ col 1 5 ∷ col 1 6 ∷ col 0 1 ∷ col 0 2 ∷ col 0 3 ∷ [];
   means = record { is = refl; plain = (refl, refl) };
@@ -200,32 +158,24 @@ authorization_update = record {
 }
 
 -- that inserts one
-pub authorization_insert : IsInsert authorization_layout authorization_upsert authz.INSERT.now
-unfolding understood everything authorization_upsert
+pub authorization_insert : IsInsert authorization_layout authorization_upsert authz.WRITING.0.now
+unfolding understood everything authorization_upsert upsert_as
 authorization_insert = record { is = refl; plain = (refl, refl) }
 
 -- ---- `chall`
 
 -- the text that puts a row
-pub challenge_upsert : IsUpsert challenge_layout (λ row. challenge_params (challenge_columns (bare_row row))) chall.UPSERT.now
+pub challenge_upsert : IsUpsert challenge_layout (λ row. challenge_params (challenge_columns (bare_row row))) chall.WRITING.1.now
 unfolding understood everything
-challenge_upsert = record {
-  place = 6;
-  more = 7;
-  means = record { is = refl; plain = (refl, refl) };
-  table = record { found = refl; uncounted = refl; low = λ _. refl; first = λ _. refl };
-  casts = λ _. row_kept chall_table _ _
-      (cast_null, (cast_int _, (refl, (refl, (cast_int_or_null _, (cast_int_or_null _, (cast_text_or_null _, (refl, tt))))))));
-  clash = clash_by_key challenge_layout (λ _. refl);
-  given = λ _. refl;
-  sets = sets_key challenge_layout;
-  source = λ _. refl;
-}
+challenge_upsert =
+    upsert_as challenge_layout _ _ 6 7 refl (refl, refl) refl refl (λ _. refl) (λ _. refl)
+    (λ _. row_kept chall_table _ _ (cast_null, (cast_int _, (refl, (refl, (cast_int_or_null _, (cast_int_or_null _, (cast_text_or_null _, (refl, tt)))))))))
+    (clash_by_key challenge_layout (λ _. refl)) (λ _. refl) (sets_key challenge_layout) (λ _. refl)
 
 -- that renews one, in the columns that calls move
 pub challenge_update : IsUpdate challenge_layout challenge_upsert (λ row. challenge_moved (challenge_columns (bare_row row)))
-    (λ row. challenge_kept (challenge_columns (bare_row row))) chall.UPDATE.now
-unfolding understood everything challenge_upsert
+    (λ row. challenge_kept (challenge_columns (bare_row row))) chall.WRITING.2.now
+unfolding understood everything challenge_upsert upsert_as
 challenge_update = record {
   project = col 1 0 ∷ col 1 0 ∷ lit Null ∷ col 1 2 ∷ col 1 3 ∷ col 1 4 ∷ col 0 1 ∷ col 0 2 ∷ col 0 3 ∷ col 0 4 ∷ [];
   means = record { is = refl; plain = (refl, refl) };
@@ -235,28 +185,21 @@ challenge_update = record {
 }
 
 -- that inserts one
-pub challenge_insert : IsInsert challenge_layout challenge_upsert chall.INSERT.now
-unfolding understood everything challenge_upsert
+pub challenge_insert : IsInsert challenge_layout challenge_upsert chall.WRITING.0.now
+unfolding understood everything challenge_upsert upsert_as
 challenge_insert = record { is = refl; plain = (refl, refl) }
 
 -- ---- `chall_key`
 
 -- the text that puts a row
-pub key_upsert : IsUpsert key_layout (λ row. key_params (key_columns row)) chall_key.UPSERT.now
+pub key_upsert : IsUpsert key_layout (λ row. key_params (key_columns row)) chall_key.WRITING.1.now
 unfolding understood everything
-key_upsert = record {
-  place = 7;
-  more = 1;
-  means = record { is = refl; plain = (refl, refl) };
-  table = record { found = refl; uncounted = refl; low = λ _. refl; first = λ _. refl };
-  casts = λ _. row_kept chall_key_table _ _ (cast_null, (refl, tt));
-  clash = clash_by_key key_layout (λ _. refl);
-  given = λ _. refl;
-  sets = sets_key key_layout;
-  source = λ _. refl;
-}
+key_upsert =
+    upsert_as key_layout _ _ 7 1 refl (refl, refl) refl refl (λ _. refl) (λ _. refl)
+    (λ _. row_kept chall_key_table _ _ (cast_null, (refl, tt)))
+    (clash_by_key key_layout (λ _. refl)) (λ _. refl) (sets_key key_layout) (λ _. refl)
 
 -- that inserts one
-pub key_insert : IsInsert key_layout key_upsert chall_key.INSERT.now
-unfolding understood everything key_upsert
+pub key_insert : IsInsert key_layout key_upsert chall_key.WRITING.0.now
+unfolding understood everything key_upsert upsert_as
 key_insert = record { is = refl; plain = (refl, refl) }

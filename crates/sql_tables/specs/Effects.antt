@@ -1,10 +1,9 @@
 -- What a statement makes of the tables.
-use Rattle.std.specs.Prelude.{◌≡◌, ◌≢◌, ◌&&◌, ◌==◌, ℕ, ℤ, pos, Bool, List, None, find}
+use Rattle.std.specs.Prelude.{◌≡◌, ◌≢◌, ◌&&◌, ◌==◌, ℕ, Bool, List, None, find}
 use Rattle.sqlite.specs.Effect.{Database, IsDatabase}
 use Rattle.sqlite.specs.Order.{Row}
 use Rattle.sqlite_rules.specs.{Edit.IsNoIndex, Lists.Has}
-use Rattle.store_columns.specs.Columns.{listed_columns}
-use Rattle.store_columns.specs.declared.{columns.OrderAuthzColumns.OrderAuthzColumns, flat_rows.Owned.Owned}
+use Rattle.store_columns.specs.declared.flat_rows.Owned.{Owned}
 use Rattle.desk_model.specs.Change.{put, remove}
 use Rattle.desk_model.specs.declared.rows.Listed.{Listed}
 use Rattle.sql_schema.specs.Schema.{desk_schema}
@@ -44,22 +43,6 @@ Adds {X} L row old new =
 abbrev pub Removes : {X : Type 0} → Layout X → ℕ → Database → Database → Type 0
 Removes L key = Becomes L (remove L.key key)
 
--- a row of these columns is put
-abbrev pub PutsColumns : {X C : Type 0} → Layout X → (X → C) → C → Database → Database → Type 0
-PutsColumns {X} L columns_of columns old new = (row : X) → columns_of row ≡ columns → Puts L row old new
-
--- a row of these columns is renewed, which keeps these
-abbrev pub RenewsColumns : {X C : Type 0} → Layout X → (C → Row) → (X → C) → C → Database → Database → Type 0
-RenewsColumns {X} L kept columns_of columns old new = (row : X) → columns_of row ≡ columns → Renews L (λ x. kept (columns_of x)) row old new
-
--- a row of these columns is added
-abbrev pub AddsColumns : {X C : Type 0} → Layout X → (X → C) → C → Database → Database → Type 0
-AddsColumns {X} L columns_of columns old new = (row : X) → columns_of row ≡ columns → Adds L row old new
-
--- the row of this key, as SQL has numbers, is gone
-abbrev pub RemovesNumbered : {X : Type 0} → Layout X → ℤ → Database → Database → Type 0
-RemovesNumbered L number old new = (key : ℕ) → pos key ≡ number → Removes L key old new
-
 -- ---- what orders list
 
 -- one place of one order
@@ -72,16 +55,8 @@ Places row old new =
     (before : List (ℕ × Owned Listed)) → HasRows listed_layout old before →
     (after : List (ℕ × Owned Listed)) × IsPlaced is_same_place row before after × BecomesRows listed_layout after old new
 
--- a row of these columns is put
-abbrev pub PlacesColumns : OrderAuthzColumns → Database → Database → Type 0
-PlacesColumns columns old new = (row : Owned Listed) → listed_columns row ≡ columns → Places row old new
-
 -- the row is there then, under the next hidden number
 abbrev pub Appends : Owned Listed → Database → Database → Type 0
 Appends row old new =
     (before : List (ℕ × Owned Listed)) → HasRows listed_layout old before
     → BecomesRows listed_layout (put number (next before, row) before) old new
-
--- a row of these columns is appended
-abbrev pub AppendsColumns : OrderAuthzColumns → Database → Database → Type 0
-AppendsColumns columns old new = (row : Owned Listed) → listed_columns row ≡ columns → Appends row old new

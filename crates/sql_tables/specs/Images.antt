@@ -1,5 +1,5 @@
 -- The rows of the tables: the parameters of a statement, in the order of the columns, and the row as the engine keeps it.
-use Rattle.std.specs.Prelude.{ℕ, ℤ, List, Option, [], ◌∷◌}
+use Rattle.std.specs.Prelude.{ℕ, ℤ, List, Option, [], ◌∷◌, ◌++◌, drop}
 use Rattle.sqlite.specs.declared.types.Value.{Value}
 use Rattle.sqlite.specs.declared.types.Value.TheVariants.{Null, Int, Text, Blob}
 use Rattle.sqlite.specs.{Order.Row, Values.or_null}
@@ -34,29 +34,16 @@ keyed (key ∷ rest) = key ∷ Null ∷ rest
 
 -- ---- `meta`
 
-abbrev pub meta_params : MetaColumns → Row
-meta_params c =
-    Int c.id
-    ∷ Int c.format
-    ∷ Text c.base
-    ∷ Int c.nonce_life
-    ∷ Int c.order_life
-    ∷ Int c.authz_life
-    ∷ Int c.clock
-    ∷ Int c.nonces
-    ∷ Int c.accounts
-    ∷ Int c.orders
-    ∷ Int c.authzs
-    ∷ Int c.challs
-    ∷ []
-
--- those that no call moves
+-- the columns that no call moves
 abbrev pub meta_kept : MetaColumns → Row
 meta_kept c = Int c.format ∷ Text c.base ∷ Int c.nonce_life ∷ Int c.order_life ∷ Int c.authz_life ∷ []
 
 -- the key, and those that calls move
 abbrev pub meta_moved : MetaColumns → Row
 meta_moved c = Int c.id ∷ Int c.clock ∷ Int c.nonces ∷ Int c.accounts ∷ Int c.orders ∷ Int c.authzs ∷ Int c.challs ∷ []
+
+abbrev pub meta_params : MetaColumns → Row
+meta_params c = Int c.id ∷ (meta_kept c ++ drop 1 (meta_moved c))
 
 abbrev pub meta_image : Meta → Row
 meta_image row = keyed (meta_params (meta_columns row))
@@ -96,22 +83,7 @@ account_image row = keyed (account_params (account_columns row))
 
 -- ---- `ord`; what an order lists stands in a table of its own
 
-abbrev pub order_params : OrderColumns → Row
-order_params c =
-    Int c.num
-    ∷ Int c.account
-    ∷ Int c.made
-    ∷ Int c.expires
-    ∷ int_or_null c.finalized
-    ∷ blob_or_null c.csr
-    ∷ int_or_null c.certified
-    ∷ blob_or_null c.cert
-    ∷ int_or_null c.failed
-    ∷ text_or_null c.problem
-    ∷ Text c.status
-    ∷ []
-
--- those that no call moves
+-- the columns that no call moves
 abbrev pub order_kept : OrderColumns → Row
 order_kept c = Int c.account ∷ Int c.made ∷ Int c.expires ∷ []
 
@@ -128,31 +100,24 @@ order_moved c =
     ∷ Text c.status
     ∷ []
 
+abbrev pub order_params : OrderColumns → Row
+order_params c = Int c.num ∷ (order_kept c ++ drop 1 (order_moved c))
+
 abbrev pub order_image : OrderRow → Row
 order_image row = keyed (order_params (order_columns row))
 
 -- ---- `authz`; the challenges stand in a table of their own
 
-abbrev pub authorization_params : AuthzColumns → Row
-authorization_params c =
-    Int c.num
-    ∷ Int c.account
-    ∷ Text c.name
-    ∷ Int c.wildcard
-    ∷ Int c.made
-    ∷ Int c.expires
-    ∷ int_or_null c.ended
-    ∷ text_or_null c.end_kind
-    ∷ Text c.status
-    ∷ []
-
--- those that no call moves
+-- the columns that no call moves
 abbrev pub authorization_kept : AuthzColumns → Row
 authorization_kept c = Int c.account ∷ Text c.name ∷ Int c.wildcard ∷ Int c.made ∷ Int c.expires ∷ []
 
 -- the key, and those that calls move
 abbrev pub authorization_moved : AuthzColumns → Row
 authorization_moved c = Int c.num ∷ int_or_null c.ended ∷ text_or_null c.end_kind ∷ Text c.status ∷ []
+
+abbrev pub authorization_params : AuthzColumns → Row
+authorization_params c = Int c.num ∷ (authorization_kept c ++ drop 1 (authorization_moved c))
 
 abbrev pub authorization_image : AuthorizationRow → Row
 authorization_image row = keyed (authorization_params (authorization_columns row))
@@ -168,25 +133,16 @@ listed_cells row = listed_params (listed_columns row)
 
 -- ---- `chall`
 
-abbrev pub challenge_params : ChallColumns → Row
-challenge_params c =
-    Int c.num
-    ∷ Int c.authz
-    ∷ Text c.kind
-    ∷ Blob c.token
-    ∷ int_or_null c.answered
-    ∷ int_or_null c.reported
-    ∷ text_or_null c.outcome
-    ∷ Text c.status
-    ∷ []
-
--- those that no call moves
+-- the columns that no call moves
 abbrev pub challenge_kept : ChallColumns → Row
 challenge_kept c = Int c.authz ∷ Text c.kind ∷ Blob c.token ∷ []
 
 -- the key, and those that calls move
 abbrev pub challenge_moved : ChallColumns → Row
 challenge_moved c = Int c.num ∷ int_or_null c.answered ∷ int_or_null c.reported ∷ text_or_null c.outcome ∷ Text c.status ∷ []
+
+abbrev pub challenge_params : ChallColumns → Row
+challenge_params c = Int c.num ∷ (challenge_kept c ++ drop 1 (challenge_moved c))
 
 abbrev pub challenge_image : Owned ChallengeRow → Row
 challenge_image row = keyed (challenge_params (challenge_columns (bare_row row)))

@@ -14,7 +14,7 @@ use Rattle.desk_model.specs.Name.{same_bool, same_name}
 use Rattle.desk_model.specs.declared.{objects.Answer.Answer, objects.AuthorizationEnd.AuthorizationEnd, objects.Report.Report, rows.AccountRow.AccountRow}
 use Rattle.desk_model.specs.declared.{rows.AuthorizationRow.AuthorizationRow, rows.ChallengeRow.ChallengeRow, rows.Meta.Meta, rows.OrderRow.OrderRow}
 use Rattle.sql_write.specs.Differences.{account_difference, authorization_difference, challenge_difference, key_difference, meta_difference}
-use Rattle.sql_write.specs.Differences.{is_same_authorization, is_same_challenge, is_same_date, is_same_end, is_same_report}
+use Rattle.sql_write.specs.Differences.{is_same_authorization, is_same_challenge, is_same_date, is_same_dated, is_same_end, is_same_fact, is_same_report}
 use Rattle.sql_write.specs.Differences.{keeps_authorization, keeps_challenge, keeps_order, keeps_policy, order_difference}
 use Rattle.sql_write.specs.Write.{difference, write}
 use Rattle.sql_write.specs.declared.write.{Write.Write, Difference.Difference}
@@ -115,39 +115,28 @@ challenge_is_kept n old row is =
 abbrev pair : {X : Type 0} → (X → ℕ) → (X → List ℕ) → Option X → Row
 pair date text fact = int_or_null (option_map (λ x. pos (date x)) fact) ∷ text_or_null (option_map text fact) ∷ []
 
--- the end of an authorization
-same_end : (a b : Option AuthorizationEnd) → is_same_end a b ≡ true
-    → pair (λ e. e.date) (λ e. end_kind_text e.kind) a ≡ pair (λ e. e.date) (λ e. end_kind_text e.kind) b
-same_end None None is = refl
-same_end None (Some b) is = absurd (cc is)
-same_end (Some a) None is = absurd (cc is)
-same_end (Some a) (Some b) is =
-    let p = and_parts (a.date == b.date) _ is in
-    let date = eqb-true a.date b.date p.0 in
-    let kind = equal_bytes (end_kind_text a.kind) (end_kind_text b.kind) p.1 in
-    λ i. Int (pos (date i)) ∷ Text (kind i) ∷ []
+-- facts that are the same so have the same columns
+same_fact : {X : Type 0} (same : X → X → Bool) (columns : Option X → Row) → ((a b : X) → same a b ≡ true → columns (Some a) ≡ columns (Some b))
+    → (a b : Option X) → is_same_fact same a b ≡ true → columns a ≡ columns b
+same_fact same columns each None None is = refl
+same_fact same columns each None (Some b) is = absurd (cc is)
+same_fact same columns each (Some a) None is = absurd (cc is)
+same_fact same columns each (Some a) (Some b) is = each a b is
 
--- a report
-same_report : (a b : Option Report) → is_same_report a b ≡ true
-    → pair (λ r. r.date) (λ r. outcome_text r.outcome) a ≡ pair (λ r. r.date) (λ r. outcome_text r.outcome) b
-same_report None None is = refl
-same_report None (Some b) is = absurd (cc is)
-same_report (Some a) None is = absurd (cc is)
-same_report (Some a) (Some b) is =
-    let p = and_parts (a.date == b.date) _ is in
-    let date = eqb-true a.date b.date p.0 in
-    let outcome = equal_bytes (outcome_text a.outcome) (outcome_text b.outcome) p.1 in
-    λ i. Int (pos (date i)) ∷ Text (outcome i) ∷ []
+-- those that are dated and have a text
+same_dated : {X : Type 0} (date : X → ℕ) (text : X → List ℕ) (a b : Option X) → is_same_dated date text a b ≡ true → pair date text a ≡ pair date text b
+same_dated date text = same_fact _ (pair date text) (λ a b is.
+    let p = and_parts (date a == date b) _ is in
+    let moment = eqb-true (date a) (date b) p.0 in
+    let word = equal_bytes (text a) (text b) p.1 in
+    λ i. Int (pos (moment i)) ∷ Text (word i) ∷ [])
 
 -- the date of an answer
 abbrev answer_column : Option Answer → Row
 answer_column answer = int_or_null (option_map (λ n. pos n) (option_map (λ (a : Answer). a.date) answer)) ∷ []
 
 same_date : (a b : Option Answer) → is_same_date a b ≡ true → answer_column a ≡ answer_column b
-same_date None None is = refl
-same_date None (Some b) is = absurd (cc is)
-same_date (Some a) None is = absurd (cc is)
-same_date (Some a) (Some b) is = ap (λ n. Int (pos n) ∷ []) (eqb-true a.date b.date is)
+same_date = same_fact _ answer_column (λ a b is. ap (λ n. Int (pos n) ∷ []) (eqb-true a.date b.date is))
 
 -- ---- rows that are as they were
 
@@ -157,7 +146,7 @@ same_authorization : (old row : AuthorizationRow) → old.number ≡ row.number 
 same_authorization old row number kept same =
     let p = and_parts (is_same_end old.ended row.ended) _ same in
     let columns = authorization_is_kept old row kept in
-    let ended = same_end old.ended row.ended p.0 in
+    let ended = same_dated (λ (e : AuthorizationEnd). e.date) (λ e. end_kind_text e.kind) old.ended row.ended p.0 in
     let status = equal_bytes (authorization_status_text old.status) (authorization_status_text row.status) p.1 in
     λ i. Int (pos (number i)) ∷ Null ∷ (columns i ++ (ended i ++ Text (status i) ∷ []))
 
@@ -169,7 +158,7 @@ same_challenge n old row number kept same =
     let q = and_parts (is_same_report old.reported row.reported) _ p.1 in
     let columns = challenge_is_kept n old row kept in
     let answered = same_date old.answered row.answered p.0 in
-    let reported = same_report old.reported row.reported q.0 in
+    let reported = same_dated (λ (r : Report). r.date) (λ r. outcome_text r.outcome) old.reported row.reported q.0 in
     let status = equal_bytes (challenge_status_text old.status) (challenge_status_text row.status) q.1 in
     λ i. Int (pos (number i)) ∷ Null ∷ (columns i ++ (answered i ++ (reported i ++ Text (status i) ∷ [])))
 

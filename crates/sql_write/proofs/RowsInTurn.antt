@@ -5,7 +5,7 @@ use Rattle.std.specs.List.{cons_option}
 use Rattle.std.specs.Prelude.{ℤ, IfErr, IsOk, option_map, option_to_list, pos}
 use Rattle.std.proofs.{Math.Seq.take-suc, lemmas.List.Elements.filter_map-append}
 use Rattle.std.proofs.lemmas.List.{append_assoc, map-append, take-append-drop}
-use Rattle.sqlite.specs.{Effect.Database, State.State}
+use Rattle.sqlite.specs.{Effect.Database, Order.Row}
 use Rattle.store_columns.specs.Columns.{known_format, listed_columns}
 use Rattle.store_columns.specs.Flat.{answer_key, key_rows, owned_by}
 use Rattle.store_columns.specs.declared.flat_rows.{AnswerKey.AnswerKey, Owned.Owned}
@@ -23,9 +23,10 @@ use Rattle.sql_write.specs.Statements.{save_statements, statements_from, stateme
 use Rattle.sql_write.specs.declared.write.Write.{Write}
 use Rattle.sql_write.specs.declared.write.Write.TheVariants.{Upsert, Insert, Update}
 use Rattle.model_laws.proofs.{RowLists.puts_append, Recorded.applied-append}
-use Rattle.sql_write.proofs.Over.{over_both, over_one}
+use Rattle.sql_write.proofs.Over.{over_both, over_none, over_one}
+use Rattle.sql_write.proofs.Written.{Turns}
 use Rattle.sql_write.proofs.KnownRows.{known_first, known_next, known_stands}
-use Rattle.sql_tables.specs.Effects.{Appends, Places, Puts, Removes, RemovesNumbered, is_same_place}
+use Rattle.sql_tables.specs.Effects.{Appends, Places, Puts, is_same_place}
 use Rattle.sql_tables.specs.Hidden.{IsPlaced, next, number}
 use Rattle.sql_tables.specs.Holds.{Holds}
 use Rattle.sql_tables.specs.Images.{formatted_columns, meta_kept}
@@ -35,37 +36,23 @@ use Rattle.sql_tables.proofs.InsertStatement.{added_puts}
 -- ---- one row
 
 -- one that may be added is put
-pub puts_added : {X C : Type 0} (L : Layout X) (columns_of : X → C) (row : X) (write : Write) (a b : Database)
-    → AddsOrPuts L columns_of write (columns_of row) a b → Puts L row a b
-puts_added L columns_of row Insert a b does = added_puts L row a b (does row refl)
-puts_added L columns_of row Upsert a b does = does row refl
-puts_added L columns_of row Update a b does = does row refl
+pub puts_added : {X : Type 0} (L : Layout X) (row : X) (write : Write) (a b : Database) → AddsOrPuts L write row a b → Puts L row a b
+puts_added L row Insert a b does = added_puts L row a b does
+puts_added L row Upsert a b does = does
+puts_added L row Update a b does = does
 
 -- which keeps nothing where it is renewed
-pub writes_added : {X C : Type 0} (L : Layout X) (columns_of : X → C) (row : X) (write : Write) (a b : Database)
-    → AddsOrPuts L columns_of write (columns_of row) a b → Writes L (λ _. []) write row a b
-writes_added L columns_of row Insert a b does = does row refl
-writes_added L columns_of row Upsert a b does = does row refl
-writes_added L columns_of row Update a b does = λ rows has there in_it same kept. does row refl rows has
+pub writes_added : {X : Type 0} (L : Layout X) (row : X) (write : Write) (a b : Database) → AddsOrPuts L write row a b → Writes L (λ _. []) write row a b
+writes_added L row Insert a b does = does
+writes_added L row Upsert a b does = does
+writes_added L row Update a b does = λ rows has there in_it same kept. does rows has
 
--- the row of `meta`
-pub writes_meta_row : (row : Meta) (write : Write) (a b : Database) → write ≢ Insert
-    → RenewsOrPuts formatted_layout meta_kept formatted_columns write (formatted_columns (known_format, row)) a b
-    → Writes formatted_layout (λ x. meta_kept (formatted_columns x)) write (known_format, row) a b
-writes_meta_row row Upsert a b old does = does (known_format, row) refl
-writes_meta_row row Update a b old does = does (known_format, row) refl
-writes_meta_row row Insert a b old does = absurd (old refl)
-
--- columns that were written have no fault
-pub written_whole : {A E : Type 0} (written : Result A E) (P : E → Type 0) → IsOk written → IfErr written P
-written_whole (Ok columns) P is = tt
-written_whole (Err why) P is = cc
-
--- the nonce of a serial, by the number of its column
-pub removes_numbered : (column : ℤ) (serial : ℕ) (old new : State) → column ≡ pos serial → Advances old new (RemovesNumbered nonce_layout column)
-    → Advances old new (Removes nonce_layout serial)
-removes_numbered column serial old new are =
-    advances_as old new (RemovesNumbered nonce_layout column) (Removes nonce_layout serial) (λ does. does serial (sym are))
+-- one that may be renewed is, where it is not new
+pub writes_renewed : {X : Type 0} (L : Layout X) (kept : X → Row) (row : X) (write : Write) (a b : Database) → write ≢ Insert
+    → RenewsOrPuts L kept write row a b → Writes L kept write row a b
+writes_renewed L kept row Upsert a b old does = does
+writes_renewed L kept row Update a b old does = does
+writes_renewed L kept row Insert a b old does = absurd (old refl)
 
 -- ---- several rows
 
@@ -80,12 +67,6 @@ one_more_put L ys y a b c before last sound rows has =
       others = λ t other none. two.others t other none ∙ one.others t other none;
     }
 
--- the rows of one owner, and one more
-owned_snoc : {T : Type 0} (n : ℕ) (xs : List T) (i : ℕ) (d : T) → i < length xs
-    → owned_by n (take (i + 1) xs) ≡ owned_by n (take i xs) ++ (record { owner = n; row = get_or xs i d }) ∷ []
-owned_snoc n xs i d low =
-    ap (λ k. owned_by n (take k xs)) (add-one i) ∙ ap (owned_by n) (take-suc xs i d low) ∙ map-append _ (take i xs) (get_or xs i d ∷ [])
-
 -- what holds of all rows of an owner holds of the one at a place
 pub each_owned : {X : Type 0} (P : Owned X → Type 0) (n : ℕ) (xs : List X) (i : ℕ) (d : X) → i < length xs → EachOf P (owned_by n xs)
     → P (record { owner = n; row = get_or xs i d })
@@ -93,47 +74,44 @@ each_owned P n [] i d low all = absurd (omega (arith, low))
 each_owned P n (x ∷ xs) zero d low all = all.0
 each_owned P n (x ∷ xs) (suc i) d low all = each_owned P n xs i d (omega (arith, low)) all.1
 
--- none
-pub put_none : {X : Type 0} (L : Layout X) (a : Database) → PutsAll L [] a a
-put_none L a = λ sound rows has. record { sound = sound; has = has; others = λ t other none. refl }
+-- rows that are put
+pub put_turns : {X : Type 0} (L : Layout X) → Turns (PutsAll L) (Puts L)
+put_turns L = record {
+  none = λ a sound rows has. record { sound = sound; has = has; others = λ t other none. refl };
+  more = one_more_put L;
+}
 
--- one more row
-pub put_more : {X : Type 0} (L : Layout X) (xs : List X) (i : ℕ) (d : X) (a b c : Database) → i < length xs → PutsAll L (take i xs) a b
-    → Puts L (get_or xs i d) b c → PutsAll L (take (i + 1) xs) a c
-put_more L xs i d a b c low before last =
-    subst (λ ys. PutsAll L ys a c) (sym (ap (λ k. take k xs) (add-one i) ∙ take-suc xs i d low)) (one_more_put L (take i xs) (get_or xs i d) a b c before last)
-
--- one more row of an owner, over those that are known
-pub over_more : {T : Type 0} (L : Layout (Owned T)) (known : Owned T → Option (Owned T)) (n : ℕ) (xs : List T) (i : ℕ) (d : T) (a b c : Database)
-    → i < length xs → PutsAllOver L known (owned_by n (take i xs)) a b
-    → PutsOver L (known (record { owner = n; row = get_or xs i d })) (record { owner = n; row = get_or xs i d }) b c
-    → PutsAllOver L known (owned_by n (take (i + 1) xs)) a c
-over_more {T} L known n xs i d a b c low before last =
-    let row : Owned T = record { owner = n; row = get_or xs i d } in
-    subst (λ ys. PutsAllOver L known ys a c) (sym (owned_snoc n xs i d low))
-    (over_both L known (owned_by n (take i xs)) (row ∷ []) a b c before (over_one L known row b c last))
+-- rows of an owner, over those that are known
+pub over_turns : {T : Type 0} (L : Layout (Owned T)) (known : Owned T → Option (Owned T)) (n : ℕ) → Turns (λ xs. PutsAllOver L known (owned_by n xs))
+    (λ x. PutsOver L (known (record { owner = n; row = x })) (record { owner = n; row = x }))
+over_turns {T} L known n = record {
+  none = over_none L known;
+  more = λ xs x a b c before last. let row : Owned T = record { owner = n; row = x } in
+      subst (λ ys. PutsAllOver L known ys a c) (sym (map-append _ xs (x ∷ [])))
+      (over_both L known (owned_by n xs) (row ∷ []) a b c before (over_one L known row b c last));
+}
 
 -- the keys of one more
-keys_snoc : (n : ℕ) (xs : List ChallengeRow) (i : ℕ) (d : ChallengeRow) → i < length xs
-    → key_rows (owned_by n (take (i + 1) xs)) ≡ key_rows (owned_by n (take i xs)) ++ option_to_list (answer_key (get_or xs i d))
-keys_snoc n xs i d low =
-    let row : Owned ChallengeRow = record { owner = n; row = get_or xs i d } in
-    ap key_rows (owned_snoc n xs i d low)
-    ∙ filter_map-append (λ (c : Owned ChallengeRow). answer_key c.row) (owned_by n (take i xs)) (row ∷ [])
-    ∙ ap (λ ks. key_rows (owned_by n (take i xs)) ++ ks) (alone (answer_key (get_or xs i d)))
+keys_snoc : (n : ℕ) (xs : List ChallengeRow) (x : ChallengeRow)
+    → key_rows (owned_by n (xs ++ x ∷ [])) ≡ key_rows (owned_by n xs) ++ option_to_list (answer_key x)
+keys_snoc n xs x =
+    let row : Owned ChallengeRow = record { owner = n; row = x } in
+    ap key_rows (map-append _ xs (x ∷ []))
+    ∙ filter_map-append (λ (c : Owned ChallengeRow). answer_key c.row) (owned_by n xs) (row ∷ [])
+    ∙ ap (λ ks. key_rows (owned_by n xs) ++ ks) (alone (answer_key x))
   where
     alone : (o : Option AnswerKey) → cons_option o [] ≡ option_to_list o
     alone None = refl
     alone (Some k) = refl
 
--- the key of one more challenge, over those that are known
-pub keys_more : (known : AnswerKey → Option AnswerKey) (n : ℕ) (xs : List ChallengeRow) (i : ℕ) (d : ChallengeRow) (a b c : Database)
-    → i < length xs → PutsAllOver key_layout known (key_rows (owned_by n (take i xs))) a b
-    → PutsAllOver key_layout known (option_to_list (answer_key (get_or xs i d))) b c
-    → PutsAllOver key_layout known (key_rows (owned_by n (take (i + 1) xs))) a c
-keys_more known n xs i d a b c low before last =
-    subst (λ ys. PutsAllOver key_layout known ys a c) (sym (keys_snoc n xs i d low))
-    (over_both key_layout known (key_rows (owned_by n (take i xs))) (option_to_list (answer_key (get_or xs i d))) a b c before last)
+-- the keys of the answers of challenges, over those that are known
+pub keys_turns : (known : AnswerKey → Option AnswerKey) (n : ℕ) → Turns (λ xs. PutsAllOver key_layout known (key_rows (owned_by n xs)))
+    (λ x. PutsAllOver key_layout known (option_to_list (answer_key x)))
+keys_turns known n = record {
+  none = over_none key_layout known;
+  more = λ xs x a b c before last. subst (λ ys. PutsAllOver key_layout known ys a c) (sym (keys_snoc n xs x))
+      (over_both key_layout known (key_rows (owned_by n xs)) (option_to_list (answer_key x)) a b c before last);
+}
 
 -- what holds of all rows holds of the one at a place
 pub each_at : {X : Type 0} (P : X → Type 0) (xs : List X) (i : ℕ) (d : X) → i < length xs → EachOf P xs → P (get_or xs i d)
@@ -177,27 +155,24 @@ one_more_appended ls l a b c first last sound before has =
       others = λ t other none. two.others t other none ∙ one.others t other none;
     }
 
--- none
-pub listed_none : (write : Write) (a : Database) → WritesListed write [] a a
-listed_none Insert a = λ sound before has. record { sound = sound; has = has; others = λ t other none. refl }
-listed_none Upsert a = λ sound before has. (before, refl, record { sound = sound; has = has; others = λ t other none. refl })
-listed_none Update a = λ sound before has. (before, refl, record { sound = sound; has = has; others = λ t other none. refl })
-
--- one more row of an order
-pub listed_more : (write : Write) (n : ℕ) (xs : List Listed) (i : ℕ) (d : Listed) (a b c : Database) → i < length xs
-    → WritesListed write (owned_by n (take i xs)) a b → AppendsOrPlaces write (listed_columns (record { owner = n; row = get_or xs i d })) b c
-    → WritesListed write (owned_by n (take (i + 1) xs)) a c
-listed_more write n xs i d a b c low before last =
-    subst (λ ls. WritesListed write ls a c) (sym (owned_snoc n xs i d low)) (go write before last)
+-- rows of an order
+pub listed_turns : (write : Write) (n : ℕ) → Turns (λ xs. WritesListed write (owned_by n xs)) (λ x. AppendsOrPlaces write (record { owner = n; row = x }))
+listed_turns write n = record {
+  none = none write;
+  more = λ xs x a b c before last. subst (λ ls. WritesListed write ls a c) (sym (map-append _ xs (x ∷ [])))
+      (more write (owned_by n xs) (record { owner = n; row = x }) a b c before last);
+}
   where
-    row : Owned Listed
-    row = record { owner = n; row = get_or xs i d }
+    none : (m : Write) (a : Database) → WritesListed m [] a a
+    none Insert a = λ sound before has. record { sound = sound; has = has; others = λ t other none. refl }
+    none Upsert a = λ sound before has. (before, refl, record { sound = sound; has = has; others = λ t other none. refl })
+    none Update a = λ sound before has. (before, refl, record { sound = sound; has = has; others = λ t other none. refl })
 
-    go : (m : Write) → WritesListed m (owned_by n (take i xs)) a b → AppendsOrPlaces m (listed_columns row) b c
-        → WritesListed m (owned_by n (take i xs) ++ row ∷ []) a c
-    go Insert before last = one_more_appended (owned_by n (take i xs)) row a b c before (last row refl)
-    go Upsert before last = one_more_placed (owned_by n (take i xs)) row a b c before (last row refl)
-    go Update before last = one_more_placed (owned_by n (take i xs)) row a b c before (last row refl)
+    more : (m : Write) (ls : List (Owned Listed)) (l : Owned Listed) (a b c : Database) → WritesListed m ls a b → AppendsOrPlaces m l b c
+        → WritesListed m (ls ++ l ∷ []) a c
+    more Insert = one_more_appended
+    more Upsert = one_more_placed
+    more Update = one_more_placed
 
 -- ---- changes
 

@@ -179,23 +179,6 @@ module _ {S : Type 0} (g : Ghosts S) (Fits : Type 0) (all : List Sql) (old : Hel
       whole (Ok u) ran is = ran
       whole (Err why) ran is = absurd (cc is)
 
-  -- that there was no memory for what is to be written, before a transaction, is one
-  pub nothing_begun : IsCause g Fits all old old (save.Row writefault.Memory)
-  nothing_begun =
-      let same = (asks_nothing (state g old)).survives in (
-        begun old,
-        none_begun g all (begun old),
-        record {
-          clean = same.clean;
-          shield = same.shield;
-          counts = same.counts;
-          limit = same.limit;
-          closes = same.closes;
-          crash = same.crash;
-        },
-        λ large. absurd (cc large),
-      )
-
   -- it is so behind calls that commit nothing
   pub cause_then : (mid new : Held S) (why : SaveFault) → IsCause g Fits all old mid why → Survives (state g mid) (state g new) (λ _. ⊥)
       → IsCause g Fits all old new why

@@ -2,7 +2,7 @@
 use Rattle.sqlite.specs.Held.{Held, state}
 use Rattle.sqlite.specs.Store.{Ghosts}
 use Rattle.sql_schema.proofs.Steps.{adds_key_table}
-use Rattle.sql_schema.specs.declared.keys.TheConstants as chall_key
+use Rattle.sql_schema.specs.Definitions.{definition_at}
 use Rattle.sql_write.proofs.Written.{run_written}
 use Rattle.sql_write.specs.Refusals.{HasWritten, IsRun}
 use Rattle.sql_write.specs.Statements.{defines}
@@ -51,8 +51,8 @@ upgrades meta keys old mid new adds fills T has same are =
     }
 
 -- the table of keys, by a call that runs its text
-pub key_table_defined : {S : Type 0} (g : Ghosts S) (text : List ℕ) (a b : Held S) (r : Result (Unit {0}) SaveFault) → text ≡ chall_key.CREATE.now
+pub key_table_defined : {S : Type 0} (g : Ghosts S) (text : List ℕ) (a b : Held S) (r : Result (Unit {0}) SaveFault) → text ≡ definition_at 15
     → IsRun g (record { text = text; params = [] }) a b r → HasWritten g (defines 15) AddsKeyTable a b r
 key_table_defined g text a b r is ran =
-    run_written g chall_key.CREATE.now [] [] AddsKeyTable a b r refl (subst (λ t. IsRun g (record { text = t; params = [] }) a b r) is ran)
+    run_written g (definition_at 15) [] [] AddsKeyTable a b r refl (subst (λ t. IsRun g (record { text = t; params = [] }) a b r) is ran)
     (adds_key_table (state g a) (state g b))

@@ -1,6 +1,8 @@
 -- Calls that write, one after the other.
 use Rattle.std.specs.List.{flat_map}
-use Rattle.std.proofs.Common.{◌≡◌, ℕ, ◌+◌, ◌<◌, List, [], ◌∷◌, ◌++◌, Result, Ok, Err, OnOk, get_or, length, refl, sym, subst, take}
+use Rattle.std.proofs.Common.{◌≡◌, ℕ, ◌+◌, ◌<◌, ◌≤◌, ◌∙◌, List, [], ◌∷◌, ◌++◌, Result, Ok, Err, OnOk, add-one, ap, get_or, length, refl, sym, subst, take}
+use Rattle.std.proofs.Common.{take_all}
+use Rattle.std.proofs.Math.Seq.{take-suc}
 use Rattle.sqlite.specs.{Effect.Database, Order.Row, Store.Ghosts}
 use Rattle.sqlite.specs.Held.{Held, state}
 use Rattle.sql_schema.proofs.AdvanceLemmas.{advances_as, performs_keeps}
@@ -104,28 +106,6 @@ module _ {S : Type 0} (g : Ghosts S) where
       → HasWritten g ys A a b r
   written_with xs ys A a b r same = subst (λ all. HasWritten g all A a b r) same
 
-  -- ---- the rows of a list
-
-  -- one more
-  pub written_more : {X : Type 0} (of : X → List Sql) (rows : List X) (i : ℕ) (d : X) (A B C : Doing) (a b c : Held S) (u v : Unit {0}) → i < length rows
-      → (A (state g a).now (state g b).now → B (state g b).now (state g c).now → C (state g a).now (state g c).now)
-      → HasWritten g (flat_map of (take i rows)) A a b (Ok u) → HasWritten g (of (get_or rows i d)) B b c (Ok v)
-      → HasWritten g (flat_map of (take (i + 1) rows)) C a c (Ok v)
-  written_more of rows i d A B C a b c u v low joins first last =
-      written_with _ _ C a c (Ok v) (sym (one_more of rows i d low))
-      (written_then (flat_map of (take i rows)) (of (get_or rows i d)) A B C a b c u (Ok v) joins first last)
-
-  -- the one that failed
-  pub written_until : {X Y Z : Type 0} (of : X → List Sql) (rows : List X) (i : ℕ) (d : X) (A B C : Doing) (a b c : Held S) (u : Unit {0}) (why : SaveFault)
-      → i < length rows → HasWritten g (flat_map of (take i rows)) A a b (Ok u) → HasWritten g {X = Y} (of (get_or rows i d)) B b c (Err why)
-      → HasWritten g {X = Z} (flat_map of rows) C a c (Err why)
-  written_until of rows i d A B C a b c u why low first last = record {
-    does = tt;
-    kept = kept_behind (state g a) (state g b) (state g c) A first.does last.survives last.kept;
-    survives = survives_both (state g a) (state g b) (state g c) first.survives last.survives;
-    told = stops_at g of rows i d a b c why low first.told last.told;
-  }
-
   -- what failed behind what was done, with more behind it
   pub written_through : {Y Z : Type 0} (xs ys zs all : List Sql) → (xs ++ ys) ++ zs ≡ all → (A B C : Doing) (a b c : Held S) (u : Unit {0}) (why : SaveFault)
       → HasWritten g xs A a b (Ok u) → HasWritten g {X = Y} ys B b c (Err why) → HasWritten g {X = Z} all C a c (Err why)
@@ -135,3 +115,44 @@ module _ {S : Type 0} (g : Ghosts S) where
     survives = survives_both (state g a) (state g b) (state g c) first.survives last.survives;
     told = stops_among g xs ys zs all is a b c why first.told last.told;
   }
+
+-- ---- the rows of a list
+
+-- what is made of the database by rows, one after the other, of which each makes this
+pub record Turns {X : Type 0} (Does : List X → Doing) (Each : X → Doing) : Type 0 where
+  pub none : (a : Database) → Does [] a a
+  pub more : (xs : List X) (x : X) (a b c : Database) → Does xs a b → Each x b c → Does (xs ++ x ∷ []) a c
+
+module _ {S : Type 0} (g : Ghosts S) {X : Type 0} (of : X → List Sql) {Does : List X → Doing} {Each : X → Doing} (turns : Turns Does Each) (rows : List X) where
+  -- so many of them are written
+  abbrev pub HasWrittenFirst : ℕ → Held S → Held S → Type 0
+  HasWrittenFirst i a b = HasWritten g {X = Unit {0}} (flat_map of (take i rows)) (Does (take i rows)) a b (Ok tt)
+
+  -- none
+  pub turned_none : (a : Held S) → HasWrittenFirst 0 a a
+  turned_none a = nothing_written g (Does []) a tt (turns.none (state g a).now)
+
+  -- one more
+  pub turned_more : (i : ℕ) (d : X) (a b c : Held S) → i < length rows → HasWrittenFirst i a b
+      → HasWritten g {X = Unit {0}} (of (get_or rows i d)) (Each (get_or rows i d)) b c (Ok tt) → HasWrittenFirst (i + 1) a c
+  turned_more i d a b c low first last =
+      let x = get_or rows i d in
+      written_with g _ _ (Does (take (i + 1) rows)) a c (Ok tt) (sym (one_more of rows i d low))
+      (subst (λ xs. HasWritten g {X = Unit {0}} (flat_map of (take i rows) ++ of x) (Does xs) a c (Ok tt))
+      (sym (ap (λ k. take k rows) (add-one i) ∙ take-suc rows i d low))
+      (written_then g (flat_map of (take i rows)) (of x) (Does (take i rows)) (Each x) (Does (take i rows ++ x ∷ [])) a b c tt (Ok tt)
+      (turns.more (take i rows) x _ _ _) first last))
+
+  -- the one that failed
+  pub turned_until : {Y Z : Type 0} (i : ℕ) (d : X) (B : Doing) (a b c : Held S) (why : SaveFault) → i < length rows → HasWrittenFirst i a b
+      → HasWritten g {X = Y} (of (get_or rows i d)) B b c (Err why) → HasWritten g {X = Z} (flat_map of rows) (Does rows) a c (Err why)
+  turned_until i d B a b c why low first last = record {
+    does = tt;
+    kept = kept_behind (state g a) (state g b) (state g c) (Does (take i rows)) first.does last.survives last.kept;
+    survives = survives_both (state g a) (state g b) (state g c) first.survives last.survives;
+    told = stops_at g of rows i d a b c why low first.told last.told;
+  }
+
+  -- all
+  pub turned_all : (i : ℕ) (a b : Held S) → length rows ≤ i → HasWrittenFirst i a b → HasWritten g {X = Unit {0}} (flat_map of rows) (Does rows) a b (Ok tt)
+  turned_all i a b high = subst (λ xs. HasWritten g {X = Unit {0}} (flat_map of xs) (Does xs) a b (Ok tt)) (take_all i rows high)

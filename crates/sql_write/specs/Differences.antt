@@ -1,5 +1,5 @@
 -- How a row differs from the one that stands in its place, table by table.
-use Rattle.std.specs.Prelude.{◌==◌, ◌&&◌, Bool, true, false, Option, Some, None, bytes_eq}
+use Rattle.std.specs.Prelude.{ℕ, List, ◌==◌, ◌&&◌, Bool, true, false, Option, Some, None, bytes_eq}
 use Rattle.store_columns.specs.declared.flat_rows.AnswerKey.{AnswerKey}
 use Rattle.desk_model.specs.Document.{authorization_status_text, challenge_status_text, kind_text}
 use Rattle.desk_model.specs.Facts.{end_kind_text, outcome_text}
@@ -33,26 +33,28 @@ keeps_challenge old row = bytes_eq (kind_text old.kind) (kind_text row.kind) && 
 
 -- ---- what calls move
 
+-- two facts that are recorded are the same so, or neither is recorded
+abbrev pub is_same_fact : {X : Type 0} → (X → X → Bool) → Option X → Option X → Bool
+is_same_fact same None None = true
+is_same_fact same None (Some b) = false
+is_same_fact same (Some a) None = false
+is_same_fact same (Some a) (Some b) = same a b
+
+-- two that are dated and have a text
+abbrev pub is_same_dated : {X : Type 0} → (X → ℕ) → (X → List ℕ) → Option X → Option X → Bool
+is_same_dated date text = is_same_fact (λ a b. (date a == date b) && bytes_eq (text a) (text b))
+
 -- the end of an authorization
 abbrev pub is_same_end : Option AuthorizationEnd → Option AuthorizationEnd → Bool
-is_same_end None None = true
-is_same_end None (Some b) = false
-is_same_end (Some a) None = false
-is_same_end (Some a) (Some b) = (a.date == b.date) && bytes_eq (end_kind_text a.kind) (end_kind_text b.kind)
+is_same_end = is_same_dated (λ e. e.date) (λ e. end_kind_text e.kind)
 
 -- the date of an answer
 abbrev pub is_same_date : Option Answer → Option Answer → Bool
-is_same_date None None = true
-is_same_date None (Some b) = false
-is_same_date (Some a) None = false
-is_same_date (Some a) (Some b) = a.date == b.date
+is_same_date = is_same_fact (λ (a b : Answer). a.date == b.date)
 
 -- a report
 abbrev pub is_same_report : Option Report → Option Report → Bool
-is_same_report None None = true
-is_same_report None (Some b) = false
-is_same_report (Some a) None = false
-is_same_report (Some a) (Some b) = (a.date == b.date) && bytes_eq (outcome_text a.outcome) (outcome_text b.outcome)
+is_same_report = is_same_dated (λ r. r.date) (λ r. outcome_text r.outcome)
 
 -- an authorization, without its challenges
 abbrev pub is_same_authorization : AuthorizationRow → AuthorizationRow → Bool

@@ -5,7 +5,7 @@ use Rattle.sqlite.specs.Order.{Row}
 use Rattle.sqlite_rules.specs.Lists.{Has}
 use Rattle.store_columns.specs.Columns.{known_format, order_columns}
 use Rattle.store_columns.specs.Flat.{key_rows, owned_by}
-use Rattle.store_columns.specs.declared.{columns.OrderAuthzColumns.OrderAuthzColumns, flat_rows.AnswerKey.AnswerKey, flat_rows.Owned.Owned}
+use Rattle.store_columns.specs.declared.flat_rows.{AnswerKey.AnswerKey, Owned.Owned}
 use Rattle.model_laws.specs.{Distinct.Distinct, Placing.puts}
 use Rattle.desk_model.specs.Change.{applied, applied_one, put}
 use Rattle.desk_model.specs.{Kept.EachOf, Tables.Tables}
@@ -15,8 +15,7 @@ use Rattle.sql_write.specs.Fitting.{AreFit, IsFit}
 use Rattle.sql_write.specs.Standing.{IsPartIn, known_challenge, known_key}
 use Rattle.sql_write.specs.declared.write.Write.{Write}
 use Rattle.sql_write.specs.declared.write.Write.TheVariants.{Upsert, Insert, Update}
-use Rattle.sql_tables.specs.Effects.{Adds, AddsColumns, AppendsColumns, Becomes, BecomesRows, PlacesColumns, Puts, PutsColumns, Renews, RenewsColumns}
-use Rattle.sql_tables.specs.Effects.{is_same_place}
+use Rattle.sql_tables.specs.Effects.{Adds, Appends, Becomes, BecomesRows, Places, Puts, Renews, is_same_place}
 use Rattle.sql_tables.specs.Hidden.{IsPlaced, next, number}
 use Rattle.sql_tables.specs.{Holds.Holds, Images.order_kept}
 use Rattle.sql_tables.specs.Layouts.{HasRows, Layout, authorization_layout, challenge_layout, formatted_layout, key_layout, listed_layout, order_layout}
@@ -86,16 +85,16 @@ Writes L kept Insert row = Adds L row
 Writes L kept Update row = Renews L kept row
 
 -- of a table whose rows are renewed or put
-abbrev pub RenewsOrPuts : {X C : Type 0} → Layout X → (C → Row) → (X → C) → Write → C → Database → Database → Type 0
-RenewsOrPuts L kept columns_of Update columns = RenewsColumns L kept columns_of columns
-RenewsOrPuts L kept columns_of Upsert columns = PutsColumns L columns_of columns
-RenewsOrPuts L kept columns_of Insert columns = PutsColumns L columns_of columns
+abbrev pub RenewsOrPuts : {X : Type 0} → Layout X → (X → Row) → Write → X → Database → Database → Type 0
+RenewsOrPuts L kept Update row = Renews L kept row
+RenewsOrPuts L kept Upsert row = Puts L row
+RenewsOrPuts L kept Insert row = Puts L row
 
 -- of one whose rows are inserted or put
-abbrev pub AddsOrPuts : {X C : Type 0} → Layout X → (X → C) → Write → C → Database → Database → Type 0
-AddsOrPuts L columns_of Insert columns = AddsColumns L columns_of columns
-AddsOrPuts L columns_of Upsert columns = PutsColumns L columns_of columns
-AddsOrPuts L columns_of Update columns = PutsColumns L columns_of columns
+abbrev pub AddsOrPuts : {X : Type 0} → Layout X → Write → X → Database → Database → Type 0
+AddsOrPuts L Insert row = Adds L row
+AddsOrPuts L Upsert row = Puts L row
+AddsOrPuts L Update row = Puts L row
 
 -- a row that is written so, if it is
 abbrev pub Sets : {X : Type 0} → Layout X → (X → Row) → Option Write → X → Database → Database → Type 0
@@ -103,10 +102,10 @@ Sets L kept None row old new = new ≡ old
 Sets L kept (Some write) row old new = Writes L kept write row old new
 
 -- of what orders list
-abbrev pub AppendsOrPlaces : Write → OrderAuthzColumns → Database → Database → Type 0
-AppendsOrPlaces Insert columns = AppendsColumns columns
-AppendsOrPlaces Upsert columns = PlacesColumns columns
-AppendsOrPlaces Update columns = PlacesColumns columns
+abbrev pub AppendsOrPlaces : Write → Owned Listed → Database → Database → Type 0
+AppendsOrPlaces Insert row = Appends row
+AppendsOrPlaces Upsert row = Places row
+AppendsOrPlaces Update row = Places row
 
 -- all that an order lists
 abbrev pub WritesListed : Write → List (Owned Listed) → Database → Database → Type 0

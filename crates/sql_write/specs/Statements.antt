@@ -1,14 +1,12 @@
 -- The statements that a transaction runs, by what it is to do.
-use Rattle.std.specs.Prelude.{ℕ, zero, suc, pos, List, [], ◌∷◌, ◌++◌, nat_lt, Bool, false, ◌||◌, Option, Some, None, is_some, option_map}
+use Rattle.std.specs.Prelude.{ℕ, ℤ, zero, suc, pos, List, [], ◌∷◌, ◌++◌, nat_lt, Bool, false, ◌||◌, Option, Some, None, is_some, option_map}
 use Rattle.std.specs.List.{flat_map}
 use Rattle.sqlite.specs.Order.{Row}
 use Rattle.sqlite.specs.declared.types.Value.TheVariants.{Int}
 use Rattle.store_columns.specs.Columns.{account_columns, authorization_columns, challenge_columns, key_columns, known_format}
 use Rattle.store_columns.specs.Columns.{listed_columns, nonce_columns, order_columns}
 use Rattle.store_columns.specs.Flat.{answer_key, bare_row}
-use Rattle.store_columns.specs.declared.{columns.AccountColumns.AccountColumns, columns.AuthzColumns.AuthzColumns, columns.ChallColumns.ChallColumns}
-use Rattle.store_columns.specs.declared.{columns.ChallKeyColumns.ChallKeyColumns, columns.MetaColumns.MetaColumns, columns.NonceColumns.NonceColumns}
-use Rattle.store_columns.specs.declared.{columns.OrderAuthzColumns.OrderAuthzColumns, columns.OrderColumns.OrderColumns, flat_rows.AnswerKey.AnswerKey}
+use Rattle.store_columns.specs.declared.flat_rows.{AnswerKey.AnswerKey, Owned.Owned}
 use Rattle.desk_model.specs.declared.{objects.Nonce.Nonce, rows.AccountRow.AccountRow, rows.AuthorizationRow.AuthorizationRow, rows.ChallengeRow.ChallengeRow}
 use Rattle.desk_model.specs.declared.{rows.Change.Change, rows.Listed.Listed, rows.Meta.Meta, rows.OrderRow.OrderRow, rows.Counters.Counters}
 use Rattle.desk_model.specs.declared.rows.Change.TheVariants.{PutMeta, PutNonce, RemoveNonce, PutAccount, PutAuthorization, PutOrder}
@@ -35,77 +33,71 @@ pub record Sql : Type 0 where
   pub text : List ℕ
   pub params : Row
 
--- ---- of the columns of a row, by how it is written
+-- ---- of a row, by how it is written
 
-abbrev pub meta_sql : Write → MetaColumns → Sql
-meta_sql Update c = record { text = meta.UPDATE.now; params = meta_moved c }
-meta_sql Upsert c = record { text = meta.UPSERT.now; params = meta_params c }
-meta_sql Insert c = record { text = meta.UPSERT.now; params = meta_params c }
+-- the texts that write rows of a table: that inserts one, that puts one, and that renews one
+abbrev Texts : Type 0
+Texts = (record { now : List ℕ }) × (record { now : List ℕ }) × (record { now : List ℕ })
 
-abbrev pub nonce_sql : Write → NonceColumns → Sql
-nonce_sql Insert c = record { text = nonce.INSERT.now; params = nonce_params c }
-nonce_sql Upsert c = record { text = nonce.UPSERT.now; params = nonce_params c }
-nonce_sql Update c = record { text = nonce.UPSERT.now; params = nonce_params c }
+-- how rows are given to the statements of their table: all that is kept of one, and what renews it
+pub record RowWriting (X : Type 0) : Type 0 where
+  pub texts : Texts
+  pub all : X → Row
+  pub moved : X → Row
 
-abbrev pub account_sql : Write → AccountColumns → Sql
-account_sql Upsert c = record { text = account.UPSERT.now; params = account_params c }
-account_sql Insert c = record { text = account.INSERT.now; params = account_params c }
-account_sql Update c = record { text = account.UPDATE.now; params = account_moved c }
+-- of these three texts the one for this write, with all the parameters or those that renew
+abbrev pub sql_by : List ℕ → List ℕ → List ℕ → Write → Row → Row → Sql
+sql_by insert upsert update Insert all moved = record { text = insert; params = all }
+sql_by insert upsert update Upsert all moved = record { text = upsert; params = all }
+sql_by insert upsert update Update all moved = record { text = update; params = moved }
 
-abbrev pub order_sql : Write → OrderColumns → Sql
-order_sql Upsert c = record { text = ord.UPSERT.now; params = order_params c }
-order_sql Insert c = record { text = ord.INSERT.now; params = order_params c }
-order_sql Update c = record { text = ord.UPDATE.now; params = order_moved c }
+abbrev pub writes : {X : Type 0} → RowWriting X → Write → X → List Sql
+writes rows write row = sql_by rows.texts.0.now rows.texts.1.now rows.texts.2.now write (rows.all row) (rows.moved row) ∷ []
 
-abbrev pub authorization_sql : Write → AuthzColumns → Sql
-authorization_sql Upsert c = record { text = authz.UPSERT.now; params = authorization_params c }
-authorization_sql Insert c = record { text = authz.INSERT.now; params = authorization_params c }
-authorization_sql Update c = record { text = authz.UPDATE.now; params = authorization_moved c }
+-- of a table of which no call moves a part
+abbrev unmoved : {X : Type 0} → Texts → (X → Row) → RowWriting X
+unmoved texts all = record { texts = texts; all = all; moved = all }
 
-abbrev pub listed_sql : Write → OrderAuthzColumns → Sql
-listed_sql Insert c = record { text = ord_authz.INSERT.now; params = listed_params c }
-listed_sql Upsert c = record { text = ord_authz.UPSERT.now; params = listed_params c }
-listed_sql Update c = record { text = ord_authz.UPSERT.now; params = listed_params c }
+-- ---- each table
 
-abbrev pub challenge_sql : Write → ChallColumns → Sql
-challenge_sql Upsert c = record { text = chall.UPSERT.now; params = challenge_params c }
-challenge_sql Insert c = record { text = chall.INSERT.now; params = challenge_params c }
-challenge_sql Update c = record { text = chall.UPDATE.now; params = challenge_moved c }
+abbrev pub meta_writing : RowWriting (ℤ × Meta)
+meta_writing = record { texts = meta.WRITING; all = λ row. meta_params (formatted_columns row); moved = λ row. meta_moved (formatted_columns row) }
 
-abbrev pub key_sql : Write → ChallKeyColumns → Sql
-key_sql Insert c = record { text = chall_key.INSERT.now; params = key_params c }
-key_sql Upsert c = record { text = chall_key.UPSERT.now; params = key_params c }
-key_sql Update c = record { text = chall_key.UPSERT.now; params = key_params c }
+abbrev pub nonce_writing : RowWriting Nonce
+nonce_writing = unmoved nonce.WRITING (λ row. nonce_params (nonce_columns row))
 
--- ---- of a row
+abbrev pub account_writing : RowWriting AccountRow
+account_writing = record { texts = account.WRITING; all = λ row. account_params (account_columns row); moved = λ row. account_moved (account_columns row) }
 
-abbrev pub writes_meta : Write → Meta → List Sql
-writes_meta write row = meta_sql write (formatted_columns (known_format, row)) ∷ []
+abbrev pub order_writing : RowWriting OrderRow
+order_writing = record { texts = ord.WRITING; all = λ row. order_params (order_columns row); moved = λ row. order_moved (order_columns row) }
 
-abbrev pub writes_nonce : Write → Nonce → List Sql
-writes_nonce write row = nonce_sql write (nonce_columns row) ∷ []
+abbrev pub authorization_writing : RowWriting AuthorizationRow
+authorization_writing = record {
+  texts = authz.WRITING;
+  all = λ row. authorization_params (authorization_columns row);
+  moved = λ row. authorization_moved (authorization_columns row);
+}
+
+abbrev pub listed_writing : RowWriting (Owned Listed)
+listed_writing = unmoved ord_authz.WRITING (λ row. listed_params (listed_columns row))
+
+-- at a place of this order
+abbrev pub writes_listed : Write → ℕ → Listed → List Sql
+writes_listed write order row = writes listed_writing write (record { owner = order; row = row })
+
+abbrev pub challenge_writing : RowWriting (Owned ChallengeRow)
+challenge_writing = record {
+  texts = chall.WRITING;
+  all = λ row. challenge_params (challenge_columns (bare_row row));
+  moved = λ row. challenge_moved (challenge_columns (bare_row row));
+}
+
+abbrev pub key_writing : RowWriting AnswerKey
+key_writing = unmoved chall_key.WRITING (λ row. key_params (key_columns row))
 
 abbrev pub removes_nonce : ℕ → List Sql
 removes_nonce serial = record { text = nonce.DELETE.now; params = Int (pos serial) ∷ [] } ∷ []
-
-abbrev pub writes_account : Write → AccountRow → List Sql
-writes_account write row = account_sql write (account_columns row) ∷ []
-
-abbrev pub writes_order : Write → OrderRow → List Sql
-writes_order write row = order_sql write (order_columns row) ∷ []
-
-abbrev pub writes_authorization : Write → AuthorizationRow → List Sql
-writes_authorization write row = authorization_sql write (authorization_columns row) ∷ []
-
-abbrev pub writes_listed : Write → ℕ → Listed → List Sql
-writes_listed write order row = listed_sql write (listed_columns (record { owner = order; row = row })) ∷ []
-
-abbrev pub writes_challenge : Write → ℕ → ChallengeRow → List Sql
-writes_challenge write authorization row =
-    challenge_sql write (challenge_columns (bare_row (record { owner = authorization; row = row }))) ∷ []
-
-abbrev pub writes_key : Write → AnswerKey → List Sql
-writes_key write row = key_sql write (key_columns row) ∷ []
 
 -- ---- of a row, by what is known to stand in its place
 
@@ -115,15 +107,15 @@ of_some of None = []
 of_some of (Some x) = of x
 
 abbrev pub sets_meta : Option Meta → Meta → List Sql
-sets_meta known row = of_some (λ m. writes_meta m row) (write (option_map (λ old. meta_difference old row) known) false)
+sets_meta known row = of_some (λ m. writes meta_writing m (known_format, row)) (write (option_map (λ old. meta_difference old row) known) false)
 
 -- one whose serial is above the last that was given is new
 abbrev pub sets_nonce : ℕ → Nonce → List Sql
-sets_nonce last row = of_some (λ m. writes_nonce m row) (write None (nat_lt last row.serial))
+sets_nonce last row = of_some (λ m. writes nonce_writing m row) (write None (nat_lt last row.serial))
 
 abbrev pub sets_account : Option AccountRow → ℕ → AccountRow → List Sql
 sets_account known last row =
-    of_some (λ m. writes_account m row) (write (option_map (λ old. account_difference old row) known) (nat_lt last row.number))
+    of_some (λ m. writes account_writing m row) (write (option_map (λ old. account_difference old row) known) (nat_lt last row.number))
 
 -- how an order is written
 abbrev pub order_manner : Option OrderRow → ℕ → OrderRow → Option Write
@@ -136,11 +128,11 @@ lists Upsert row = flat_map (writes_listed Upsert row.number) row.listed
 lists Insert row = flat_map (writes_listed Insert row.number) row.listed
 
 abbrev pub sets_order : Option OrderRow → ℕ → OrderRow → List Sql
-sets_order known last row = of_some (λ m. writes_order m row ++ lists m row) (order_manner known last row)
+sets_order known last row = of_some (λ m. writes order_writing m row ++ lists m row) (order_manner known last row)
 
 abbrev pub sets_challenge : Option AuthorizationRow → ℕ → ℕ → ChallengeRow → List Sql
 sets_challenge known last authorization row =
-    of_some (λ m. writes_challenge m authorization row)
+    of_some (λ m. writes challenge_writing m (record { owner = authorization; row = row }))
     (write (option_map (λ old. challenge_difference old row) (known_challenge known row.number)) (nat_lt last row.number))
 
 -- whether no key stands in the place of that of this challenge: it is known, and has none, or it is new
@@ -150,7 +142,7 @@ lacks_key known last number = is_some known || nat_lt last number
 -- the key of an answer
 abbrev pub sets_key : Option AuthorizationRow → ℕ → AnswerKey → List Sql
 sets_key known last key =
-    of_some (λ m. writes_key m key)
+    of_some (λ m. writes key_writing m key)
     (write (option_map (λ old. key_difference old key) (known_key known key.challenge))
     (lacks_key (known_challenge known key.challenge) last key.challenge))
 
@@ -165,7 +157,7 @@ sets_challenges known last authorization rows = flat_map (sets_challenge known l
 -- an authorization, without its challenges
 abbrev pub sets_bare_authorization : Option AuthorizationRow → ℕ → AuthorizationRow → List Sql
 sets_bare_authorization known last row =
-    of_some (λ m. writes_authorization m row)
+    of_some (λ m. writes authorization_writing m row)
     (write (option_map (λ old. authorization_difference old row) known) (nat_lt last row.number))
 
 -- and then its challenges
@@ -204,8 +196,8 @@ defines_before (suc step) = defines_before step ++ defines step
 
 -- the tables and indexes of a desk, and its row of `meta`
 unfoldable pub make_statements : Meta → List Sql
-make_statements meta = defines_before 16 ++ writes_meta Upsert meta
+make_statements meta = defines_before 16 ++ writes meta_writing Upsert (known_format, meta)
 
 -- the table that format 1 lacks, the keys of answers, and the row of `meta`
 unfoldable pub upgrade_statements : Meta → List AnswerKey → List Sql
-upgrade_statements meta keys = defines 15 ++ (flat_map (writes_key Upsert) keys ++ writes_meta Upsert meta)
+upgrade_statements meta keys = defines 15 ++ (flat_map (writes key_writing Upsert) keys ++ writes meta_writing Upsert (known_format, meta))

@@ -3,16 +3,16 @@ ghost use Rattle.std.specs.Prelude.{◌≡◌, IfErr, IfOk, IsOk};
 ghost use Rattle.sqlite.specs.Values.{bound, bound_value};
 ghost use Rattle.sqlite_value.specs.Value.{owned};
 ghost use Rattle.store_columns.specs.Columns.{account_columns, account_end_columns};
-ghost use Rattle.store_columns.specs.{Limits.IfRecorded, Spelling.contacts_text};
-ghost use Rattle.sql_write.specs.{Bound.AreAccountNumbers, Makes.Writes, Numbers.IsNotTooLarge, Refusals.HasWritten, Statements.writes_account};
-ghost use Rattle.sql_write.specs.Fits.{Fits, FitsAccount};
+ghost use Rattle.store_columns.specs.Spelling.{contacts_text};
+ghost use Rattle.sql_write.specs.{Bound.AreAccountNumbers, Fits.FitsAccount, Makes.Writes, Numbers.IsNotTooLarge, Refusals.HasWritten};
+ghost use Rattle.sql_write.specs.Statements.{account_writing, writes};
 ghost use Rattle.sql_write.specs.declared.fault.WriteFault.TheVariants.{Memory};
 ghost use Rattle.sql_tables.specs.Images.{account_kept, account_moved, account_params, text_or_null};
 ghost use Rattle.sql_tables.specs.Layouts.{account_layout};
 
 use crate::fault::{SaveFault, WriteFault};
-use crate::numbers::number_column;
-use crate::statements::run;
+use crate::numbers::{date_column, number_column};
+use crate::statements::write_row;
 use crate::values::{int_or_null, text};
 use crate::write::Write;
 use desk_model::{AccountEnd, AccountRow, Text};
@@ -30,22 +30,8 @@ struct AccountNumbers {
     ended: Option<i64>,
 }
 
-// When an account ended.
-fn end_date(end: Option<AccountEnd>) -> Result<Option<i64>, WriteFault>
-    ensures column { IfOk result (λ date. date ≡ (account_end_columns end).0) }
-    ensures fits { IfRecorded (λ e. Fits e.date) end → IsOk result }
-{
-    match end {
-        Some(end) => {
-            let date = number_column(end.date)?;
-            Ok(Some(date))
-        }
-        None => Ok(None),
-    }
-}
-
 // How an account ended, or NULL.
-fn end_kind<'a>(end: Option<AccountEnd>) -> ValueRef<'a>
+fn account_end<'a>(end: Option<AccountEnd>) -> ValueRef<'a>
     ensures { bound_value (owned result) ≡ text_or_null (account_end_columns end).1 }
 {
     match end {
@@ -62,7 +48,7 @@ fn account_numbers(row: &AccountRow) -> Result<AccountNumbers, WriteFault>
     Ok(AccountNumbers {
         number: number_column(row.number)?,
         opened: number_column(row.opened)?,
-        ended: end_date(row.ended)?,
+        ended: date_column(row.ended.map(|end| end.date))?,
     })
 }
 
@@ -74,78 +60,28 @@ fn contacts_column(alloc: Global, contacts: &[Text]) -> Result<Text, WriteFault>
     Ok(Text::new(written_list(alloc, contacts)?))
 }
 
-// The parameters for a row, of which these are the numbers and the text of its contacts.
+// The parameters for a row, of which these are the numbers and the text of its contacts: all, and those that renew it.
 fn account_values<'a>(
     row: &'a AccountRow,
     numbers: &AccountNumbers,
     contacts: &'a Text,
-) -> [ValueRef<'a>; 7]
+) -> ([ValueRef<'a>; 7], [ValueRef<'a>; 6])
     requires numbers { AreAccountNumbers (account_columns row.now) numbers.now }
     requires contacts { contacts.now ≡ contacts_text row.now.contacts }
-    ensures { bound result ≡ account_params (account_columns row.now) }
+    ensures all { bound result.0 ≡ account_params (account_columns row.now) }
+    ensures moved { bound result.1 ≡ account_moved (account_columns row.now) }
 {
-    [
+    let all = [
         ValueRef::Int(numbers.number),
         text(row.key.canonical()),
         text(contacts.as_str()),
         ValueRef::Int(numbers.opened),
         int_or_null(&numbers.ended),
-        end_kind(row.ended),
+        account_end(row.ended),
         text(row.status.as_str()),
-    ]
-}
-
-// The parameters that renew a row, of which these are the numbers and the text of its contacts.
-fn moved_account<'a>(
-    row: &'a AccountRow,
-    numbers: &AccountNumbers,
-    contacts: &'a Text,
-) -> [ValueRef<'a>; 6]
-    requires numbers { AreAccountNumbers (account_columns row.now) numbers.now }
-    requires contacts { contacts.now ≡ contacts_text row.now.contacts }
-    ensures { bound result ≡ account_moved (account_columns row.now) }
-{
-    [
-        ValueRef::Int(numbers.number),
-        text(row.key.canonical()),
-        text(contacts.as_str()),
-        int_or_null(&numbers.ended),
-        end_kind(row.ended),
-        text(row.status.as_str()),
-    ]
-}
-
-// Writes an account, with the text of its contacts.
-fn write_bound<S: Alter>(
-    tx: &mut Transaction<'_, S>,
-    write: Write,
-    row: &AccountRow,
-    contacts: &Text,
-) -> Result<(), SaveFault>
-    requires { contacts.now ≡ contacts_text row.now.contacts }
-    ensures same_reference { tx.new.conn.ghost_name ≡ tx.old.conn.ghost_name }
-    ensures writes { HasWritten S.Store (writes_account write row.now) (Writes account_layout (λ x. account_kept (account_columns x)) write row.now)
-        tx.old.conn.now tx.new.conn.now result }
-    ensures fits { FitsAccount row.now → IfErr result IsNotTooLarge }
-{
-    let numbers = account_numbers(row)?;
-    match write {
-        Write::Upsert => run(
-            tx,
-            accounts::UPSERT,
-            &account_values(row, &numbers, contacts),
-        ),
-        Write::Insert => run(
-            tx,
-            accounts::INSERT,
-            &account_values(row, &numbers, contacts),
-        ),
-        Write::Update => run(
-            tx,
-            accounts::UPDATE,
-            &moved_account(row, &numbers, contacts),
-        ),
-    }
+    ];
+    let moved = [all[0], all[1], all[2], all[4], all[5], all[6]];
+    (all, moved)
 }
 
 /// Writes an account.
@@ -156,12 +92,14 @@ pub(crate) fn write_account<S: Alter>(
     row: &AccountRow,
 ) -> Result<(), SaveFault>
     ensures same_reference { tx.new.conn.ghost_name ≡ tx.old.conn.ghost_name }
-    ensures writes { HasWritten S.Store (writes_account write row.now) (Writes account_layout (λ x. account_kept (account_columns x)) write row.now)
+    ensures writes { HasWritten S.Store (writes account_writing write row.now) (Writes account_layout (λ x. account_kept (account_columns x)) write row.now)
         tx.old.conn.now tx.new.conn.now result }
     ensures fits { FitsAccount row.now → IfErr result IsNotTooLarge }
 {
     let contacts = contacts_column(alloc, row.contacts.as_slice())?;
-    let written = write_bound(tx, write, row, &contacts);
+    let numbers = account_numbers(row)?;
+    let (all, moved) = account_values(row, &numbers, &contacts);
+    let written = write_row(tx, write, accounts::WRITING, &all, &moved);
     drop(contacts);
     written
 }

@@ -3,15 +3,14 @@ ghost use Rattle.std.specs.Prelude.{◌≡◌, IfErr, IfOk, IsOk};
 ghost use Rattle.sqlite.specs.Values.{bound, bound_value};
 ghost use Rattle.sqlite_value.specs.Value.{owned};
 ghost use Rattle.store_columns.specs.Columns.{authorization_columns, authorization_end_columns};
-ghost use Rattle.store_columns.specs.Limits.{IfRecorded};
-ghost use Rattle.sql_write.specs.{Bound.AreAuthorizationNumbers, Makes.Writes, Numbers.IsNotTooLarge, Refusals.HasWritten, Statements.writes_authorization};
-ghost use Rattle.sql_write.specs.Fits.{Fits, FitsAuthorization};
+ghost use Rattle.sql_write.specs.{Bound.AreAuthorizationNumbers, Fits.FitsAuthorization, Makes.Writes, Numbers.IsNotTooLarge, Refusals.HasWritten};
+ghost use Rattle.sql_write.specs.Statements.{authorization_writing, writes};
 ghost use Rattle.sql_tables.specs.Images.{authorization_kept, authorization_moved, authorization_params, text_or_null};
 ghost use Rattle.sql_tables.specs.Layouts.{authorization_layout};
 
 use crate::fault::{SaveFault, WriteFault};
-use crate::numbers::{number_column, wildcard_column};
-use crate::statements::run;
+use crate::numbers::{date_column, number_column, wildcard_column};
+use crate::statements::write_row;
 use crate::values::{int_or_null, text};
 use crate::write::Write;
 use desk_model::{AuthorizationEnd, AuthorizationRow};
@@ -29,22 +28,8 @@ struct AuthorizationNumbers {
     ended: Option<i64>,
 }
 
-// When an authorization ended.
-fn end_date(end: Option<AuthorizationEnd>) -> Result<Option<i64>, WriteFault>
-    ensures column { IfOk result (λ date. date ≡ (authorization_end_columns end).0) }
-    ensures fits { IfRecorded (λ e. Fits e.date) end → IsOk result }
-{
-    match end {
-        Some(end) => {
-            let date = number_column(end.date)?;
-            Ok(Some(date))
-        }
-        None => Ok(None),
-    }
-}
-
 // How an authorization ended, or NULL.
-fn end_kind<'a>(end: Option<AuthorizationEnd>) -> ValueRef<'a>
+fn authorization_end<'a>(end: Option<AuthorizationEnd>) -> ValueRef<'a>
     ensures { bound_value (owned result) ≡ text_or_null (authorization_end_columns end).1 }
 {
     match end {
@@ -63,19 +48,20 @@ fn authorization_numbers(row: &AuthorizationRow) -> Result<AuthorizationNumbers,
         account: number_column(row.account)?,
         made: number_column(row.made)?,
         expires: number_column(row.expires)?,
-        ended: end_date(row.ended)?,
+        ended: date_column(row.ended.map(|end| end.date))?,
     })
 }
 
-// The parameters for a row, of which these are the numbers.
+// The parameters for a row, of which these are the numbers: all, and those that renew it.
 fn authorization_values<'a>(
     row: &'a AuthorizationRow,
     numbers: &AuthorizationNumbers,
-) -> [ValueRef<'a>; 9]
+) -> ([ValueRef<'a>; 9], [ValueRef<'a>; 4])
     requires { AreAuthorizationNumbers (authorization_columns row.now) numbers.now }
-    ensures { bound result ≡ authorization_params (authorization_columns row.now) }
+    ensures all { bound result.0 ≡ authorization_params (authorization_columns row.now) }
+    ensures moved { bound result.1 ≡ authorization_moved (authorization_columns row.now) }
 {
-    [
+    let all = [
         ValueRef::Int(numbers.number),
         ValueRef::Int(numbers.account),
         text(row.name.base()),
@@ -83,25 +69,11 @@ fn authorization_values<'a>(
         ValueRef::Int(numbers.made),
         ValueRef::Int(numbers.expires),
         int_or_null(&numbers.ended),
-        end_kind(row.ended),
+        authorization_end(row.ended),
         text(row.status.as_str()),
-    ]
-}
-
-// The parameters that renew a row, of which these are the numbers.
-fn moved_authorization<'a>(
-    row: &'a AuthorizationRow,
-    numbers: &AuthorizationNumbers,
-) -> [ValueRef<'a>; 4]
-    requires { AreAuthorizationNumbers (authorization_columns row.now) numbers.now }
-    ensures { bound result ≡ authorization_moved (authorization_columns row.now) }
-{
-    [
-        ValueRef::Int(numbers.number),
-        int_or_null(&numbers.ended),
-        end_kind(row.ended),
-        text(row.status.as_str()),
-    ]
+    ];
+    let moved = [all[0], all[6], all[7], all[8]];
+    (all, moved)
 }
 
 /// Writes an authorization, without its challenges.
@@ -111,26 +83,11 @@ pub(crate) fn write_authorization<S: Alter>(
     row: &AuthorizationRow,
 ) -> Result<(), SaveFault>
     ensures same_reference { tx.new.conn.ghost_name ≡ tx.old.conn.ghost_name }
-    ensures writes { HasWritten S.Store (writes_authorization write row.now)
+    ensures writes { HasWritten S.Store (writes authorization_writing write row.now)
         (Writes authorization_layout (λ x. authorization_kept (authorization_columns x)) write row.now) tx.old.conn.now tx.new.conn.now result }
     ensures fits { FitsAuthorization row.now → IfErr result IsNotTooLarge }
 {
     let numbers = authorization_numbers(row)?;
-    match write {
-        Write::Upsert => run(
-            tx,
-            authorizations::UPSERT,
-            &authorization_values(row, &numbers),
-        ),
-        Write::Insert => run(
-            tx,
-            authorizations::INSERT,
-            &authorization_values(row, &numbers),
-        ),
-        Write::Update => run(
-            tx,
-            authorizations::UPDATE,
-            &moved_authorization(row, &numbers),
-        ),
-    }
+    let (all, moved) = authorization_values(row, &numbers);
+    write_row(tx, write, authorizations::WRITING, &all, &moved)
 }

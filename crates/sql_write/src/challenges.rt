@@ -1,20 +1,20 @@
 //! Challenges, written into their table; the keys of their answers stand in another.
-ghost use Rattle.std.specs.Prelude.{ℕ, ◌≡◌, pos, IfErr, IfOk, IsOk, option_map};
+ghost use Rattle.std.specs.Prelude.{ℕ, ◌≡◌, IfErr, IfOk, IsOk};
 ghost use Rattle.sqlite.specs.Values.{bound, bound_value};
 ghost use Rattle.sqlite_value.specs.Value.{owned};
 ghost use Rattle.store_columns.specs.Columns.{challenge_columns, report_columns};
-ghost use Rattle.store_columns.specs.{Flat.bare_row, Limits.IfRecorded};
-ghost use Rattle.sql_write.specs.{Bound.AreChallengeNumbers, Makes.Writes, Numbers.IsNotTooLarge, Refusals.HasWritten, Statements.writes_challenge};
-ghost use Rattle.sql_write.specs.Fits.{Fits, FitsChallenge};
+ghost use Rattle.store_columns.specs.Flat.{bare_row};
+ghost use Rattle.sql_write.specs.{Bound.AreChallengeNumbers, Fits.FitsChallenge, Makes.Writes, Numbers.IsNotTooLarge, Refusals.HasWritten};
+ghost use Rattle.sql_write.specs.Statements.{challenge_writing, writes};
 ghost use Rattle.sql_tables.specs.Images.{challenge_kept, challenge_moved, challenge_params, text_or_null};
 ghost use Rattle.sql_tables.specs.Layouts.{challenge_layout};
 
 use crate::fault::{SaveFault, WriteFault};
-use crate::numbers::number_column;
-use crate::statements::run;
+use crate::numbers::{date_column, number_column};
+use crate::statements::write_row;
 use crate::values::{int_or_null, text};
 use crate::write::Write;
-use desk_model::{Answer, ChallengeRow, Report};
+use desk_model::{ChallengeRow, Report};
 use sql_schema::challenges;
 use sqlite::types::ValueRef;
 use sqlite::{Alter, Transaction};
@@ -26,34 +26,6 @@ struct ChallengeNumbers {
     authorization: i64,
     answered: Option<i64>,
     reported: Option<i64>,
-}
-
-// When a challenge was answered.
-fn answer_date(answered: Option<Answer>) -> Result<Option<i64>, WriteFault>
-    ensures column { IfOk result (λ date. date ≡ option_map (λ n. pos n) (option_map (λ a. a.date) answered)) }
-    ensures fits { IfRecorded (λ a. Fits a.date) answered → IsOk result }
-{
-    match answered {
-        Some(answer) => {
-            let date = number_column(answer.date)?;
-            Ok(Some(date))
-        }
-        None => Ok(None),
-    }
-}
-
-// When a challenge was reported.
-fn report_date(report: Option<Report>) -> Result<Option<i64>, WriteFault>
-    ensures column { IfOk result (λ date. date ≡ (report_columns report).0) }
-    ensures fits { IfRecorded (λ r. Fits r.date) report → IsOk result }
-{
-    match report {
-        Some(report) => {
-            let date = number_column(report.date)?;
-            Ok(Some(date))
-        }
-        None => Ok(None),
-    }
 }
 
 // What a report showed, or NULL.
@@ -74,17 +46,22 @@ fn challenge_numbers(authorization: u64, row: &ChallengeRow) -> Result<Challenge
     Ok(ChallengeNumbers {
         number: number_column(row.number)?,
         authorization: number_column(authorization)?,
-        answered: answer_date(row.answered)?,
-        reported: report_date(row.reported)?,
+        answered: date_column(row.answered.map(|answer| answer.date))?,
+        reported: date_column(row.reported.map(|report| report.date))?,
     })
 }
 
-// The parameters for a row of this authorization, of which these are the numbers.
-fn challenge_values<'a>(row: &'a ChallengeRow, numbers: &ChallengeNumbers) -> [ValueRef<'a>; 8]
-    ensures { (authorization : ℕ) → AreChallengeNumbers (challenge_columns (bare_row (record { owner = authorization; row = row.now }))) numbers.now
-        → bound result ≡ challenge_params (challenge_columns (bare_row (record { owner = authorization; row = row.now }))) }
+// The parameters for a row of an authorization, of which these are the numbers: all, and those that renew it.
+fn challenge_values<'a>(
+    row: &'a ChallengeRow,
+    numbers: &ChallengeNumbers,
+) -> ([ValueRef<'a>; 8], [ValueRef<'a>; 5])
+    ensures all { (authorization : ℕ) → AreChallengeNumbers (challenge_columns (bare_row (record { owner = authorization; row = row.now }))) numbers.now
+        → bound result.0 ≡ challenge_params (challenge_columns (bare_row (record { owner = authorization; row = row.now }))) }
+    ensures moved { (authorization : ℕ) → AreChallengeNumbers (challenge_columns (bare_row (record { owner = authorization; row = row.now }))) numbers.now
+        → bound result.1 ≡ challenge_moved (challenge_columns (bare_row (record { owner = authorization; row = row.now }))) }
 {
-    [
+    let all = [
         ValueRef::Int(numbers.number),
         ValueRef::Int(numbers.authorization),
         text(row.kind.as_str()),
@@ -93,21 +70,9 @@ fn challenge_values<'a>(row: &'a ChallengeRow, numbers: &ChallengeNumbers) -> [V
         int_or_null(&numbers.reported),
         outcome(row.reported),
         text(row.status.as_str()),
-    ]
-}
-
-// The parameters that renew a row, of which these are the numbers.
-fn moved_challenge<'a>(row: &'a ChallengeRow, numbers: &ChallengeNumbers) -> [ValueRef<'a>; 5]
-    ensures { (authorization : ℕ) → AreChallengeNumbers (challenge_columns (bare_row (record { owner = authorization; row = row.now }))) numbers.now
-        → bound result ≡ challenge_moved (challenge_columns (bare_row (record { owner = authorization; row = row.now }))) }
-{
-    [
-        ValueRef::Int(numbers.number),
-        int_or_null(&numbers.answered),
-        int_or_null(&numbers.reported),
-        outcome(row.reported),
-        text(row.status.as_str()),
-    ]
+    ];
+    let moved = [all[0], all[4], all[5], all[6], all[7]];
+    (all, moved)
 }
 
 /// Writes a challenge of an authorization.
@@ -118,15 +83,12 @@ pub(crate) fn write_challenge<S: Alter>(
     row: &ChallengeRow,
 ) -> Result<(), SaveFault>
     ensures same_reference { tx.new.conn.ghost_name ≡ tx.old.conn.ghost_name }
-    ensures writes { HasWritten S.Store (writes_challenge write authorization row.now)
+    ensures writes { HasWritten S.Store (writes challenge_writing write (record { owner = authorization; row = row.now }))
         (Writes challenge_layout (λ c. challenge_kept (challenge_columns (bare_row c))) write (record { owner = authorization; row = row.now }))
         tx.old.conn.now tx.new.conn.now result }
     ensures fits { FitsChallenge (record { owner = authorization; row = row.now }) → IfErr result IsNotTooLarge }
 {
     let numbers = challenge_numbers(authorization, row)?;
-    match write {
-        Write::Upsert => run(tx, challenges::UPSERT, &challenge_values(row, &numbers)),
-        Write::Insert => run(tx, challenges::INSERT, &challenge_values(row, &numbers)),
-        Write::Update => run(tx, challenges::UPDATE, &moved_challenge(row, &numbers)),
-    }
+    let (all, moved) = challenge_values(row, &numbers);
+    write_row(tx, write, challenges::WRITING, &all, &moved)
 }

@@ -5,9 +5,9 @@ ghost use Rattle.desk_model.specs.declared.rows.Change.TheVariants.{PutAuthoriza
 ghost use Rattle.sql_write.specs.{Highest.IsAbove, Refusals.HasWritten};
 ghost use Rattle.sql_write.specs.Makes.{Makes, MakesAll, PutsOver, SetsAuthorization, SetsMeta, SetsOrder, WritesOrder};
 ghost use Rattle.sql_write.specs.Numbers.{FitsColumns, IsNotTooLarge};
-ghost use Rattle.sql_write.specs.Standing.{known_account, known_after, known_authorization, known_meta, known_order};
+ghost use Rattle.sql_write.specs.Standing.{known_after};
 ghost use Rattle.sql_write.specs.Statements.{lists, sets_account, sets_authorization, sets_bare_authorization, sets_meta, sets_nonce, sets_order};
-ghost use Rattle.sql_write.specs.Statements.{statements_from, statements_of, writes_order};
+ghost use Rattle.sql_write.specs.Statements.{order_writing, statements_from, statements_of, writes};
 ghost use Rattle.sql_tables.specs.Effects.{Puts};
 ghost use Rattle.sql_tables.specs.Layouts.{account_layout, authorization_layout, nonce_layout};
 ghost use Rattle.sql_write.specs.Fits.{FitsAccount, FitsAuthorization, FitsMeta, FitsNonce};
@@ -22,7 +22,7 @@ use crate::fault::SaveFault;
 use crate::meta::write_meta;
 use crate::nonces::{remove_nonce, write_nonce};
 use crate::orders::write_order;
-use crate::standing::{Highest, known_account, known_authorization, known_meta, known_order};
+use crate::standing::{Highest, known_row};
 use crate::write::Write;
 use desk_book::Book;
 use desk_model::{AccountRow, AuthorizationRow, Change, Counters, Meta, Nonce, OrderRow};
@@ -126,7 +126,7 @@ fn write_with_listed<S: Alter>(
     row: &OrderRow,
 ) -> Result<(), SaveFault>
     ensures same_reference { tx.new.conn.ghost_name ≡ tx.old.conn.ghost_name }
-    ensures writes { HasWritten S.Store (writes_order write row.now ++ lists write row.now) (WritesOrder write row.now)
+    ensures writes { HasWritten S.Store (writes order_writing write row.now ++ lists write row.now) (WritesOrder write row.now)
         tx.old.conn.now tx.new.conn.now result }
     ensures fits { FitsColumns (PutOrder row.now) → IfErr result IsNotTooLarge }
 {
@@ -176,19 +176,19 @@ fn make_change<S: Alter>(
     ensures fits { FitsColumns change.now → IfErr result IsNotTooLarge }
 {
     match change {
-        Change::PutMeta(row) => set_meta(tx, known_meta(known, before), row),
+        Change::PutMeta(row) => set_meta(tx, known_row(known, before, 1, 1), row),
         Change::PutNonce(row) => set_nonce(tx, last.nonces, row),
         Change::RemoveNonce(serial) => remove_nonce(tx, *serial),
         Change::PutAccount(row) => {
-            let known = known_account(known, before, highest.accounts, row.number);
+            let known = known_row(known, before, highest.accounts, row.number);
             set_account(alloc, tx, known, last.accounts, row)
         }
         Change::PutAuthorization(row) => {
-            let known = known_authorization(known, before, highest.authorizations, row.number);
+            let known = known_row(known, before, highest.authorizations, row.number);
             set_authorization(tx, known, last, row)
         }
         Change::PutOrder(row) => {
-            let known = known_order(known, before, highest.orders, row.number);
+            let known = known_row(known, before, highest.orders, row.number);
             set_order(alloc, tx, known, last.orders, row)
         }
     }

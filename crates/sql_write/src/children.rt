@@ -5,7 +5,7 @@ ghost use Rattle.store_columns.specs.Flat.{answer_key, key_rows, owned_by};
 ghost use Rattle.desk_model.specs.Kept.{EachOf};
 ghost use Rattle.sql_write.specs.Makes.{PutsAll, PutsAllOver, PutsChallenges, PutsOver, WritesListed, challenge_under, key_under};
 ghost use Rattle.sql_write.specs.{Numbers.IsNotTooLarge, Refusals.HasWritten, Standing.known_key};
-ghost use Rattle.sql_write.specs.Statements.{lacks_key, sets_answer, sets_challenge, sets_challenges, sets_key, writes_key, writes_listed};
+ghost use Rattle.sql_write.specs.Statements.{key_writing, lacks_key, sets_answer, sets_challenge, sets_challenges, sets_key, writes, writes_listed};
 ghost use Rattle.sql_write.specs.declared.write.Write.TheVariants.{Upsert};
 ghost use Rattle.sql_tables.specs.Layouts.{challenge_layout, key_layout};
 ghost use Rattle.sql_write.specs.Fits.{FitsChallenge, FitsKey, FitsListed};
@@ -172,7 +172,7 @@ pub(crate) fn write_keys<S: Alter>(
     rows: &[AnswerKey],
 ) -> Result<(), SaveFault>
     ensures same_reference { tx.new.conn.ghost_name ≡ tx.old.conn.ghost_name }
-    ensures writes { HasWritten S.Store (flat_map (writes_key Upsert) rows.now) (PutsAll key_layout rows.now) tx.old.conn.now tx.new.conn.now result }
+    ensures writes { HasWritten S.Store (flat_map (writes key_writing Upsert) rows.now) (PutsAll key_layout rows.now) tx.old.conn.now tx.new.conn.now result }
     ensures fits { EachOf FitsKey rows.now → IfErr result IsNotTooLarge }
 {
     for row in rows {

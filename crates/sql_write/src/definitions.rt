@@ -1,43 +1,30 @@
 //! The statements that make the tables and indexes of an empty database.
-ghost use Rattle.std.specs.Prelude.{◌≡◌, ◌<◌, IfErr, OnOk};
+ghost use Rattle.std.specs.Prelude.{◌≡◌, ◌<◌, [], IfErr, OnOk, length, map, slice_index_or};
 ghost use Rattle.sqlite.specs.{State.Survives, Held.state};
 ghost use Rattle.sql_schema.specs.Advances.{Advances, KeepsLast};
-ghost use Rattle.sql_schema.specs.Defined.{AddsKeyTable, Defines};
-ghost use Rattle.sql_schema.specs.Definitions.{definition_at};
-ghost use Rattle.sql_write.specs.{Numbers.IsNotTooLarge, Refusals.Ran};
+ghost use Rattle.sql_schema.specs.{Defined.AddsKeyTable, Defined.Defines, Definitions.definition_at};
+ghost use Rattle.sql_write.specs.{Numbers.IsNotTooLarge, Refusals.HasWritten, Refusals.Ran};
 ghost use Rattle.sql_write.specs.Statements.{defines, defines_before};
 
 use crate::fault::SaveFault;
 use crate::statements::{perform, run};
-use sql_schema::{accounts, authorizations, challenges, keys, listed, meta, nonces, orders};
+use sql_schema::DEFINITIONS;
 use sqlite::{Alter, Transaction};
 
-// How many statements there are.
-const DEFINITIONS: usize = 16;
+// The text at this place.
+fn text_at(texts: &[&'static str], place: usize) -> &'static str
+    requires { place < length texts.now }
+    ensures { result.now ≡ slice_index_or (map (λ text. text.now) texts.now) place [] }
+{
+    texts[place]
+}
 
 // The text of the statement at this place.
 fn definition(step: usize) -> &'static str
     requires { step < 16 }
     ensures { result.now ≡ definition_at step }
 {
-    match step {
-        0 => meta::CREATE,
-        1 => nonces::CREATE,
-        2 => accounts::CREATE,
-        3 => orders::CREATE,
-        4 => authorizations::CREATE,
-        5 => listed::CREATE,
-        6 => challenges::CREATE,
-        7 => nonces::INDEX_ISSUED,
-        8 => orders::INDEX_ACCOUNT,
-        9 => orders::INDEX_STATUS_EXPIRES,
-        10 => authorizations::INDEX_ACCOUNT_NAME,
-        11 => authorizations::INDEX_STATUS_EXPIRES,
-        12 => listed::INDEX_AUTHZ,
-        13 => challenges::INDEX_AUTHZ,
-        14 => challenges::INDEX_STATUS,
-        _ => keys::CREATE,
-    }
+    text_at(&DEFINITIONS, step)
 }
 
 /// Makes the tables and indexes of a desk inside a transaction, where the database has no object.
@@ -53,7 +40,7 @@ pub(crate) fn define_all<S: Alter>(tx: &mut Transaction<'_, S>) -> Result<(), Sa
     ensures fits { IfErr result IsNotTooLarge }
     ensures told { Ran S.Store (defines_before 16) tx.old.conn.now tx.new.conn.now result }
 {
-    for step in 0..DEFINITIONS {
+    for step in 0..DEFINITIONS.len() {
         perform(tx, definition(step), &[])?;
     }
     Ok(())
@@ -66,11 +53,8 @@ pub(crate) fn define_all<S: Alter>(tx: &mut Transaction<'_, S>) -> Result<(), Sa
 /// `Statement`, as `define_all`.
 pub(crate) fn define_key_table<S: Alter>(tx: &mut Transaction<'_, S>) -> Result<(), SaveFault>
     ensures same_reference { tx.new.conn.ghost_name ≡ tx.old.conn.ghost_name }
-    ensures ok { OnOk result (Advances (state S.Store tx.old.conn.now) (state S.Store tx.new.conn.now) AddsKeyTable) }
-    ensures kept { KeepsLast (state S.Store tx.old.conn.now) (state S.Store tx.new.conn.now) }
-    ensures survives { Survives (state S.Store tx.old.conn.now) (state S.Store tx.new.conn.now) (λ _. ⊥) }
-    ensures told { Ran S.Store (defines 15) tx.old.conn.now tx.new.conn.now result }
+    ensures writes { HasWritten S.Store (defines 15) AddsKeyTable tx.old.conn.now tx.new.conn.now result }
     ensures fits { IfErr result IsNotTooLarge }
 {
-    run(tx, definition(DEFINITIONS - 1), &[])
+    run(tx, definition(DEFINITIONS.len() - 1), &[])
 }

@@ -1,11 +1,10 @@
 //! What orders list, written into its table.
 ghost use Rattle.std.specs.Prelude.{◌≡◌, IfErr};
-ghost use Rattle.store_columns.specs.Columns.{listed_columns};
 ghost use Rattle.sql_write.specs.{Fits.FitsListed, Makes.AppendsOrPlaces, Numbers.IsNotTooLarge, Refusals.HasWritten, Statements.writes_listed};
 
 use crate::fault::SaveFault;
 use crate::numbers::number_column;
-use crate::statements::run;
+use crate::statements::write_row;
 use crate::write::Write;
 use desk_model::Listed;
 use sql_schema::listed;
@@ -20,8 +19,8 @@ pub(crate) fn write_listed<S: Alter>(
     row: &Listed,
 ) -> Result<(), SaveFault>
     ensures same_reference { tx.new.conn.ghost_name ≡ tx.old.conn.ghost_name }
-    ensures writes { HasWritten S.Store (writes_listed write order row.now)
-        (AppendsOrPlaces write (listed_columns (record { owner = order; row = row.now }))) tx.old.conn.now tx.new.conn.now result }
+    ensures writes { HasWritten S.Store (writes_listed write order row.now) (AppendsOrPlaces write (record { owner = order; row = row.now }))
+        tx.old.conn.now tx.new.conn.now result }
     ensures fits { FitsListed (record { owner = order; row = row.now }) → IfErr result IsNotTooLarge }
 {
     let number = number_column(order)?;
@@ -32,8 +31,5 @@ pub(crate) fn write_listed<S: Alter>(
         ValueRef::Int(place),
         ValueRef::Int(authorization),
     ];
-    match write {
-        Write::Upsert | Write::Update => run(tx, listed::UPSERT, &values),
-        Write::Insert => run(tx, listed::INSERT, &values),
-    }
+    write_row(tx, write, listed::WRITING, &values, &values)
 }

@@ -2,10 +2,9 @@
 ghost use Rattle.std.specs.Prelude.{◌≡◌, false, OnOk, OnErr, IfErr};
 ghost use Rattle.sqlite.specs.State.{HasCleanDisk, Survives};
 ghost use Rattle.sqlite.specs.Held.{state};
-ghost use Rattle.sql_schema.specs.Advances.{Advances, KeepsLast};
 ghost use Rattle.sql_write.specs.Committing.{GoesBack, HasCommitted, IsBeforeCommit, IsLeft};
 ghost use Rattle.sql_write.specs.{Making.MakesDesk, Numbers.IsNotTooLarge, Statements.make_statements, Fits.FitsMeta};
-ghost use Rattle.sql_write.specs.Refusals.{IsCause, Ran};
+ghost use Rattle.sql_write.specs.Refusals.{HasWritten, IsCause};
 
 use crate::definitions::define_all;
 use crate::ending::end;
@@ -18,10 +17,7 @@ use sqlite::{Alter, Connection, Transaction};
 // Makes the tables, the indexes and the row of `meta`.
 fn define_desk<S: Alter>(tx: &mut Transaction<'_, S>, meta: &Meta) -> Result<(), SaveFault>
     ensures same_reference { tx.new.conn.ghost_name ≡ tx.old.conn.ghost_name }
-    ensures ok { OnOk result (Advances (state S.Store tx.old.conn.now) (state S.Store tx.new.conn.now) (MakesDesk meta.now)) }
-    ensures kept { KeepsLast (state S.Store tx.old.conn.now) (state S.Store tx.new.conn.now) }
-    ensures survives { Survives (state S.Store tx.old.conn.now) (state S.Store tx.new.conn.now) (λ _. ⊥) }
-    ensures told { Ran S.Store (make_statements meta.now) tx.old.conn.now tx.new.conn.now result }
+    ensures writes { HasWritten S.Store (make_statements meta.now) (MakesDesk meta.now) tx.old.conn.now tx.new.conn.now result }
     ensures fits { FitsMeta meta.now → IfErr result IsNotTooLarge }
 {
     define_all(tx)?;

@@ -2,13 +2,14 @@
 ghost use Rattle.std.specs.Prelude.{◌≡◌, IfErr, IfOk, IsOk};
 ghost use Rattle.sqlite.specs.Values.{bound};
 ghost use Rattle.store_columns.specs.Columns.{known_format, meta_columns};
-ghost use Rattle.sql_write.specs.{Bound.AreMetaNumbers, Fits.FitsMeta, Makes.RenewsOrPuts, Numbers.IsNotTooLarge, Refusals.HasWritten, Statements.writes_meta};
+ghost use Rattle.sql_write.specs.{Bound.AreMetaNumbers, Fits.FitsMeta, Makes.RenewsOrPuts, Numbers.IsNotTooLarge, Refusals.HasWritten};
+ghost use Rattle.sql_write.specs.Statements.{meta_writing, writes};
 ghost use Rattle.sql_tables.specs.Images.{formatted_columns, meta_kept, meta_moved, meta_params};
 ghost use Rattle.sql_tables.specs.Layouts.{formatted_layout};
 
 use crate::fault::{SaveFault, WriteFault};
 use crate::numbers::number_column;
-use crate::statements::run;
+use crate::statements::write_row;
 use crate::values::text;
 use crate::write::Write;
 use desk_model::Meta;
@@ -50,12 +51,13 @@ fn meta_numbers(row: &Meta) -> Result<MetaNumbers, WriteFault>
     })
 }
 
-// The parameters for the row, of which these are the numbers.
-fn meta_values<'a>(row: &'a Meta, numbers: &MetaNumbers) -> [ValueRef<'a>; 12]
+// The parameters for the row, of which these are the numbers: all, and those that renew it.
+fn meta_values<'a>(row: &'a Meta, numbers: &MetaNumbers) -> ([ValueRef<'a>; 12], [ValueRef<'a>; 7])
     requires { AreMetaNumbers (meta_columns row.now) numbers.now }
-    ensures { bound result ≡ meta_params (meta_columns row.now) }
+    ensures all { bound result.0 ≡ meta_params (meta_columns row.now) }
+    ensures moved { bound result.1 ≡ meta_moved (meta_columns row.now) }
 {
-    [
+    let all = [
         ValueRef::Int(1),
         ValueRef::Int(FORMAT),
         text(row.policy.base()),
@@ -68,23 +70,9 @@ fn meta_values<'a>(row: &'a Meta, numbers: &MetaNumbers) -> [ValueRef<'a>; 12]
         ValueRef::Int(numbers.orders),
         ValueRef::Int(numbers.authzs),
         ValueRef::Int(numbers.challs),
-    ]
-}
-
-// The parameters that renew the row, of which these are the numbers.
-fn moved_meta<'a>(row: &'a Meta, numbers: &MetaNumbers) -> [ValueRef<'a>; 7]
-    requires { AreMetaNumbers (meta_columns row.now) numbers.now }
-    ensures { bound result ≡ meta_moved (meta_columns row.now) }
-{
-    [
-        ValueRef::Int(1),
-        ValueRef::Int(numbers.clock),
-        ValueRef::Int(numbers.nonces),
-        ValueRef::Int(numbers.accounts),
-        ValueRef::Int(numbers.orders),
-        ValueRef::Int(numbers.authzs),
-        ValueRef::Int(numbers.challs),
-    ]
+    ];
+    let moved = [all[0], all[6], all[7], all[8], all[9], all[10], all[11]];
+    (all, moved)
 }
 
 /// Writes the row of `meta`, in the place of one in whatever format unless it is renewed.
@@ -94,13 +82,11 @@ pub(crate) fn write_meta<S: Alter>(
     row: &Meta,
 ) -> Result<(), SaveFault>
     ensures same_reference { tx.new.conn.ghost_name ≡ tx.old.conn.ghost_name }
-    ensures writes { HasWritten S.Store (writes_meta write row.now) (RenewsOrPuts formatted_layout meta_kept formatted_columns write
-        (formatted_columns (known_format, row.now))) tx.old.conn.now tx.new.conn.now result }
+    ensures writes { HasWritten S.Store (writes meta_writing write (known_format, row.now))
+        (RenewsOrPuts formatted_layout (λ x. meta_kept (formatted_columns x)) write (known_format, row.now)) tx.old.conn.now tx.new.conn.now result }
     ensures fits { FitsMeta row.now → IfErr result IsNotTooLarge }
 {
     let numbers = meta_numbers(row)?;
-    match write {
-        Write::Upsert | Write::Insert => run(tx, meta::UPSERT, &meta_values(row, &numbers)),
-        Write::Update => run(tx, meta::UPDATE, &moved_meta(row, &numbers)),
-    }
+    let (all, moved) = meta_values(row, &numbers);
+    write_row(tx, write, meta::WRITING, &all, &moved)
 }

@@ -3,13 +3,13 @@ ghost use Rattle.std.specs.Prelude.{◌≡◌, pos, IfErr};
 ghost use Rattle.sqlite.specs.Values.{bound};
 ghost use Rattle.store_columns.specs.Columns.{nonce_columns};
 ghost use Rattle.sql_write.specs.{Makes.AddsOrPuts, Numbers.IsNotTooLarge, Refusals.HasWritten};
-ghost use Rattle.sql_write.specs.Statements.{removes_nonce, writes_nonce};
+ghost use Rattle.sql_write.specs.Statements.{nonce_writing, removes_nonce, writes};
 ghost use Rattle.sql_tables.specs.{Effects.Removes, Images.nonce_params, Layouts.nonce_layout};
 ghost use Rattle.sql_write.specs.Fits.{Fits, FitsNonce};
 
 use crate::fault::SaveFault;
 use crate::numbers::number_column;
-use crate::statements::run;
+use crate::statements::{run, write_row};
 use crate::write::Write;
 use desk_model::Nonce;
 use sql_schema::nonces;
@@ -36,17 +36,13 @@ pub(crate) fn write_nonce<S: Alter>(
     row: &Nonce,
 ) -> Result<(), SaveFault>
     ensures same_reference { tx.new.conn.ghost_name ≡ tx.old.conn.ghost_name }
-    ensures writes { HasWritten S.Store (writes_nonce write row.now) (AddsOrPuts nonce_layout nonce_columns write (nonce_columns row.now)) tx.old.conn.now
-        tx.new.conn.now result }
+    ensures writes { HasWritten S.Store (writes nonce_writing write row.now) (AddsOrPuts nonce_layout write row.now) tx.old.conn.now tx.new.conn.now result }
     ensures fits { FitsNonce row.now → IfErr result IsNotTooLarge }
 {
     let serial = number_column(row.serial)?;
     let issued = number_column(row.issued)?;
     let values = nonce_values(row, serial, issued);
-    match write {
-        Write::Upsert | Write::Update => run(tx, nonces::UPSERT, &values),
-        Write::Insert => run(tx, nonces::INSERT, &values),
-    }
+    write_row(tx, write, nonces::WRITING, &values, &values)
 }
 
 /// Removes the nonce of this serial, if there is one.

@@ -1,7 +1,7 @@
 //! Numbers and marks as INTEGER columns.
-ghost use Rattle.std.specs.Prelude.{◌≡◌, ◌≤◌, ◌^◌, pos, MatchResult};
-ghost use Rattle.store_columns.specs.Columns.{wildcard_column};
-ghost use Rattle.sql_write.specs.declared.fault.WriteFault.TheVariants.{TooLarge};
+ghost use Rattle.std.specs.Prelude.{◌≡◌, ◌≤◌, ◌^◌, pos, IfOk, IsOk, MatchResult, option_map};
+ghost use Rattle.store_columns.specs.{Columns.wildcard_column, Limits.IfRecorded};
+ghost use Rattle.sql_write.specs.{Fits.Fits, declared.fault.WriteFault.TheVariants.TooLarge};
 
 use crate::fault::WriteFault;
 
@@ -17,6 +17,20 @@ pub(crate) fn number_column(number: u64) -> Result<i64, WriteFault>
         Ok(number as i64)
     } else {
         Err(WriteFault::TooLarge)
+    }
+}
+
+/// A date as a column, or NULL.
+pub(crate) fn date_column(date: Option<u64>) -> Result<Option<i64>, WriteFault>
+    ensures column { IfOk result (λ column. column ≡ option_map (λ n. pos n) date) }
+    ensures fits { IfRecorded Fits date → IsOk result }
+{
+    match date {
+        Some(date) => {
+            let column = number_column(date)?;
+            Ok(Some(column))
+        }
+        None => Ok(None),
     }
 }
 

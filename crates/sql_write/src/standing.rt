@@ -6,7 +6,7 @@ ghost use Rattle.desk_model.specs.{Change.applied_one, Kept.EachOf, Tables.Table
 ghost use Rattle.desk_model.specs.Questions.{account_on, authorization_on, order_on};
 ghost use Rattle.desk_model.specs.declared.rows.Change.{Change};
 ghost use Rattle.sql_write.specs.Highest.{IsAbove, PutsNone};
-ghost use Rattle.sql_write.specs.Standing.{known_account, known_after, known_authorization, known_challenge, known_meta, known_order, last_given};
+ghost use Rattle.sql_write.specs.Standing.{known_after, known_challenge, last_given};
 
 use desk_book::Book;
 use desk_model::{
@@ -67,8 +67,8 @@ impl Highest {
     }
 }
 
-// A row that is found in a part of the tables, and in a change that puts it.
-trait Standing {
+/// A row that is found in a part of the tables, and in a change that puts it.
+pub(crate) trait Standing {
     // The row of a number in the tables.
     ghost on: { Tables → ℕ → Option Self };
 
@@ -141,9 +141,9 @@ impl Standing for AuthorizationRow {
     }
 }
 
-// The row of this number that is known behind these changes: the last that one of them puts, or else that of the part. None of
-// them puts one whose number is above the highest, so that rows in the order of their numbers cost no look through the others.
-fn known_row<'a, R: Standing>(
+/// The row of this number that is known behind these changes: the last that one of them puts, or else that of the part. None of
+/// them puts one whose number is above the highest, so that rows in the order of their numbers cost no look through the others.
+pub(crate) fn known_row<'a, R: Standing>(
     known: Option<&'a Book>,
     before: &'a [Change],
     highest: u64,
@@ -160,52 +160,6 @@ fn known_row<'a, R: Standing>(
         found = R::put_by(change, number).or(found);
     }
     found
-}
-
-/// The row of `meta` that is known behind these changes.
-pub(crate) fn known_meta<'a>(known: Option<&'a Book>, before: &'a [Change]) -> Option<&'a Meta>
-    ensures { option_copied result ≡ known_meta (known_after (option_copied known.entry) before.now) }
-{
-    known_row(known, before, 1, 1)
-}
-
-/// The account of this number that is known behind these changes, of which none puts one above the highest.
-pub(crate) fn known_account<'a>(
-    known: Option<&'a Book>,
-    before: &'a [Change],
-    highest: u64,
-    number: u64,
-) -> Option<&'a AccountRow>
-    requires above { EachOf (PutsNone account_on highest) before.now }
-    ensures { option_copied result ≡ known_account (known_after (option_copied known.entry) before.now) number }
-{
-    known_row(known, before, highest, number)
-}
-
-/// The order of this number that is known behind these changes, of which none puts one above the highest.
-pub(crate) fn known_order<'a>(
-    known: Option<&'a Book>,
-    before: &'a [Change],
-    highest: u64,
-    number: u64,
-) -> Option<&'a OrderRow>
-    requires above { EachOf (PutsNone order_on highest) before.now }
-    ensures { option_copied result ≡ known_order (known_after (option_copied known.entry) before.now) number }
-{
-    known_row(known, before, highest, number)
-}
-
-/// The authorization of this number that is known behind these changes, of which none puts one above the highest.
-pub(crate) fn known_authorization<'a>(
-    known: Option<&'a Book>,
-    before: &'a [Change],
-    highest: u64,
-    number: u64,
-) -> Option<&'a AuthorizationRow>
-    requires above { EachOf (PutsNone authorization_on highest) before.now }
-    ensures { option_copied result ≡ known_authorization (known_after (option_copied known.entry) before.now) number }
-{
-    known_row(known, before, highest, number)
 }
 
 // The challenge of this number.

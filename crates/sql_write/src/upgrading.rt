@@ -1,16 +1,13 @@
 //! A database of format 1 becomes one of format 2.
-ghost use Rattle.std.specs.Prelude.{◌≡◌, ◌++◌, false, OnOk, OnErr, IfErr};
-ghost use Rattle.std.specs.List.{flat_map};
+ghost use Rattle.std.specs.Prelude.{◌≡◌, false, OnOk, OnErr, IfErr};
 ghost use Rattle.sqlite.specs.State.{HasCleanDisk, Survives};
 ghost use Rattle.sqlite.specs.Held.{state};
 ghost use Rattle.desk_model.specs.Kept.{EachOf};
-ghost use Rattle.sql_schema.specs.Advances.{Advances, KeepsLast};
 ghost use Rattle.sql_write.specs.Committing.{GoesBack, HasCommitted, IsBeforeCommit, IsLeft};
 ghost use Rattle.sql_write.specs.Numbers.{FitsUpgrade, IsNotTooLarge};
-ghost use Rattle.sql_write.specs.Refusals.{IsCause, Ran};
-ghost use Rattle.sql_write.specs.Statements.{upgrade_statements, writes_key, writes_meta};
-ghost use Rattle.sql_write.specs.Upgrading.{Fills, Upgrades};
-ghost use Rattle.sql_write.specs.declared.write.Write.TheVariants.{Upsert};
+ghost use Rattle.sql_write.specs.Refusals.{HasWritten, IsCause};
+ghost use Rattle.sql_write.specs.Statements.{upgrade_statements};
+ghost use Rattle.sql_write.specs.Upgrading.{Upgrades};
 ghost use Rattle.sql_write.specs.Fits.{FitsKey, FitsMeta};
 
 use crate::children::write_keys;
@@ -23,38 +20,19 @@ use desk_model::Meta;
 use sqlite::{Alter, Connection, Transaction};
 use store_columns::AnswerKey;
 
-// Puts the keys of answers, then the row of `meta`, which sets the format.
-fn fill<S: Alter>(
-    tx: &mut Transaction<'_, S>,
-    meta: &Meta,
-    keys: &[AnswerKey],
-) -> Result<(), SaveFault>
-    ensures same_reference { tx.new.conn.ghost_name ≡ tx.old.conn.ghost_name }
-    ensures ok { OnOk result (Advances (state S.Store tx.old.conn.now) (state S.Store tx.new.conn.now) (Fills meta.now keys.now)) }
-    ensures kept { KeepsLast (state S.Store tx.old.conn.now) (state S.Store tx.new.conn.now) }
-    ensures survives { Survives (state S.Store tx.old.conn.now) (state S.Store tx.new.conn.now) (λ _. ⊥) }
-    ensures told { Ran S.Store (flat_map (writes_key Upsert) keys.now ++ writes_meta Upsert meta.now) tx.old.conn.now tx.new.conn.now result }
-    ensures fits { FitsMeta meta.now → EachOf FitsKey keys.now → IfErr result IsNotTooLarge }
-{
-    write_keys(tx, keys)?;
-    write_meta(tx, Write::Upsert, meta)
-}
-
-// Makes the table that format 1 lacks, and fills it.
+// Makes the table that format 1 lacks, puts the keys of answers, then the row of `meta`, which sets the format.
 fn widen<S: Alter>(
     tx: &mut Transaction<'_, S>,
     meta: &Meta,
     keys: &[AnswerKey],
 ) -> Result<(), SaveFault>
     ensures same_reference { tx.new.conn.ghost_name ≡ tx.old.conn.ghost_name }
-    ensures ok { OnOk result (Advances (state S.Store tx.old.conn.now) (state S.Store tx.new.conn.now) (Upgrades meta.now keys.now)) }
-    ensures kept { KeepsLast (state S.Store tx.old.conn.now) (state S.Store tx.new.conn.now) }
-    ensures survives { Survives (state S.Store tx.old.conn.now) (state S.Store tx.new.conn.now) (λ _. ⊥) }
-    ensures told { Ran S.Store (upgrade_statements meta.now keys.now) tx.old.conn.now tx.new.conn.now result }
+    ensures writes { HasWritten S.Store (upgrade_statements meta.now keys.now) (Upgrades meta.now keys.now) tx.old.conn.now tx.new.conn.now result }
     ensures fits { FitsMeta meta.now → EachOf FitsKey keys.now → IfErr result IsNotTooLarge }
 {
     define_key_table(tx)?;
-    fill(tx, meta, keys)
+    write_keys(tx, keys)?;
+    write_meta(tx, Write::Upsert, meta)
 }
 
 /// Makes of a database of format 1 one of format 2, in one transaction: all of it, or nothing. The row of `meta` and the keys

@@ -1,25 +1,14 @@
 use Rattle.std.proofs.Common.{rules}
-use Rattle.sql_write.proofs.RowWrites.{authorization_texts, row_added, row_put, row_renewed, row_unwritten}
+use Rattle.sql_write.proofs.RowWrites.{authorization_texts, row_unwritten, row_written}
 use Rattle.sql_write.proofs.authorizations.write_authorization.Goals as goal
 
-pub returns-in-Upsert-clause-writes : goal.returns-in-Upsert-clause-writes
-returns-in-Upsert-clause-writes g c =
-    row_put g.S.Store authorization_texts c.args.row.now c.args.tx.now.conn.now c.run.new.tx.conn.now c.run.result c.args.write c.in-Upsert.is _
-    c.authorization_values.ensures c.run.ensures.ran
-
-pub returns-in-Insert-clause-writes : goal.returns-in-Insert-clause-writes
-returns-in-Insert-clause-writes g c =
-    row_added g.S.Store authorization_texts c.args.row.now c.args.tx.now.conn.now c.run-in-Insert.new.tx.conn.now c.run-in-Insert.result c.args.write
-    c.in-Insert.is _
-    c.authorization_values-in-Insert.ensures c.run-in-Insert.ensures.ran
-
-pub returns-in-Update-clause-writes : goal.returns-in-Update-clause-writes
-returns-in-Update-clause-writes g c =
-    row_renewed g.S.Store authorization_texts c.args.row.now c.args.tx.now.conn.now c.run-in-Update.new.tx.conn.now c.run-in-Update.result c.args.write
-    c.in-Update.is _
-    c.moved_authorization.ensures c.run-in-Update.ensures.ran
+pub returns-clause-writes : goal.returns-clause-writes
+returns-clause-writes g c =
+    row_written g.S.Store authorization_texts c.args.row.now _ _ c.write_row.result c.args.write _ _
+    c.authorization_values.ensures.all c.authorization_values.ensures.moved c.write_row.ensures.ran
 
 pub returns-in_err-numbers-clause-writes : goal.returns-in_err-numbers-clause-writes
 returns-in_err-numbers-clause-writes g c =
-    let none = row_unwritten g.S.Store authorization_texts c.args.row.now c.args.write c.args.tx.now.conn.now c.in_err-numbers.field-0.0 in
+    let none = row_unwritten g.S.Store authorization_texts c.args.row.now c.args.write
+    c.args.tx.now.conn.now c.in_err-numbers.field-0.0 in
     search (rules, none)

@@ -13,7 +13,7 @@ returns-in-PutMeta-clause-writes g c =
     let run = c.set_meta in
     let stood = subst (λ k. HasWritten g.S.Store (sets_meta k c.in-PutMeta.row) (SetsMeta k c.in-PutMeta.row) c.args.tx.now.conn.now run.new.tx.conn.now
     run.result)
-    c.known_meta.ensures run.ensures.writes in
+    c.known_row.ensures run.ensures.writes in
     writes_change g.S.Store known c.args.last.now _ _ c.in-PutMeta.is _ _ _ run.result (makes_meta known c.in-PutMeta.row _ _) stood
 
 pub returns-in-PutMeta-clause-fits : goal.returns-in-PutMeta-clause-fits
@@ -43,7 +43,7 @@ returns-in-PutAccount-clause-writes g c =
     let run = c.set_account in
     let stood = subst (λ k. HasWritten g.S.Store (sets_account k c.args.last.now.accounts c.in-PutAccount.row) (PutsOver account_layout k c.in-PutAccount.row)
     c.args.tx.now.conn.now run.new.tx.conn.now run.result)
-    c.known_account-known.ensures run.ensures.writes in
+    c.known_row-known.ensures run.ensures.writes in
     writes_change g.S.Store known c.args.last.now _ _ c.in-PutAccount.is _ _ _ run.result (makes_account known c.in-PutAccount.row _ _) stood
 
 pub returns-in-PutAccount-clause-fits : goal.returns-in-PutAccount-clause-fits
@@ -55,7 +55,7 @@ returns-in-PutAuthorization-clause-writes g c =
     let run = c.set_authorization in
     let stood = subst (λ k. HasWritten g.S.Store (sets_authorization k c.args.last.now c.in-PutAuthorization.row)
     (SetsAuthorization k c.in-PutAuthorization.row) c.args.tx.now.conn.now run.new.tx.conn.now run.result)
-    c.known_authorization-known.ensures run.ensures.writes in
+    c.known_row-known-in-PutAuthorization.ensures run.ensures.writes in
     writes_change g.S.Store known c.args.last.now _ _ c.in-PutAuthorization.is _ _ _ run.result (makes_authorization known c.in-PutAuthorization.row _ _) stood
 
 pub returns-in-PutAuthorization-clause-fits : goal.returns-in-PutAuthorization-clause-fits
@@ -67,7 +67,7 @@ returns-in-PutOrder-clause-writes g c =
     let run = c.set_order in
     let stood = subst (λ k. HasWritten g.S.Store (sets_order k c.args.last.now.orders c.in-PutOrder.row) (SetsOrder k c.in-PutOrder.row) c.args.tx.now.conn.now
     run.new.tx.conn.now run.result)
-    c.known_order-known.ensures run.ensures.writes in
+    c.known_row-known-in-PutOrder.ensures run.ensures.writes in
     writes_change g.S.Store known c.args.last.now _ _ c.in-PutOrder.is _ _ _ run.result (makes_set_order known c.in-PutOrder.row _ _) stood
 
 pub returns-in-PutOrder-clause-fits : goal.returns-in-PutOrder-clause-fits

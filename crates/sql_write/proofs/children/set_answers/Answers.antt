@@ -1,49 +1,40 @@
-use Rattle.std.proofs.Common.{◌∙◌, ◌+◌, [], Ok, arith, refl, rules, subst, take, take_all}
-use Rattle.std.specs.{List.flat_map, Prelude.option_copied}
-use Rattle.sql_write.specs.{Refusals.HasWritten, Statements.sets_answer, Fits.FitsChallenge}
-use Rattle.sql_write.proofs.Written.{nothing_written, written_more, written_until}
-use Rattle.store_columns.specs.Flat.{key_rows, owned_by}
-use Rattle.sql_write.specs.Makes.{PutsAllOver, key_under}
-use Rattle.sql_write.proofs.Over.{over_none}
-use Rattle.sql_write.proofs.RowsInTurn.{each_owned, keys_more}
-use Rattle.sql_tables.specs.Layouts.{key_layout}
+use Rattle.std.proofs.Common.{◌∙◌, ◌+◌, arith, refl, rules}
+use Rattle.std.specs.Prelude.{option_copied}
+use Rattle.sql_write.specs.{Fits.FitsChallenge, Makes.key_under, Statements.sets_answer}
+use Rattle.sql_write.proofs.RowsInTurn.{each_owned, keys_turns}
+use Rattle.sql_write.proofs.Written.{turned_all, turned_more, turned_none, turned_until}
 use Rattle.sql_write.proofs.children.set_answers.Goals as goal
 
 pub loop-row-init : goal.loop-row-init
-loop-row-init g c = record {
-  same = refl;
-  writes = nothing_written g.S.Store
-      (PutsAllOver key_layout (key_under (option_copied c.args.known)) (key_rows (owned_by c.args.authorization []))) c.args.tx.now.conn.now tt
-      (over_none key_layout (key_under (option_copied c.args.known)) _);
-}
+loop-row-init g c =
+    let known = option_copied c.args.known in
+    let turns = keys_turns (key_under known) c.args.authorization in
+    record { same = refl; writes = turned_none g.S.Store (sets_answer known c.args.last) turns c.args.rows.now _ }
 
 pub loop-row-preserved : goal.loop-row-preserved
 loop-row-preserved g c =
+    let known = option_copied c.args.known in
+    let turns = keys_turns (key_under known) c.args.authorization in
     let after = c.in_ok-set_answer.ensures in
     record {
       same = after.same_reference ∙ c.loop-row.invariant.same;
-      writes = written_more g.S.Store (sets_answer (option_copied c.args.known) c.args.last) c.args.rows.now c.loop-row.row-index _ _ _
-          (PutsAllOver key_layout (key_under (option_copied c.args.known))
-          (key_rows (owned_by c.args.authorization (take (c.loop-row.row-index + 1) c.args.rows.now)))) _ _ _ tt tt (search rules)
-          (keys_more (key_under (option_copied c.args.known)) c.args.authorization c.args.rows.now c.loop-row.row-index _ _ _ _ (search rules))
+      writes = turned_more g.S.Store (sets_answer known c.args.last) turns c.args.rows.now c.loop-row.row-index _ _ _ _ (search rules)
           c.loop-row.invariant.writes after.writes;
     }
 
 pub returns-in_err-set_answer-clause-writes : goal.returns-in_err-set_answer-clause-writes
 returns-in_err-set_answer-clause-writes g c =
-    let stops = written_until g.S.Store {Z = Unit {0}} (sets_answer (option_copied c.args.known) c.args.last) c.args.rows.now c.loop-row.row-index _ _ _
-    (PutsAllOver key_layout (key_under (option_copied c.args.known)) (key_rows (owned_by c.args.authorization c.args.rows.now))) _ _ _ tt _ (search rules)
-    c.loop-row.invariant.writes
-    c.in_err-set_answer.ensures.writes in
+    let known = option_copied c.args.known in
+    let turns = keys_turns (key_under known) c.args.authorization in
+    let stops = turned_until g.S.Store (sets_answer known c.args.last) turns c.args.rows.now {Z = Unit {0}} c.loop-row.row-index
+    _ _ _ _ _ _ (search rules) c.loop-row.invariant.writes c.in_err-set_answer.ensures.writes in
     search (rules, stops)
 
 pub returns-clause-writes : goal.returns-clause-writes
 returns-clause-writes g c =
-    let whole = take_all c.loop-row.row-index c.args.rows.now (omega arith) in
-    subst (λ xs. HasWritten g.S.Store {X = Unit {0}} (flat_map (sets_answer (option_copied c.args.known) c.args.last) xs)
-    (PutsAllOver key_layout (key_under (option_copied c.args.known)) (key_rows (owned_by c.args.authorization xs))) c.args.tx.now.conn.now
-    c.loop-row.tx.conn.now (Ok tt)) whole
-    c.loop-row.invariant.writes
+    let known = option_copied c.args.known in
+    let turns = keys_turns (key_under known) c.args.authorization in
+    turned_all g.S.Store (sets_answer known c.args.last) turns c.args.rows.now c.loop-row.row-index _ _ (omega arith) c.loop-row.invariant.writes
 
 pub returns-in_err-set_answer-clause-fits : goal.returns-in_err-set_answer-clause-fits
 returns-in_err-set_answer-clause-fits g c all =

@@ -1,15 +1,13 @@
-use Rattle.std.proofs.Common.{◌≡◌, Ok, take}
-use Rattle.std.specs.{List.flat_map, Prelude.option_copied}
-use Rattle.sql_write.specs.{Refusals.HasWritten, Statements.sets_answer}
-use Rattle.store_columns.specs.Flat.{key_rows, owned_by}
-use Rattle.sql_write.specs.Makes.{PutsAllOver, key_under}
-use Rattle.sql_tables.specs.Layouts.{key_layout}
+use Rattle.std.proofs.Common.{◌≡◌}
+use Rattle.std.specs.Prelude.{option_copied}
+use Rattle.sql_write.specs.{Makes.key_under, Statements.sets_answer}
+use Rattle.sql_write.proofs.RowsInTurn.{keys_turns}
+use Rattle.sql_write.proofs.Written.{HasWrittenFirst}
 use Rattle.sql_write.proofs.children.set_answers.Given as goal
 
 abbrev pub invariant-loop-row : goal.invariant-loop-row
 invariant-loop-row g l = record {
   same : l.tx.conn.ghost_name ≡ l.fn.tx.conn.ghost_name;
-  writes : HasWritten g.S.Store {X = Unit {0}} (flat_map (sets_answer (option_copied l.fn.known) l.fn.last) (take l.row-index l.rows))
-      (PutsAllOver key_layout (key_under (option_copied l.fn.known)) (key_rows (owned_by l.fn.authorization (take l.row-index l.rows))))
-      l.fn.tx.conn.now l.tx.conn.now (Ok tt);
+  writes : HasWrittenFirst g.S.Store (sets_answer (option_copied l.fn.known) l.fn.last) (keys_turns (key_under (option_copied l.fn.known)) l.fn.authorization)
+      l.rows l.row-index l.fn.tx.conn.now l.tx.conn.now;
 }

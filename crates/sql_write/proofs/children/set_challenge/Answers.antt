@@ -2,7 +2,8 @@ use Rattle.std.proofs.Common.{◌∙◌, ap}
 use Rattle.std.specs.Prelude.{option_copied, option_map, nat_lt}
 use Rattle.sql_write.proofs.Differing.{challenge_differs}
 use Rattle.sql_write.proofs.Over.{differs_under, set_none, set_some}
-use Rattle.sql_write.specs.{Differences.challenge_difference, Standing.known_challenge, Statements.writes_challenge}
+use Rattle.sql_write.specs.{Differences.challenge_difference, Standing.known_challenge}
+use Rattle.sql_write.specs.Statements.{challenge_writing, writes}
 use Rattle.sql_write.proofs.children.set_challenge.Goals as goal
 
 pub returns-in-Some-clause-writes : goal.returns-in-Some-clause-writes
@@ -10,7 +11,7 @@ returns-in-Some-clause-writes g c =
     let n = c.args.authorization in
     let row = c.args.row.now in
     let known = known_challenge (option_copied c.args.known) row.number in
-    set_some g.S.Store (challenge_differs n row known) (nat_lt c.args.last row.number) (λ m. writes_challenge m n row)
+    set_some g.S.Store (challenge_differs n row known) (nat_lt c.args.last row.number) (λ m. writes challenge_writing m (record { owner = n; row = row }))
     (differs_under n (λ old. challenge_difference old row) known) c.of.ensures
     (c.challenge_difference-difference.ensures ∙ ap (option_map (λ old. challenge_difference old row)) c.known_challenge.ensures) _ _
     c.write_challenge.result c.in-Some.write c.in-Some.is c.write_challenge.ensures.writes
@@ -20,6 +21,6 @@ returns-in-None-clause-writes g c =
     let n = c.args.authorization in
     let row = c.args.row.now in
     let known = known_challenge (option_copied c.args.known) row.number in
-    set_none g.S.Store (challenge_differs n row known) (nat_lt c.args.last row.number) (λ m. writes_challenge m n row)
+    set_none g.S.Store (challenge_differs n row known) (nat_lt c.args.last row.number) (λ m. writes challenge_writing m (record { owner = n; row = row }))
     (differs_under n (λ old. challenge_difference old row) known) c.of.ensures
     (c.challenge_difference-difference.ensures ∙ ap (option_map (λ old. challenge_difference old row)) c.known_challenge.ensures) _ _ c.in-None.is

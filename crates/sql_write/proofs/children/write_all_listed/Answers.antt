@@ -1,41 +1,35 @@
-use Rattle.std.proofs.Common.{◌∙◌, ◌+◌, [], Ok, arith, refl, rules, subst, take, take_all}
-use Rattle.std.specs.List.{flat_map}
-use Rattle.sql_write.specs.{Refusals.HasWritten, Makes.WritesListed, Statements.writes_listed, Fits.FitsListed}
-use Rattle.sql_write.proofs.Written.{nothing_written, written_more, written_until}
-use Rattle.store_columns.specs.Flat.{owned_by}
-use Rattle.sql_write.proofs.RowsInTurn.{each_owned, listed_more, listed_none}
+use Rattle.std.proofs.Common.{◌∙◌, ◌+◌, arith, refl, rules}
+use Rattle.sql_write.specs.{Fits.FitsListed, Statements.writes_listed}
+use Rattle.sql_write.proofs.RowsInTurn.{each_owned, listed_turns}
+use Rattle.sql_write.proofs.Written.{turned_all, turned_more, turned_none, turned_until}
 use Rattle.sql_write.proofs.children.write_all_listed.Goals as goal
 
 pub loop-row-init : goal.loop-row-init
-loop-row-init g c = record {
-  same = refl;
-  writes = nothing_written g.S.Store (WritesListed c.args.write (owned_by c.args.order [])) c.args.tx.now.conn.now
-      tt (listed_none c.args.write _);
-}
+loop-row-init g c =
+    let turns = listed_turns c.args.write c.args.order in
+    record { same = refl; writes = turned_none g.S.Store (writes_listed c.args.write c.args.order) turns c.args.rows.now _ }
 
 pub loop-row-preserved : goal.loop-row-preserved
 loop-row-preserved g c =
+    let turns = listed_turns c.args.write c.args.order in
     let after = c.in_ok-write_listed.ensures in
     record {
       same = after.same_reference ∙ c.loop-row.invariant.same;
-      writes = written_more g.S.Store (writes_listed c.args.write c.args.order) c.args.rows.now c.loop-row.row-index _ _ _
-          (WritesListed c.args.write (owned_by c.args.order (take (c.loop-row.row-index + 1) c.args.rows.now))) _ _ _ tt tt (search rules)
-          (listed_more c.args.write c.args.order c.args.rows.now c.loop-row.row-index _ _ _ _ (search rules)) c.loop-row.invariant.writes after.writes;
+      writes = turned_more g.S.Store (writes_listed c.args.write c.args.order) turns c.args.rows.now c.loop-row.row-index _ _ _ _ (search rules)
+          c.loop-row.invariant.writes after.writes;
     }
 
 pub returns-in_err-write_listed-clause-writes : goal.returns-in_err-write_listed-clause-writes
 returns-in_err-write_listed-clause-writes g c =
-    let stops = written_until g.S.Store {Z = Unit {0}} (writes_listed c.args.write c.args.order) c.args.rows.now c.loop-row.row-index _ _ _
-    (WritesListed c.args.write (owned_by c.args.order c.args.rows.now)) _ _ _ tt _ (search rules) c.loop-row.invariant.writes
-    c.in_err-write_listed.ensures.writes in
+    let turns = listed_turns c.args.write c.args.order in
+    let stops = turned_until g.S.Store (writes_listed c.args.write c.args.order) turns c.args.rows.now {Z = Unit {0}} c.loop-row.row-index
+    _ _ _ _ _ _ (search rules) c.loop-row.invariant.writes c.in_err-write_listed.ensures.writes in
     search (rules, stops)
 
 pub returns-clause-writes : goal.returns-clause-writes
 returns-clause-writes g c =
-    let whole = take_all c.loop-row.row-index c.args.rows.now (omega arith) in
-    subst (λ xs. HasWritten g.S.Store {X = Unit {0}} (flat_map (writes_listed c.args.write c.args.order) xs)
-    (WritesListed c.args.write (owned_by c.args.order xs)) c.args.tx.now.conn.now c.loop-row.tx.conn.now (Ok tt)) whole
-    c.loop-row.invariant.writes
+    let turns = listed_turns c.args.write c.args.order in
+    turned_all g.S.Store (writes_listed c.args.write c.args.order) turns c.args.rows.now c.loop-row.row-index _ _ (omega arith) c.loop-row.invariant.writes
 
 pub returns-in_err-write_listed-clause-fits : goal.returns-in_err-write_listed-clause-fits
 returns-in_err-write_listed-clause-fits g c all =

@@ -1,12 +1,12 @@
-use Rattle.std.proofs.Common.{◌≡◌, Ok, take}
-use Rattle.std.specs.List.{flat_map}
-use Rattle.sql_write.specs.{Refusals.HasWritten, Makes.WritesListed, Statements.writes_listed}
-use Rattle.store_columns.specs.Flat.{owned_by}
+use Rattle.std.proofs.Common.{◌≡◌}
+use Rattle.sql_write.specs.Statements.{writes_listed}
+use Rattle.sql_write.proofs.RowsInTurn.{listed_turns}
+use Rattle.sql_write.proofs.Written.{HasWrittenFirst}
 use Rattle.sql_write.proofs.children.write_all_listed.Given as goal
 
 abbrev pub invariant-loop-row : goal.invariant-loop-row
 invariant-loop-row g l = record {
   same : l.tx.conn.ghost_name ≡ l.fn.tx.conn.ghost_name;
-  writes : HasWritten g.S.Store {X = Unit {0}} (flat_map (writes_listed l.fn.write l.fn.order) (take l.row-index l.rows))
-      (WritesListed l.fn.write (owned_by l.fn.order (take l.row-index l.rows))) l.fn.tx.conn.now l.tx.conn.now (Ok tt);
+  writes : HasWrittenFirst g.S.Store (writes_listed l.fn.write l.fn.order) (listed_turns l.fn.write l.fn.order)
+      l.rows l.row-index l.fn.tx.conn.now l.tx.conn.now;
 }

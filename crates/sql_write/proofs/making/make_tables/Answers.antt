@@ -11,22 +11,22 @@ returns-clause-ok g c =
     let Does = MakesDesk c.args.meta.now in
     let whole = committed_by g.S.Store old c.transaction-tx.result.conn.now last c.end.new.tx.0 c.transaction-tx.ensures.begun
     c.define_desk-defined.result c.end.result
-    Does Does (λ did. did) c.define_desk-defined.ensures.ok c.end.ensures.left c.end.ensures.done c.end.ensures.ok in
+    Does Does (λ did. did) c.define_desk-defined.ensures.writes.does c.end.ensures.left c.end.ensures.done c.end.ensures.ok in
     search (rules, whole)
 
 pub returns-clause-err : goal.returns-clause-err
 returns-clause-err g c =
     let whole = undone_by g.S.Store c.args.conn.now c.transaction-tx.result.conn.now c.define_desk-defined.new.tx.conn.now c.end.new.tx.0
     c.transaction-tx.ensures.begun
-    c.define_desk-defined.result c.end.result (MakesDesk c.args.meta.now) c.define_desk-defined.ensures.ok
-    c.define_desk-defined.ensures.kept c.end.ensures.left c.end.ensures.err in
+    c.define_desk-defined.result c.end.result (MakesDesk c.args.meta.now) c.define_desk-defined.ensures.writes.does
+    c.define_desk-defined.ensures.writes.kept c.end.ensures.left c.end.ensures.err in
     search (rules, whole)
 
 pub returns-clause-before : goal.returns-clause-before
 returns-clause-before g c =
     let whole = spared_by g.S.Store c.args.conn.now c.transaction-tx.result.conn.now c.define_desk-defined.new.tx.conn.now c.end.new.tx.0
     c.transaction-tx.ensures.begun
-    c.define_desk-defined.result c.end.result c.define_desk-defined.ensures.survives c.end.ensures.before in
+    c.define_desk-defined.result c.end.result c.define_desk-defined.ensures.writes.survives c.end.ensures.before in
     search (rules, whole)
 
 pub returns-clause-left : goal.returns-clause-left
@@ -35,12 +35,12 @@ returns-clause-left g c =
     let last = c.define_desk-defined.new.tx.conn.now in
     let Does = MakesDesk c.args.meta.now in
     let whole = left_by g.S.Store old c.transaction-tx.result.conn.now last c.end.new.tx.0 c.transaction-tx.ensures.begun c.define_desk-defined.result
-    Does Does (λ did. did) c.define_desk-defined.ensures.survives c.define_desk-defined.ensures.ok c.end.ensures.left in
+    Does Does (λ did. did) c.define_desk-defined.ensures.writes.survives c.define_desk-defined.ensures.writes.does c.end.ensures.left in
     search (rules, whole)
 
 pub returns-clause-cause : goal.returns-clause-cause
 returns-clause-cause g c =
     let whole = caused g.S.Store (FitsMeta c.args.meta.now) (make_statements c.args.meta.now) c.args.conn.now c.transaction-tx.result.conn.now
     c.define_desk-defined.new.tx.conn.now c.end.new.tx.0 c.transaction-tx.ensures.begun c.define_desk-defined.result c.end.result
-    c.define_desk-defined.ensures.told c.end.ensures.cause c.end.ensures.before (λ all. c.end.ensures.fits (c.define_desk-defined.ensures.fits all)) in
+    c.define_desk-defined.ensures.writes.told c.end.ensures.cause c.end.ensures.before (λ all. c.end.ensures.fits (c.define_desk-defined.ensures.fits all)) in
     search (rules, whole)

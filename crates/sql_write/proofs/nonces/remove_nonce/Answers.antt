@@ -1,16 +1,14 @@
-use Rattle.std.proofs.Common.{refl, rules}
-use Rattle.sql_write.proofs.RowsInTurn.{removes_numbered}
+use Rattle.std.proofs.Common.{rules}
 use Rattle.sql_write.proofs.Written.{none_written, run_written}
 use Rattle.sql_write.specs.Statements.{removes_nonce}
-use Rattle.sql_schema.specs.declared.nonces.TheConstants as nonce
 use Rattle.sql_write.proofs.nonces.remove_nonce.Goals as goal
 use Rattle.sql_tables.specs.{Effects.Removes, Layouts.nonce_layout}
 use Rattle.sql_tables.proofs.Removal.{advances_removal}
 
 pub returns-clause-writes : goal.returns-clause-writes
 returns-clause-writes g c =
-    run_written g.S.Store nonce.DELETE.now _ _ (Removes nonce_layout c.args.serial) _ _ c.run.result (search rules) c.run.ensures.ran
-    (λ count ran. removes_numbered _ c.args.serial _ _ (search rules) (advances_removal _ _ _ _ refl count ran))
+    run_written g.S.Store _ _ _ (Removes nonce_layout c.args.serial) _ _ c.run.result (search rules) c.run.ensures.ran
+    (advances_removal c.args.serial _ _ _ (search rules))
 
 pub returns-in_err-column-clause-writes : goal.returns-in_err-column-clause-writes
 returns-in_err-column-clause-writes g c =

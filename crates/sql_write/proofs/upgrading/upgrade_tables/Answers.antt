@@ -11,22 +11,22 @@ returns-clause-ok g c =
     let Does = Upgrades c.args.meta.now c.args.keys.now in
     let whole = committed_by g.S.Store old c.transaction-tx.result.conn.now last c.end.new.tx.0 c.transaction-tx.ensures.begun
     c.widen-widened.result c.end.result
-    Does Does (λ did. did) c.widen-widened.ensures.ok c.end.ensures.left c.end.ensures.done c.end.ensures.ok in
+    Does Does (λ did. did) c.widen-widened.ensures.writes.does c.end.ensures.left c.end.ensures.done c.end.ensures.ok in
     search (rules, whole)
 
 pub returns-clause-err : goal.returns-clause-err
 returns-clause-err g c =
     let whole = undone_by g.S.Store c.args.conn.now c.transaction-tx.result.conn.now c.widen-widened.new.tx.conn.now c.end.new.tx.0
     c.transaction-tx.ensures.begun
-    c.widen-widened.result c.end.result (Upgrades c.args.meta.now c.args.keys.now) c.widen-widened.ensures.ok
-    c.widen-widened.ensures.kept c.end.ensures.left c.end.ensures.err in
+    c.widen-widened.result c.end.result (Upgrades c.args.meta.now c.args.keys.now) c.widen-widened.ensures.writes.does
+    c.widen-widened.ensures.writes.kept c.end.ensures.left c.end.ensures.err in
     search (rules, whole)
 
 pub returns-clause-before : goal.returns-clause-before
 returns-clause-before g c =
     let whole = spared_by g.S.Store c.args.conn.now c.transaction-tx.result.conn.now c.widen-widened.new.tx.conn.now c.end.new.tx.0
     c.transaction-tx.ensures.begun
-    c.widen-widened.result c.end.result c.widen-widened.ensures.survives c.end.ensures.before in
+    c.widen-widened.result c.end.result c.widen-widened.ensures.writes.survives c.end.ensures.before in
     search (rules, whole)
 
 pub returns-clause-left : goal.returns-clause-left
@@ -35,7 +35,7 @@ returns-clause-left g c =
     let last = c.widen-widened.new.tx.conn.now in
     let Does = Upgrades c.args.meta.now c.args.keys.now in
     let whole = left_by g.S.Store old c.transaction-tx.result.conn.now last c.end.new.tx.0 c.transaction-tx.ensures.begun c.widen-widened.result
-    Does Does (λ did. did) c.widen-widened.ensures.survives c.widen-widened.ensures.ok c.end.ensures.left in
+    Does Does (λ did. did) c.widen-widened.ensures.writes.survives c.widen-widened.ensures.writes.does c.end.ensures.left in
     search (rules, whole)
 
 pub returns-clause-cause : goal.returns-clause-cause
@@ -43,5 +43,6 @@ returns-clause-cause g c =
     let whole = caused g.S.Store (FitsUpgrade c.args.meta.now c.args.keys.now) (upgrade_statements c.args.meta.now c.args.keys.now) c.args.conn.now
     c.transaction-tx.result.conn.now
     c.widen-widened.new.tx.conn.now c.end.new.tx.0 c.transaction-tx.ensures.begun c.widen-widened.result c.end.result
-    c.widen-widened.ensures.told c.end.ensures.cause c.end.ensures.before (λ all. c.end.ensures.fits (c.widen-widened.ensures.fits all.meta_row all.each)) in
+    c.widen-widened.ensures.writes.told c.end.ensures.cause c.end.ensures.before
+    (λ all. c.end.ensures.fits (c.widen-widened.ensures.fits all.meta_row all.each)) in
     search (rules, whole)
