@@ -17,10 +17,9 @@ use Rattle.store_columns.specs.Flat.{challenge_rows, key_rows, listed_rows}
 use Rattle.sql_tables.specs.{Effects.Puts, Sorted.sorted_by}
 use Rattle.sql_tables.specs.Holds.{AreRising, Holds, HoldsListed}
 use Rattle.sql_tables.specs.Images.{account_image, authorization_image, challenge_image, key_image, meta_image, nonce_image, order_image}
-use Rattle.sql_tables.specs.Layouts.{HasRows, account_layout, authorization_layout, challenge_layout, key_layout, listed_layout, meta_layout}
+use Rattle.sql_tables.specs.Layouts.{HasRows, account_layout, authorization_layout, challenge_layout, key_layout, meta_layout}
 use Rattle.sql_tables.specs.Layouts.{nonce_layout, order_layout}
 use Rattle.sql_tables.proofs.NoIndexes.{KeepsBut, beside, kept_at}
-use Rattle.sql_tables.proofs.Sorting.{sorted_rises}
 
 -- ---- table by table
 

@@ -2,7 +2,6 @@
 use Rattle.std.proofs.Common.{◌≡◌, inl, inr, ℕ, pos, ◌&&◌, ◌||◌, List, [], ◌∷◌, Bool, true, false, Some, Ok, refl, sym, subst, ◌∙◌, arith}
 use Rattle.std.specs.Prelude.{◌==◌}
 use Rattle.sqlite.specs.declared.types.Value.TheVariants.{Int, Null}
-use Rattle.sqlite_value.specs.Order.{Row}
 use Rattle.sqlite_value.proofs.KeyLemmas.{first_key-plain}
 use Rattle.sqlite_schema.specs.declared.command.Command.TheVariants.{Insert, InsertOr}
 use Rattle.sqlite_schema.specs.declared.command.{Conflict.TheVariants.Abort, Source.TheVariants.Values}
@@ -12,7 +11,7 @@ use Rattle.sqlite_tied.specs.Compute.{everything}
 use Rattle.sqlite.specs.Listing.{understood}
 use Rattle.sqlite.specs.State.{State, Executes}
 use Rattle.store_columns.specs.Columns.{listed_columns}
-use Rattle.store_columns.specs.declared.{columns.OrderAuthzColumns.OrderAuthzColumns, flat_rows.Owned.Owned}
+use Rattle.store_columns.specs.declared.{flat_rows.Owned.Owned}
 use Rattle.desk_model.specs.declared.rows.Listed.{Listed}
 use Rattle.sql_schema.specs.Schema.{desk_schema, ord_authz_table}
 use Rattle.sql_tables.specs.Effects.{Appends, Places, is_same_place}

@@ -1,5 +1,5 @@
 -- DELETE of the row that has a key, and the deletion of a nonce.
-use Rattle.std.proofs.Common.{◌≡◌, ◌≢◌, inl, inr, ℕ, ℤ, pos, List, [], ◌∷◌, map, Ok, refl, sym, ap, ◌∙◌}
+use Rattle.std.proofs.Common.{◌≡◌, ◌≢◌, inl, inr, ℕ, pos, List, [], ◌∷◌, map, Ok, refl, sym, ap, ◌∙◌}
 use Rattle.sqlite.specs.declared.types.Value.TheVariants.{Int, Null}
 use Rattle.sqlite_value.specs.Order.{Row, column}
 use Rattle.sqlite_trees.specs.Tree.{Trees, rowid}
@@ -15,7 +15,6 @@ use Rattle.sqlite.specs.Rows.{Task, Written, Deletes}
 use Rattle.sqlite.specs.State.{State, Executes}
 use Rattle.desk_model.specs.Change.{remove}
 use Rattle.model_laws.proofs.RowLists.{ascends_filter}
-use Rattle.sql_schema.specs.Advances.{Advances, Performs}
 use Rattle.sql_schema.specs.Schema.{nonce_table}
 use Rattle.sql_schema.specs.declared.nonces.TheConstants as nonce
 use Rattle.sql_tables.specs.Effects.{Removes}

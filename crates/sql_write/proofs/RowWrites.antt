@@ -1,8 +1,8 @@
 -- What a call wrote of a row, by the texts of its table.
-use Rattle.std.proofs.Common.{◌≡◌, ℕ, ℤ, pos, List, [], ◌∷◌, Result, Ok, Err}
+use Rattle.std.proofs.Common.{◌≡◌, Result, Err}
 use Rattle.sqlite.specs.{Effect.Database, Order.Row, Store.Ghosts}
 use Rattle.sqlite.specs.Held.{Held}
-use Rattle.store_columns.specs.Columns.{account_columns, authorization_columns, challenge_columns, key_columns, listed_columns, nonce_columns, order_columns}
+use Rattle.store_columns.specs.Columns.{account_columns, authorization_columns, challenge_columns, order_columns}
 use Rattle.store_columns.specs.Flat.{bare_row}
 use Rattle.sql_write.specs.Makes.{AddsOrPuts, AppendsOrPlaces, RenewsOrPuts, Writes}
 use Rattle.sql_write.specs.Refusals.{HasWritten, IsRun}
@@ -13,9 +13,9 @@ use Rattle.sql_write.specs.declared.fault.SaveFault.TheVariants as save
 use Rattle.sql_write.specs.declared.{fault.WriteFault.WriteFault, write.Write.Write}
 use Rattle.sql_write.specs.declared.write.Write.TheVariants.{Upsert, Insert, Update}
 use Rattle.sql_write.proofs.Written.{none_written, run_written}
-use Rattle.sql_tables.specs.Images.{account_kept, account_moved, account_params, authorization_kept, authorization_moved, authorization_params}
-use Rattle.sql_tables.specs.Images.{challenge_kept, challenge_moved, challenge_params, formatted_columns, key_params, meta_kept, meta_moved}
-use Rattle.sql_tables.specs.Images.{meta_params, nonce_params, order_kept, order_moved, order_params}
+use Rattle.sql_tables.specs.Images.{account_kept, authorization_kept}
+use Rattle.sql_tables.specs.Images.{challenge_kept, formatted_columns, meta_kept}
+use Rattle.sql_tables.specs.Images.{order_kept}
 use Rattle.sql_tables.specs.Layouts.{Layout, account_layout, authorization_layout, challenge_layout, formatted_layout, key_layout, nonce_layout, order_layout}
 use Rattle.sql_tables.proofs.Inserts.{Carries}
 use Rattle.sql_tables.proofs.InsertStatement.{IsInsert, advances_inserted}

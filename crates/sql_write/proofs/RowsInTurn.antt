@@ -1,19 +1,16 @@
 -- Rows of one table, and changes, made one after the other inside a transaction.
-use Rattle.std.proofs.Common.{zero, suc, arith, ◌≡◌, ◌≢◌, Result, Ok, Err, ℕ, ◌+◌, ◌<◌, ◌++◌, List, [], ◌∷◌, Option, Some, None, take, drop, get_or}
+use Rattle.std.proofs.Common.{zero, suc, arith, ◌≡◌, ◌≢◌, ℕ, ◌+◌, ◌<◌, ◌++◌, List, [], ◌∷◌, Option, Some, None, take, drop, get_or}
 use Rattle.std.proofs.Common.{length, refl, sym, ap, subst, ◌∙◌, add-one, append-nil}
 use Rattle.std.specs.List.{cons_option}
-use Rattle.std.specs.Prelude.{ℤ, IfErr, IsOk, option_map, option_to_list, pos}
+use Rattle.std.specs.Prelude.{option_map, option_to_list}
 use Rattle.std.proofs.{Math.Seq.take-suc, lemmas.List.Elements.filter_map-append}
 use Rattle.std.proofs.lemmas.List.{append_assoc, map-append, take-append-drop}
 use Rattle.sqlite.specs.{Effect.Database, Order.Row}
-use Rattle.store_columns.specs.Columns.{known_format, listed_columns}
 use Rattle.store_columns.specs.Flat.{answer_key, key_rows, owned_by}
 use Rattle.store_columns.specs.declared.flat_rows.{AnswerKey.AnswerKey, Owned.Owned}
 use Rattle.desk_model.specs.Change.{applied, applied_one, put}
 use Rattle.desk_model.specs.{Kept.EachOf, Tables.Tables}
-use Rattle.desk_model.specs.declared.rows.{ChallengeRow.ChallengeRow, Change.Change, Counters.Counters, Listed.Listed, Meta.Meta}
-use Rattle.sql_schema.proofs.AdvanceLemmas.{advances_as}
-use Rattle.sql_schema.specs.Advances.{Advances}
+use Rattle.desk_model.specs.declared.rows.{ChallengeRow.ChallengeRow, Change.Change, Counters.Counters, Listed.Listed}
 use Rattle.sql_write.specs.Fitting.{AreFit, IsFit}
 use Rattle.model_laws.specs.Placing.{puts}
 use Rattle.sql_write.specs.Makes.{AddsOrPuts, AppendsAll, AppendsOrPlaces, ArePlaced, Makes, MakesAll, PlacesAll, PutsAll, PutsAllOver, PutsOver}
@@ -29,8 +26,7 @@ use Rattle.sql_write.proofs.KnownRows.{known_first, known_next, known_stands}
 use Rattle.sql_tables.specs.Effects.{Appends, Places, Puts, is_same_place}
 use Rattle.sql_tables.specs.Hidden.{IsPlaced, next, number}
 use Rattle.sql_tables.specs.Holds.{Holds}
-use Rattle.sql_tables.specs.Images.{formatted_columns, meta_kept}
-use Rattle.sql_tables.specs.Layouts.{HasRows, Layout, formatted_layout, key_layout, listed_layout, nonce_layout}
+use Rattle.sql_tables.specs.Layouts.{HasRows, Layout, key_layout, listed_layout}
 use Rattle.sql_tables.proofs.InsertStatement.{added_puts}
 
 -- ---- one row

@@ -17,7 +17,6 @@ use Rattle.sql_write.specs.{Committing.IsBeforeCommit, Numbers.IsNotTooLarge}
 use Rattle.sql_write.specs.Statements.{Sql, defines, defines_before}
 use Rattle.sql_write.specs.declared.fault.SaveFault.{SaveFault}
 use Rattle.sql_write.specs.declared.fault.SaveFault.TheVariants as save
-use Rattle.sql_write.specs.declared.fault.WriteFault.TheVariants as writefault
 
 -- a result with a fault in the place of its error
 abbrev pub IsTold : Result (Unit {0}) SaveFault → Result (Unit {0}) Error → Type 0

@@ -1,4 +1,4 @@
-use Rattle.std.proofs.Common.{◌∙◌, ◌+◌, arith, refl, rules}
+use Rattle.std.proofs.Common.{◌∙◌, arith, refl, rules}
 use Rattle.std.specs.Prelude.{option_copied}
 use Rattle.sql_write.specs.{Fits.FitsChallenge, Makes.key_under, Statements.sets_answer}
 use Rattle.sql_write.proofs.RowsInTurn.{each_owned, keys_turns}

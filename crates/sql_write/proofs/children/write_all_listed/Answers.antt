@@ -1,4 +1,4 @@
-use Rattle.std.proofs.Common.{◌∙◌, ◌+◌, arith, refl, rules}
+use Rattle.std.proofs.Common.{◌∙◌, arith, refl, rules}
 use Rattle.sql_write.specs.{Fits.FitsListed, Statements.writes_listed}
 use Rattle.sql_write.proofs.RowsInTurn.{each_owned, listed_turns}
 use Rattle.sql_write.proofs.Written.{turned_all, turned_more, turned_none, turned_until}

@@ -1,4 +1,4 @@
-use Rattle.std.proofs.Common.{◌∙◌, ◌+◌, arith, refl, rules}
+use Rattle.std.proofs.Common.{◌∙◌, arith, refl, rules}
 use Rattle.sql_write.specs.{Fits.FitsKey, declared.write.Write.TheVariants.Upsert}
 use Rattle.sql_write.specs.Statements.{key_writing, writes}
 use Rattle.sql_write.proofs.RowsInTurn.{each_at, put_turns}
