@@ -1,49 +1,45 @@
 -- What of a row is bound as a number.
-use Rattle.std.specs.Prelude.{◌≡◌}
 use Rattle.store_columns.specs.declared.columns.{AccountColumns.AccountColumns, AuthzColumns.AuthzColumns, ChallColumns.ChallColumns, MetaColumns.MetaColumns}
 use Rattle.store_columns.specs.declared.columns.{OrderColumns.OrderColumns}
 use Rattle.sql_write.specs.declared.{accounts.AccountNumbers.AccountNumbers, authorizations.AuthorizationNumbers.AuthorizationNumbers}
 use Rattle.sql_write.specs.declared.{challenges.ChallengeNumbers.ChallengeNumbers, meta.MetaNumbers.MetaNumbers, orders.OrderNumbers.OrderNumbers}
 
 -- the numbers of the row of `meta` with these columns
-pub record AreMetaNumbers (columns : MetaColumns) (numbers : MetaNumbers) : Type 0 where
-  pub nonce_life : numbers.nonce_life ≡ columns.nonce_life
-  pub order_life : numbers.order_life ≡ columns.order_life
-  pub authz_life : numbers.authz_life ≡ columns.authz_life
-  pub clock : numbers.clock ≡ columns.clock
-  pub nonces : numbers.nonces ≡ columns.nonces
-  pub accounts : numbers.accounts ≡ columns.accounts
-  pub orders : numbers.orders ≡ columns.orders
-  pub authzs : numbers.authzs ≡ columns.authzs
-  pub challs : numbers.challs ≡ columns.challs
+abbrev pub meta_numbers : MetaColumns → MetaNumbers
+meta_numbers c =
+    record {
+      nonce_life = c.nonce_life;
+      order_life = c.order_life;
+      authz_life = c.authz_life;
+      clock = c.clock;
+      nonces = c.nonces;
+      accounts = c.accounts;
+      orders = c.orders;
+      authzs = c.authzs;
+      challs = c.challs;
+    }
 
 -- the numbers and dates of an account
-pub record AreAccountNumbers (columns : AccountColumns) (numbers : AccountNumbers) : Type 0 where
-  pub number : numbers.number ≡ columns.num
-  pub opened : numbers.opened ≡ columns.opened
-  pub ended : numbers.ended ≡ columns.ended
+abbrev pub account_numbers : AccountColumns → AccountNumbers
+account_numbers c = record { number = c.num; opened = c.opened; ended = c.ended }
 
 -- of an order
-pub record AreOrderNumbers (columns : OrderColumns) (numbers : OrderNumbers) : Type 0 where
-  pub number : numbers.number ≡ columns.num
-  pub account : numbers.account ≡ columns.account
-  pub made : numbers.made ≡ columns.made
-  pub expires : numbers.expires ≡ columns.expires
-  pub finalized : numbers.finalized ≡ columns.finalized
-  pub certified : numbers.certified ≡ columns.certified
-  pub failed : numbers.failed ≡ columns.failed
+abbrev pub order_numbers : OrderColumns → OrderNumbers
+order_numbers c =
+    record {
+      number = c.num;
+      account = c.account;
+      made = c.made;
+      expires = c.expires;
+      finalized = c.finalized;
+      certified = c.certified;
+      failed = c.failed;
+    }
 
 -- of an authorization
-pub record AreAuthorizationNumbers (columns : AuthzColumns) (numbers : AuthorizationNumbers) : Type 0 where
-  pub number : numbers.number ≡ columns.num
-  pub account : numbers.account ≡ columns.account
-  pub made : numbers.made ≡ columns.made
-  pub expires : numbers.expires ≡ columns.expires
-  pub ended : numbers.ended ≡ columns.ended
+abbrev pub authorization_numbers : AuthzColumns → AuthorizationNumbers
+authorization_numbers c = record { number = c.num; account = c.account; made = c.made; expires = c.expires; ended = c.ended }
 
 -- of a challenge
-pub record AreChallengeNumbers (columns : ChallColumns) (numbers : ChallengeNumbers) : Type 0 where
-  pub number : numbers.number ≡ columns.num
-  pub authorization : numbers.authorization ≡ columns.authz
-  pub answered : numbers.answered ≡ columns.answered
-  pub reported : numbers.reported ≡ columns.reported
+abbrev pub challenge_numbers : ChallColumns → ChallengeNumbers
+challenge_numbers c = record { number = c.num; authorization = c.authz; answered = c.answered; reported = c.reported }

@@ -4,7 +4,7 @@ ghost use Rattle.sqlite.specs.Values.{bound, bound_value};
 ghost use Rattle.sqlite_value.specs.Value.{owned};
 ghost use Rattle.store_columns.specs.Columns.{account_columns, account_end_columns};
 ghost use Rattle.store_columns.specs.Spelling.{contacts_text};
-ghost use Rattle.sql_write.specs.{Bound.AreAccountNumbers, Fits.FitsAccount, Makes.Writes, Numbers.IsNotTooLarge, Refusals.HasWritten};
+ghost use Rattle.sql_write.specs.{Bound.account_numbers, Fits.FitsAccount, Makes.Writes, Numbers.IsNotTooLarge, Refusals.HasWritten};
 ghost use Rattle.sql_write.specs.Statements.{account_writing, writes};
 ghost use Rattle.sql_write.specs.declared.fault.WriteFault.TheVariants.{Memory};
 ghost use Rattle.sql_tables.specs.Images.{account_kept, account_moved, account_params, text_or_null};
@@ -42,7 +42,7 @@ fn account_end<'a>(end: Option<AccountEnd>) -> ValueRef<'a>
 
 // The numbers and dates of an account.
 fn account_numbers(row: &AccountRow) -> Result<AccountNumbers, WriteFault>
-    ensures numbers { IfOk result (AreAccountNumbers (account_columns row.now)) }
+    ensures numbers { IfOk result (λ numbers. numbers ≡ account_numbers (account_columns row.now)) }
     ensures fits { FitsAccount row.now → IsOk result }
 {
     Ok(AccountNumbers {
@@ -66,7 +66,7 @@ fn account_values<'a>(
     numbers: &AccountNumbers,
     contacts: &'a Text,
 ) -> ([ValueRef<'a>; 7], [ValueRef<'a>; 6])
-    requires numbers { AreAccountNumbers (account_columns row.now) numbers.now }
+    requires numbers { numbers.now ≡ account_numbers (account_columns row.now) }
     requires contacts { contacts.now ≡ contacts_text row.now.contacts }
     ensures all { bound result.0 ≡ account_params (account_columns row.now) }
     ensures moved { bound result.1 ≡ account_moved (account_columns row.now) }

@@ -3,7 +3,7 @@ ghost use Rattle.std.specs.Prelude.{◌≡◌, IfErr, IfOk, IsOk};
 ghost use Rattle.sqlite.specs.Values.{bound, bound_value};
 ghost use Rattle.sqlite_value.specs.Value.{owned};
 ghost use Rattle.store_columns.specs.Columns.{authorization_columns, authorization_end_columns};
-ghost use Rattle.sql_write.specs.{Bound.AreAuthorizationNumbers, Fits.FitsAuthorization, Makes.Writes, Numbers.IsNotTooLarge, Refusals.HasWritten};
+ghost use Rattle.sql_write.specs.{Bound.authorization_numbers, Fits.FitsAuthorization, Makes.Writes, Numbers.IsNotTooLarge, Refusals.HasWritten};
 ghost use Rattle.sql_write.specs.Statements.{authorization_writing, writes};
 ghost use Rattle.sql_tables.specs.Images.{authorization_kept, authorization_moved, authorization_params, text_or_null};
 ghost use Rattle.sql_tables.specs.Layouts.{authorization_layout};
@@ -40,7 +40,7 @@ fn authorization_end<'a>(end: Option<AuthorizationEnd>) -> ValueRef<'a>
 
 // The numbers and dates of an authorization.
 fn authorization_numbers(row: &AuthorizationRow) -> Result<AuthorizationNumbers, WriteFault>
-    ensures numbers { IfOk result (AreAuthorizationNumbers (authorization_columns row.now)) }
+    ensures numbers { IfOk result (λ numbers. numbers ≡ authorization_numbers (authorization_columns row.now)) }
     ensures fits { FitsAuthorization row.now → IsOk result }
 {
     Ok(AuthorizationNumbers {
@@ -57,7 +57,7 @@ fn authorization_values<'a>(
     row: &'a AuthorizationRow,
     numbers: &AuthorizationNumbers,
 ) -> ([ValueRef<'a>; 9], [ValueRef<'a>; 4])
-    requires { AreAuthorizationNumbers (authorization_columns row.now) numbers.now }
+    requires { numbers.now ≡ authorization_numbers (authorization_columns row.now) }
     ensures all { bound result.0 ≡ authorization_params (authorization_columns row.now) }
     ensures moved { bound result.1 ≡ authorization_moved (authorization_columns row.now) }
 {

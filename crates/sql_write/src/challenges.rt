@@ -4,7 +4,7 @@ ghost use Rattle.sqlite.specs.Values.{bound, bound_value};
 ghost use Rattle.sqlite_value.specs.Value.{owned};
 ghost use Rattle.store_columns.specs.Columns.{challenge_columns, report_columns};
 ghost use Rattle.store_columns.specs.Flat.{bare_row};
-ghost use Rattle.sql_write.specs.{Bound.AreChallengeNumbers, Fits.FitsChallenge, Makes.Writes, Numbers.IsNotTooLarge, Refusals.HasWritten};
+ghost use Rattle.sql_write.specs.{Bound.challenge_numbers, Fits.FitsChallenge, Makes.Writes, Numbers.IsNotTooLarge, Refusals.HasWritten};
 ghost use Rattle.sql_write.specs.Statements.{challenge_writing, writes};
 ghost use Rattle.sql_tables.specs.Images.{challenge_kept, challenge_moved, challenge_params, text_or_null};
 ghost use Rattle.sql_tables.specs.Layouts.{challenge_layout};
@@ -40,7 +40,7 @@ fn outcome<'a>(report: Option<Report>) -> ValueRef<'a>
 
 // The numbers and dates of a challenge of this authorization.
 fn challenge_numbers(authorization: u64, row: &ChallengeRow) -> Result<ChallengeNumbers, WriteFault>
-    ensures numbers { IfOk result (AreChallengeNumbers (challenge_columns (bare_row (record { owner = authorization; row = row.now })))) }
+    ensures numbers { IfOk result (λ numbers. numbers ≡ challenge_numbers (challenge_columns (bare_row (record { owner = authorization; row = row.now })))) }
     ensures fits { FitsChallenge (record { owner = authorization; row = row.now }) → IsOk result }
 {
     Ok(ChallengeNumbers {
@@ -56,9 +56,9 @@ fn challenge_values<'a>(
     row: &'a ChallengeRow,
     numbers: &ChallengeNumbers,
 ) -> ([ValueRef<'a>; 8], [ValueRef<'a>; 5])
-    ensures all { (authorization : ℕ) → AreChallengeNumbers (challenge_columns (bare_row (record { owner = authorization; row = row.now }))) numbers.now
+    ensures all { (authorization : ℕ) → numbers.now ≡ challenge_numbers (challenge_columns (bare_row (record { owner = authorization; row = row.now })))
         → bound result.0 ≡ challenge_params (challenge_columns (bare_row (record { owner = authorization; row = row.now }))) }
-    ensures moved { (authorization : ℕ) → AreChallengeNumbers (challenge_columns (bare_row (record { owner = authorization; row = row.now }))) numbers.now
+    ensures moved { (authorization : ℕ) → numbers.now ≡ challenge_numbers (challenge_columns (bare_row (record { owner = authorization; row = row.now })))
         → bound result.1 ≡ challenge_moved (challenge_columns (bare_row (record { owner = authorization; row = row.now }))) }
 {
     let all = [

@@ -2,7 +2,7 @@
 ghost use Rattle.std.specs.Prelude.{◌≡◌, IfErr, IfOk, IsOk};
 ghost use Rattle.sqlite.specs.Values.{bound};
 ghost use Rattle.store_columns.specs.Columns.{known_format, meta_columns};
-ghost use Rattle.sql_write.specs.{Bound.AreMetaNumbers, Fits.FitsMeta, Makes.RenewsOrPuts, Numbers.IsNotTooLarge, Refusals.HasWritten};
+ghost use Rattle.sql_write.specs.{Bound.meta_numbers, Fits.FitsMeta, Makes.RenewsOrPuts, Numbers.IsNotTooLarge, Refusals.HasWritten};
 ghost use Rattle.sql_write.specs.Statements.{meta_writing, writes};
 ghost use Rattle.sql_tables.specs.Images.{formatted_columns, meta_kept, meta_moved, meta_params};
 ghost use Rattle.sql_tables.specs.Layouts.{formatted_layout};
@@ -34,7 +34,7 @@ struct MetaNumbers {
 
 // The numbers of the row.
 fn meta_numbers(row: &Meta) -> Result<MetaNumbers, WriteFault>
-    ensures numbers { IfOk result (AreMetaNumbers (meta_columns row.now)) }
+    ensures numbers { IfOk result (λ numbers. numbers ≡ meta_numbers (meta_columns row.now)) }
     ensures fits { FitsMeta row.now → IsOk result }
 {
     let counters = &row.counters;
@@ -53,7 +53,7 @@ fn meta_numbers(row: &Meta) -> Result<MetaNumbers, WriteFault>
 
 // The parameters for the row, of which these are the numbers: all, and those that renew it.
 fn meta_values<'a>(row: &'a Meta, numbers: &MetaNumbers) -> ([ValueRef<'a>; 12], [ValueRef<'a>; 7])
-    requires { AreMetaNumbers (meta_columns row.now) numbers.now }
+    requires { numbers.now ≡ meta_numbers (meta_columns row.now) }
     ensures all { bound result.0 ≡ meta_params (meta_columns row.now) }
     ensures moved { bound result.1 ≡ meta_moved (meta_columns row.now) }
 {

@@ -3,7 +3,7 @@ ghost use Rattle.std.specs.Prelude.{◌≡◌, IfErr, IfOk, IsOk};
 ghost use Rattle.sqlite.specs.Values.{bound, bound_value};
 ghost use Rattle.sqlite_value.specs.Value.{owned};
 ghost use Rattle.store_columns.specs.Columns.{dated_bytes_columns, dated_problem_columns, order_columns};
-ghost use Rattle.sql_write.specs.{Bound.AreOrderNumbers, Fits.FitsOrder, Makes.Writes, Numbers.IsNotTooLarge, Refusals.HasWritten};
+ghost use Rattle.sql_write.specs.{Bound.order_numbers, Fits.FitsOrder, Makes.Writes, Numbers.IsNotTooLarge, Refusals.HasWritten};
 ghost use Rattle.sql_write.specs.Statements.{order_writing, writes};
 ghost use Rattle.sql_tables.specs.Images.{blob_or_null, order_kept, order_moved, order_params};
 ghost use Rattle.sql_tables.specs.Layouts.{order_layout};
@@ -35,7 +35,7 @@ struct OrderNumbers {
 
 // The numbers and dates of an order.
 fn order_numbers(row: &OrderRow) -> Result<OrderNumbers, WriteFault>
-    ensures numbers { IfOk result (AreOrderNumbers (order_columns row.now)) }
+    ensures numbers { IfOk result (λ numbers. numbers ≡ order_numbers (order_columns row.now)) }
     ensures fits { FitsOrder row.now → IsOk result }
 {
     Ok(OrderNumbers {
@@ -79,7 +79,7 @@ fn order_values<'a>(
     numbers: &OrderNumbers,
     problem: &'a Option<Text>,
 ) -> ([ValueRef<'a>; 11], [ValueRef<'a>; 8])
-    requires numbers { AreOrderNumbers (order_columns row.now) numbers.now }
+    requires numbers { numbers.now ≡ order_numbers (order_columns row.now) }
     requires problem { problem.now ≡ (order_columns row.now).problem }
     ensures all { bound result.0 ≡ order_params (order_columns row.now) }
     ensures moved { bound result.1 ≡ order_moved (order_columns row.now) }
