@@ -56,4 +56,4 @@ key_of_answer n c k is fits = by c.answered is
   where
     by : (a : Option Answer) → key_of c.number a ≡ Some k → FitsKey k
     by None is = absurd (cc is)
-    by (Some a) is = let same : record { challenge = c.number; thumb = a.thumb } ≡ k = cc is in subst FitsKey same fits.number
+    by (Some a) is = let same : record { challenge = c.number; thumb = a.thumb } ≡ k = cc is in subst FitsKey same fits.each.0

@@ -1,5 +1,6 @@
 -- Which rows an INTEGER column can take: each number is at most 2^63 - 1.
-use Rattle.std.specs.Prelude.{ℕ, ◌<◌, ◌^◌}
+use Rattle.std.specs.Prelude.{ℕ, ◌<◌, ◌^◌, List, [], ◌∷◌, Option, option_map}
+use Rattle.desk_model.specs.Kept.{EachOf}
 use Rattle.desk_model.specs.declared.{objects.Nonce.Nonce, rows.AccountRow.AccountRow, rows.AuthorizationRow.AuthorizationRow, rows.ChallengeRow.ChallengeRow}
 use Rattle.desk_model.specs.declared.{rows.Listed.Listed, rows.Meta.Meta, rows.OrderRow.OrderRow}
 use Rattle.store_columns.specs.Limits.{IfRecorded}
@@ -26,42 +27,34 @@ pub record FitsNonce (row : Nonce) : Type 0 where
   pub serial : Fits row.serial
   pub issued : Fits row.issued
 
+-- each of these numbers, and of these dates each that is recorded
+pub record FitAll (numbers : List ℕ) (dates : List (Option ℕ)) : Type 0 where
+  pub each : EachOf Fits numbers
+  pub dated : EachOf (IfRecorded Fits) dates
+
 -- a row of `account`
-pub record FitsAccount (row : AccountRow) : Type 0 where
-  pub number : Fits row.number
-  pub opened : Fits row.opened
-  pub ended : IfRecorded (λ end. Fits end.date) row.ended
+abbrev pub FitsAccount : AccountRow → Type 0
+FitsAccount row = FitAll (row.number ∷ row.opened ∷ []) (option_map (λ end. end.date) row.ended ∷ [])
 
 -- a row of `ord`
-pub record FitsOrder (row : OrderRow) : Type 0 where
-  pub number : Fits row.number
-  pub account : Fits row.account
-  pub made : Fits row.made
-  pub expires : Fits row.expires
-  pub finalized : IfRecorded (λ kept. Fits kept.date) row.finalized
-  pub certified : IfRecorded (λ kept. Fits kept.date) row.certified
-  pub failed : IfRecorded (λ failure. Fits failure.date) row.failed
+abbrev pub FitsOrder : OrderRow → Type 0
+FitsOrder row =
+    FitAll (row.number ∷ row.account ∷ row.made ∷ row.expires ∷ [])
+    (option_map (λ kept. kept.date) row.finalized ∷ option_map (λ kept. kept.date) row.certified ∷ option_map (λ failure. failure.date) row.failed ∷ [])
 
 -- a row of `authz`
-pub record FitsAuthorization (row : AuthorizationRow) : Type 0 where
-  pub number : Fits row.number
-  pub account : Fits row.account
-  pub made : Fits row.made
-  pub expires : Fits row.expires
-  pub ended : IfRecorded (λ end. Fits end.date) row.ended
+abbrev pub FitsAuthorization : AuthorizationRow → Type 0
+FitsAuthorization row = FitAll (row.number ∷ row.account ∷ row.made ∷ row.expires ∷ []) (option_map (λ end. end.date) row.ended ∷ [])
 
 -- a row of `ord_authz`
-pub record FitsListed (row : Owned Listed) : Type 0 where
-  pub order : Fits row.owner
-  pub place : Fits row.row.place
-  pub authorization : Fits row.row.authorization
+abbrev pub FitsListed : Owned Listed → Type 0
+FitsListed row = FitAll (row.owner ∷ row.row.place ∷ row.row.authorization ∷ []) []
 
 -- a row of `chall`
-pub record FitsChallenge (row : Owned ChallengeRow) : Type 0 where
-  pub number : Fits row.row.number
-  pub authorization : Fits row.owner
-  pub answered : IfRecorded (λ a. Fits a.date) row.row.answered
-  pub reported : IfRecorded (λ report. Fits report.date) row.row.reported
+abbrev pub FitsChallenge : Owned ChallengeRow → Type 0
+FitsChallenge row =
+    FitAll (row.row.number ∷ row.owner ∷ [])
+    (option_map (λ answer. answer.date) row.row.answered ∷ option_map (λ report. report.date) row.row.reported ∷ [])
 
 -- a row of `chall_key`
 abbrev pub FitsKey : AnswerKey → Type 0
