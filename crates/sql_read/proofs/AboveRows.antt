@@ -7,8 +7,8 @@ use Rattle.std.proofs.lemmas.List.{map-append, take-map}
 use Rattle.std.proofs.lemmas.Simd.{map-map}
 use Rattle.sqlite.specs.Held.{Held, state}
 use Rattle.sqlite.specs.Store.{Ghosts}
-use Rattle.store_columns.specs.Flat.{bare, bare_row, challenge_rows, owned_by}
-use Rattle.store_columns.specs.declared.flat_rows.{BareChallenge.BareChallenge, Owned.Owned}
+use Rattle.store_columns.specs.Flat.{bare_row, challenge_rows, owned_by}
+use Rattle.store_columns.specs.declared.flat_rows.Owned.{Owned}
 use Rattle.model_laws.proofs.RowLists.{put_before, put_past}
 use Rattle.model_laws.specs.Distinct.{Distinct}
 use Rattle.desk_model.specs.{Change.put, Tables.Tables}
@@ -18,13 +18,13 @@ use Rattle.model_lives.specs.Above.{challenges_above, first_of}
 use Rattle.sql_tables.specs.{Holds.Holds, Layouts.challenge_layout, Sorted.sorted_by}
 use Rattle.sql_tables.proofs.Keyed.{ranked}
 use Rattle.sql_tables.proofs.Sorting.{IsApart, each_sorted}
-use Rattle.sql_read.specs.Bounded.{bounded}
+use Rattle.sql_read.specs.{Bounded.bounded, Queries.number}
 use Rattle.sql_read.specs.declared.formats.Format.TheVariants.{Second}
 use Rattle.store_book.specs.IsBook.{IsStoredBook}
 use Rattle.sql_schema.specs.declared.challenges.TheConstants as chall
 use Rattle.sql_read.proofs.{Answered.first_row, KeptRows.challenges_kept, Lists.filter-map, TableFacts.challenge_facts}
 use Rattle.sql_read.proofs.FoundRows.{FindsIn, finds}
-use Rattle.sql_read.proofs.LookUpReadings.{challenge_above_reading, is_higher, number}
+use Rattle.sql_read.proofs.LookUpReadings.{challenge_above_reading, is_higher}
 use Rattle.sql_read.proofs.Tests.{above_bounded, above_test}
 
 -- ---- challenges without their owners
@@ -71,10 +71,13 @@ sorted_owned (c ∷ cs) apart =
     put_inserted c (sorted_by challenge_layout.key cs) (each_sorted challenge_layout.key (λ d. challenge_layout.key c ≢ challenge_layout.key d) cs apart.0)
     ∙ ap (insert_challenge c.row) (sorted_owned cs apart.1)
 
--- the first above a number
-pub first_challenge : (T : Tables) (n : ℕ) → Distinct challenge_layout.key (challenge_rows T.authorizations) → map (λ (c : Owned ChallengeRow). c.row)
-    (first_of (filter (λ (c : Owned ChallengeRow). nat_lt n c.row.number) (sorted_by challenge_layout.key (challenge_rows T.authorizations))))
-    ≡ first_of (challenges_above T n)
+-- the first above a number, under its authorization
+abbrev pub challenges_from : Tables → ℕ → List (Owned ChallengeRow)
+challenges_from T n = first_of (filter (λ c. nat_lt n c.row.number) (sorted_by challenge_layout.key (challenge_rows T.authorizations)))
+
+-- by itself it is the first of the model
+pub first_challenge : (T : Tables) (n : ℕ) → Distinct challenge_layout.key (challenge_rows T.authorizations)
+    → map (λ (c : Owned ChallengeRow). c.row) (challenges_from T n) ≡ first_of (challenges_above T n)
 first_challenge T n apart =
     let all = sorted_by challenge_layout.key (challenge_rows T.authorizations) in
     sym (take-map (λ (c : Owned ChallengeRow). c.row) 1 (filter (λ (c : Owned ChallengeRow). nat_lt n c.row.number) all))
@@ -86,18 +89,8 @@ first_challenge T n apart =
 
 -- a challenge, under its authorization and without the key of its answer
 pub challenge_above_find : {S : Type 0} (g : Ghosts S) (old : Held S) (T : Tables) → Holds (state g old).now T → IsStoredBook T → (n : ℕ)
-    → FindsIn challenge_facts g chall.SELECT_ABOVE.now (number n) old
-    (map bare_row (first_of (filter (λ c. nat_lt n c.row.number) (sorted_by challenge_layout.key (challenge_rows T.authorizations)))))
+    → FindsIn challenge_facts g (chall.SELECT_ABOVE.now, number n) old
+    (map bare_row (challenges_from T n))
 challenge_above_find g old T has book n =
-    finds challenge_facts g first_row _ is_higher _ (challenge_above_reading n) (λ c. nat_lt n c.row.number)
+    finds challenge_facts g first_row (chall.SELECT_ABOVE.now, number n) is_higher (challenge_above_reading n) (λ c. nat_lt n c.row.number)
     (λ c k. above_test c.row.number (bounded n) ∙ above_bounded c.row.number n k.number.1) old T book _ (challenges_kept _ T Second has)
-
--- it is the first of the model, by itself
-pub first_bare : (T : Tables) (n : ℕ) → Distinct challenge_layout.key (challenge_rows T.authorizations) → map (λ (c : Owned BareChallenge). c.row)
-    (map bare_row (first_of (filter (λ c. nat_lt n c.row.number) (sorted_by challenge_layout.key (challenge_rows T.authorizations)))))
-    ≡ map bare (first_of (challenges_above T n))
-first_bare T n apart =
-    let first = first_of (filter (λ (c : Owned ChallengeRow). nat_lt n c.row.number) (sorted_by challenge_layout.key (challenge_rows T.authorizations))) in
-    map-map (λ (c : Owned BareChallenge). c.row) bare_row first
-    ∙ sym (map-map bare (λ (c : Owned ChallengeRow). c.row) first)
-    ∙ ap (map bare) (first_challenge T n apart)

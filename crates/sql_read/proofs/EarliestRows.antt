@@ -1,7 +1,7 @@
 -- The moment that is shown first is the earliest of the table's rows.
 use Rattle.std.proofs.Common.{◌≡◌, ◌≤◌, ◌||◌, ℕ, pos, Bool, true, false, List, [], ◌∷◌, map, filter, Option, None, Some, Ordering, Less, Equal, Greater}
 use Rattle.std.proofs.Common.{refl, sym, ap, subst, ◌∙◌, arith, zero-le}
-use Rattle.std.specs.Prelude.{◌==◌, nat_lt, option_map}
+use Rattle.std.specs.Prelude.{◌==◌, nat_lt, option_map, Result, Ok, Err, IfErr, IfOk, IsErrAnd}
 use Rattle.std.specs.List.{All, AllByRecursion, list_any}
 use Rattle.std.specs.List.Sorted.{IsPermutation, IsSorted}
 use Rattle.std.specs.Ordering.{is_eq, is_lt, ordering_then}
@@ -9,7 +9,8 @@ use Rattle.std.proofs.lemmas.{Bool.eq-eqb, Bool.Decides.nat_tests, List.map-id, 
 use Rattle.std.proofs.lemmas.List.Sorted.{IsPermutation-sym, list_any-IsPermutation, ranks_by, sorted_far}
 use Rattle.sqlite.specs.declared.types.Value.TheVariants.{Int}
 use Rattle.sqlite.specs.Held.{Held, state}
-use Rattle.sqlite.specs.State.{State, Shown}
+use Rattle.sqlite.specs.State.{State, FailsToQuery, HasCleanDisk, IsUnchanged, Shown}
+use Rattle.sqlite.specs.declared.error.Error.{Error}
 use Rattle.sqlite.specs.Store.{Ghosts}
 use Rattle.sqlite_value.specs.Order.{Row}
 use Rattle.sqlite_value.proofs.OrderLemmas.{value_cmp-Int}
@@ -29,15 +30,17 @@ use Rattle.sql_tables.specs.Holds.{Holds}
 use Rattle.sql_tables.specs.Layouts.{HasRows, Layout, authorization_layout, nonce_layout, order_layout}
 use Rattle.sql_tables.proofs.Holding.{authorizations_held, nonces_held, orders_held}
 use Rattle.sql_tables.proofs.Keyed.{three}
-use Rattle.sql_read.specs.Earliest.{IsEarliest, authorization_ends, first_number, issues, order_ends}
-use Rattle.sql_read.specs.Failures.{MayRead}
-use Rattle.sql_read.specs.LookUpFaults.{BeginWithMoment, IsSureQuery}
+use Rattle.sql_read.specs.{Earliest.FindsEarliest, Earliest.IsEarliest, Earliest.TellsEarliest, Failures.IsMet}
+use Rattle.sql_read.specs.Earliest.{authorization_ends, first_number, issues, order_ends}
+use Rattle.sql_read.specs.LookUpFaults.{BeginWithMoment, IsOfMemory, IsOfMemoryOrDisk}
+use Rattle.sql_read.specs.declared.fault.{ReadFault.ReadFault, ReadFault.TheVariants.Engine}
+use Rattle.sql_schema.specs.Stays.{Asks}
 use Rattle.sql_schema.specs.Schema.{desk_schema}
 use Rattle.sql_schema.specs.declared.authorizations.TheConstants as authz
 use Rattle.sql_schema.specs.declared.nonces.TheConstants as nonce
 use Rattle.sql_schema.specs.declared.orders.TheConstants as ord
 use Rattle.sql_read.proofs.Answered.{IsOrderedAs, IsReading, answers_up_to, by, first_row, passes, picked}
-use Rattle.sql_read.proofs.{Failing.query_fails, Lists.filter-all}
+use Rattle.sql_read.proofs.{Failing.query_fails, Lists.filter-all, LookUpFaults.of_memory}
 use Rattle.sql_read.proofs.LookUpReadings.{authorization_end_reading, is_equal, issue_reading, order_end_reading, text}
 use Rattle.sql_read.proofs.StatusTests.{authorization_status_test, order_status_test}
 use Rattle.sql_read.proofs.Tests.{eq_as, lt_as, text_test}
@@ -137,12 +140,6 @@ begin_with_moment : (os : List Output) (rows : List Row) → AllByRecursion IsMo
 begin_with_moment [] rows all are = subst BeginWithMoment (sym are) tt
 begin_with_moment (o ∷ os) rows all are = subst BeginWithMoment (sym are) (all.0.0, ap (λ (p : Output). p.1) all.0.1)
 
--- whatever a query shows, the first moment is the earliest of these, and it is sure
-pub record FindsEarliest {S : Type 0} (g : Ghosts S) (text : List ℕ) (params : Row) (old : Held S) (ms : List ℕ) : Type 0 where
-  pub shows : (new : Held S) (rows : List Row) (found : Option ℕ) → Shown text params (state g old) (state g new) rows
-      → option_map (λ m. pos m) found ≡ first_number rows → IsEarliest ms found
-  pub sure : MayRead (state g old) → IsSureQuery g text params old BeginWithMoment
-
 module _ {X : Type 0} (L : Layout X) (end : X → ℕ) (text : List ℕ) (tests : List Term) (place : ℕ) (params : Row) (test : X → Bool)
     (reading : IsReading desk_schema first_row text L.table.tree tests (col 1 place ∷ []) (by place ∷ []) params)
     (low : (db : Trees) → overlay db [] L.table.tree ≡ db L.table.tree) (tests_are : (x : X) → passes tests params (L.image x) ≡ test x)
@@ -158,7 +155,7 @@ module _ {X : Type 0} (L : Layout X) (end : X → ℕ) (text : List ℕ) (tests 
 
   -- so a look-up finds the earliest
   earliest_finds : {S : Type 0} (g : Ghosts S) (old : Held S) (xs : List X) → HasRows L (state g old).now xs
-      → FindsEarliest g text params old (map end (filter test xs))
+      → FindsEarliest g (text, params) old (map end (filter test xs))
   earliest_finds g old xs has =
       let ys = filter test (map (λ (x : X). x) xs) in
       let same : map (λ x. twice (end x)) ys ≡ map twice (map end (filter test xs)) =
@@ -178,21 +175,57 @@ module _ {X : Type 0} (L : Layout X) (end : X → ℕ) (text : List ℕ) (tests 
         };
       }
 
--- whatever its parameters are called
-pub earliest_as : {S : Type 0} {g : Ghosts S} {text : List ℕ} {params values : Row} {old : Held S} {ms : List ℕ} → values ≡ params
-    → FindsEarliest g text params old ms → FindsEarliest g text values old ms
-earliest_as {S} {g} {text} {params} {values} {old} {ms} given finds = subst (λ v. FindsEarliest g text v old ms) (sym given) finds
+-- whatever a query is called
+pub earliest_as : {S : Type 0} {g : Ghosts S} {ask other : List ℕ × Row} {old : Held S} {ms : List ℕ} → other ≡ ask → FindsEarliest g ask old ms
+    → FindsEarliest g other old ms
+earliest_as {S} {g} {ask} {other} {old} {ms} same finds = subst (λ a. FindsEarliest g a old ms) (sym same) finds
+
+module _ {S : Type 0} {g : Ghosts S} {old new : Held S} {ask : List ℕ × Row} {moments : Tables → List ℕ}
+    (finds : (T : Tables) → Holds (state g old).now T → FindsEarliest g ask old (moments T)) where
+  -- what was read tells the earliest
+  pub earliest_told : (rows : List Row) (r : Result (Option ℕ) ReadFault)
+      → (HasCleanDisk (state g new) → Shown ask.0 ask.1 (state g old) (state g new) rows)
+      → (HasCleanDisk (state g new) → IsUnchanged (state g old) (state g new)) → Asks (state g old) (state g new)
+      → IfOk r (λ found. option_map (λ m. pos m) found ≡ first_number rows) → (BeginWithMoment rows → IfErr r IsOfMemory)
+      → TellsEarliest g old new moments r
+  earliest_told rows (Ok found) shown same asks first memory = record {
+    found = λ clean T has. (finds T has).shows new rows found (shown clean) first;
+    caused = λ clean T has book may. tt;
+    unchanged = same;
+    asks = asks;
+  }
+  earliest_told rows (Err fault) shown same asks first memory = record {
+    found = λ clean T has. tt;
+    caused = λ clean T has book may.
+        of_memory (state g old) (state g new) fault (memory (((finds T has).sure may).shows new rows (shown clean)));
+    unchanged = λ clean. tt;
+    asks = asks;
+  }
+
+  -- nothing was read
+  pub earliest_failed : (r : Result (Option ℕ) ReadFault) (error : Error)
+      → (HasCleanDisk (state g new) → FailsToQuery ask.0 ask.1 (state g old) (state g new) error)
+      → (HasCleanDisk (state g new) → IsMet (state g old) (state g new) error) → Asks (state g old) (state g new)
+      → IsErrAnd r (λ fault. fault ≡ Engine error) → TellsEarliest g old new moments r
+  earliest_failed (Ok found) error fails met asks same = absurd same
+  earliest_failed (Err fault) error fails met asks same = record {
+    found = λ clean T has. tt;
+    caused = λ clean T has book may.
+        subst (IsOfMemoryOrDisk (state g old) (state g new)) (sym same) (((finds T has).sure may).fails new error (fails clean), met clean);
+    unchanged = λ clean. tt;
+    asks = asks;
+  }
 
 module _ {S : Type 0} (g : Ghosts S) (old : Held S) (T : Tables) (has : Holds (state g old).now T) where
   -- of nonces
-  pub issue_find : FindsEarliest g nonce.SELECT_EARLIEST.now [] old (issues T)
+  pub issue_find : FindsEarliest g (nonce.SELECT_EARLIEST.now, []) old (issues T)
   issue_find =
-      subst (λ ns. FindsEarliest g nonce.SELECT_EARLIEST.now [] old (map (λ (n : Nonce). n.issued) ns)) (filter-all T.nonces)
+      subst (λ ns. FindsEarliest g (nonce.SELECT_EARLIEST.now, []) old (map (λ (n : Nonce). n.issued) ns)) (filter-all T.nonces)
       (earliest_finds nonce_layout (λ n. n.issued) nonce.SELECT_EARLIEST.now [] 3 [] (λ _. true) issue_reading (λ _. refl) (λ _. refl) (λ _. refl)
       g old T.nonces (nonces_held _ T has))
 
   -- of orders of a status
-  pub order_end_find : (status : OrderStatus) → FindsEarliest g ord.SELECT_EARLIEST.now (text (order_status_text status)) old (order_ends T status)
+  pub order_end_find : (status : OrderStatus) → FindsEarliest g (ord.SELECT_EARLIEST.now, text (order_status_text status)) old (order_ends T status)
   order_end_find status =
       earliest_finds order_layout (λ o. o.expires) ord.SELECT_EARLIEST.now (is_equal order_status_at) 4 (text (order_status_text status))
       (λ o. order_code o.status == order_code status) (order_end_reading status) (λ _. refl)
@@ -201,7 +234,7 @@ module _ {S : Type 0} (g : Ghosts S) (old : Held S) (T : Tables) (has : Holds (s
 
   -- of authorizations of a status
   pub authorization_end_find : (status : AuthzStatus)
-      → FindsEarliest g authz.SELECT_EARLIEST.now (text (authorization_status_text status)) old (authorization_ends T status)
+      → FindsEarliest g (authz.SELECT_EARLIEST.now, text (authorization_status_text status)) old (authorization_ends T status)
   authorization_end_find status =
       earliest_finds authorization_layout (λ r. r.expires) authz.SELECT_EARLIEST.now (is_equal authorization_status_at) 6
       (text (authorization_status_text status)) (λ r. authz_code r.status == authz_code status) (authorization_end_reading status) (λ _. refl)

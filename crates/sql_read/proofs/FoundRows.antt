@@ -4,7 +4,7 @@ use Rattle.std.proofs.lemmas.Simd.{map-map}
 use Rattle.sqlite_value.specs.Order.{Row}
 use Rattle.sqlite_sql.specs.Query.{as_count}
 use Rattle.sqlite_sql.specs.Term.{Term, eval}
-use Rattle.sqlite.specs.{Effect.Database, Schema.Schema, State.Shown, Store.Ghosts}
+use Rattle.sqlite.specs.{Effect.Database, Schema.Schema, Store.Ghosts}
 use Rattle.sqlite.specs.Held.{Held, state}
 use Rattle.store_columns.specs.{Flat.flat, Laws.AreToldApart, Limits.AreStored}
 use Rattle.store_columns.proofs.RowsApart.{table-apart}
@@ -12,8 +12,8 @@ use Rattle.model_laws.proofs.Basics.{each-map, each_of_map}
 use Rattle.model_laws.proofs.Keeps.{each-filter}
 use Rattle.desk_model.specs.{Kept.EachOf, Tables.Tables}
 use Rattle.sql_schema.specs.Schema.{desk_schema}
-use Rattle.sql_read.specs.Failures.{HasTexts, MayRead}
-use Rattle.sql_read.specs.LookUpFaults.{AreTableRows, IsSureQuery}
+use Rattle.sql_read.specs.Failures.{HasTexts}
+use Rattle.sql_read.specs.{LookUpFaults.AreTableRows, Looking.Finds}
 use Rattle.store_book.specs.IsBook.{IsStoredBook}
 use Rattle.sql_read.proofs.{Answered.by, Failing.query_fails, Lists.each_limited, TableColumns.all_fit}
 use Rattle.sql_read.proofs.KeyedReadings.{HasRowsIn, columns_of, cut, shown_cut}
@@ -46,22 +46,6 @@ table_rows bare write IsStored spelled row back HasText Fits fits xs rows stored
 
 -- ---- look-ups
 
--- whatever a query shows are these rows, and it is sure
-pub record Finds {S R C : Type 0} (g : Ghosts S) (spelled : Row → C) (Fits : Row → Type 0) (write : R → C) (IsStored : R → Type 0) (text : List ℕ)
-    (params : Row)
-    (old : Held S) (found : List R) : Type 0 where
-  pub shows : (new : Held S) (shown : List Row) (heads : List R) → Shown text params (state g old) (state g new) shown → EachOf IsStored heads
-      → map spelled shown ≡ map write heads → heads ≡ found
-  pub sure : MayRead (state g old) → IsSureQuery g text params old (AreTableRows spelled Fits write IsStored)
-
--- whatever its text, its parameters and these rows are called
-pub finds_as : {S R C : Type 0} {g : Ghosts S} {spelled : Row → C} {Fits : Row → Type 0} {write : R → C} {IsStored : R → Type 0} {text other : List ℕ}
-    {params values : Row} {old : Held S} {found : List R}
-    → other ≡ text → values ≡ params → Finds g spelled Fits write IsStored text params old found → Finds g spelled Fits write IsStored other values old found
-finds_as {S} {R} {C} {g} {spelled} {Fits} {write} {IsStored} {text} {other} {params} {values} {old} {found} texts given finds =
-    subst (λ v. Finds g spelled Fits write IsStored other v old found) (sym given)
-    (subst (λ t. Finds g spelled Fits write IsStored t params old found) (sym texts) finds)
-
 -- over this schema a table has these rows, which are in their limits, and whose texts are UTF-8, as those of all tables are
 pub record Keeps {X R C : Type 0} (schema : Schema) (t : TableFacts X R C) (db : Database) (T : Tables) (xs : List X) : Type 0 where
   pub rows : HasRowsIn schema t.layout db xs
@@ -70,19 +54,19 @@ pub record Keeps {X R C : Type 0} (schema : Schema) (t : TableFacts X R C) (db :
 
 module _ {X R C : Type 0} (t : TableFacts X R C) where
   -- of a table of a book
-  abbrev pub FindsIn : {S : Type 0} → Ghosts S → List ℕ → Row → Held S → List R → Type 0
-  FindsIn g text params old found = Finds g t.spelled t.Fits t.write t.IsStored text params old found
+  abbrev pub FindsIn : {S : Type 0} → Ghosts S → List ℕ × Row → Held S → List R → Type 0
+  FindsIn g ask old found = Finds g t.spelled t.Fits t.write t.IsStored ask old found
 
   -- a look-up finds the rows that pass the model's test, where the tests agree on rows in their limits
-  pub finds : {S : Type 0} (g : Ghosts S) (limit : Term) (text : List ℕ) (tests : List Term) (params : Row)
-      → IsReadingOf t desk_schema limit text tests params → (test : X → Bool)
-      → ((x : X) → t.IsStored (t.bare x) → picks t tests params x ≡ test x) → (old : Held S) (T : Tables) → IsStoredBook T
-      → (xs : List X) → Keeps desk_schema t (state g old).now T xs → FindsIn g text params old (map t.bare (cut limit params (filter test xs)))
-  finds g limit text tests params reading test agree old T book xs keeps =
+  pub finds : {S : Type 0} (g : Ghosts S) (limit : Term) (ask : List ℕ × Row) (tests : List Term)
+      → IsReadingOf t desk_schema limit ask.0 tests ask.1 → (test : X → Bool)
+      → ((x : X) → t.IsStored (t.bare x) → picks t tests ask.1 x ≡ test x) → (old : Held S) (T : Tables) → IsStoredBook T
+      → (xs : List X) → Keeps desk_schema t (state g old).now T xs → FindsIn g ask old (map t.bare (cut limit ask.1 (filter test xs)))
+  finds g limit ask tests reading test agree old T book xs keeps =
       let P = λ (x : X). t.IsStored (t.bare x) in
-      let sql = picks t tests params in
-      let count = as_count (eval limit (params ∷ [])) in
-      let ys = cut limit params (filter sql xs) in
+      let sql = picks t tests ask.1 in
+      let count = as_count (eval limit (ask.1 ∷ [])) in
+      let ys = cut limit ask.1 (filter sql xs) in
       let limits = each_of_map t.IsStored t.bare xs (keeps.stored book.stored) in
       let kept : EachOf P ys = each_limited P count (filter sql xs) (each-filter P sql xs limits) in
       let texts = each_limited (λ x. t.HasText (columns t x)) count (filter sql xs)
@@ -92,14 +76,14 @@ module _ {X R C : Type 0} (t : TableFacts X R C) where
             table-apart t.write t.IsStored t.apart heads (map t.bare ys) stored (each-map t.IsStored t.bare ys kept)
             (sym spells
             ∙ columns_of t.spelled t.is.row (columns t) t.is.back ys shown
-            (shown_cut t limit text tests params reading (state g old) (state g new) xs shown keeps.rows h)
+            (shown_cut t limit ask.0 tests ask.1 reading (state g old) (state g new) xs shown keeps.rows h)
             ∙ sym (map-map t.write t.bare ys))
-            ∙ ap (λ zs. map t.bare (cut limit params zs)) (filter-each P sql test agree xs limits);
+            ∙ ap (λ zs. map t.bare (cut limit ask.1 zs)) (filter-each P sql test agree xs limits);
         sure = λ may. record {
-          fails = λ new e. query_fails limit text t.layout.table.tree tests t.project (by 0 ∷ []) params reading (state g old) (state g new) keeps.rows.there e
+          fails = λ new e. query_fails limit ask.0 t.layout.table.tree tests t.project (by 0 ∷ []) ask.1 reading (state g old) (state g new) keeps.rows.there e
               may;
           shows = λ new rows h.
               table_rows t.bare t.write t.IsStored t.spelled t.is.row t.is.back t.HasText t.Fits t.fits ys rows kept texts
-              (shown_cut t limit text tests params reading (state g old) (state g new) xs rows keeps.rows h);
+              (shown_cut t limit ask.0 tests ask.1 reading (state g old) (state g new) xs rows keeps.rows h);
         };
       }

@@ -3,20 +3,18 @@ use Rattle.std.proofs.Common.{◌≡◌, ◌≢◌, ℕ, List, [], ◌∷◌, ma
 use Rattle.std.specs.List.{cons_option}
 use Rattle.std.specs.Prelude.{◌==◌, nat_lt, option_map}
 use Rattle.std.proofs.lemmas.Bool.{eq-eqb, ne_eqb}
-use Rattle.std.proofs.lemmas.{Option.same_Some, Simd.map-map}
-use Rattle.store_columns.specs.Flat.{answer_key, bare, bare_row, challenge_rows, key_rows}
-use Rattle.store_columns.specs.declared.flat_rows.{AnswerKey.AnswerKey, BareChallenge.BareChallenge, Owned.Owned}
-use Rattle.model_laws.proofs.Basics.{each, each-map, each_both}
+use Rattle.std.proofs.lemmas.{Option.same_Some}
+use Rattle.store_columns.specs.Flat.{answer_key, challenge_rows, key_rows}
+use Rattle.store_columns.specs.declared.flat_rows.{AnswerKey.AnswerKey, Owned.Owned}
+use Rattle.model_laws.proofs.Basics.{each, each_both}
 use Rattle.model_laws.proofs.Keeps.{each-filter}
 use Rattle.model_laws.specs.Distinct.{Distinct}
 use Rattle.desk_model.specs.{Kept.EachOf, Legal.is_processing_challenge, Tables.Tables}
 use Rattle.desk_model.specs.declared.{objects.Answer.Answer, rows.ChallengeRow.ChallengeRow}
-use Rattle.model_lives.specs.Above.{challenges_above, first_of}
 use Rattle.sql_tables.specs.Sorted.{sorted_by}
 use Rattle.sql_tables.proofs.Sorting.{each_sorted}
 use Rattle.sql_read.specs.Keys.{HasItsKey, keys_of}
-use Rattle.sql_read.specs.Under.{rows_under}
-use Rattle.sql_read.proofs.{AboveRows.first_challenge, Lists.each_take, Results.read_then}
+use Rattle.sql_read.proofs.{AboveRows.challenges_from, Lists.each_take, Results.read_then}
 
 -- the number of a challenge
 abbrev number : Owned ChallengeRow → ℕ
@@ -107,37 +105,33 @@ with_key {Q} T c date own is serve = by c.answered own is
     by None own is = absurd (let x = is in cc)
     by (Some a) own is = let key : AnswerKey = record { challenge = c.number; thumb = a.thumb } in serve key (own key refl)
 
+-- no answer, where it was not answered
+pub unanswered : (o : Option Answer) → option_map (λ (a : Answer). a.date) o ≡ None → None ≡ o
+unanswered None is = refl
+unanswered (Some a) is = absurd (let x = is in cc)
+
 -- ---- in the tables of a desk
 
--- the bare challenges of one authorization
-pub bare_under : (n : ℕ) (rows : List (Owned ChallengeRow))
-    → map (λ (b : Owned BareChallenge). b.row) (map bare_row (filter (λ c. c.owner == n) rows)) ≡ map bare (rows_under n rows)
-bare_under n rows =
-    let own = filter (λ (c : Owned ChallengeRow). c.owner == n) rows in
-    map-map (λ (b : Owned BareChallenge). b.row) bare_row own ∙ sym (map-map bare (λ (c : Owned ChallengeRow). c.row) own)
-
 module _ (T : Tables) (apart : Distinct number (challenge_rows T.authorizations)) where
-  -- each challenge of an authorization has its key
-  pub keys_under : (n : ℕ) → EachOf (HasItsKey T) (rows_under n (challenge_rows T.authorizations))
+  -- a challenge has its key
+  abbrev HasKey : Owned ChallengeRow → Type 0
+  HasKey c = HasItsKey T c.row
+
+  -- so has each of an authorization
+  pub keys_under : (n : ℕ) → EachOf HasKey (filter (λ c. c.owner == n) (challenge_rows T.authorizations))
   keys_under n =
       let all = challenge_rows T.authorizations in
-      each-map (HasItsKey T) (λ (c : Owned ChallengeRow). c.row) (filter (λ c. c.owner == n) all)
-      (each-filter (λ (c : Owned ChallengeRow). HasItsKey T c.row) (λ c. c.owner == n) all (keys_own all apart))
+      each-filter HasKey (λ c. c.owner == n) all (keys_own all apart)
 
-  -- so has each that waits
-  pub keys_waiting : EachOf (λ c. HasItsKey T c.row) (filter (λ c. is_processing_challenge c.row.status) (sorted_by number (challenge_rows T.authorizations)))
-  keys_waiting =
-      let P = λ (c : Owned ChallengeRow). HasItsKey T c.row in
-      let rows = challenge_rows T.authorizations in
-      each-filter P (λ c. is_processing_challenge c.row.status) (sorted_by number rows) (each_sorted number P rows (keys_own rows apart))
+  -- of all, in the order of their numbers
+  keys_sorted : EachOf HasKey (sorted_by number (challenge_rows T.authorizations))
+  keys_sorted = let all = challenge_rows T.authorizations in each_sorted number HasKey all (keys_own all apart)
+
+  -- each that waits
+  pub keys_waiting : EachOf HasKey (filter (λ c. is_processing_challenge c.row.status) (sorted_by number (challenge_rows T.authorizations)))
+  keys_waiting = each-filter HasKey (λ c. is_processing_challenge c.row.status) (sorted_by number (challenge_rows T.authorizations)) keys_sorted
 
   -- and the first above a number
-  pub keys_above : (n : ℕ) → EachOf (HasItsKey T) (first_of (challenges_above T n))
+  pub keys_above : (n : ℕ) → EachOf HasKey (challenges_from T n)
   keys_above n =
-      let P = λ (c : Owned ChallengeRow). HasItsKey T c.row in
-      let rows = challenge_rows T.authorizations in
-      let all = sorted_by number rows in
-      let above = filter (λ (c : Owned ChallengeRow). nat_lt n c.row.number) all in
-      subst (EachOf (HasItsKey T)) (first_challenge T n apart)
-      (each-map (HasItsKey T) (λ (c : Owned ChallengeRow). c.row) (first_of above)
-      (each_take P 1 above (each-filter P (λ c. nat_lt n c.row.number) all (each_sorted number P rows (keys_own rows apart)))))
+      each_take HasKey 1 _ (each-filter HasKey (λ c. nat_lt n c.row.number) (sorted_by number (challenge_rows T.authorizations)) keys_sorted)

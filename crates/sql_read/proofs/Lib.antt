@@ -16,6 +16,7 @@ pub mod KeyedReadings
 pub mod ListedOrder
 pub mod Lists
 pub mod Loading
+pub mod Looking
 pub mod LookUpFaults
 pub mod LookUpReadings
 pub mod LookUpRows

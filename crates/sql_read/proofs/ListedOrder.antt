@@ -23,15 +23,15 @@ use Rattle.sql_tables.specs.Hidden.{hidden, row_of}
 use Rattle.sql_tables.specs.Holds.{Holds}
 use Rattle.sql_tables.specs.Images.{listed_cells, listed_params}
 use Rattle.sql_tables.proofs.Keyed.{ranked, three}
-use Rattle.sql_read.specs.Bounded.{bounded}
+use Rattle.sql_read.specs.{Bounded.bounded, Looking.Finds, Queries.number}
 use Rattle.sql_read.specs.Spelled.{FitsListed, listed_in}
 use Rattle.sql_schema.specs.Schema.{desk_schema}
 use Rattle.store_book.specs.IsBook.{IsStoredBook}
 use Rattle.sql_schema.specs.declared.listed.TheConstants as ord_authz
 use Rattle.sql_read.proofs.Answered.{IsReading, all_rows, answers, by, less, passes, picked, shown_in_order}
 use Rattle.sql_read.proofs.{Failing.query_fails, KeyedReadings.columns_of}
-use Rattle.sql_read.proofs.FoundRows.{Finds, filter-each, table_rows}
-use Rattle.sql_read.proofs.LookUpReadings.{is_equal, listed_by_reading, listing_reading, number}
+use Rattle.sql_read.proofs.FoundRows.{filter-each, table_rows}
+use Rattle.sql_read.proofs.LookUpReadings.{is_equal, listed_by_reading, listing_reading}
 use Rattle.sql_read.proofs.Tests.{number_test, same_bounded}
 use Rattle.sql_read.proofs.TableColumns.{listed_back, listed_fits, listed_project}
 
@@ -113,7 +113,7 @@ module _ {S : Type 0} (g : Ghosts S) (old : Held S) (T : Tables) (has : Holds (s
   listed_finds : (text : List ℕ) (tests : List Term) (params : Row) (sql test : Owned Listed → Bool)
       → IsReading desk_schema all_rows text 6 tests listed_project (by 1 ∷ by 2 ∷ []) params
       → ((t : ℕ × Owned Listed) → passes tests params (hidden listed_cells t) ≡ sql t.1) → ((x : Owned Listed) → IsStoredListed x → sql x ≡ test x)
-      → Finds g listed_in FitsListed listed_columns IsStoredListed text params old (filter test (listed_rows T.orders))
+      → Finds g listed_in FitsListed listed_columns IsStoredListed (text, params) old (filter test (listed_rows T.orders))
   listed_finds text tests params sql test reading tests_are agree =
       let order = by 1 ∷ by 2 ∷ [] in
       let ts = has.listed.numbered in
@@ -140,14 +140,14 @@ module _ {S : Type 0} (g : Ghosts S) (old : Held S) (T : Tables) (has : Holds (s
       }
 
   -- what an order lists
-  pub listed_by_find : (n : ℕ) → Finds g listed_in FitsListed listed_columns IsStoredListed ord_authz.SELECT_OF.now (number n) old
+  pub listed_by_find : (n : ℕ) → Finds g listed_in FitsListed listed_columns IsStoredListed (ord_authz.SELECT_OF.now, number n) old
       (filter (λ l. l.owner == n) (listed_rows T.orders))
   listed_by_find n =
       listed_finds ord_authz.SELECT_OF.now (is_equal 1) (number n) (λ l. l.owner == bounded n) (λ l. l.owner == n) (listed_by_reading n)
       (λ t. number_test t.1.owner (bounded n)) (λ l k. same_bounded l.owner n k.order.1)
 
   -- what lists an authorization
-  pub listing_find : (n : ℕ) → Finds g listed_in FitsListed listed_columns IsStoredListed ord_authz.SELECT_LISTING.now (number n) old
+  pub listing_find : (n : ℕ) → Finds g listed_in FitsListed listed_columns IsStoredListed (ord_authz.SELECT_LISTING.now, number n) old
       (filter (λ l. l.row.authorization == n) (listed_rows T.orders))
   listing_find n =
       listed_finds ord_authz.SELECT_LISTING.now (is_equal 3) (number n) (λ l. l.row.authorization == bounded n) (λ l. l.row.authorization == n)

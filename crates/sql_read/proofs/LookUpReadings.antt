@@ -1,7 +1,7 @@
 -- What the look-ups mean: one statement each, with as many parameters as are given, that compares no values of other kinds.
-use Rattle.std.proofs.Common.{ℕ, List, [], ◌∷◌, pos, codes, refl}
+use Rattle.std.proofs.Common.{ℕ, List, [], ◌∷◌, codes, refl}
 use Rattle.sqlite.specs.{Listing.understood, Order.Row}
-use Rattle.sqlite.specs.declared.types.Value.TheVariants.{Int, Text}
+use Rattle.sqlite.specs.declared.types.Value.TheVariants.{Text}
 use Rattle.sqlite_value.specs.declared.keys.Collation.TheVariants.{Binary}
 use Rattle.sqlite_sql.specs.declared.ops.BinaryOp.TheVariants.{Compare}
 use Rattle.sqlite_sql.specs.declared.ops.CompareOp.TheVariants.{Eq, Gt, Lt}
@@ -27,8 +27,7 @@ use Rattle.sql_schema.specs.declared.keys.TheConstants as chall_key
 use Rattle.sql_schema.specs.declared.nonces.TheConstants as nonce
 use Rattle.sql_schema.specs.declared.orders.TheConstants as ord
 use Rattle.sql_schema.specs.declared.listed.TheConstants as ord_authz
-use Rattle.sql_read.specs.Bounded.{bounded}
-use Rattle.sql_read.specs.Queries.{account_params, account_text, authorization_params, authorization_text, nonce_params, nonce_text, order_params, order_text}
+use Rattle.sql_read.specs.Queries.{account_query, authorization_query, nonce_query, number, order_query}
 use Rattle.sql_read.specs.declared.formats.Format.TheVariants.{Second}
 use Rattle.sql_read.proofs.Answered.{IsReading, all_rows, by, first_row}
 use Rattle.sql_read.proofs.Readings.{accounts_reading, authorizations_reading, nonces_reading, orders_reading}
@@ -58,10 +57,6 @@ past status end = op2 (Compare Eq Binary) (col 1 status) (col 0 0) ∷ op2 (Comp
 abbrev pub are_equal : ℕ → ℕ → List Term
 are_equal one other = op2 (Compare Eq Binary) (col 1 one) (col 0 0) ∷ op2 (Compare Eq Binary) (col 1 other) (col 0 1) ∷ []
 
--- a number
-abbrev pub number : ℕ → Row
-number n = Int (pos (bounded n)) ∷ []
-
 -- a text
 abbrev pub text : List ℕ → Row
 text t = Text t ∷ []
@@ -74,7 +69,7 @@ nonce_tests nonces_by.Any = []
 nonce_tests (nonces_by.Serial n) = is_equal 0
 nonce_tests (nonces_by.IssuedBefore t) = is_lower 3
 
-pub nonces_asked : (which : NoncesWhere) → IsReadingOf nonce_facts desk_schema all_rows (nonce_text which) (nonce_tests which) (nonce_params which)
+pub nonces_asked : (which : NoncesWhere) → IsReadingOf nonce_facts desk_schema all_rows (nonce_query which).0 (nonce_tests which) (nonce_query which).1
 unfolding understood everything
 nonces_asked nonces_by.Any = nonces_reading Second
 nonces_asked (nonces_by.Serial n) = record { names = nonce_names; means = refl; selecting = refl; sizes = refl; typed = refl }
@@ -87,7 +82,7 @@ account_tests (accounts_by.Number n) = is_equal 0
 account_tests (accounts_by.Key key) = is_equal 2
 
 pub accounts_asked : (which : AccountsWhere)
-    → IsReadingOf account_facts desk_schema all_rows (account_text which) (account_tests which) (account_params which)
+    → IsReadingOf account_facts desk_schema all_rows (account_query which).0 (account_tests which) (account_query which).1
 unfolding understood everything
 accounts_asked accounts_by.Any = accounts_reading Second
 accounts_asked (accounts_by.Number n) = record { names = account_names; means = refl; selecting = refl; sizes = refl; typed = refl }
@@ -101,7 +96,7 @@ order_tests (orders_by.Account n) = is_equal 2
 order_tests (orders_by.Past status m) = past order_status_at 4
 order_tests orders_by.Processing = is_equal order_status_at
 
-pub orders_asked : (which : OrdersWhere) → IsReadingOf order_facts desk_schema all_rows (order_text which) (order_tests which) (order_params which)
+pub orders_asked : (which : OrdersWhere) → IsReadingOf order_facts desk_schema all_rows (order_query which).0 (order_tests which) (order_query which).1
 unfolding understood everything
 orders_asked orders_by.Any = orders_reading Second
 orders_asked (orders_by.Number n) = record { names = order_names; means = refl; selecting = refl; sizes = refl; typed = refl }
@@ -118,7 +113,7 @@ authorization_tests (authorizations_by.Named n base) = are_equal 2 3
 authorization_tests (authorizations_by.Past status m) = past authorization_status_at 6
 
 pub authorizations_asked : (which : AuthorizationsWhere)
-    → IsReadingOf authorization_facts desk_schema all_rows (authorization_text which) (authorization_tests which) (authorization_params which)
+    → IsReadingOf authorization_facts desk_schema all_rows (authorization_query which).0 (authorization_tests which) (authorization_query which).1
 unfolding understood everything
 authorizations_asked authorizations_by.Any = authorizations_reading Second
 authorizations_asked (authorizations_by.Number n) = record { names = authorization_names; means = refl; selecting = refl; sizes = refl; typed = refl }

@@ -27,7 +27,7 @@ use Rattle.sql_tables.specs.Layouts.{challenge_layout, key_layout}
 use Rattle.sql_tables.proofs.AnswerKeys.{keys_apart}
 use Rattle.sql_tables.proofs.Sorting.{filter_ascending, filter_number}
 use Rattle.sql_read.specs.{Bounded.bounded, Keys.keys_of}
-use Rattle.sql_read.specs.Queries.{account_params, account_text, authorization_params, authorization_text, nonce_params, nonce_text, order_params, order_text}
+use Rattle.sql_read.specs.Queries.{account_query, authorization_query, nonce_query, number, order_query}
 use Rattle.store_book.specs.IsBook.{IsStoredBook}
 use Rattle.sql_schema.specs.declared.accounts.TheConstants as account
 use Rattle.sql_schema.specs.declared.authorizations.TheConstants as authz
@@ -41,7 +41,7 @@ use Rattle.sql_read.proofs.FoundRows.{FindsIn, finds}
 use Rattle.sql_read.proofs.KeptRows.{accounts_kept, authorizations_kept, challenges_kept, keys_kept, meta_kept, nonces_kept, orders_kept}
 use Rattle.sql_read.proofs.LookUpReadings.{account_above_reading, account_tests, accounts_asked, authorization_above_reading, authorization_tests}
 use Rattle.sql_read.proofs.LookUpReadings.{authorizations_asked, challenges_numbered_reading, challenges_of_reading, challenges_processing_reading, is_equal}
-use Rattle.sql_read.proofs.LookUpReadings.{is_higher, keys_of_reading, nonce_tests, nonces_asked, number, order_above_reading, order_tests, orders_asked, text}
+use Rattle.sql_read.proofs.LookUpReadings.{is_higher, keys_of_reading, nonce_tests, nonces_asked, order_above_reading, order_tests, orders_asked, text}
 use Rattle.sql_read.proofs.{UnderLemmas.own_ascend, Readings.meta_reading, TableColumns.challenge_status_at}
 use Rattle.sql_read.proofs.StatusTests.{authorization_status_test, challenge_waits, order_status_test, order_waits}
 use Rattle.sql_read.proofs.Tests.{above_bounded, above_test, below_bounded, below_test, number_test, number_text_test, same_bounded, text_below_test, text_test}
@@ -50,21 +50,21 @@ use Rattle.sql_read.proofs.TableFacts.{account_facts, authorization_facts, chall
 -- ---- SQL's tests are the model's, on rows in their limits
 
 -- of nonces
-nonce_agrees : (which : NoncesWhere) (x : Nonce) → IsStoredNonce x → picks nonce_facts (nonce_tests which) (nonce_params which) x ≡ wants_nonce which x
+nonce_agrees : (which : NoncesWhere) (x : Nonce) → IsStoredNonce x → picks nonce_facts (nonce_tests which) (nonce_query which).1 x ≡ wants_nonce which x
 nonce_agrees nonces_by.Any x k = refl
 nonce_agrees (nonces_by.Serial n) x k = number_test x.serial (bounded n) ∙ same_bounded x.serial n k.serial.1
 nonce_agrees (nonces_by.IssuedBefore t) x k = below_test x.issued (bounded t) ∙ below_bounded x.issued t (let m = k.issued in omega (arith, m))
 
 -- of accounts
 account_agrees : (which : AccountsWhere) (x : AccountRow) → IsStoredAccount x
-    → picks account_facts (account_tests which) (account_params which) x ≡ wants_account which x
+    → picks account_facts (account_tests which) (account_query which).1 x ≡ wants_account which x
 account_agrees accounts_by.Any x k = refl
 account_agrees (accounts_by.Number n) x k = number_test x.number (bounded n) ∙ same_bounded x.number n k.number.1
 account_agrees (accounts_by.Key key) x k = text_test x.key key.now
 
 -- of orders
 order_agrees : (which : OrdersWhere) (x : OrderRow) → IsStoredOrder (without_listed x)
-    → picks order_facts (order_tests which) (order_params which) x ≡ wants_order which x
+    → picks order_facts (order_tests which) (order_query which).1 x ≡ wants_order which x
 order_agrees orders_by.Any x k = refl
 order_agrees (orders_by.Number n) x k = number_test x.number (bounded n) ∙ same_bounded x.number n k.number.1
 order_agrees (orders_by.Account n) x k = number_test x.account (bounded n) ∙ same_bounded x.account n k.account.1
@@ -75,7 +75,7 @@ order_agrees orders_by.Processing x k = text_test (order_status_text x.status) (
 
 -- of authorizations
 authorization_agrees : (which : AuthorizationsWhere) (x : AuthorizationRow) → IsStoredAuthorization (without_challenges x)
-    → picks authorization_facts (authorization_tests which) (authorization_params which) x ≡ wants_authorization which x
+    → picks authorization_facts (authorization_tests which) (authorization_query which).1 x ≡ wants_authorization which x
 authorization_agrees authorizations_by.Any x k = refl
 authorization_agrees (authorizations_by.Number n) x k = number_test x.number (bounded n) ∙ same_bounded x.number n k.number.1
 authorization_agrees (authorizations_by.Account n) x k = number_test x.account (bounded n) ∙ same_bounded x.account n k.account.1
@@ -89,92 +89,93 @@ module _ {S : Type 0} (g : Ghosts S) (old : Held S) (T : Tables) (has : Holds (s
   -- ---- queries
 
   -- the desk's own row
-  pub meta_find : FindsIn meta_facts g meta.SELECT.now [] old (T.meta ∷ [])
-  meta_find = finds meta_facts g all_rows meta.SELECT.now [] [] (meta_reading Second) (λ _. true) (λ _ _. refl) old T book (T.meta ∷ []) (meta_kept _ T has)
+  pub meta_find : FindsIn meta_facts g (meta.SELECT.now, []) old (T.meta ∷ [])
+  meta_find = finds meta_facts g all_rows (meta.SELECT.now, []) [] (meta_reading Second) (λ _. true) (λ _ _. refl) old T book (T.meta ∷ []) (meta_kept _ T has)
 
   -- of nonces
-  pub nonces_find : (which : NoncesWhere) → FindsIn nonce_facts g (nonce_text which) (nonce_params which) old (nonces_where T which)
+  pub nonces_find : (which : NoncesWhere) → FindsIn nonce_facts g (nonce_query which) old (nonces_where T which)
   nonces_find which =
-      subst (FindsIn nonce_facts g (nonce_text which) (nonce_params which) old) (map-id (nonces_where T which))
-      (finds nonce_facts g all_rows _ (nonce_tests which) _ (nonces_asked which) (wants_nonce which) (nonce_agrees which) old T book T.nonces
+      subst (FindsIn nonce_facts g (nonce_query which) old) (map-id (nonces_where T which))
+      (finds nonce_facts g all_rows (nonce_query which) (nonce_tests which) (nonces_asked which) (wants_nonce which) (nonce_agrees which) old T book T.nonces
       (nonces_kept _ T Second has))
 
   -- of accounts
-  pub accounts_find : (which : AccountsWhere) → FindsIn account_facts g (account_text which) (account_params which) old (accounts_where T which)
+  pub accounts_find : (which : AccountsWhere) → FindsIn account_facts g (account_query which) old (accounts_where T which)
   accounts_find which =
-      subst (FindsIn account_facts g (account_text which) (account_params which) old) (map-id (accounts_where T which))
-      (finds account_facts g all_rows _ (account_tests which) _ (accounts_asked which) (wants_account which) (account_agrees which) old T book T.accounts
+      subst (FindsIn account_facts g (account_query which) old) (map-id (accounts_where T which))
+      (finds account_facts g all_rows (account_query which) (account_tests which) (accounts_asked which) (wants_account which) (account_agrees which) old T book T.accounts
       (accounts_kept _ T Second has))
 
   -- of orders, without what they list
-  pub orders_find : (which : OrdersWhere) → FindsIn order_facts g (order_text which) (order_params which) old (map without_listed (orders_where T which))
+  pub orders_find : (which : OrdersWhere) → FindsIn order_facts g (order_query which) old (map without_listed (orders_where T which))
   orders_find which =
-      finds order_facts g all_rows _ (order_tests which) _ (orders_asked which) (wants_order which) (order_agrees which) old T book T.orders
+      finds order_facts g all_rows (order_query which) (order_tests which) (orders_asked which) (wants_order which) (order_agrees which) old T book T.orders
       (orders_kept _ T Second has)
 
   -- of authorizations, without their challenges
   pub authorizations_find : (which : AuthorizationsWhere)
-      → FindsIn authorization_facts g (authorization_text which) (authorization_params which) old (map without_challenges (authorizations_where T which))
+      → FindsIn authorization_facts g (authorization_query which) old (map without_challenges (authorizations_where T which))
   authorizations_find which =
-      finds authorization_facts g all_rows _ (authorization_tests which) _ (authorizations_asked which) (wants_authorization which)
+      finds authorization_facts g all_rows (authorization_query which) (authorization_tests which) (authorizations_asked which) (wants_authorization which)
       (authorization_agrees which) old T book T.authorizations (authorizations_kept _ T Second has)
 
   -- ---- challenges, under their authorizations
 
   pub challenges_numbered_find : (n : ℕ)
-      → FindsIn challenge_facts g chall.SELECT_NUMBERED.now (number n) old (map bare_row (filter (λ c. c.row.number == n) (challenge_rows T.authorizations)))
+      → FindsIn challenge_facts g (chall.SELECT_NUMBERED.now, number n) old (map bare_row (filter (λ c. c.row.number == n) (challenge_rows T.authorizations)))
   challenges_numbered_find n =
-      subst (λ cs. FindsIn challenge_facts g chall.SELECT_NUMBERED.now (number n) old (map bare_row cs))
+      subst (λ cs. FindsIn challenge_facts g (chall.SELECT_NUMBERED.now, number n) old (map bare_row cs))
       (filter_number challenge_layout.key n (challenge_rows T.authorizations) has.rising.challenges)
-      (finds challenge_facts g all_rows _ (is_equal 0) _ (challenges_numbered_reading n) (λ c. c.row.number == n)
+      (finds challenge_facts g all_rows (chall.SELECT_NUMBERED.now, number n) (is_equal 0) (challenges_numbered_reading n) (λ c. c.row.number == n)
       (λ c k. number_test c.row.number (bounded n) ∙ same_bounded c.row.number n k.number.1) old T book _ (challenges_kept _ T Second has))
 
   pub challenges_of_find : (n : ℕ)
-      → FindsIn challenge_facts g chall.SELECT_OF.now (number n) old (map bare_row (filter (λ c. c.owner == n) (challenge_rows T.authorizations)))
+      → FindsIn challenge_facts g (chall.SELECT_OF.now, number n) old (map bare_row (filter (λ c. c.owner == n) (challenge_rows T.authorizations)))
   challenges_of_find n =
-      subst (λ cs. FindsIn challenge_facts g chall.SELECT_OF.now (number n) old (map bare_row cs))
+      subst (λ cs. FindsIn challenge_facts g (chall.SELECT_OF.now, number n) old (map bare_row cs))
       (filter_ascending challenge_layout.key (λ c. c.owner == n) 1 (challenge_rows T.authorizations) has.rising.challenges
       (own_ascend n 0 T.authorizations has.rising.authorizations book.book.in_order.challenges))
-      (finds challenge_facts g all_rows _ (is_equal 2) _ (challenges_of_reading n) (λ c. c.owner == n)
+      (finds challenge_facts g all_rows (chall.SELECT_OF.now, number n) (is_equal 2) (challenges_of_reading n) (λ c. c.owner == n)
       (λ c k. number_test c.owner (bounded n) ∙ same_bounded c.owner n k.authorization.1) old T book _ (challenges_kept _ T Second has))
 
   -- in the order of their numbers
-  pub challenges_processing_find : FindsIn challenge_facts g chall.SELECT_WITH_STATUS.now (text (challenge_status_text challenge.Processing)) old
+  pub challenges_processing_find : FindsIn challenge_facts g (chall.SELECT_WITH_STATUS.now, text (challenge_status_text challenge.Processing)) old
       (map bare_row (filter (λ c. is_processing_challenge c.row.status) (sorted_by challenge_layout.key (challenge_rows T.authorizations))))
   challenges_processing_find =
-      finds challenge_facts g all_rows _ (is_equal challenge_status_at) _ challenges_processing_reading (λ c. is_processing_challenge c.row.status)
+      finds challenge_facts g all_rows (chall.SELECT_WITH_STATUS.now, text (challenge_status_text challenge.Processing)) (is_equal challenge_status_at)
+      challenges_processing_reading (λ c. is_processing_challenge c.row.status)
       (λ c k. text_test (challenge_status_text c.row.status) (challenge_status_text challenge.Processing) ∙ challenge_waits c.row.status) old T book _
       (challenges_kept _ T Second has)
 
   -- ---- the key of an answer
 
-  pub keys_of_find : (n : ℕ) → FindsIn key_facts g chall_key.SELECT_OF.now (number n) old (keys_of T n)
+  pub keys_of_find : (n : ℕ) → FindsIn key_facts g (chall_key.SELECT_OF.now, number n) old (keys_of T n)
   keys_of_find n =
       let all = key_rows (challenge_rows T.authorizations) in
-      subst (FindsIn key_facts g chall_key.SELECT_OF.now (number n) old)
+      subst (FindsIn key_facts g (chall_key.SELECT_OF.now, number n) old)
       (map-id (filter (λ k. k.challenge == n) (sorted_by key_layout.key all))
       ∙ filter_number key_layout.key n all (keys_apart (challenge_rows T.authorizations) has.rising.challenges))
-      (finds key_facts g all_rows _ (is_equal 0) _ (keys_of_reading n) (λ k. k.challenge == n)
+      (finds key_facts g all_rows (chall_key.SELECT_OF.now, number n) (is_equal 0) (keys_of_reading n) (λ k. k.challenge == n)
       (λ k limits. number_test k.challenge (bounded n) ∙ same_bounded k.challenge n limits.challenge.1) old T book _ (keys_kept _ T has))
 
   -- ---- the first row above a number
 
   -- an account
-  pub account_above_find : (n : ℕ) → FindsIn account_facts g account.SELECT_ABOVE.now (number n) old (first_of (accounts_above T n))
+  pub account_above_find : (n : ℕ) → FindsIn account_facts g (account.SELECT_ABOVE.now, number n) old (first_of (accounts_above T n))
   account_above_find n =
-      subst (FindsIn account_facts g account.SELECT_ABOVE.now (number n) old) (map-id (first_of (accounts_above T n)))
-      (finds account_facts g first_row _ is_higher _ (account_above_reading n) (λ x. nat_lt n x.number)
+      subst (FindsIn account_facts g (account.SELECT_ABOVE.now, number n) old) (map-id (first_of (accounts_above T n)))
+      (finds account_facts g first_row (account.SELECT_ABOVE.now, number n) is_higher (account_above_reading n) (λ x. nat_lt n x.number)
       (λ x k. above_test x.number (bounded n) ∙ above_bounded x.number n k.number.1) old T book T.accounts (accounts_kept _ T Second has))
 
   -- an order, without what it lists
-  pub order_above_find : (n : ℕ) → FindsIn order_facts g ord.SELECT_ABOVE.now (number n) old (map without_listed (first_of (orders_above T n)))
+  pub order_above_find : (n : ℕ) → FindsIn order_facts g (ord.SELECT_ABOVE.now, number n) old (map without_listed (first_of (orders_above T n)))
   order_above_find n =
-      finds order_facts g first_row _ is_higher _ (order_above_reading n) (λ x. nat_lt n x.number)
+      finds order_facts g first_row (ord.SELECT_ABOVE.now, number n) is_higher (order_above_reading n) (λ x. nat_lt n x.number)
       (λ x k. above_test x.number (bounded n) ∙ above_bounded x.number n k.number.1) old T book T.orders (orders_kept _ T Second has)
 
   -- an authorization, without its challenges
   pub authorization_above_find : (n : ℕ)
-      → FindsIn authorization_facts g authz.SELECT_ABOVE.now (number n) old (map without_challenges (first_of (authorizations_above T n)))
+      → FindsIn authorization_facts g (authz.SELECT_ABOVE.now, number n) old (map without_challenges (first_of (authorizations_above T n)))
   authorization_above_find n =
-      finds authorization_facts g first_row _ is_higher _ (authorization_above_reading n) (λ x. nat_lt n x.number)
+      finds authorization_facts g first_row (authz.SELECT_ABOVE.now, number n) is_higher (authorization_above_reading n) (λ x. nat_lt n x.number)
       (λ x k. above_test x.number (bounded n) ∙ above_bounded x.number n k.number.1) old T book T.authorizations (authorizations_kept _ T Second has)

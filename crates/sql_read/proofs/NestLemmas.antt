@@ -138,12 +138,14 @@ filled_first P bare first rows none = record {
 -- one more call changed nothing
 pub filled_on : {X Y : Type 0} {P : Tables → X → Type 0} {bare : X → Y} {first old new : State} {read more : List Y} {rows filled : List X}
     → Filled P bare first old read rows → Asks old new → (HasCleanDisk new → IsTrue old.is_open → IsUnchanged old new)
-    → (HasCleanDisk new → (T : Tables) → Holds old.now T → IsStoredBook T → AreFilled (P T) bare read rows → AreFilled (P T) bare more filled)
+    → (HasCleanDisk new → (T : Tables) → Holds old.now T → IsStoredBook T → IsTrue old.is_open → AreFilled (P T) bare read rows
+    → AreFilled (P T) bare more filled)
     → Filled P bare first new more filled
 filled_on {X} {Y} {P} {bare} {first} {old} {new} before asks same step = record {
   found = λ clean T has book open_.
       let clean_old : HasCleanDisk old = omega (arith, clean, asks.survives.clean) in
-      step clean T (holds_still first old T (before.unchanged clean_old open_) has) book (before.found clean_old T has book open_);
+      let still = before.unchanged clean_old open_ in
+      step clean T (holds_still first old T still has) book still.0.is_open (before.found clean_old T has book open_);
   unchanged = λ clean open_.
       let clean_old : HasCleanDisk old = omega (arith, clean, asks.survives.clean) in
       let still = before.unchanged clean_old open_ in

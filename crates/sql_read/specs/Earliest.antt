@@ -1,11 +1,17 @@
 -- The earliest of some moments.
-use Rattle.std.specs.Prelude.{ℕ, ℤ, ◌≡◌, ◌≤◌, ◌==◌, List, [], ◌∷◌, map, Option, Some, None, IsTrue}
+use Rattle.std.specs.Prelude.{ℕ, ℤ, ◌≡◌, ◌≤◌, ◌==◌, List, [], ◌∷◌, map, option_map, pos, Option, Some, None, IsTrue, Result, IfErr, IfOk, OnOk}
 use Rattle.std.specs.List.{filter, list_any}
-use Rattle.sqlite.specs.Order.{Row, column}
+use Rattle.sqlite.specs.{Order.Row, Order.column, Store.Ghosts}
+use Rattle.sqlite.specs.Held.{Held, state}
+use Rattle.sqlite.specs.State.{HasCleanDisk, IsUnchanged, Shown}
+use Rattle.store_book.specs.IsBook.{IsStoredBook}
+use Rattle.sql_schema.specs.Stays.{Asks}
 use Rattle.desk_model.specs.Derived.{authz_code, order_code}
 use Rattle.desk_model.specs.{Kept.EachOf, Tables.Tables}
 use Rattle.desk_model.specs.declared.status.{AuthzStatus.AuthzStatus, OrderStatus.OrderStatus}
-use Rattle.sql_read.specs.Spelled.{number_in}
+use Rattle.sql_read.specs.{Failures.MayRead, Held.ForHeld, Spelled.number_in}
+use Rattle.sql_read.specs.LookUpFaults.{BeginWithMoment, IsOfMemoryOrDisk, IsSureQuery}
+use Rattle.sql_read.specs.declared.fault.ReadFault.{ReadFault}
 
 -- it is one of them, and none is before it; or there is none
 abbrev pub IsEarliest : List ℕ → Option ℕ → Type 0
@@ -28,3 +34,18 @@ order_ends T status = map (λ o. o.expires) (filter (λ o. order_code o.status =
 -- the ends of the authorizations of a stored status
 abbrev pub authorization_ends : Tables → AuthzStatus → List ℕ
 authorization_ends T status = map (λ r. r.expires) (filter (λ r. authz_code r.status == authz_code status) T.authorizations)
+
+-- whatever a query shows, the first moment is the earliest of these, and it is sure
+pub record FindsEarliest {S : Type 0} (g : Ghosts S) (ask : List ℕ × Row) (old : Held S) (ms : List ℕ) : Type 0 where
+  pub shows : (new : Held S) (rows : List Row) (found : Option ℕ) → Shown ask.0 ask.1 (state g old) (state g new) rows
+      → option_map (λ m. pos m) found ≡ first_number rows → IsEarliest ms found
+  pub sure : MayRead (state g old) → IsSureQuery g ask.0 ask.1 old BeginWithMoment
+
+-- of whatever tables the database held this is the earliest; of a desk's it failed for memory or the disk alone; it changed nothing
+pub record TellsEarliest {S : Type 0} (g : Ghosts S) (old new : Held S) (moments : Tables → List ℕ) (result : Result (Option ℕ) ReadFault)
+    : Type 0 where
+  pub found : ForHeld (state g old) (state g new) (λ T. IfOk result (IsEarliest (moments T)))
+  pub caused : ForHeld (state g old) (state g new) (λ T. IsStoredBook T → MayRead (state g old)
+      → IfErr result (IsOfMemoryOrDisk (state g old) (state g new)))
+  pub unchanged : HasCleanDisk (state g new) → OnOk result (IsUnchanged (state g old) (state g new))
+  pub asks : Asks (state g old) (state g new)

@@ -7,10 +7,10 @@ pub mod Failures
 pub mod First
 pub mod FirstRows
 pub mod Format
-pub mod Heads
 pub mod Held
 pub mod Keys
 pub mod LookUpFaults
+pub mod Looking
 pub mod Queries
 pub mod Reads
 pub mod Selecting

@@ -1,4 +1,4 @@
--- The statement of each query, and its parameters.
+-- The text of each query, and what its parameters are bound to.
 use Rattle.std.specs.Prelude.{ℕ, List, [], ◌∷◌, pos}
 use Rattle.sqlite.specs.{Order.Row, Values.bound}
 use Rattle.sqlite.specs.declared.types.Value.TheVariants.{Int, Text}
@@ -17,67 +17,47 @@ use Rattle.sql_schema.specs.declared.authorizations.TheConstants as authz
 use Rattle.sql_schema.specs.declared.nonces.TheConstants as nonce
 use Rattle.sql_schema.specs.declared.orders.TheConstants as ord
 use Rattle.sql_read.specs.Bounded.{bounded}
-use Rattle.sql_read.specs.declared.params.Params.{Params}
+use Rattle.sql_read.specs.declared.params.{Params.Params, Query.Query}
 use Rattle.sql_read.specs.declared.params.Params.TheVariants as params
 
--- what parameters bind
+-- what parameters are bound to
 abbrev pub bound_by : Params → Row
 bound_by params.None = bound []
 bound_by (params.One value) = bound (value ∷ [])
 bound_by (params.Two value other) = bound (value ∷ other ∷ [])
 
--- ---- nonces
+-- what a query asks
+abbrev pub asked : Query → List ℕ × Row
+asked query = (query.text.now, bound_by query.params)
 
-abbrev pub nonce_text : NoncesWhere → List ℕ
-nonce_text nonces_by.Any = nonce.SELECT.now
-nonce_text (nonces_by.Serial n) = nonce.SELECT_NUMBERED.now
-nonce_text (nonces_by.IssuedBefore t) = nonce.SELECT_BEFORE.now
+-- one number
+abbrev pub number : ℕ → Row
+number n = Int (pos (bounded n)) ∷ []
 
-abbrev pub nonce_params : NoncesWhere → Row
-nonce_params nonces_by.Any = []
-nonce_params (nonces_by.Serial n) = Int (pos (bounded n)) ∷ []
-nonce_params (nonces_by.IssuedBefore t) = Int (pos (bounded t)) ∷ []
+-- of nonces
+abbrev pub nonce_query : NoncesWhere → List ℕ × Row
+nonce_query nonces_by.Any = (nonce.SELECT.now, [])
+nonce_query (nonces_by.Serial n) = (nonce.SELECT_NUMBERED.now, number n)
+nonce_query (nonces_by.IssuedBefore t) = (nonce.SELECT_BEFORE.now, number t)
 
--- ---- accounts
+-- of accounts
+abbrev pub account_query : AccountsWhere → List ℕ × Row
+account_query accounts_by.Any = (account.SELECT.now, [])
+account_query (accounts_by.Number n) = (account.SELECT_NUMBERED.now, number n)
+account_query (accounts_by.Key key) = (account.SELECT_WITH_KEY.now, Text key.now ∷ [])
 
-abbrev pub account_text : AccountsWhere → List ℕ
-account_text accounts_by.Any = account.SELECT.now
-account_text (accounts_by.Number n) = account.SELECT_NUMBERED.now
-account_text (accounts_by.Key key) = account.SELECT_WITH_KEY.now
+-- of orders
+abbrev pub order_query : OrdersWhere → List ℕ × Row
+order_query orders_by.Any = (ord.SELECT.now, [])
+order_query (orders_by.Number n) = (ord.SELECT_NUMBERED.now, number n)
+order_query (orders_by.Account n) = (ord.SELECT_OF.now, number n)
+order_query (orders_by.Past status m) = (ord.SELECT_PAST.now, Text (order_status_text status) ∷ number m)
+order_query orders_by.Processing = (ord.SELECT_WITH_STATUS.now, Text (order_status_text order.Processing) ∷ [])
 
-abbrev pub account_params : AccountsWhere → Row
-account_params accounts_by.Any = []
-account_params (accounts_by.Number n) = Int (pos (bounded n)) ∷ []
-account_params (accounts_by.Key key) = Text key.now ∷ []
-
--- ---- orders
-
-abbrev pub order_text : OrdersWhere → List ℕ
-order_text orders_by.Any = ord.SELECT.now
-order_text (orders_by.Number n) = ord.SELECT_NUMBERED.now
-order_text (orders_by.Account n) = ord.SELECT_OF.now
-order_text (orders_by.Past status m) = ord.SELECT_PAST.now
-order_text orders_by.Processing = ord.SELECT_WITH_STATUS.now
-
-abbrev pub order_params : OrdersWhere → Row
-order_params orders_by.Any = []
-order_params (orders_by.Number n) = Int (pos (bounded n)) ∷ []
-order_params (orders_by.Account n) = Int (pos (bounded n)) ∷ []
-order_params (orders_by.Past status m) = Text (order_status_text status) ∷ Int (pos (bounded m)) ∷ []
-order_params orders_by.Processing = Text (order_status_text order.Processing) ∷ []
-
--- ---- authorizations
-
-abbrev pub authorization_text : AuthorizationsWhere → List ℕ
-authorization_text authorizations_by.Any = authz.SELECT.now
-authorization_text (authorizations_by.Number n) = authz.SELECT_NUMBERED.now
-authorization_text (authorizations_by.Account n) = authz.SELECT_OF.now
-authorization_text (authorizations_by.Named n base) = authz.SELECT_NAMED.now
-authorization_text (authorizations_by.Past status m) = authz.SELECT_PAST.now
-
-abbrev pub authorization_params : AuthorizationsWhere → Row
-authorization_params authorizations_by.Any = []
-authorization_params (authorizations_by.Number n) = Int (pos (bounded n)) ∷ []
-authorization_params (authorizations_by.Account n) = Int (pos (bounded n)) ∷ []
-authorization_params (authorizations_by.Named n base) = Int (pos (bounded n)) ∷ Text base.now ∷ []
-authorization_params (authorizations_by.Past status m) = Text (authorization_status_text status) ∷ Int (pos (bounded m)) ∷ []
+-- of authorizations
+abbrev pub authorization_query : AuthorizationsWhere → List ℕ × Row
+authorization_query authorizations_by.Any = (authz.SELECT.now, [])
+authorization_query (authorizations_by.Number n) = (authz.SELECT_NUMBERED.now, number n)
+authorization_query (authorizations_by.Account n) = (authz.SELECT_OF.now, number n)
+authorization_query (authorizations_by.Named n base) = (authz.SELECT_NAMED.now, Int (pos (bounded n)) ∷ Text base.now ∷ [])
+authorization_query (authorizations_by.Past status m) = (authz.SELECT_PAST.now, Text (authorization_status_text status) ∷ number m)

@@ -1,20 +1,16 @@
 //! Challenges, each with the key of its answer.
-ghost use Rattle.std.specs.Prelude.{◌≡◌, [], ◌∷◌, List, Some, IfErr, IfOk, IsTrue, OnOk, map, option_map};
-ghost use Rattle.sqlite.specs.State.{HasCleanDisk, IsUnchanged};
+ghost use Rattle.std.specs.Prelude.{◌≡◌, [], ◌∷◌, Some, IfErr, IfOk, IsTrue, map};
 ghost use Rattle.sqlite.specs.Held.{state};
 ghost use Rattle.store_columns.specs.Flat.{bare, bare_row};
-ghost use Rattle.store_columns.specs.declared.flat_rows.{AnswerKey.AnswerKey as KeyRow, Owned.Owned as OwnedRow};
+ghost use Rattle.store_columns.specs.declared.flat_rows.AnswerKey.{AnswerKey as KeyRow};
 ghost use Rattle.desk_model.specs.Kept.{EachOf};
-ghost use Rattle.desk_model.specs.declared.rows.ChallengeRow.{ChallengeRow as Challenge};
 ghost use Rattle.sql_schema.specs.Stays.{Asks};
-ghost use Rattle.sql_read.specs.{Failures.MayRead, Held.ForHeld, LookUpFaults.IsOfMemoryOrDisk};
-ghost use Rattle.sql_read.specs.Spelled.{FitsKey, key_in};
+ghost use Rattle.sql_read.specs.{Looking.LooksFor, Spelled.FitsKey, Spelled.key_in};
 ghost use Rattle.sql_read.specs.Keys.{HasItsKey, answered_as, keys_of};
-ghost use Rattle.store_book.specs.IsBook.{IsStoredBook};
 
 use crate::columns::Selected;
 use crate::fault::ReadFault;
-use crate::params::number_param;
+use crate::params::Query;
 use crate::rows::find_rows;
 use crate::values::{bytes, numbers};
 use desk_model::{Answer, ChallengeRow};
@@ -52,15 +48,11 @@ fn answer_of<S: Alter>(
     number: u64,
     date: u64,
 ) -> Result<Option<Answer>, ReadFault>
-    ensures found { ForHeld (state S.Store conn.old) (state S.Store conn.new) (λ T. IsStoredBook T → (key : KeyRow) → keys_of T number ≡ key ∷ []
-        → IfOk result (λ found. found ≡ Some (record { date = date; thumb = key.thumb }))) }
-    ensures caused { ForHeld (state S.Store conn.old) (state S.Store conn.new) (λ T. IsStoredBook T → MayRead (state S.Store conn.old)
-        → (key : KeyRow) → keys_of T number ≡ key ∷ [] → IfErr result (IsOfMemoryOrDisk (state S.Store conn.old) (state S.Store conn.new))) }
-    ensures unchanged { HasCleanDisk (state S.Store conn.new) → OnOk result (IsUnchanged (state S.Store conn.old) (state S.Store conn.new)) }
-    ensures asks { Asks (state S.Store conn.old) (state S.Store conn.new) }
+    ensures { LooksFor S.Store conn.old conn.new (λ T key. keys_of T number ≡ key ∷ [])
+        (λ key found. found ≡ Some (record { date = date; thumb = key.thumb })) result }
 {
-    let params = number_param(number);
-    let keys = find_rows::<S, ChallKeyColumns>(alloc, conn, keys::SELECT_OF, &params)?;
+    let query = Query::number(keys::SELECT_OF, number);
+    let keys = find_rows::<S, ChallKeyColumns>(alloc, conn, query)?;
     last_answer(date, keys)
 }
 
@@ -70,12 +62,8 @@ fn answer_to<S: Alter>(
     conn: &mut Connection<S>,
     row: &BareChallenge,
 ) -> Result<Option<Answer>, ReadFault>
-    ensures found { ForHeld (state S.Store conn.old) (state S.Store conn.new) (λ T. IsStoredBook T → (c : Challenge) → HasItsKey T c
-        → row.now ≡ bare c → IfOk result (λ found. found ≡ c.answered)) }
-    ensures caused { ForHeld (state S.Store conn.old) (state S.Store conn.new) (λ T. IsStoredBook T → MayRead (state S.Store conn.old)
-        → (c : Challenge) → HasItsKey T c → row.now ≡ bare c → IfErr result (IsOfMemoryOrDisk (state S.Store conn.old) (state S.Store conn.new))) }
-    ensures unchanged { HasCleanDisk (state S.Store conn.new) → IsTrue (state S.Store conn.old).is_open
-        → OnOk result (IsUnchanged (state S.Store conn.old) (state S.Store conn.new)) }
+    ensures looks { IsTrue (state S.Store conn.old).is_open
+        → LooksFor S.Store conn.old conn.new (λ T c. HasItsKey T c × (row.now ≡ bare c)) (λ c found. found ≡ c.answered) result }
     ensures asks { Asks (state S.Store conn.old) (state S.Store conn.new) }
 {
     match row.answered {
@@ -99,44 +87,15 @@ fn with_answer(row: &BareChallenge, answered: Option<Answer>) -> ChallengeRow
     }
 }
 
-/// The challenges, each with its answer: one statement for each that was answered. It fails as `find_rows` does.
-pub(crate) fn with_answers<S: Alter>(
-    alloc: Global,
-    conn: &mut Connection<S>,
-    heads: &[BareChallenge],
-) -> Result<Vec<ChallengeRow>, ReadFault>
-    ensures found { ForHeld (state S.Store conn.old) (state S.Store conn.new) (λ T. IsStoredBook T → IsTrue (state S.Store conn.old).is_open
-        → (rows : List Challenge) → EachOf (HasItsKey T) rows → heads.now ≡ map bare rows → IfOk result (λ found. found.items ≡ rows)) }
-    ensures caused { ForHeld (state S.Store conn.old) (state S.Store conn.new) (λ T. IsStoredBook T → MayRead (state S.Store conn.old)
-        → (rows : List Challenge) → EachOf (HasItsKey T) rows → heads.now ≡ map bare rows
-        → IfErr result (IsOfMemoryOrDisk (state S.Store conn.old) (state S.Store conn.new))) }
-    ensures unchanged { HasCleanDisk (state S.Store conn.new) → IsTrue (state S.Store conn.old).is_open
-        → OnOk result (IsUnchanged (state S.Store conn.old) (state S.Store conn.new)) }
-    ensures asks { Asks (state S.Store conn.old) (state S.Store conn.new) }
-{
-    let mut rows = Vec::new(alloc);
-    for row in heads {
-        let answered = answer_to(alloc, conn, row)?;
-        rows.push(with_answer(row, answered))?;
-    }
-    Ok(rows)
-}
-
 /// The challenges under their authorizations, each with its answer: one statement for each that was answered. It fails as `find_rows`
 /// does.
-pub(crate) fn with_owned_answers<S: Alter>(
+pub(crate) fn with_answers<S: Alter>(
     alloc: Global,
     conn: &mut Connection<S>,
     heads: &[Owned<BareChallenge>],
 ) -> Result<Vec<Owned<ChallengeRow>>, ReadFault>
-    ensures found { ForHeld (state S.Store conn.old) (state S.Store conn.new) (λ T. IsStoredBook T → IsTrue (state S.Store conn.old).is_open
-        → (rows : List (OwnedRow Challenge)) → EachOf (λ c. HasItsKey T c.row) rows → heads.now ≡ map bare_row rows
-        → IfOk result (λ found. found.items ≡ rows)) }
-    ensures caused { ForHeld (state S.Store conn.old) (state S.Store conn.new) (λ T. IsStoredBook T → MayRead (state S.Store conn.old)
-        → (rows : List (OwnedRow Challenge)) → EachOf (λ c. HasItsKey T c.row) rows → heads.now ≡ map bare_row rows
-        → IfErr result (IsOfMemoryOrDisk (state S.Store conn.old) (state S.Store conn.new))) }
-    ensures unchanged { HasCleanDisk (state S.Store conn.new) → IsTrue (state S.Store conn.old).is_open
-        → OnOk result (IsUnchanged (state S.Store conn.old) (state S.Store conn.new)) }
+    ensures looks { IsTrue (state S.Store conn.old).is_open → LooksFor S.Store conn.old conn.new
+        (λ T rows. EachOf (λ c. HasItsKey T c.row) rows × (heads.now ≡ map bare_row rows)) (λ rows found. found.items ≡ rows) result }
     ensures asks { Asks (state S.Store conn.old) (state S.Store conn.new) }
 {
     let mut rows = Vec::new(alloc);

@@ -1,24 +1,21 @@
 //! Authorizations, each with its challenges, read from the rows of answers and looked up.
-ghost use Rattle.std.specs.Prelude.{◌≡◌, map, IfErr, IfOk, OnOk};
-ghost use Rattle.sqlite.specs.State.{HasCleanDisk, IsUnchanged};
-ghost use Rattle.sqlite.specs.Held.{state};
-ghost use Rattle.store_columns.specs.Flat.{without_challenges};
+ghost use Rattle.std.specs.Prelude.{◌≡◌, map};
+ghost use Rattle.store_columns.specs.{Columns.challenge_columns, Flat.bare_row, Flat.without_challenges, Limits.IsStoredChallenge};
+ghost use Rattle.desk_model.specs.Kept.{EachOf};
 ghost use Rattle.model_lives.specs.Above.{authorizations_above, challenges_above, first_of};
 ghost use Rattle.model_lives.specs.LookUps.{AreWaiting, authorizations_where, bare_authorizations, owners_of};
-ghost use Rattle.sql_schema.specs.Stays.{Asks};
-ghost use Rattle.sql_read.specs.Earliest.{IsEarliest, authorization_ends};
-ghost use Rattle.sql_read.specs.{Failures.MayRead, Held.ForHeld, LookUpFaults.IsOfMemoryOrDisk, Under.HasItsChallenges};
+ghost use Rattle.sql_read.specs.Earliest.{TellsEarliest, authorization_ends};
+ghost use Rattle.sql_read.specs.Looking.{Finds, LooksFor, LooksUp};
+ghost use Rattle.sql_read.specs.{Keys.HasItsKey, Queries.asked, Queries.authorization_query, Selecting.IsQuery, Under.HasItsChallenges};
 ghost use Rattle.sql_read.specs.Spelled.{FitsAuthorization, FitsChallenge, authorization_in, challenge_in};
-ghost use Rattle.sql_read.specs.Queries.{authorization_params, authorization_text, bound_by};
-ghost use Rattle.store_book.specs.IsBook.{IsStoredBook};
 
-use crate::answers::{with_answers, with_owned_answers};
+use crate::answers::with_answers;
 use crate::columns::Selected;
 use crate::earliest::earliest;
 use crate::fault::ReadFault;
-use crate::owned::owners;
-use crate::params::{Params, number_param, text_param};
-use crate::parents::{Parent, find_owned, find_parents, find_parents_by};
+use crate::owned::{owners, without_owners};
+use crate::params::Query;
+use crate::parents::{Parent, find_parents};
 use crate::rows::find_rows;
 use crate::values::{both, bytes, number_or_none, numbers, numbers_or_none, text, text_or_none};
 use desk_model::{AuthorizationRow, AuthzStatus, ChallengeRow, ChallengeStatus, Sequence};
@@ -79,50 +76,51 @@ impl Selected for ChallColumns {
     }
 }
 
+// The challenges that a query shows, each with its answer and the number of its authorization. It fails as `find_rows` does.
+fn find_challenges<S: Alter>(
+    alloc: Global,
+    conn: &mut Connection<S>,
+    query: Query<'_>,
+) -> Result<Vec<Owned<ChallengeRow>>, ReadFault>
+    requires { IsQuery (asked query).0 }
+    ensures { LooksFor S.Store conn.old conn.new (λ T rows. EachOf (λ c. HasItsKey T c.row) rows
+        × Finds S.Store challenge_in FitsChallenge challenge_columns IsStoredChallenge (asked query.entry) conn.old (map bare_row rows))
+        (λ rows found. found.items ≡ rows) result }
+{
+    let heads = find_rows::<S, ChallColumns>(alloc, conn, query)?;
+    with_answers(alloc, conn, &heads)
+}
+
 impl Parent for AuthorizationRow {
     ghost bare = { without_challenges };
 
     ghost HasItsOwn = { λ T. HasItsChallenges T.authorizations };
 
     fn nest<S: Alter>(&mut self, alloc: Global, conn: &mut Connection<S>) -> Result<(), ReadFault> {
-        let heads = find_owned::<S, ChallColumns, _>(
-            alloc,
-            conn,
-            challenges::SELECT_OF,
-            self.number,
-        )?;
-        let challenges = with_answers(alloc, conn, &heads)?;
+        let query = Query::number(challenges::SELECT_OF, self.number);
+        let rows = find_challenges(alloc, conn, query)?;
+        let challenges = without_owners(alloc, rows)?;
         self.challenges = Sequence::new(challenges);
         Ok(())
     }
 }
 
-// The statement of a query.
-fn text_of(which: AuthorizationsWhere<'_>) -> &'static str
-    ensures { result.now ≡ authorization_text which.entry }
+// The query, with its text and its parameters.
+fn query_of<'a>(which: AuthorizationsWhere<'a>) -> Query<'a>
+    ensures { asked result ≡ authorization_query which.entry }
 {
     match which {
-        AuthorizationsWhere::Any => authorizations::SELECT,
-        AuthorizationsWhere::Number(_) => authorizations::SELECT_NUMBERED,
-        AuthorizationsWhere::Account(_) => authorizations::SELECT_OF,
-        AuthorizationsWhere::Named(_, _) => authorizations::SELECT_NAMED,
-        AuthorizationsWhere::Past(_, _) => authorizations::SELECT_PAST,
-    }
-}
-
-// Its parameters.
-fn params_of<'a>(which: AuthorizationsWhere<'a>) -> Params<'a>
-    ensures { bound_by result ≡ authorization_params which.entry }
-{
-    match which {
-        AuthorizationsWhere::Any => Params::None,
-        AuthorizationsWhere::Number(number) => Params::number(number),
-        AuthorizationsWhere::Account(account) => Params::number(account),
-        AuthorizationsWhere::Named(account, base) => Params::number_and_text(account, base),
-        AuthorizationsWhere::Past(status, moment) => Params::text_and_number(
-            status.as_str(),
-            moment,
-        ),
+        AuthorizationsWhere::Any => Query::all(authorizations::SELECT),
+        AuthorizationsWhere::Number(number) => {
+            Query::number(authorizations::SELECT_NUMBERED, number)
+        }
+        AuthorizationsWhere::Account(account) => Query::number(authorizations::SELECT_OF, account),
+        AuthorizationsWhere::Named(account, base) => {
+            Query::number_and_text(authorizations::SELECT_NAMED, account, base)
+        }
+        AuthorizationsWhere::Past(status, moment) => {
+            Query::text_and_number(authorizations::SELECT_PAST, status.as_str(), moment)
+        }
     }
 }
 
@@ -137,14 +135,9 @@ pub fn find_authorizations<S: Alter>(
     conn: &mut Connection<S>,
     which: AuthorizationsWhere<'_>,
 ) -> Result<Vec<AuthorizationRow>, ReadFault>
-    ensures found { ForHeld (state S.Store conn.old) (state S.Store conn.new) (λ T. IsStoredBook T
-        → IfOk result (λ rows. rows.items ≡ authorizations_where T which.entry)) }
-    ensures caused { ForHeld (state S.Store conn.old) (state S.Store conn.new) (λ T. IsStoredBook T → MayRead (state S.Store conn.old)
-        → IfErr result (IsOfMemoryOrDisk (state S.Store conn.old) (state S.Store conn.new))) }
-    ensures unchanged { HasCleanDisk (state S.Store conn.new) → OnOk result (IsUnchanged (state S.Store conn.old) (state S.Store conn.new)) }
-    ensures asks { Asks (state S.Store conn.old) (state S.Store conn.new) }
+    ensures { LooksUp S.Store conn.old conn.new (λ T rows. rows.items ≡ authorizations_where T which.entry) result }
 {
-    find_parents_by::<S, AuthzColumns, _>(alloc, conn, text_of(which), params_of(which))
+    find_parents::<S, AuthzColumns, _>(alloc, conn, query_of(which))
 }
 
 /// The authorization of a number, without its challenges.
@@ -158,15 +151,10 @@ pub fn bare_authorizations<S: Alter>(
     conn: &mut Connection<S>,
     number: u64,
 ) -> Result<Vec<AuthorizationRow>, ReadFault>
-    ensures found { ForHeld (state S.Store conn.old) (state S.Store conn.new) (λ T. IsStoredBook T
-        → IfOk result (λ rows. rows.items ≡ bare_authorizations T number)) }
-    ensures caused { ForHeld (state S.Store conn.old) (state S.Store conn.new) (λ T. IsStoredBook T → MayRead (state S.Store conn.old)
-        → IfErr result (IsOfMemoryOrDisk (state S.Store conn.old) (state S.Store conn.new))) }
-    ensures unchanged { HasCleanDisk (state S.Store conn.new) → OnOk result (IsUnchanged (state S.Store conn.old) (state S.Store conn.new)) }
-    ensures asks { Asks (state S.Store conn.old) (state S.Store conn.new) }
+    ensures { LooksUp S.Store conn.old conn.new (λ T rows. rows.items ≡ bare_authorizations T number) result }
 {
-    let params = number_param(number);
-    find_rows::<S, AuthzColumns>(alloc, conn, authorizations::SELECT_NUMBERED, &params)
+    let query = Query::number(authorizations::SELECT_NUMBERED, number);
+    find_rows::<S, AuthzColumns>(alloc, conn, query)
 }
 
 /// The number of the authorization of a challenge.
@@ -180,14 +168,10 @@ pub fn owners_of<S: Alter>(
     conn: &mut Connection<S>,
     challenge: u64,
 ) -> Result<Vec<u64>, ReadFault>
-    ensures found { ForHeld (state S.Store conn.old) (state S.Store conn.new) (λ T. IsStoredBook T → IfOk result (λ rows. rows.items ≡ owners_of T challenge)) }
-    ensures caused { ForHeld (state S.Store conn.old) (state S.Store conn.new) (λ T. IsStoredBook T → MayRead (state S.Store conn.old)
-        → IfErr result (IsOfMemoryOrDisk (state S.Store conn.old) (state S.Store conn.new))) }
-    ensures unchanged { HasCleanDisk (state S.Store conn.new) → OnOk result (IsUnchanged (state S.Store conn.old) (state S.Store conn.new)) }
-    ensures asks { Asks (state S.Store conn.old) (state S.Store conn.new) }
+    ensures { LooksUp S.Store conn.old conn.new (λ T rows. rows.items ≡ owners_of T challenge) result }
 {
-    let params = number_param(challenge);
-    let rows = find_rows::<S, ChallColumns>(alloc, conn, challenges::SELECT_NUMBERED, &params)?;
+    let query = Query::number(challenges::SELECT_NUMBERED, challenge);
+    let rows = find_rows::<S, ChallColumns>(alloc, conn, query)?;
     owners(alloc, rows)
 }
 
@@ -202,16 +186,14 @@ pub fn waiting_challenges<S: Alter>(
     alloc: Global,
     conn: &mut Connection<S>,
 ) -> Result<Vec<Owned<ChallengeRow>>, ReadFault>
-    ensures found { ForHeld (state S.Store conn.old) (state S.Store conn.new) (λ T. IsStoredBook T
-        → IfOk result (λ rows. AreWaiting T (map (λ c. (c.owner, c.row)) rows.items))) }
-    ensures caused { ForHeld (state S.Store conn.old) (state S.Store conn.new) (λ T. IsStoredBook T → MayRead (state S.Store conn.old)
-        → IfErr result (IsOfMemoryOrDisk (state S.Store conn.old) (state S.Store conn.new))) }
-    ensures unchanged { HasCleanDisk (state S.Store conn.new) → OnOk result (IsUnchanged (state S.Store conn.old) (state S.Store conn.new)) }
-    ensures asks { Asks (state S.Store conn.old) (state S.Store conn.new) }
+    ensures { LooksUp S.Store conn.old conn.new (λ T rows. AreWaiting T (map (λ c. (c.owner, c.row)) rows.items)) result }
 {
-    let params = text_param(ChallengeStatus::Processing.as_str());
-    let heads = find_rows::<S, ChallColumns>(alloc, conn, challenges::SELECT_WITH_STATUS, &params)?;
-    with_owned_answers(alloc, conn, &heads)
+    let waiting = ChallengeStatus::Processing.as_str();
+    find_challenges(
+        alloc,
+        conn,
+        Query::text(challenges::SELECT_WITH_STATUS, waiting),
+    )
 }
 
 /// The authorization of the least number above this one, if there is one.
@@ -225,15 +207,10 @@ pub fn authorization_above<S: Alter>(
     conn: &mut Connection<S>,
     number: u64,
 ) -> Result<Vec<AuthorizationRow>, ReadFault>
-    ensures found { ForHeld (state S.Store conn.old) (state S.Store conn.new) (λ T. IsStoredBook T
-        → IfOk result (λ rows. rows.items ≡ first_of (authorizations_above T number))) }
-    ensures caused { ForHeld (state S.Store conn.old) (state S.Store conn.new) (λ T. IsStoredBook T → MayRead (state S.Store conn.old)
-        → IfErr result (IsOfMemoryOrDisk (state S.Store conn.old) (state S.Store conn.new))) }
-    ensures unchanged { HasCleanDisk (state S.Store conn.new) → OnOk result (IsUnchanged (state S.Store conn.old) (state S.Store conn.new)) }
-    ensures asks { Asks (state S.Store conn.old) (state S.Store conn.new) }
+    ensures { LooksUp S.Store conn.old conn.new (λ T rows. rows.items ≡ first_of (authorizations_above T number)) result }
 {
-    let params = number_param(number);
-    find_parents::<S, AuthzColumns, _>(alloc, conn, authorizations::SELECT_ABOVE, &params)
+    let query = Query::number(authorizations::SELECT_ABOVE, number);
+    find_parents::<S, AuthzColumns, _>(alloc, conn, query)
 }
 
 /// The challenge of the least number above this one, of whatever authorization, if there is one.
@@ -247,15 +224,10 @@ pub fn challenge_above<S: Alter>(
     conn: &mut Connection<S>,
     number: u64,
 ) -> Result<Vec<ChallengeRow>, ReadFault>
-    ensures found { ForHeld (state S.Store conn.old) (state S.Store conn.new) (λ T. IsStoredBook T
-        → IfOk result (λ rows. rows.items ≡ first_of (challenges_above T number))) }
-    ensures caused { ForHeld (state S.Store conn.old) (state S.Store conn.new) (λ T. IsStoredBook T → MayRead (state S.Store conn.old)
-        → IfErr result (IsOfMemoryOrDisk (state S.Store conn.old) (state S.Store conn.new))) }
-    ensures unchanged { HasCleanDisk (state S.Store conn.new) → OnOk result (IsUnchanged (state S.Store conn.old) (state S.Store conn.new)) }
-    ensures asks { Asks (state S.Store conn.old) (state S.Store conn.new) }
+    ensures { LooksUp S.Store conn.old conn.new (λ T rows. rows.items ≡ first_of (challenges_above T number)) result }
 {
-    let heads = find_owned::<S, ChallColumns, _>(alloc, conn, challenges::SELECT_ABOVE, number)?;
-    with_answers(alloc, conn, &heads)
+    let rows = find_challenges(alloc, conn, Query::number(challenges::SELECT_ABOVE, number))?;
+    without_owners(alloc, rows)
 }
 
 /// The earliest end, in seconds since 1970, of an authorization of a stored status, or `None` where there is none.
@@ -268,12 +240,10 @@ pub fn earliest_authorization_end<S: Alter>(
     conn: &mut Connection<S>,
     status: AuthzStatus,
 ) -> Result<Option<u64>, ReadFault>
-    ensures found { ForHeld (state S.Store conn.old) (state S.Store conn.new) (λ T. IfOk result (IsEarliest (authorization_ends T status))) }
-    ensures caused { ForHeld (state S.Store conn.old) (state S.Store conn.new) (λ T. IsStoredBook T → MayRead (state S.Store conn.old)
-        → IfErr result (IsOfMemoryOrDisk (state S.Store conn.old) (state S.Store conn.new))) }
-    ensures unchanged { HasCleanDisk (state S.Store conn.new) → OnOk result (IsUnchanged (state S.Store conn.old) (state S.Store conn.new)) }
-    ensures asks { Asks (state S.Store conn.old) (state S.Store conn.new) }
+    ensures { TellsEarliest S.Store conn.old conn.new (λ T. authorization_ends T status) result }
 {
-    let params = text_param(status.as_str());
-    earliest(conn, authorizations::SELECT_EARLIEST, &params)
+    earliest(
+        conn,
+        Query::text(authorizations::SELECT_EARLIEST, status.as_str()),
+    )
 }

@@ -1,15 +1,16 @@
 //! The earliest moment that a query shows.
-ghost use Rattle.std.specs.Prelude.{◌≡◌, ◌≢◌, ℕ, List, option_map, pos, IfErr, IfOk, OnOk};
-ghost use Rattle.sqlite.specs.{Order.Row as SqlRow, Values.bound, Held.state};
-ghost use Rattle.sqlite.specs.State.{HasCleanDisk, IsUnchanged, Shown};
-ghost use Rattle.sql_schema.specs.Stays.{Asks};
-ghost use Rattle.sql_read.specs.{Earliest.first_number, Selecting.IsQuery};
-ghost use Rattle.sql_read.specs.LookUpFaults.{BeginWithMoment, IsOfMemory, IsOfMemoryOrDisk, IsSureQuery};
+ghost use Rattle.std.specs.Prelude.{◌≡◌, ◌≢◌, ℕ, List, option_map, pos, IfErr, IfOk};
+ghost use Rattle.sqlite.specs.Held.{state};
+ghost use Rattle.desk_model.specs.Tables.{Tables};
+ghost use Rattle.sql_read.specs.Earliest.{FindsEarliest, TellsEarliest, first_number};
+ghost use Rattle.sql_read.specs.LookUpFaults.{BeginWithMoment, IsOfMemory};
+ghost use Rattle.sql_read.specs.{Queries.asked, Selecting.IsQuery};
+ghost use Rattle.sql_tables.specs.Holds.{Holds};
 
 use crate::fault::ReadFault;
+use crate::params::Query;
 use crate::query::all_rows;
 use crate::values::numbers;
-use sqlite::types::ValueRef;
 use sqlite::{Alter, Connection, Row};
 
 // The number as a moment.
@@ -45,17 +46,13 @@ fn first_moment(rows: &[Row]) -> Result<Option<u64>, ReadFault>
 /// The engine's, and `NotARow`.
 pub(crate) fn earliest<S: Alter>(
     conn: &mut Connection<S>,
-    text: &str,
-    params: &[ValueRef<'_>],
+    query: Query<'_>,
 ) -> Result<Option<u64>, ReadFault>
-    requires { IsQuery text.now }
-    ensures shown { HasCleanDisk (state S.Store conn.new) → IfOk result (λ found. (rows : List SqlRow)
-        × Shown text.now (bound params.now) (state S.Store conn.old) (state S.Store conn.new) rows × (option_map (λ m. pos m) found ≡ first_number rows)) }
-    ensures caused { HasCleanDisk (state S.Store conn.new) → IsSureQuery S.Store text.now (bound params.now) conn.old BeginWithMoment
-        → IfErr result (IsOfMemoryOrDisk (state S.Store conn.old) (state S.Store conn.new)) }
-    ensures unchanged { HasCleanDisk (state S.Store conn.new) → OnOk result (IsUnchanged (state S.Store conn.old) (state S.Store conn.new)) }
-    ensures asks { Asks (state S.Store conn.old) (state S.Store conn.new) }
+    requires { IsQuery (asked query).0 }
+    ensures { (moments : Tables → List ℕ)
+        → ((T : Tables) → Holds (state S.Store conn.old).now T → FindsEarliest S.Store (asked query.entry) conn.old (moments T))
+        → TellsEarliest S.Store conn.old conn.new moments result }
 {
-    let rows = all_rows(conn, text, params)?;
+    let rows = all_rows(conn, query)?;
     first_moment(&rows)
 }

@@ -16,6 +16,7 @@ ghost use Rattle.store_laws.specs.Blank.{blank, zeros};
 
 use crate::checked::check_nonces;
 use crate::formats::Format;
+use crate::params::Query;
 use crate::query::read_query;
 use crate::stored::read_first_tables;
 use crate::values::both;
@@ -91,7 +92,7 @@ fn read_first_meta<S: Alter>(alloc: Global, conn: &mut Connection<S>) -> Result<
     ensures { Reads S.Store conn.old conn.new (λ found. IfSome found (ShowsFirstMeta S.Store conn.old))
         (IsReadable S.Store conn.old SELECT.now FitsMeta) (λ e. IsOutOfMemory e ⊎ FailsHere S.Store conn.old SELECT.now FitsMeta e) result }
 {
-    match read_query::<S, MetaColumns>(alloc, conn, meta::SELECT, &[]) {
+    match read_query::<S, MetaColumns>(alloc, conn, Query::all(meta::SELECT)) {
         Ok(read) => only_meta(alloc, read),
         Err(error) => Err(error),
     }

@@ -8,6 +8,7 @@ ghost use Rattle.sql_read.specs.Failures.{IsMet, MayRead};
 ghost use Rattle.sql_read.specs.{First.ForFirst, Held.ForHeld};
 ghost use Rattle.sql_read.specs.Format.{FailsToShowFormat, IsNewer, IsOfLaterFormat, ShowsFormats};
 
+use crate::params::Query;
 use crate::query::all_rows;
 use sql_schema::meta;
 use sqlite::types::ValueRef;
@@ -59,6 +60,6 @@ pub fn is_newer<S: Alter>(conn: &mut Connection<S>) -> Result<bool, Error>
     ensures unchanged { HasCleanDisk (state S.Store conn.new) → OnOk result (IsUnchanged (state S.Store conn.old) (state S.Store conn.new)) }
     ensures asks { Asks (state S.Store conn.old) (state S.Store conn.new) }
 {
-    let rows = all_rows(conn, meta::SELECT_FORMAT, &[])?;
+    let rows = all_rows(conn, Query::all(meta::SELECT_FORMAT))?;
     Ok(is_newer_row(&rows))
 }

@@ -1,15 +1,11 @@
 //! The row of the desk.
-ghost use Rattle.std.specs.Prelude.{◌≡◌, [], ◌∷◌, IfErr, IfOk, OnOk};
-ghost use Rattle.sqlite.specs.State.{HasCleanDisk, IsUnchanged};
-ghost use Rattle.sqlite.specs.Held.{state};
+ghost use Rattle.std.specs.Prelude.{◌≡◌, [], ◌∷◌, IfErr, IfOk};
 ghost use Rattle.desk_model.specs.declared.rows.Meta.{Meta as MetaRow};
-ghost use Rattle.sql_schema.specs.Stays.{Asks};
-ghost use Rattle.sql_read.specs.{Failures.MayRead, Held.ForHeld, LookUpFaults.IsOfMemoryOrDisk};
-ghost use Rattle.sql_read.specs.Spelled.{FitsMeta, meta_in};
-ghost use Rattle.store_book.specs.IsBook.{IsStoredBook};
+ghost use Rattle.sql_read.specs.{Looking.LooksUp, Spelled.FitsMeta, Spelled.meta_in};
 
 use crate::columns::Selected;
 use crate::fault::ReadFault;
+use crate::params::Query;
 use crate::rows::find_rows;
 use crate::values::{numbers, text};
 use desk_model::Meta;
@@ -70,12 +66,8 @@ fn last_row(mut rows: Vec<Meta>) -> Result<Meta, ReadFault>
 /// The engine's, and `NotARow` where no row of a desk is there; nothing is changed. Of a desk's tables it fails for memory or the
 /// disk alone.
 pub fn meta_row<S: Alter>(alloc: Global, conn: &mut Connection<S>) -> Result<Meta, ReadFault>
-    ensures found { ForHeld (state S.Store conn.old) (state S.Store conn.new) (λ T. IsStoredBook T → IfOk result (λ meta. meta ≡ T.meta)) }
-    ensures caused { ForHeld (state S.Store conn.old) (state S.Store conn.new) (λ T. IsStoredBook T → MayRead (state S.Store conn.old)
-        → IfErr result (IsOfMemoryOrDisk (state S.Store conn.old) (state S.Store conn.new))) }
-    ensures unchanged { HasCleanDisk (state S.Store conn.new) → OnOk result (IsUnchanged (state S.Store conn.old) (state S.Store conn.new)) }
-    ensures asks { Asks (state S.Store conn.old) (state S.Store conn.new) }
+    ensures { LooksUp S.Store conn.old conn.new (λ T meta. meta ≡ T.meta) result }
 {
-    let rows = find_rows::<S, MetaColumns>(alloc, conn, meta::SELECT, &[])?;
+    let rows = find_rows::<S, MetaColumns>(alloc, conn, Query::all(meta::SELECT))?;
     last_row(rows)
 }

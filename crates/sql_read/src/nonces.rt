@@ -1,20 +1,15 @@
 //! Nonces, read from the rows of an answer and looked up.
-ghost use Rattle.std.specs.Prelude.{◌≡◌, IfErr, IfOk, OnOk};
-ghost use Rattle.sqlite.specs.State.{HasCleanDisk, IsUnchanged};
-ghost use Rattle.sqlite.specs.Held.{state};
+ghost use Rattle.std.specs.Prelude.{◌≡◌};
 ghost use Rattle.model_lives.specs.LookUps.{nonces_where};
-ghost use Rattle.sql_schema.specs.Stays.{Asks};
-ghost use Rattle.sql_read.specs.Earliest.{IsEarliest, issues};
-ghost use Rattle.sql_read.specs.{Failures.MayRead, Held.ForHeld, LookUpFaults.IsOfMemoryOrDisk};
+ghost use Rattle.sql_read.specs.Earliest.{TellsEarliest, issues};
+ghost use Rattle.sql_read.specs.{Looking.LooksUp, Queries.asked, Queries.nonce_query};
 ghost use Rattle.sql_read.specs.Spelled.{FitsNonce, nonce_in};
-ghost use Rattle.sql_read.specs.Queries.{bound_by, nonce_params, nonce_text};
-ghost use Rattle.store_book.specs.IsBook.{IsStoredBook};
 
 use crate::columns::Selected;
 use crate::earliest::earliest;
 use crate::fault::ReadFault;
-use crate::params::Params;
-use crate::rows::find_rows_by;
+use crate::params::Query;
+use crate::rows::find_rows;
 use crate::values::{bytes, numbers};
 use desk_model::Nonce;
 use model_lives::NoncesWhere;
@@ -39,25 +34,14 @@ impl Selected for NonceColumns {
     }
 }
 
-// The statement of a query.
-fn text_of(which: NoncesWhere) -> &'static str
-    ensures { result.now ≡ nonce_text which }
+// The query, with its text and its parameters.
+fn query_of<'a>(which: NoncesWhere) -> Query<'a>
+    ensures { asked result ≡ nonce_query which }
 {
     match which {
-        NoncesWhere::Any => nonces::SELECT,
-        NoncesWhere::Serial(_) => nonces::SELECT_NUMBERED,
-        NoncesWhere::IssuedBefore(_) => nonces::SELECT_BEFORE,
-    }
-}
-
-// Its parameters.
-fn params_of<'a>(which: NoncesWhere) -> Params<'a>
-    ensures { bound_by result ≡ nonce_params which }
-{
-    match which {
-        NoncesWhere::Any => Params::None,
-        NoncesWhere::Serial(serial) => Params::number(serial),
-        NoncesWhere::IssuedBefore(moment) => Params::number(moment),
+        NoncesWhere::Any => Query::all(nonces::SELECT),
+        NoncesWhere::Serial(serial) => Query::number(nonces::SELECT_NUMBERED, serial),
+        NoncesWhere::IssuedBefore(moment) => Query::number(nonces::SELECT_BEFORE, moment),
     }
 }
 
@@ -72,14 +56,9 @@ pub fn find_nonces<S: Alter>(
     conn: &mut Connection<S>,
     which: NoncesWhere,
 ) -> Result<Vec<Nonce>, ReadFault>
-    ensures found { ForHeld (state S.Store conn.old) (state S.Store conn.new) (λ T. IsStoredBook T
-        → IfOk result (λ rows. rows.items ≡ nonces_where T which)) }
-    ensures caused { ForHeld (state S.Store conn.old) (state S.Store conn.new) (λ T. IsStoredBook T → MayRead (state S.Store conn.old)
-        → IfErr result (IsOfMemoryOrDisk (state S.Store conn.old) (state S.Store conn.new))) }
-    ensures unchanged { HasCleanDisk (state S.Store conn.new) → OnOk result (IsUnchanged (state S.Store conn.old) (state S.Store conn.new)) }
-    ensures asks { Asks (state S.Store conn.old) (state S.Store conn.new) }
+    ensures { LooksUp S.Store conn.old conn.new (λ T rows. rows.items ≡ nonces_where T which) result }
 {
-    find_rows_by::<S, NonceColumns>(alloc, conn, text_of(which), params_of(which))
+    find_rows::<S, NonceColumns>(alloc, conn, query_of(which))
 }
 
 /// The earliest moment, in seconds since 1970, at which a nonce was issued that is there, or `None` where there is none.
@@ -89,11 +68,7 @@ pub fn find_nonces<S: Alter>(
 /// The engine's, and `NotARow` where a row is not one of a desk; nothing is changed. Of a desk's tables it fails for memory or the
 /// disk alone.
 pub fn earliest_issue<S: Alter>(conn: &mut Connection<S>) -> Result<Option<u64>, ReadFault>
-    ensures found { ForHeld (state S.Store conn.old) (state S.Store conn.new) (λ T. IfOk result (IsEarliest (issues T))) }
-    ensures caused { ForHeld (state S.Store conn.old) (state S.Store conn.new) (λ T. IsStoredBook T → MayRead (state S.Store conn.old)
-        → IfErr result (IsOfMemoryOrDisk (state S.Store conn.old) (state S.Store conn.new))) }
-    ensures unchanged { HasCleanDisk (state S.Store conn.new) → OnOk result (IsUnchanged (state S.Store conn.old) (state S.Store conn.new)) }
-    ensures asks { Asks (state S.Store conn.old) (state S.Store conn.new) }
+    ensures { TellsEarliest S.Store conn.old conn.new issues result }
 {
-    earliest(conn, nonces::SELECT_EARLIEST, &[])
+    earliest(conn, Query::all(nonces::SELECT_EARLIEST))
 }

@@ -1,23 +1,18 @@
 //! Orders, each with what it lists, read from the rows of answers and looked up.
-ghost use Rattle.std.specs.Prelude.{◌≡◌, IfErr, IfOk, OnOk};
-ghost use Rattle.sqlite.specs.State.{HasCleanDisk, IsUnchanged};
-ghost use Rattle.sqlite.specs.Held.{state};
+ghost use Rattle.std.specs.Prelude.{◌≡◌};
 ghost use Rattle.store_columns.specs.Flat.{without_listed};
 ghost use Rattle.model_lives.specs.Above.{first_of, orders_above};
 ghost use Rattle.model_lives.specs.LookUps.{bare_orders_of, orders_listing, orders_where};
-ghost use Rattle.sql_schema.specs.Stays.{Asks};
-ghost use Rattle.sql_read.specs.Earliest.{IsEarliest, order_ends};
-ghost use Rattle.sql_read.specs.{Failures.MayRead, Held.ForHeld, LookUpFaults.IsOfMemoryOrDisk, Under.HasItsListed};
+ghost use Rattle.sql_read.specs.Earliest.{TellsEarliest, order_ends};
+ghost use Rattle.sql_read.specs.{Looking.LooksUp, Queries.asked, Queries.order_query, Under.HasItsListed};
 ghost use Rattle.sql_read.specs.Spelled.{FitsListed, FitsOrder, listed_in, order_in};
-ghost use Rattle.sql_read.specs.Queries.{bound_by, order_params, order_text};
-ghost use Rattle.store_book.specs.IsBook.{IsStoredBook};
 
 use crate::columns::Selected;
 use crate::earliest::earliest;
 use crate::fault::ReadFault;
-use crate::owned::owners;
-use crate::params::{Params, number_param, text_param};
-use crate::parents::{Parent, find_owned, find_parents, find_parents_by};
+use crate::owned::{owners, without_owners};
+use crate::params::Query;
+use crate::parents::{Parent, find_parents};
 use crate::rows::find_rows;
 use crate::values::{both, bytes_or_none, numbers, numbers_or_none, text, text_or_none};
 use desk_model::{OrderRow, OrderStatus, Sequence};
@@ -72,40 +67,28 @@ impl Parent for OrderRow {
     ghost HasItsOwn = { λ T. HasItsListed T.orders };
 
     fn nest<S: Alter>(&mut self, alloc: Global, conn: &mut Connection<S>) -> Result<(), ReadFault> {
-        let listed = find_owned::<S, OrderAuthzColumns, _>(
-            alloc,
-            conn,
-            listed::SELECT_OF,
-            self.number,
-        )?;
+        let query = Query::number(listed::SELECT_OF, self.number);
+        let rows = find_rows::<S, OrderAuthzColumns>(alloc, conn, query)?;
+        let listed = without_owners(alloc, rows)?;
         self.listed = Sequence::new(listed);
         Ok(())
     }
 }
 
-// The statement of a query.
-fn text_of(which: OrdersWhere) -> &'static str
-    ensures { result.now ≡ order_text which }
+// The query, with its text and its parameters.
+fn query_of<'a>(which: OrdersWhere) -> Query<'a>
+    ensures { asked result ≡ order_query which }
 {
     match which {
-        OrdersWhere::Any => orders::SELECT,
-        OrdersWhere::Number(_) => orders::SELECT_NUMBERED,
-        OrdersWhere::Account(_) => orders::SELECT_OF,
-        OrdersWhere::Past(_, _) => orders::SELECT_PAST,
-        OrdersWhere::Processing => orders::SELECT_WITH_STATUS,
-    }
-}
-
-// Its parameters.
-fn params_of<'a>(which: OrdersWhere) -> Params<'a>
-    ensures { bound_by result ≡ order_params which }
-{
-    match which {
-        OrdersWhere::Any => Params::None,
-        OrdersWhere::Number(number) => Params::number(number),
-        OrdersWhere::Account(account) => Params::number(account),
-        OrdersWhere::Past(status, moment) => Params::text_and_number(status.as_str(), moment),
-        OrdersWhere::Processing => Params::text(OrderStatus::Processing.as_str()),
+        OrdersWhere::Any => Query::all(orders::SELECT),
+        OrdersWhere::Number(number) => Query::number(orders::SELECT_NUMBERED, number),
+        OrdersWhere::Account(account) => Query::number(orders::SELECT_OF, account),
+        OrdersWhere::Past(status, moment) => {
+            Query::text_and_number(orders::SELECT_PAST, status.as_str(), moment)
+        }
+        OrdersWhere::Processing => {
+            Query::text(orders::SELECT_WITH_STATUS, OrderStatus::Processing.as_str())
+        }
     }
 }
 
@@ -120,14 +103,9 @@ pub fn find_orders<S: Alter>(
     conn: &mut Connection<S>,
     which: OrdersWhere,
 ) -> Result<Vec<OrderRow>, ReadFault>
-    ensures found { ForHeld (state S.Store conn.old) (state S.Store conn.new) (λ T. IsStoredBook T
-        → IfOk result (λ rows. rows.items ≡ orders_where T which)) }
-    ensures caused { ForHeld (state S.Store conn.old) (state S.Store conn.new) (λ T. IsStoredBook T → MayRead (state S.Store conn.old)
-        → IfErr result (IsOfMemoryOrDisk (state S.Store conn.old) (state S.Store conn.new))) }
-    ensures unchanged { HasCleanDisk (state S.Store conn.new) → OnOk result (IsUnchanged (state S.Store conn.old) (state S.Store conn.new)) }
-    ensures asks { Asks (state S.Store conn.old) (state S.Store conn.new) }
+    ensures { LooksUp S.Store conn.old conn.new (λ T rows. rows.items ≡ orders_where T which) result }
 {
-    find_parents_by::<S, OrderColumns, _>(alloc, conn, text_of(which), params_of(which))
+    find_parents::<S, OrderColumns, _>(alloc, conn, query_of(which))
 }
 
 /// The orders of an account, by number, without what they list.
@@ -141,15 +119,9 @@ pub fn bare_orders_of<S: Alter>(
     conn: &mut Connection<S>,
     account: u64,
 ) -> Result<Vec<OrderRow>, ReadFault>
-    ensures found { ForHeld (state S.Store conn.old) (state S.Store conn.new) (λ T. IsStoredBook T
-        → IfOk result (λ rows. rows.items ≡ bare_orders_of T account)) }
-    ensures caused { ForHeld (state S.Store conn.old) (state S.Store conn.new) (λ T. IsStoredBook T → MayRead (state S.Store conn.old)
-        → IfErr result (IsOfMemoryOrDisk (state S.Store conn.old) (state S.Store conn.new))) }
-    ensures unchanged { HasCleanDisk (state S.Store conn.new) → OnOk result (IsUnchanged (state S.Store conn.old) (state S.Store conn.new)) }
-    ensures asks { Asks (state S.Store conn.old) (state S.Store conn.new) }
+    ensures { LooksUp S.Store conn.old conn.new (λ T rows. rows.items ≡ bare_orders_of T account) result }
 {
-    let params = number_param(account);
-    find_rows::<S, OrderColumns>(alloc, conn, orders::SELECT_OF, &params)
+    find_rows::<S, OrderColumns>(alloc, conn, Query::number(orders::SELECT_OF, account))
 }
 
 /// The numbers of the orders that list an authorization.
@@ -163,15 +135,10 @@ pub fn orders_listing<S: Alter>(
     conn: &mut Connection<S>,
     authorization: u64,
 ) -> Result<Vec<u64>, ReadFault>
-    ensures found { ForHeld (state S.Store conn.old) (state S.Store conn.new) (λ T. IsStoredBook T
-        → IfOk result (λ rows. rows.items ≡ orders_listing T authorization)) }
-    ensures caused { ForHeld (state S.Store conn.old) (state S.Store conn.new) (λ T. IsStoredBook T → MayRead (state S.Store conn.old)
-        → IfErr result (IsOfMemoryOrDisk (state S.Store conn.old) (state S.Store conn.new))) }
-    ensures unchanged { HasCleanDisk (state S.Store conn.new) → OnOk result (IsUnchanged (state S.Store conn.old) (state S.Store conn.new)) }
-    ensures asks { Asks (state S.Store conn.old) (state S.Store conn.new) }
+    ensures { LooksUp S.Store conn.old conn.new (λ T rows. rows.items ≡ orders_listing T authorization) result }
 {
-    let params = number_param(authorization);
-    let rows = find_rows::<S, OrderAuthzColumns>(alloc, conn, listed::SELECT_LISTING, &params)?;
+    let query = Query::number(listed::SELECT_LISTING, authorization);
+    let rows = find_rows::<S, OrderAuthzColumns>(alloc, conn, query)?;
     owners(alloc, rows)
 }
 
@@ -186,15 +153,9 @@ pub fn order_above<S: Alter>(
     conn: &mut Connection<S>,
     number: u64,
 ) -> Result<Vec<OrderRow>, ReadFault>
-    ensures found { ForHeld (state S.Store conn.old) (state S.Store conn.new) (λ T. IsStoredBook T
-        → IfOk result (λ rows. rows.items ≡ first_of (orders_above T number))) }
-    ensures caused { ForHeld (state S.Store conn.old) (state S.Store conn.new) (λ T. IsStoredBook T → MayRead (state S.Store conn.old)
-        → IfErr result (IsOfMemoryOrDisk (state S.Store conn.old) (state S.Store conn.new))) }
-    ensures unchanged { HasCleanDisk (state S.Store conn.new) → OnOk result (IsUnchanged (state S.Store conn.old) (state S.Store conn.new)) }
-    ensures asks { Asks (state S.Store conn.old) (state S.Store conn.new) }
+    ensures { LooksUp S.Store conn.old conn.new (λ T rows. rows.items ≡ first_of (orders_above T number)) result }
 {
-    let params = number_param(number);
-    find_parents::<S, OrderColumns, _>(alloc, conn, orders::SELECT_ABOVE, &params)
+    find_parents::<S, OrderColumns, _>(alloc, conn, Query::number(orders::SELECT_ABOVE, number))
 }
 
 /// The earliest end, in seconds since 1970, of an order of a stored status, or `None` where there is none.
@@ -207,12 +168,7 @@ pub fn earliest_order_end<S: Alter>(
     conn: &mut Connection<S>,
     status: OrderStatus,
 ) -> Result<Option<u64>, ReadFault>
-    ensures found { ForHeld (state S.Store conn.old) (state S.Store conn.new) (λ T. IfOk result (IsEarliest (order_ends T status))) }
-    ensures caused { ForHeld (state S.Store conn.old) (state S.Store conn.new) (λ T. IsStoredBook T → MayRead (state S.Store conn.old)
-        → IfErr result (IsOfMemoryOrDisk (state S.Store conn.old) (state S.Store conn.new))) }
-    ensures unchanged { HasCleanDisk (state S.Store conn.new) → OnOk result (IsUnchanged (state S.Store conn.old) (state S.Store conn.new)) }
-    ensures asks { Asks (state S.Store conn.old) (state S.Store conn.new) }
+    ensures { TellsEarliest S.Store conn.old conn.new (λ T. order_ends T status) result }
 {
-    let params = text_param(status.as_str());
-    earliest(conn, orders::SELECT_EARLIEST, &params)
+    earliest(conn, Query::text(orders::SELECT_EARLIEST, status.as_str()))
 }

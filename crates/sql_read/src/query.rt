@@ -1,16 +1,25 @@
-//! Queries, and the columns of their rows.
-ghost use Rattle.std.specs.Prelude.{◌≡◌, map, IfErr, IfOk, OnOk, List};
-ghost use Rattle.sqlite.specs.{Order.Row as SqlRow, Values.bound, Held.state};
-ghost use Rattle.sqlite.specs.State.{FailsToQuery, HasCleanDisk, IsUnchanged, Shown};
-ghost use Rattle.sql_schema.specs.Stays.{Asks};
-ghost use Rattle.sql_read.specs.Failures.{FailsToRead, IsMet};
-ghost use Rattle.sql_read.specs.Selecting.{IsQuery};
+//! The rows of queries, and their columns.
+ghost use Rattle.sqlite.specs.Values.{bound};
+ghost use Rattle.sql_read.specs.{Queries.asked, Reads.ReadsColumns, Reads.ReadsRows, Selecting.IsQuery};
 
 use crate::columns::{Selected, read_all};
+use crate::params::{Params, Query};
 use desk_model::Sequence;
 use sqlite::types::ValueRef;
 use sqlite::{Alter, Connection, Error, Row};
 use std::alloc::Global;
+
+// The rows of the query that a text and these parameters are.
+fn rows_by<S: Alter>(
+    conn: &mut Connection<S>,
+    text: &str,
+    params: &[ValueRef<'_>],
+) -> Result<Vec<Row>, Error>
+    requires { IsQuery text.now }
+    ensures { ReadsRows S.Store (λ rows. rows.items) (text.now, bound params.now) conn.old conn.new result }
+{
+    conn.query_all(text, params)
+}
 
 /// The rows of a query.
 ///
@@ -19,19 +28,16 @@ use std::alloc::Global;
 /// The engine's.
 pub(crate) fn all_rows<S: Alter>(
     conn: &mut Connection<S>,
-    text: &str,
-    params: &[ValueRef<'_>],
+    query: Query<'_>,
 ) -> Result<Vec<Row>, Error>
-    requires { IsQuery text.now }
-    ensures shown { HasCleanDisk (state S.Store conn.new)
-        → IfOk result (λ rows. Shown text.now (bound params.now) (state S.Store conn.old) (state S.Store conn.new) rows.items) }
-    ensures err { HasCleanDisk (state S.Store conn.new)
-        → IfErr result (FailsToQuery text.now (bound params.now) (state S.Store conn.old) (state S.Store conn.new)) }
-    ensures met { HasCleanDisk (state S.Store conn.new) → IfErr result (IsMet (state S.Store conn.old) (state S.Store conn.new)) }
-    ensures unchanged { HasCleanDisk (state S.Store conn.new) → OnOk result (IsUnchanged (state S.Store conn.old) (state S.Store conn.new)) }
-    ensures asks { Asks (state S.Store conn.old) (state S.Store conn.new) }
+    requires { IsQuery (asked query).0 }
+    ensures { ReadsRows S.Store (λ rows. rows.items) (asked query.entry) conn.old conn.new result }
 {
-    conn.query_all(text, params)
+    match query.params {
+        Params::None => rows_by(conn, query.text, &[]),
+        Params::One(value) => rows_by(conn, query.text, &[value]),
+        Params::Two(value, other) => rows_by(conn, query.text, &[value, other]),
+    }
 }
 
 /// The columns of the rows of a query.
@@ -42,19 +48,11 @@ pub(crate) fn all_rows<S: Alter>(
 pub(crate) fn read_query<S: Alter, C: Selected>(
     alloc: Global,
     conn: &mut Connection<S>,
-    text: &str,
-    params: &[ValueRef<'_>],
+    query: Query<'_>,
 ) -> Result<Sequence<C>, Error>
-    requires { IsQuery text.now }
-    ensures read { HasCleanDisk (state S.Store conn.new)
-        → IfOk result (λ all. (rows : List SqlRow)
-        × Shown text.now (bound params.now) (state S.Store conn.old) (state S.Store conn.new) rows × (all ≡ map C.spelled rows)) }
-    ensures fails { HasCleanDisk (state S.Store conn.new)
-        → IfErr result (FailsToRead text.now (bound params.now) (state S.Store conn.old) (state S.Store conn.new) C.Fits) }
-    ensures met { HasCleanDisk (state S.Store conn.new) → IfErr result (IsMet (state S.Store conn.old) (state S.Store conn.new)) }
-    ensures unchanged { HasCleanDisk (state S.Store conn.new) → OnOk result (IsUnchanged (state S.Store conn.old) (state S.Store conn.new)) }
-    ensures asks { Asks (state S.Store conn.old) (state S.Store conn.new) }
+    requires { IsQuery (asked query).0 }
+    ensures { ReadsColumns S.Store C.spelled C.Fits (asked query.entry) conn.old conn.new result }
 {
-    let rows = all_rows(conn, text, params)?;
+    let rows = all_rows(conn, query)?;
     read_all(alloc, &rows)
 }

@@ -8,6 +8,7 @@ ghost use Rattle.sql_read.specs.{Held.ForHeld, Reads.Reads};
 ghost use Rattle.sql_read.specs.AllTables.{AreAllShown, AreFirstReadable, AreFirstTablesShown, AreReadable, FailsAtFirst, FailsAtTable};
 ghost use Rattle.sql_read.specs.Shown.{AreColumnsOf, AreShown};
 
+use crate::params::Query;
 use crate::query::read_query;
 use crate::tables::then_read;
 use desk_model::Sequence;
@@ -48,7 +49,7 @@ pub(crate) fn read_first_tables<S: Alter>(
     ensures { Reads S.Store conn.old conn.new (AreFirstTablesShown S.Store conn.old) (AreFirstReadable S.Store conn.old)
         (FailsAtFirst S.Store conn.old) result }
 {
-    let metas = read_query(alloc, conn, meta::SELECT, &[]);
+    let metas = read_query(alloc, conn, Query::all(meta::SELECT));
     let nonces = then_read(metas, alloc, conn, nonces::SELECT);
     let accounts = then_read(nonces, alloc, conn, accounts::SELECT);
     let orders = then_read(accounts, alloc, conn, orders::SELECT);

@@ -1,16 +1,13 @@
-use Rattle.std.proofs.Common.{refl}
-use Rattle.sql_read.proofs.{FoundRows.finds_as, LookUpReadings.account_above_reading, LookUpRows.account_above_find, Results.read_then}
+use Rattle.model_lives.specs.Above.{accounts_above, first_of}
+use Rattle.sql_read.proofs.{LookUpReadings.account_above_reading, LookUpRows.account_above_find}
+use Rattle.sql_read.proofs.Looking.{finds_as, looked, query_as}
 use Rattle.sql_read.proofs.accounts.account_above.Goals as goal
 
 pub find_rows-requires : goal.find_rows-requires
-find_rows-requires g c = (account_above_reading c.args.number).selecting
+find_rows-requires g c = query_as c.number.ensures (account_above_reading c.args.number).selecting
 
-pub returns-clause-found : goal.returns-clause-found
-returns-clause-found g c clean T has book =
-    let it = finds_as refl c.number_param-params.ensures (account_above_find g.S.Store c.args.conn.now T has book c.args.number) in
-    read_then c.find_rows.result (c.find_rows.ensures.read clean) (λ found read. it.shows c.find_rows.new.conn read.0 found.items read.1 read.2 read.3)
-
-pub returns-clause-caused : goal.returns-clause-caused
-returns-clause-caused g c clean T has book may =
-    let it = finds_as refl c.number_param-params.ensures (account_above_find g.S.Store c.args.conn.now T has book c.args.number) in
-    c.find_rows.ensures.caused clean (it.sure may)
+pub returns : goal.returns
+returns g c =
+    looked (λ T. first_of (accounts_above T c.args.number))
+    (λ T has book. finds_as c.number.ensures (account_above_find g.S.Store c.args.conn.now T has book c.args.number))
+    (λ T has book rows are. are) c.find_rows.ensures

@@ -1,29 +1,24 @@
-use Rattle.std.proofs.Common.{◌∙◌, refl, sym}
-use Rattle.sqlite.specs.Held.{state}
-use Rattle.sql_read.proofs.{FoundRows.finds_as, LookUpReadings.keys_of_reading, LookUpRows.keys_of_find}
-use Rattle.sql_read.proofs.Results.{failed_as, fails_then}
-use Rattle.sql_read.specs.LookUpFaults.{IsOfMemoryOrDisk}
+use Rattle.std.proofs.Common.{◌∙◌, sym}
+use Rattle.sql_read.specs.Keys.{keys_of}
+use Rattle.sql_read.specs.LookUpFaults.{IsOfMemory}
+use Rattle.sql_read.proofs.{LookUpReadings.keys_of_reading, LookUpRows.keys_of_find, Results.fails_then}
+use Rattle.sql_read.proofs.Looking.{finds_as, query_as, step_failed, step_made}
 use Rattle.sql_read.proofs.answers.answer_of.Goals as goal
 
 pub find_rows-requires : goal.find_rows-requires
-find_rows-requires g c = (keys_of_reading c.args.number).selecting
+find_rows-requires g c = query_as c.number-query.ensures (keys_of_reading c.args.number).selecting
 
-pub returns-clause-found : goal.returns-clause-found
-returns-clause-found g c clean T has book key own =
-    let it = finds_as refl c.number_param-params.ensures (keys_of_find g.S.Store c.args.conn.now T has book c.args.number) in
-    let read = c.in_ok-keys.ensures.read clean in
-    c.last_answer.ensures.answer key (it.shows c.find_rows.new.conn read.0 c.in_ok-keys.keys.items read.1 read.2 read.3 ∙ own)
+pub returns : goal.returns
+returns g c =
+    step_made (λ T key. keys_of T c.args.number)
+    (λ T has book key own. finds_as c.number-query.ensures (keys_of_find g.S.Store c.args.conn.now T has book c.args.number)) c.in_ok-keys.ensures
+    (λ T key own found. (
+      c.last_answer.ensures.answer key (found ∙ own),
+      fails_then c.last_answer.result {Q = IsOfMemory} c.last_answer.ensures.none (λ fault none. absurd (let e = sym none ∙ found ∙ own in cc)),
+    ))
 
-pub returns-clause-caused : goal.returns-clause-caused
-returns-clause-caused g c clean T has book may key own =
-    let it = finds_as refl c.number_param-params.ensures (keys_of_find g.S.Store c.args.conn.now T has book c.args.number) in
-    let read = c.in_ok-keys.ensures.read clean in
-    let one = it.shows c.find_rows.new.conn read.0 c.in_ok-keys.keys.items read.1 read.2 read.3 ∙ own in
-    fails_then c.last_answer.result c.last_answer.ensures.none (λ fault none. absurd (let e = sym none ∙ one in cc))
-
-pub returns-in_err-keys-clause-caused : goal.returns-in_err-keys-clause-caused
-returns-in_err-keys-clause-caused g c clean T has book may key own =
-    let it = finds_as refl c.number_param-params.ensures (keys_of_find g.S.Store c.args.conn.now T has book c.args.number) in
-    failed_as c.from_residual.result c.in_err-keys.field-0.0 (IsOfMemoryOrDisk (state g.S.Store c.args.conn.now) (state g.S.Store c.find_rows.new.conn))
-    (c.in_err-keys.ensures.caused clean (it.sure may))
+pub returns-in_err-keys : goal.returns-in_err-keys
+returns-in_err-keys g c =
+    step_failed (λ T key. keys_of T c.args.number)
+    (λ T has book key own. finds_as c.number-query.ensures (keys_of_find g.S.Store c.args.conn.now T has book c.args.number)) c.in_err-keys.ensures
     c.from_residual.ensures.1

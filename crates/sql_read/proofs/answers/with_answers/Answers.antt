@@ -1,34 +1,51 @@
 use Rattle.std.proofs.Common.{◌∙◌}
-use Rattle.std.proofs.lemmas.List.{take_all}
+use Rattle.std.proofs.lemmas.{List.take_all, Result.IfOk-from_err}
 use Rattle.sqlite.specs.Held.{state}
-use Rattle.store_columns.specs.Flat.{bare}
-use Rattle.sql_read.specs.Keys.{HasItsKey, answered_as}
-use Rattle.sql_read.proofs.NestLemmas.{filled_failed, filled_first, filled_on, filled_slice}
+use Rattle.store_columns.specs.Flat.{bare_row}
+use Rattle.sql_schema.proofs.StaysLemmas.{asks_then}
+use Rattle.sql_read.specs.Keys.{answered_as}
+use Rattle.sql_read.specs.LookUpFaults.{IsOfMemory}
+use Rattle.sql_read.proofs.{LookUpFaults.all_of_memory, Looking.stopped}
+use Rattle.sql_read.proofs.NestLemmas.{HasOwnKey, filled_failed, filled_first, filled_on, filled_slice}
 use Rattle.sql_read.proofs.answers.with_answers.Goals as goal
 
-pub loop-row-init : goal.loop-row-init
-loop-row-init g c = filled_first HasItsKey bare (state g.S.Store c.args.conn.now) _ c.new-rows.ensures.items
+pub loop-head-init : goal.loop-head-init
+loop-head-init g c = filled_first HasOwnKey bare_row (state g.S.Store c.args.conn.now) _ c.new-rows.ensures.items
 
-pub loop-row-preserved : goal.loop-row-preserved
-loop-row-preserved g c =
+pub loop-head-preserved : goal.loop-head-preserved
+loop-head-preserved g c =
     let after = c.in_ok-answered.ensures in
-    filled_on c.loop-row.invariant after.asks (λ clean open_. after.unchanged clean open_) (λ clean T has book before.
-    filled_slice (HasItsKey T) bare c.args.heads.now c.loop-row.row-index _ c.loop-row.rows.items _ _ c.loop-row-test.true before
-    (λ whole own head. c.with_answer.ensures ∙ (λ i. answered_as (head i) (after.found clean T has book whole own head i))) c.in_ok-push.ensures.items)
+    filled_on c.loop-head.invariant after.asks (λ clean is_open. (after.looks is_open).unchanged clean) (λ clean T has book is_open before.
+    filled_slice (HasOwnKey T) bare_row c.args.heads.now c.loop-head.head-index _ c.loop-head.rows.items _ _ c.loop-head-test.true before
+    (λ whole own head i. record {
+      owner = (head i).owner;
+      row = (c.with_answer-row.ensures
+          ∙ (λ j. answered_as (head j).row ((after.looks is_open).found clean T has book whole.row (own, (λ k. (head k).row)) j))) i;
+    })
+    c.in_ok-push.ensures.items)
 
-pub returns-clause-found : goal.returns-clause-found
-returns-clause-found g c clean T has book open_ rows own are =
-    c.loop-row.invariant.found clean T has book open_ rows own (take_all c.loop-row.row-index c.args.heads.now c.loop-row-test.false ∙ are)
-
-pub returns-clause-unchanged : goal.returns-clause-unchanged
-returns-clause-unchanged g c = c.loop-row.invariant.unchanged
+pub returns-clause-looks : goal.returns-clause-looks
+returns-clause-looks g c is_open =
+    let filled = c.loop-head.invariant in
+    record {
+      found = λ clean T has book rows all.
+          filled.found clean T has book is_open rows all.0 (take_all c.loop-head.head-index c.args.heads.now c.loop-head-test.false ∙ all.1);
+      caused = λ clean T has book may rows all. tt;
+      unchanged = λ clean. filled.unchanged clean is_open;
+      asks = filled.asks;
+    }
 
 pub returns-clause-asks : goal.returns-clause-asks
-returns-clause-asks g c = c.loop-row.invariant.asks
+returns-clause-asks g c = c.loop-head.invariant.asks
 
-pub returns-in_err-answered-clause-caused : goal.returns-in_err-answered-clause-caused
-returns-in_err-answered-clause-caused g c clean T has book may rows own are =
+pub returns-in_err-answered-clause-looks : goal.returns-in_err-answered-clause-looks
+returns-in_err-answered-clause-looks g c is_open =
     let after = c.in_err-answered.ensures in
-    filled_failed c.loop-row.invariant after.asks clean T has may c.args.heads.now rows c.loop-row.row-index _ are own c.loop-row-test.true
+    stopped c.from_residual.ensures.0 (λ clean T has book may rows all.
+    filled_failed c.loop-head.invariant after.asks clean T has may c.args.heads.now rows c.loop-head.head-index _ all.1 all.0 c.loop-head-test.true
     c.from_residual.result c.in_err-answered.field-0.0 c.from_residual.ensures.1
-    (λ has may whole own head. after.caused clean T has book may whole own head)
+    (λ has may whole own head. (after.looks may.is_open).caused clean T has book may whole.row (own, (λ i. (head i).row))))
+    (asks_then _ _ _ c.loop-head.invariant.asks after.asks)
+
+pub returns-in_err-answered-clause-asks : goal.returns-in_err-answered-clause-asks
+returns-in_err-answered-clause-asks g c = asks_then _ _ _ c.loop-head.invariant.asks c.in_err-answered.ensures.asks

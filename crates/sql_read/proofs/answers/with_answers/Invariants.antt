@@ -1,10 +1,9 @@
 use Rattle.std.proofs.Common.{take}
 use Rattle.sqlite.specs.Held.{state}
-use Rattle.store_columns.specs.Flat.{bare}
-use Rattle.sql_read.specs.Keys.{HasItsKey}
-use Rattle.sql_read.proofs.NestLemmas.{Filled}
+use Rattle.store_columns.specs.Flat.{bare_row}
+use Rattle.sql_read.proofs.NestLemmas.{Filled, HasOwnKey}
 use Rattle.sql_read.proofs.answers.with_answers.Given as goal
 
-abbrev pub invariant-loop-row : goal.invariant-loop-row
-invariant-loop-row g l =
-    Filled HasItsKey bare (state g.S.Store l.initial.conn) (state g.S.Store l.conn) (take l.row-index l.heads) l.rows.items
+abbrev pub invariant-loop-head : goal.invariant-loop-head
+invariant-loop-head g l =
+    Filled HasOwnKey bare_row (state g.S.Store l.initial.conn) (state g.S.Store l.conn) (take l.head-index l.heads) l.rows.items

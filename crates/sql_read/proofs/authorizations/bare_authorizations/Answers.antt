@@ -1,19 +1,14 @@
-use Rattle.std.proofs.Common.{refl}
+use Rattle.model_lives.specs.LookUps.{bare_authorizations}
 use Rattle.model_lives.specs.declared.queries.AuthorizationsWhere.TheVariants as authorizations_by
-use Rattle.sql_read.proofs.{FoundRows.finds_as, LookUpReadings.authorizations_asked, LookUpRows.authorizations_find, Results.read_then}
+use Rattle.sql_read.proofs.{LookUpReadings.authorizations_asked, LookUpRows.authorizations_find}
+use Rattle.sql_read.proofs.Looking.{finds_as, looked, query_as}
 use Rattle.sql_read.proofs.authorizations.bare_authorizations.Goals as goal
 
 pub find_rows-requires : goal.find_rows-requires
-find_rows-requires g c = (authorizations_asked (authorizations_by.Number c.args.number)).selecting
+find_rows-requires g c = query_as c.number-query.ensures (authorizations_asked (authorizations_by.Number c.args.number)).selecting
 
-pub returns-clause-found : goal.returns-clause-found
-returns-clause-found g c clean T has book =
-    let it = finds_as refl c.number_param-params.ensures
-    (authorizations_find g.S.Store c.args.conn.now T has book (authorizations_by.Number c.args.number)) in
-    read_then c.find_rows.result (c.find_rows.ensures.read clean) (λ found read. it.shows c.find_rows.new.conn read.0 found.items read.1 read.2 read.3)
-
-pub returns-clause-caused : goal.returns-clause-caused
-returns-clause-caused g c clean T has book may =
-    let it = finds_as refl c.number_param-params.ensures
-    (authorizations_find g.S.Store c.args.conn.now T has book (authorizations_by.Number c.args.number)) in
-    c.find_rows.ensures.caused clean (it.sure may)
+pub returns : goal.returns
+returns g c =
+    looked (λ T. bare_authorizations T c.args.number)
+    (λ T has book. finds_as c.number-query.ensures (authorizations_find g.S.Store c.args.conn.now T has book (authorizations_by.Number c.args.number)))
+    (λ T has book rows are. are) c.find_rows.ensures

@@ -1,21 +1,17 @@
-use Rattle.std.proofs.Common.{subst, sym}
 use Rattle.model_laws.proofs.Keeps.{each-filter}
 use Rattle.model_lives.specs.LookUps.{authorizations_where}
-use Rattle.sql_read.specs.Selecting.{IsQuery}
-use Rattle.sql_read.proofs.{FoundRows.finds_as, LookUpReadings.authorizations_asked, LookUpRows.authorizations_find, UnderLemmas.authorizations_have}
+use Rattle.sql_read.proofs.{LookUpReadings.authorizations_asked, LookUpRows.authorizations_find, UnderLemmas.authorizations_have}
+use Rattle.sql_read.proofs.Looking.{finds_as, looked, query_as}
 use Rattle.sql_read.proofs.authorizations.find_authorizations.Goals as goal
 
-pub find_parents_by-requires : goal.find_parents_by-requires
-find_parents_by-requires g c = subst IsQuery (sym c.text_of.ensures) (authorizations_asked c.args.which).selecting
+pub find_parents-requires : goal.find_parents-requires
+find_parents-requires g c = query_as c.query_of.ensures (authorizations_asked c.args.which).selecting
 
-pub returns-clause-found : goal.returns-clause-found
-returns-clause-found g c clean T has book =
-    let it = finds_as c.text_of.ensures c.params_of.ensures (authorizations_find g.S.Store c.args.conn.now T has book c.args.which) in
-    c.find_parents_by.ensures.found clean T has book (authorizations_where T c.args.which)
-    (each-filter _ _ T.authorizations (authorizations_have 0 T.authorizations has.rising.authorizations)) it.shows
-
-pub returns-clause-caused : goal.returns-clause-caused
-returns-clause-caused g c clean T has book may =
-    let it = finds_as c.text_of.ensures c.params_of.ensures (authorizations_find g.S.Store c.args.conn.now T has book c.args.which) in
-    c.find_parents_by.ensures.caused clean T has book may (authorizations_where T c.args.which)
-    (each-filter _ _ T.authorizations (authorizations_have 0 T.authorizations has.rising.authorizations)) it.shows (it.sure may)
+pub returns : goal.returns
+returns g c =
+    looked (λ T. authorizations_where T c.args.which)
+    (λ T has book. (
+      each-filter _ _ T.authorizations (authorizations_have 0 T.authorizations has.rising.authorizations),
+      finds_as c.query_of.ensures (authorizations_find g.S.Store c.args.conn.now T has book c.args.which),
+    ))
+    (λ T has book rows are. are) c.find_parents.ensures

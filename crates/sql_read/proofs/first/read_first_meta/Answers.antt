@@ -1,7 +1,7 @@
 use Rattle.std.proofs.Common.{inl, inr, refl}
 use Rattle.sqlite.specs.Held.{state}
-use Rattle.sql_read.specs.Spelled.{meta_in}
-use Rattle.sql_read.proofs.{FirstChecked.reads_err, Readings.meta_reading, ShownRows.shown_now}
+use Rattle.sql_read.specs.Spelled.{FitsMeta, meta_in}
+use Rattle.sql_read.proofs.{FirstChecked.reads_err, Looking.columns_as, Looking.query_as, Readings.meta_reading, ShownRows.shown_now}
 use Rattle.sql_read.proofs.MetFaults.{memory_is_none, no_device}
 use Rattle.sql_read.specs.declared.formats.Format.TheVariants.{Second}
 use Rattle.sql_read.proofs.Results.{fails_then, found_then, read_then}
@@ -9,16 +9,17 @@ use Rattle.sql_schema.specs.declared.meta.TheConstants as meta
 use Rattle.sql_read.proofs.first.read_first_meta.Goals as goal
 
 pub read_query-requires : goal.read_query-requires
-read_query-requires g c = (meta_reading Second).selecting
+read_query-requires g c = query_as c.all.ensures (meta_reading Second).selecting
 
 pub returns-in-Ok : goal.returns-in-Ok
 returns-in-Ok g c =
     let old = c.args.conn.now in
     let new = c.read_query.new.conn in
+    let read = columns_as meta_in FitsMeta c.all.ensures c.in-Ok.ensures in
     let r = c.only_meta.result in
     record {
       shown = λ clean.
-          let it = c.in-Ok.ensures.read clean in
+          let it = read.shown clean in
           read_then r c.only_meta.ensures.row (λ found is. found_then found is (λ row both. record {
             read = c.in-Ok.read;
             shown = shown_now g.S.Store meta.SELECT.now meta_in old new it.0 _ it.1 it.2;
@@ -28,13 +29,14 @@ returns-in-Ok g c =
       fails = λ clean may readable. fails_then r c.only_meta.ensures.fails (λ e memory. inl memory);
       refused = λ clean. fails_then r c.only_meta.ensures.fails (λ e memory. inl memory);
       met = λ clean. fails_then r c.only_meta.ensures.fails (λ e memory. no_device (state g.S.Store old) (state g.S.Store new) e (memory_is_none e memory));
-      unchanged = λ clean. read_then r c.only_meta.ensures.row (λ _ _. c.in-Ok.ensures.unchanged clean);
-      asks = c.read_query.ensures.asks;
+      unchanged = λ clean. read_then r c.only_meta.ensures.row (λ _ _. read.unchanged clean);
+      asks = read.asks;
     }
 
 pub returns-in-Err : goal.returns-in-Err
 returns-in-Err g c =
     let old = c.args.conn.now in
     let new = c.read_query.new.conn in
-    reads_err g.S.Store (λ clean may readable. readable old new c.in-Err.error refl may (c.in-Err.ensures.fails clean))
-    (λ clean. inr (record { before = old; after = new; same = refl; fails = c.in-Err.ensures.fails clean })) c.in-Err.ensures.met c.read_query.ensures.asks
+    let read = columns_as meta_in FitsMeta c.all.ensures c.in-Err.ensures in
+    reads_err g.S.Store (λ clean may readable. readable old new c.in-Err.error refl may (read.fails clean))
+    (λ clean. inr (record { before = old; after = new; same = refl; fails = read.fails clean })) read.met read.asks

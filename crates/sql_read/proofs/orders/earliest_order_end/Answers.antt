@@ -1,18 +1,15 @@
 use Rattle.std.proofs.Common.{ap, ◌∙◌}
+use Rattle.sql_read.specs.Earliest.{order_ends}
 use Rattle.sql_read.proofs.EarliestRows.{earliest_as, order_end_find}
-use Rattle.sql_read.proofs.LookUpReadings.{order_end_reading, text}
-use Rattle.sql_read.proofs.Results.{read_then}
+use Rattle.sql_read.proofs.{LookUpReadings.order_end_reading, LookUpReadings.text, Looking.query_as}
+use Rattle.sql_schema.specs.declared.orders.TheConstants as ord
 use Rattle.sql_read.proofs.orders.earliest_order_end.Goals as goal
 
 pub earliest-requires : goal.earliest-requires
-earliest-requires g c = (order_end_reading c.args.status).selecting
+earliest-requires g c = query_as c.text.ensures (order_end_reading c.args.status).selecting
 
-pub returns-clause-found : goal.returns-clause-found
-returns-clause-found g c clean T has =
-    let it = earliest_as (c.text_param-params.ensures ∙ ap text c.as_str.ensures) (order_end_find g.S.Store c.args.conn.now T has c.args.status) in
-    read_then c.earliest.result (c.earliest.ensures.shown clean) (λ found read. it.shows c.earliest.new.conn read.0 found read.1 read.2)
-
-pub returns-clause-caused : goal.returns-clause-caused
-returns-clause-caused g c clean T has book may =
-    let it = earliest_as (c.text_param-params.ensures ∙ ap text c.as_str.ensures) (order_end_find g.S.Store c.args.conn.now T has c.args.status) in
-    c.earliest.ensures.caused clean (it.sure may)
+pub returns : goal.returns
+returns g c =
+    c.earliest.ensures (λ T. order_ends T c.args.status) (λ T has.
+    earliest_as (c.text.ensures ∙ ap (λ t. (ord.SELECT_EARLIEST.now, text t)) c.as_str.ensures)
+    (order_end_find g.S.Store c.args.conn.now T has c.args.status))

@@ -1,24 +1,37 @@
-use Rattle.std.proofs.Common.{map, ap, ◌∙◌}
-use Rattle.sqlite.specs.Held.{state}
+use Rattle.std.proofs.Common.{map, filter, ap, ◌==◌, ◌∙◌}
+use Rattle.std.proofs.lemmas.Result.{IfOk-from_err}
 use Rattle.store_columns.specs.Flat.{listed_rows}
 use Rattle.desk_model.specs.declared.rows.OrderRow.{OrderRow}
-use Rattle.sql_read.specs.{Under.rows_under, LookUpFaults.IsOfMemoryOrDisk}
+use Rattle.sql_read.specs.{LookUpFaults.IsOfMemory, Under.rows_under}
 use Rattle.sql_read.proofs.{ListedOrder.listed_by_find, LookUpReadings.listed_by_reading, Results.failed_as}
+use Rattle.sql_read.proofs.Looking.{finds_as, query_as, step_failed, step_made}
 use Rattle.sql_read.proofs.orders.OrderRowParent.nest.Goals as goal
 
-pub find_owned-requires : goal.find_owned-requires
-find_owned-requires g c = (listed_by_reading c.args.self.now.number).selecting
+pub find_rows-requires : goal.find_rows-requires
+find_rows-requires g c = query_as c.number-query.ensures (listed_by_reading c.args.self.now.number).selecting
 
-pub returns-clause-found : goal.returns-clause-found
-returns-clause-found g c clean T has book whole own bare =
-    let it = c.in_ok-listed.ensures.read clean in
-    let found = (listed_by_find g.S.Store c.args.conn.now T has book c.args.self.now.number).shows c.find_owned.new.conn it.0 it.1 it.2 it.3 it.4 in
-    let listed = c.new.ensures ∙ it.5 ∙ ap (map (λ r. r.row)) found
-    ∙ ap (λ (o : OrderRow). rows_under o.number (listed_rows T.orders)) bare ∙ own in
-    λ i. record (bare i) { listed = listed i }
+pub returns : goal.returns
+returns g c =
+    step_made (λ T whole. filter (λ l. l.owner == c.args.self.now.number) (listed_rows T.orders))
+    (λ T has book whole all. finds_as c.number-query.ensures (listed_by_find g.S.Store c.args.conn.now T has book c.args.self.now.number))
+    c.in_ok-rows.ensures (λ T whole all found.
+    let listed = c.new.ensures ∙ c.in_ok-listed.ensures.rows ∙ ap (map (λ r. r.row)) found
+    ∙ ap (λ (o : OrderRow). rows_under o.number (listed_rows T.orders)) all.1 ∙ all.0 in
+    ((λ i. record (all.1 i) { listed = listed i }), tt))
 
-pub returns-in_err-listed-clause-caused : goal.returns-in_err-listed-clause-caused
-returns-in_err-listed-clause-caused g c clean T has book may whole own bare =
-    failed_as c.from_residual.result c.in_err-listed.field-0.0 (IsOfMemoryOrDisk (state g.S.Store c.args.conn.now) (state g.S.Store c.find_owned.new.conn))
-    (c.in_err-listed.ensures.caused clean ((listed_by_find g.S.Store c.args.conn.now T has book c.args.self.now.number).sure may))
-    c.from_residual.ensures.1
+pub returns-in_err-rows : goal.returns-in_err-rows
+returns-in_err-rows g c =
+    step_failed (λ T whole. filter (λ l. l.owner == c.args.self.now.number) (listed_rows T.orders))
+    (λ T has book whole all. finds_as c.number-query.ensures (listed_by_find g.S.Store c.args.conn.now T has book c.args.self.now.number))
+    c.in_err-rows.ensures c.from_residual.ensures.1
+
+pub returns-in_err-listed : goal.returns-in_err-listed
+returns-in_err-listed g c =
+    let r = c.from_residual-in_err-listed.result in
+    let end = c.from_residual-in_err-listed.ensures in
+    step_made (λ T whole. filter (λ l. l.owner == c.args.self.now.number) (listed_rows T.orders))
+    (λ T has book whole all. finds_as c.number-query.ensures (listed_by_find g.S.Store c.args.conn.now T has book c.args.self.now.number))
+    c.in_ok-rows.ensures (λ T whole all found. (
+      IfOk-from_err r _ end.0,
+      failed_as r c.in_err-listed.field-0.0 IsOfMemory c.in_err-listed.ensures.fault end.1,
+    ))

@@ -1,0 +1,210 @@
+-- Look-ups one after another, and what is made of what they found.
+use Rattle.std.proofs.Common.{◌≡◌, ◌≢◌, ℕ, List, Result, Ok, Err, IsErrAnd, map, inl, inr, refl, subst, sym, arith, ◌∙◌}
+use Rattle.std.specs.Prelude.{IfErr, IfOk, IsErr, IsTrue, MatchResult, OnOk}
+use Rattle.std.proofs.lemmas.Result.{IfOk-from_err}
+use Rattle.sqlite.proofs.StateLemmas.{unchanged}
+use Rattle.sqlite.specs.{Order.Row, Store.Ghosts}
+use Rattle.sqlite.specs.Held.{Held, state}
+use Rattle.sqlite.specs.State.{HasCleanDisk, IsUnchanged}
+use Rattle.sqlite.specs.declared.error.Error.{Error}
+use Rattle.desk_model.specs.{Kept.EachOf, Tables.Tables}
+use Rattle.store_book.specs.IsBook.{IsStoredBook}
+use Rattle.sql_schema.specs.Stays.{Asks}
+use Rattle.sql_schema.proofs.StaysLemmas.{asks_nothing, asks_then}
+use Rattle.sql_tables.specs.Holds.{Holds}
+use Rattle.sql_tables.proofs.Holding.{holds_still}
+use Rattle.sql_read.specs.{Failures.MayRead, Reads.ReadsColumns, Reads.ReadsRows}
+use Rattle.sql_read.specs.{Looking.Finds, Looking.LooksFor, Looking.LooksUp, Selecting.IsQuery}
+use Rattle.sql_read.specs.LookUpFaults.{IsOfMemory, IsOfMemoryOrDisk, IsOfMemoryOrRows}
+use Rattle.sql_read.specs.declared.fault.ReadFault.{ReadFault}
+use Rattle.sql_read.specs.declared.fault.ReadFault.TheVariants.{Engine, NotARow}
+use Rattle.sql_read.proofs.{Failing.may_read_still, Results.unchanged_after}
+use Rattle.sql_read.proofs.LookUpFaults.{all_of_memory, caused_behind}
+use Rattle.sql_read.proofs.MetFaults.{memory_is_none, no_device}
+
+-- whatever a query is called
+pub finds_as : {S R C : Type 0} {g : Ghosts S} {spelled : Row → C} {Fits : Row → Type 0} {write : R → C} {IsStored : R → Type 0} {ask other : List ℕ × Row}
+    {old : Held S} {found : List R}
+    → other ≡ ask → Finds g spelled Fits write IsStored ask old found → Finds g spelled Fits write IsStored other old found
+finds_as {S} {R} {C} {g} {spelled} {Fits} {write} {IsStored} {ask} {other} {old} {found} same finds =
+    subst (λ a. Finds g spelled Fits write IsStored a old found) (sym same) finds
+
+-- a query is looked up by reading the columns that it shows, and making rows of them
+pub rows_found : {S R C A : Type 0} (g : Ghosts S) (spelled : Row → C) (Fits : Row → Type 0) (write : R → C) (IsStored : R → Type 0) (ask : List ℕ × Row)
+    (old new : Held S) (items : A → List R) (read : Result (List C) Error) (r : Result A ReadFault)
+    → ReadsColumns g spelled Fits ask old new read
+    → IfOk read (λ all. MatchResult r (λ a. EachOf IsStored (items a) × (all ≡ map write (items a)))
+    (λ fault. fault ≡ NotARow → (rows : List R) → EachOf IsStored rows → all ≢ map write rows))
+    → IfOk read (λ _. IfErr r IsOfMemoryOrRows) → IfErr read (λ e. r ≡ Err (Engine e))
+    → LooksFor g old new (λ _ rows. Finds g spelled Fits write IsStored ask old rows) (λ rows a. items a ≡ rows) r
+rows_found g spelled Fits write IsStored ask old new items (Ok all) (Ok a) columns rows fault passed = record {
+  found = λ clean T has book ws finds. let it = columns.shown clean in finds.shows new it.0 (items a) it.1 rows.0 (sym it.2 ∙ rows.1);
+  caused = λ clean T has book may ws finds. tt;
+  unchanged = columns.unchanged;
+  asks = columns.asks;
+}
+rows_found g spelled Fits write IsStored ask old new items (Ok all) (Err (Engine e)) columns rows fault passed = record {
+  found = λ clean T has book ws finds. tt;
+  caused = λ clean T has book may ws finds. (inl fault, no_device (state g old) (state g new) e (memory_is_none e fault));
+  unchanged = λ clean. tt;
+  asks = columns.asks;
+}
+rows_found g spelled Fits write IsStored ask old new items (Ok all) (Err NotARow) columns rows fault passed = record {
+  found = λ clean T has book ws finds. tt;
+  caused = λ clean T has book may ws finds.
+      let it = columns.shown clean in
+      let sure = (finds.sure may).shows new it.0 it.1 in
+      absurd (rows refl sure.written sure.stored (it.2 ∙ sure.columns));
+  unchanged = λ clean. tt;
+  asks = columns.asks;
+}
+rows_found {S} {R} {C} {A} g spelled Fits write IsStored ask old new items (Err e) r columns rows fault passed =
+    subst (LooksFor g old new (λ _ rows. Finds g spelled Fits write IsStored ask old rows) (λ rows a. items a ≡ rows)) (sym passed)
+    (record {
+      found = λ clean T has book ws finds. tt;
+      caused = λ clean T has book may ws finds. (
+        elim (columns.fails clean) [
+          | inl query ↦ (finds.sure may).fails new e query
+          | inr it ↦ inl (it.2 ((finds.sure may).shows new it.0 it.1).fit)
+        ],
+        columns.met clean,
+      );
+      unchanged = λ clean. tt;
+      asks = columns.asks;
+    })
+
+-- so it is one, as the text that it is called
+pub query_as : {ask other : List ℕ × Row} → other ≡ ask → IsQuery ask.0 → IsQuery other.0
+query_as {ask} {other} same is = subst (λ (a : List ℕ × Row). IsQuery a.0) (sym same) is
+
+-- so are the rows that it reads, and their columns
+pub rows_as : {S A : Type 0} {g : Ghosts S} (items : A → List Row) {ask other : List ℕ × Row} {old new : Held S} {read : Result A Error} → other ≡ ask
+    → ReadsRows g items other old new read → ReadsRows g items ask old new read
+rows_as {S} {A} {g} items {ask} {other} {old} {new} {read} same rows = subst (λ a. ReadsRows g items a old new read) same rows
+
+pub columns_as : {S C : Type 0} {g : Ghosts S} (spelled : Row → C) (Fits : Row → Type 0) {ask other : List ℕ × Row} {old new : Held S}
+    {read : Result (List C) Error} → other ≡ ask → ReadsColumns g spelled Fits other old new read → ReadsColumns g spelled Fits ask old new read
+columns_as {S} {C} {g} spelled Fits {ask} {other} {old} {new} {read} same columns = subst (λ a. ReadsColumns g spelled Fits a old new read) same columns
+
+-- what was found said more
+pub found_so : {A : Type 0} (r : Result A ReadFault) {P Q : A → Type 0} → ((a : A) → P a → Q a) → IfOk r P → IfOk r Q
+found_so (Ok a) so p = so a p
+found_so (Err fault) so p = tt
+
+-- nothing was changed, whatever was made of it
+always : {A : Type 0} (r : Result A ReadFault) {Q : Type 0} → Q → OnOk r Q
+always (Ok a) q = q
+always (Err fault) q = tt
+
+-- what a desk's tables have was looked for
+pub looked : {S W A : Type 0} {g : Ghosts S} {old new : Held S} {Such : Tables → W → Type 0} {Is : W → A → Type 0} {Are : Tables → A → Type 0}
+    {r : Result A ReadFault} (pick : Tables → W) → ((T : Tables) → Holds (state g old).now T → IsStoredBook T → Such T (pick T))
+    → ((T : Tables) → Holds (state g old).now T → IsStoredBook T → (a : A) → Is (pick T) a → Are T a) → LooksFor g old new Such Is r → LooksUp g old new Are r
+looked {r = r} pick such so look = record {
+  found = λ clean T has book. found_so r (so T has book) (look.found clean T has book (pick T) (such T has book));
+  caused = λ clean T has book may. look.caused clean T has book may (pick T) (such T has book);
+  unchanged = look.unchanged;
+  asks = look.asks;
+}
+
+module _ {S W A : Type 0} {g : Ghosts S} {old new : Held S} {Such : Tables → W → Type 0} {Is : W → A → Type 0} where
+  -- ---- in a desk's tables
+
+  module _ {B : Type 0} {Are : Tables → B → Type 0} (pick : Tables → W) (such : (T : Tables) → Holds (state g old).now T → IsStoredBook T → Such T (pick T))
+    where
+      -- this was made of what was found, which fails for memory alone
+      pub looked_made : {a : A} {r : Result B ReadFault} → LooksFor g old new Such Is (Ok a)
+          → ((T : Tables) → Holds (state g old).now T → IsStoredBook T → Is (pick T) a → IfOk r (Are T) × IfErr r IsOfMemory) → LooksUp g old new Are r
+      looked_made {r = r} look made = record {
+        found = λ clean T has book. (made T has book (look.found clean T has book (pick T) (such T has book))).0;
+        caused = λ clean T has book may.
+            all_of_memory r (state g old) (state g new) (made T has book (look.found clean T has book (pick T) (such T has book))).1;
+        unchanged = λ clean. always r (look.unchanged clean);
+        asks = look.asks;
+      }
+
+      -- the fault was passed on
+      pub looked_failed : {fault : ReadFault} {r : Result B ReadFault} → LooksFor g old new Such Is (Err fault) → IsErrAnd r (λ e. e ≡ fault)
+          → LooksUp g old new Are r
+      looked_failed {r = Ok b} look same = absurd same
+      looked_failed {r = Err e} look same = record {
+        found = λ clean T has book. tt;
+        caused = λ clean T has book may.
+            subst (IsOfMemoryOrDisk (state g old) (state g new)) (sym same) (look.caused clean T has book may (pick T) (such T has book));
+        unchanged = λ clean. tt;
+        asks = look.asks;
+      }
+
+  -- ---- in a step of a look-up
+
+  module _ {V B : Type 0} {All : Tables → V → Type 0} {Are : V → B → Type 0} (pick : Tables → V → W)
+      (such : (T : Tables) → Holds (state g old).now T → IsStoredBook T → (v : V) → All T v → Such T (pick T v)) where
+    -- this was made of what was found
+    pub step_made : {a : A} {r : Result B ReadFault} → LooksFor g old new Such Is (Ok a)
+        → ((T : Tables) (v : V) → All T v → Is (pick T v) a → IfOk r (Are v) × IfErr r IsOfMemory) → LooksFor g old new All Are r
+    step_made {r = r} look made = record {
+      found = λ clean T has book v all. (made T v all (look.found clean T has book (pick T v) (such T has book v all))).0;
+      caused = λ clean T has book may v all.
+          all_of_memory r (state g old) (state g new) (made T v all (look.found clean T has book (pick T v) (such T has book v all))).1;
+      unchanged = λ clean. always r (look.unchanged clean);
+      asks = look.asks;
+    }
+
+    -- the fault was passed on
+    pub step_failed : {fault : ReadFault} {r : Result B ReadFault} → LooksFor g old new Such Is (Err fault) → IsErrAnd r (λ e. e ≡ fault)
+        → LooksFor g old new All Are r
+    step_failed {r = Ok b} look same = absurd same
+    step_failed {r = Err e} look same = record {
+      found = λ clean T has book v all. tt;
+      caused = λ clean T has book may v all.
+          subst (IsOfMemoryOrDisk (state g old) (state g new)) (sym same) (look.caused clean T has book may (pick T v) (such T has book v all));
+      unchanged = λ clean. tt;
+      asks = look.asks;
+    }
+
+-- one that ended early
+pub stopped : {S W A : Type 0} {g : Ghosts S} {old new : Held S} {Such : Tables → W → Type 0} {Is : W → A → Type 0} {r : Result A ReadFault} → IsErr r
+    → (HasCleanDisk (state g new) → (T : Tables) → Holds (state g old).now T → IsStoredBook T → MayRead (state g old) → (w : W) → Such T w
+    → IfErr r (IsOfMemoryOrDisk (state g old) (state g new)))
+    → Asks (state g old) (state g new) → LooksFor g old new Such Is r
+stopped {r = r} ended caused asks = record {
+  found = λ clean T has book w such. IfOk-from_err r _ ended;
+  caused = caused;
+  unchanged = λ clean. IfOk-from_err r _ ended;
+  asks = asks;
+}
+
+-- nothing had to be asked
+pub unasked : {S W A : Type 0} {g : Ghosts S} {old : Held S} {Such : Tables → W → Type 0} {Is : W → A → Type 0} {a : A} → IsTrue (state g old).is_open
+    → ((T : Tables) (w : W) → Such T w → Is w a) → LooksFor g old old Such Is (Ok a)
+unasked {g = g} {old = old} is_open is = record {
+  found = λ clean T has book w such. is T w such;
+  caused = λ clean T has book may w such. tt;
+  unchanged = λ clean. unchanged (state g old) is_open;
+  asks = asks_nothing (state g old);
+}
+
+-- a step behind another, which found what it looks by
+pub step_then : {S V W A B : Type 0} {g : Ghosts S} {old mid new : Held S} {Such : Tables → W → Type 0} {Is : W → A → Type 0} {Suits : Tables → V → Type 0}
+    {All : Tables → V → Type 0} {Are : V → B → Type 0} {a : A} {r : Result B ReadFault} (pick : Tables → V → W)
+    → ((T : Tables) → Holds (state g old).now T → IsStoredBook T → (v : V) → All T v → Such T (pick T v))
+    → ((T : Tables) → (v : V) → All T v → Is (pick T v) a → Suits T v) → LooksFor g old mid Such Is (Ok a)
+    → Asks (state g mid) (state g new) → (IsTrue (state g mid).is_open → LooksFor g mid new Suits Are r) → LooksFor g old new All Are r
+step_then {S} {V} {W} {A} {B} {g} {old} {mid} {new} {Such} {Is} {Suits} {All} {Are} {a} {r} pick such suits one asks next = record {
+  found = λ clean T has book v all.
+      let same = one.unchanged (honest clean) in
+      (next same.0.is_open).found clean T (holds_still (state g old) (state g mid) T same has) book v
+      (suits T v all (one.found (honest clean) T has book (pick T v) (such T has book v all)));
+  caused = λ clean T has book may v all.
+      let same = one.unchanged (honest clean) in
+      caused_behind r (state g old) (state g mid) (state g new) one.asks
+      ((next same.0.is_open).caused clean T (holds_still (state g old) (state g mid) T same has) book
+      (may_read_still (state g old) (state g mid) same one.asks may) v
+      (suits T v all (one.found (honest clean) T has book (pick T v) (such T has book v all))));
+  unchanged = λ clean.
+      unchanged_after r (state g old) (state g mid) (state g new) (one.unchanged (honest clean)) (λ is_open. (next is_open).unchanged clean);
+  asks = asks_then (state g old) (state g mid) (state g new) one.asks asks;
+}
+  where
+    honest : HasCleanDisk (state g new) → HasCleanDisk (state g mid)
+    honest clean = omega (arith, clean, asks.survives.clean)
