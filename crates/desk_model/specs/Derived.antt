@@ -63,30 +63,17 @@ restated_order t rows row = record row { status = derived_order t rows row }
 -- ---- status faults: rows whose stored status differs
 
 abbrev pub account_code : AccountStatus → ℕ
-account_code account.Valid = 0
-account_code account.Deactivated = 1
-account_code account.Revoked = 2
+account_code status = elim status [ account.Valid ↦ 0 | account.Deactivated ↦ 1 | account.Revoked ↦ 2 ]
 
 abbrev pub order_code : OrderStatus → ℕ
-order_code order.Pending = 0
-order_code order.Ready = 1
-order_code order.Processing = 2
-order_code order.Valid = 3
-order_code order.Invalid = 4
+order_code status = elim status [ order.Pending ↦ 0 | order.Ready ↦ 1 | order.Processing ↦ 2 | order.Valid ↦ 3 | order.Invalid ↦ 4 ]
 
 abbrev pub authz_code : AuthzStatus → ℕ
-authz_code authz.Pending = 0
-authz_code authz.Valid = 1
-authz_code authz.Invalid = 2
-authz_code authz.Deactivated = 3
-authz_code authz.Expired = 4
-authz_code authz.Revoked = 5
+authz_code status =
+    elim status [ authz.Pending ↦ 0 | authz.Valid ↦ 1 | authz.Invalid ↦ 2 | authz.Deactivated ↦ 3 | authz.Expired ↦ 4 | authz.Revoked ↦ 5 ]
 
 abbrev pub chall_code : ChallengeStatus → ℕ
-chall_code chall.Pending = 0
-chall_code chall.Processing = 1
-chall_code chall.Valid = 2
-chall_code chall.Invalid = 3
+chall_code status = elim status [ chall.Pending ↦ 0 | chall.Processing ↦ 1 | chall.Valid ↦ 2 | chall.Invalid ↦ 3 ]
 
 abbrev pub unless : Bool → StatusFault → List StatusFault
 unless b f = cond b [] (f ∷ [])

@@ -27,30 +27,21 @@ use Rattle.desk_model.specs.declared.status.OrderStatus.TheVariants as order
 -- ---- statuses and kinds as RFC 8555 spells them
 
 abbrev pub account_status_text : AccountStatus → List ℕ
-account_status_text account.Valid = codes "valid"
-account_status_text account.Deactivated = codes "deactivated"
-account_status_text account.Revoked = codes "revoked"
+account_status_text status = elim status [ account.Valid ↦ codes "valid" | account.Deactivated ↦ codes "deactivated" | account.Revoked ↦ codes "revoked" ]
 
 abbrev pub authorization_status_text : AuthzStatus → List ℕ
-authorization_status_text authz.Pending = codes "pending"
-authorization_status_text authz.Valid = codes "valid"
-authorization_status_text authz.Invalid = codes "invalid"
-authorization_status_text authz.Deactivated = codes "deactivated"
-authorization_status_text authz.Expired = codes "expired"
-authorization_status_text authz.Revoked = codes "revoked"
+authorization_status_text status =
+    elim status [ authz.Pending ↦ codes "pending" | authz.Valid ↦ codes "valid" | authz.Invalid ↦ codes "invalid"
+        | authz.Deactivated ↦ codes "deactivated" | authz.Expired ↦ codes "expired" | authz.Revoked ↦ codes "revoked" ]
 
 abbrev pub challenge_status_text : ChallengeStatus → List ℕ
-challenge_status_text chall.Pending = codes "pending"
-challenge_status_text chall.Processing = codes "processing"
-challenge_status_text chall.Valid = codes "valid"
-challenge_status_text chall.Invalid = codes "invalid"
+challenge_status_text status =
+    elim status [ chall.Pending ↦ codes "pending" | chall.Processing ↦ codes "processing" | chall.Valid ↦ codes "valid" | chall.Invalid ↦ codes "invalid" ]
 
 abbrev pub order_status_text : OrderStatus → List ℕ
-order_status_text order.Pending = codes "pending"
-order_status_text order.Ready = codes "ready"
-order_status_text order.Processing = codes "processing"
-order_status_text order.Valid = codes "valid"
-order_status_text order.Invalid = codes "invalid"
+order_status_text status =
+    elim status [ order.Pending ↦ codes "pending" | order.Ready ↦ codes "ready" | order.Processing ↦ codes "processing"
+        | order.Valid ↦ codes "valid" | order.Invalid ↦ codes "invalid" ]
 
 abbrev pub kind_text : Kind → List ℕ
 kind_text http_01 = codes "http-01"

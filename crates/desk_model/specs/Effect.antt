@@ -11,7 +11,7 @@ use Rattle.desk_model.specs.Account.{Account, opened_by, AccountEnd, changing, r
 use Rattle.desk_model.specs.Authorization.{Authorization, Challenge, AuthorizationEnd, Answer, Report, made_by, count_challenges, ends_by, in_time}
 use Rattle.desk_model.specs.Authorization.{is_live, challenge_status_by}
 use Rattle.desk_model.specs.Order.{Order, ordered_by, finalizing, certifying, failing}
-use Rattle.desk_model.specs.Tables.{AccountRow, ChallengeRow, AuthorizationRow, OrderRow, Tables, listed_from}
+use Rattle.desk_model.specs.Tables.{AccountRow, ChallengeRow, AuthorizationRow, OrderRow, Tables, row_of_authorization, row_of_challenge, row_of_order}
 use Rattle.desk_model.specs.Derived.{authorization_numbered, numbers_of, restated_authorization, restated_order}
 use Rattle.desk_model.specs.declared.status.AccountStatus.TheVariants as account
 use Rattle.desk_model.specs.declared.status.OrderStatus.{OrderStatus}
@@ -124,34 +124,13 @@ abbrev pub fresh_account : Account → AccountRow
 fresh_account a = record { number = a.number; key = a.key; contacts = a.contacts; opened = a.opened; ended = None; status = account.Valid }
 
 abbrev pub fresh_challenge : Challenge → ChallengeRow
-fresh_challenge c = record { number = c.number; kind = c.kind; token = c.token; answered = None; reported = None; status = chall.Pending }
+fresh_challenge c = row_of_challenge c None None chall.Pending
 
 abbrev pub fresh_authorization : Authorization → AuthorizationRow
-fresh_authorization a =
-    record {
-      number = a.number;
-      account = a.account;
-      name = a.name;
-      made = a.made;
-      expires = a.expires;
-      ended = None;
-      challenges = map fresh_challenge a.challenges;
-      status = authz.Pending;
-    }
+fresh_authorization a = row_of_authorization a None (map fresh_challenge a.challenges) authz.Pending
 
 abbrev pub fresh_order : Order → OrderRow
-fresh_order o =
-    record {
-      number = o.number;
-      account = o.account;
-      made = o.made;
-      expires = o.expires;
-      listed = listed_from 1 o.authorizations;
-      finalized = None;
-      certified = None;
-      failed = None;
-      status = order.Pending;
-    }
+fresh_order o = row_of_order o None None None order.Pending
 
 abbrev pub not_spent : Entry → Nonce → Bool
 not_spent (spent serial) n = not (serial == n.serial)

@@ -10,14 +10,6 @@ use Rattle.model_examples.specs.Calls.{on, zeros, new_desk, first_key, second_ke
 use Rattle.model_examples.specs.Calls.{nonce_three, nonce_four, nonce_five, nonce_six}
 use Rattle.model_examples.specs.Texts.{bad_nonce, no_account}
 
--- a nonce by GET
-abbrev pub FirstNonce : Type 0
-FirstNonce = Gives new_desk (asked 0 16 (ask.NewNonce false)) (renewed nonce_one (plain 204 Nothing)) (issued (zeros 16) ∷ [])
-
--- a nonce by HEAD
-abbrev pub FirstNonceByHead : Type 0
-FirstNonceByHead = Gives new_desk (asked 0 16 (ask.NewNonce true)) (renewed nonce_one (plain 200 Nothing)) (issued (zeros 16) ∷ [])
-
 -- ---- an account is opened
 
 -- the desk with its first nonce
@@ -28,28 +20,15 @@ with_nonce = on 0 (issued (zeros 16)) ∷ new_desk
 abbrev pub opening : Call
 opening = asked 0 16 (signed first_key nonce_one to.NewAccount (codes "{\"contact\":[\"mailto:a@b.example\"],\"termsOfServiceAgreed\":true}"))
 
--- the document of that account
+-- the document of the account that it opens
 abbrev pub account_text : List ℕ
 account_text = codes "{\"contact\":[\"mailto:a@b.example\"],\"orders\":\"https://ca.example/account/1/orders\",\"status\":\"valid\"}"
 
--- the first account
-abbrev pub FirstAccount : Type 0
-FirstAccount = Answers with_nonce opening (located (codes "https://ca.example/account/1") (plain 201 (Json account_text)))
-    (opened first_key (codes "mailto:a@b.example" ∷ []) ∷ [])
-
--- the desk after it
+-- the desk after the request
 abbrev pub with_account : History
 with_account = on 0 (opened first_key (codes "mailto:a@b.example" ∷ [])) ∷ on 0 (issued (zeros 16)) ∷ on 0 (spent 1) ∷ with_nonce
 
--- the same request again: its nonce is spent, and it gets a fresh one
-abbrev pub NonceTwice : Type 0
-NonceTwice = Gives with_account opening (refuses 400 bad_nonce nonce_three) (issued (zeros 16) ∷ [])
-
 -- ---- the account of a key
-
--- the canonical text of a key has the members that make it, whatever else the key was sent with
-abbrev pub SameKeyOtherSpelling : Type 0
-SameKeyOtherSpelling = canonical_text (ec (codes "P-256") (codes "AQ") (codes "Ag")) ≡ first_key
 
 -- the desk after the same request again
 abbrev pub with_third_nonce : History
@@ -59,11 +38,6 @@ with_third_nonce = on 0 (issued (zeros 16)) ∷ with_account
 abbrev pub knowing : Call
 knowing = asked 0 16 (signed first_key nonce_two to.NewAccount (codes "{}"))
 
--- newAccount by a key that has an account answers that account (7.3.1)
-abbrev pub KnownKey : Type 0
-KnownKey = Gives with_third_nonce knowing (located (codes "https://ca.example/account/1") (renewed nonce_four (plain 200 (Json account_text))))
-    (spent 2 ∷ issued (zeros 16) ∷ [])
-
 -- the desk after it
 abbrev pub with_fourth_nonce : History
 with_fourth_nonce = on 0 (issued (zeros 16)) ∷ on 0 (spent 2) ∷ with_third_nonce
@@ -72,14 +46,29 @@ with_fourth_nonce = on 0 (issued (zeros 16)) ∷ on 0 (spent 2) ∷ with_third_n
 abbrev pub asking_existing : Call
 asking_existing = asked 0 16 (signed second_key nonce_three to.NewAccount (codes "{\"onlyReturnExisting\":true}"))
 
--- only an existing account is asked for, and the key has none
-abbrev pub OnlyExisting : Type 0
-OnlyExisting = Gives with_fourth_nonce asking_existing (refuses 400 no_account nonce_five) (spent 3 ∷ issued (zeros 16) ∷ [])
-
 -- the desk after it
 abbrev pub with_fifth_nonce : History
 with_fifth_nonce = on 0 (issued (zeros 16)) ∷ on 0 (spent 3) ∷ with_fourth_nonce
 
--- that request again: the refusal has spent its nonce
-abbrev pub OnlyExistingTwice : Type 0
-OnlyExistingTwice = Gives with_fifth_nonce asking_existing (refuses 400 bad_nonce nonce_six) (issued (zeros 16) ∷ [])
+-- the first nonce and account of a desk, and whose account a key finds
+pub record NoncesAndAccountsHold : Type 0 where
+  -- a nonce by GET
+  pub first_nonce : Gives new_desk (asked 0 16 (ask.NewNonce false)) (renewed nonce_one (plain 204 Nothing)) (issued (zeros 16) ∷ [])
+  -- a nonce by HEAD
+  pub first_nonce_by_head : Gives new_desk (asked 0 16 (ask.NewNonce true)) (renewed nonce_one (plain 200 Nothing)) (issued (zeros 16) ∷ [])
+  -- ---- an account is opened
+  -- the first account
+  pub first_account : Answers with_nonce opening (located (codes "https://ca.example/account/1") (plain 201 (Json account_text)))
+      (opened first_key (codes "mailto:a@b.example" ∷ []) ∷ [])
+  -- the same request again: its nonce is spent, and it gets a fresh one
+  pub nonce_twice : Gives with_account opening (refuses 400 bad_nonce nonce_three) (issued (zeros 16) ∷ [])
+  -- ---- the account of a key
+  -- the canonical text of a key has the members that make it, whatever else the key was sent with
+  pub same_key_other_spelling : canonical_text (ec (codes "P-256") (codes "AQ") (codes "Ag")) ≡ first_key
+  -- newAccount by a key that has an account answers that account (7.3.1)
+  pub known_key : Gives with_third_nonce knowing (located (codes "https://ca.example/account/1") (renewed nonce_four (plain 200 (Json account_text))))
+      (spent 2 ∷ issued (zeros 16) ∷ [])
+  -- only an existing account is asked for, and the key has none
+  pub only_existing : Gives with_fourth_nonce asking_existing (refuses 400 no_account nonce_five) (spent 3 ∷ issued (zeros 16) ∷ [])
+  -- that request again: the refusal has spent its nonce
+  pub only_existing_twice : Gives with_fifth_nonce asking_existing (refuses 400 bad_nonce nonce_six) (issued (zeros 16) ∷ [])

@@ -35,44 +35,9 @@ order_statuses F = map (λ o. o.status) (picture F).orders
 abbrev pub authorization_statuses : History → List AuthzStatus
 authorization_statuses F = map (λ a. a.status) (picture F).authorizations
 
--- the statuses of the orders while the account is valid
-abbrev pub OrdersBefore : Type 0
-OrdersBefore = order_statuses busy_desk ≡ order.Pending ∷ order.Ready ∷ order.Invalid ∷ order.Processing ∷ order.Valid ∷ []
-
--- and of their authorizations
-abbrev pub AuthorizationsBefore : Type 0
-AuthorizationsBefore = authorization_statuses busy_desk ≡ authz.Pending ∷ authz.Valid ∷ authz.Invalid ∷ authz.Valid ∷ authz.Valid ∷ []
-
--- the orders of an account, by number, without those that are invalid (7.1.2.1)
-abbrev pub OrdersListed : Type 0
-OrdersListed = Reads busy_desk (request (to.Orders 1) [])
-    (codes "{\"orders\":[\"https://ca.example/order/1\",\"https://ca.example/order/2\",\"https://ca.example/order/4\",\"https://ca.example/order/5\"]}")
-
--- the account is deactivated by its client
-abbrev pub AccountDeactivated : Type 0
-AccountDeactivated = Answers busy_desk (request (to.Account 1) (codes "{\"contact\":1,\"status\":\"deactivated\"}"))
-    (shows (codes "{\"contact\":[],\"orders\":\"https://ca.example/account/1/orders\",\"status\":\"deactivated\"}")) (account_ended 1 deactivated ∷ [])
-
 -- the desk after it
 abbrev pub deactivated_desk : History
 deactivated_desk = on 0 (account_ended 1 deactivated) ∷ busy_desk
-
--- then no order of it goes on, and the valid one stays
-abbrev pub OrdersAfter : Type 0
-OrdersAfter = order_statuses deactivated_desk ≡ order.Invalid ∷ order.Invalid ∷ order.Invalid ∷ order.Invalid ∷ order.Valid ∷ []
-
--- its pending and valid authorizations are deactivated
-abbrev pub AuthorizationsAfter : Type 0
-AuthorizationsAfter = authorization_statuses deactivated_desk ≡ authz.Deactivated ∷ authz.Deactivated ∷ authz.Invalid ∷ authz.Deactivated
-    ∷ authz.Deactivated ∷ []
-
--- its next request is refused
-abbrev pub NextRequest : Type 0
-NextRequest = Refuses deactivated_desk (request (to.Order 5) []) 401 unauthorized
-
--- newAccount too
-abbrev pub NextNewAccount : Type 0
-NextNewAccount = Refuses deactivated_desk (request to.NewAccount (codes "{}")) 401 unauthorized
 
 -- ---- the operator
 
@@ -80,51 +45,54 @@ NextNewAccount = Refuses deactivated_desk (request to.NewAccount (codes "{}")) 4
 abbrev pub revoked_account : List ℕ
 revoked_account = codes "{\"contact\":[],\"orders\":\"https://ca.example/account/1/orders\",\"status\":\"revoked\"}"
 
--- the operator revokes an account
-abbrev pub AccountRevoked : Type 0
-AccountRevoked = Notes busy_desk (office.RevokeAccount 1) revoked_account (account_ended 1 revoked)
-
 -- the desk after it
 abbrev pub revoked_desk : History
 revoked_desk = on 0 (account_ended 1 revoked) ∷ busy_desk
-
--- its authorizations take that end
-abbrev pub AuthorizationsOfRevoked : Type 0
-AuthorizationsOfRevoked = authorization_statuses revoked_desk ≡ authz.Revoked ∷ authz.Revoked ∷ authz.Invalid ∷ authz.Revoked ∷ authz.Revoked ∷ []
-
--- again: nothing changes
-abbrev pub AccountRevokedAgain : Type 0
-AccountRevokedAgain = Repeats revoked_desk (office.RevokeAccount 1) revoked_account
-
--- an account that its client ended is not revoked
-abbrev pub DeactivatedIsNotRevoked : Type 0
-DeactivatedIsNotRevoked = Turns deactivated_desk (office.RevokeAccount 1) 409 unfit_report
-
--- an account that was never opened
-abbrev pub UnknownAccountRevoked : Type 0
-UnknownAccountRevoked = Turns busy_desk (office.RevokeAccount 2) 404 nothing_here
 
 -- the authorization of b.example, revoked
 abbrev pub revoked_authorization : List ℕ
 revoked_authorization =
     codes "{\"challenges\":[{\"status\":\"valid\",\"token\":\"AAAAAAAAAAAAAAAAAAAAAA\",\"type\":\"http-01\",\"url\":\"https://ca.example/chall/3\",\"validated\":\"1970-01-01T00:00:00Z\"}],\"expires\":\"1970-01-31T00:00:00Z\",\"identifier\":{\"type\":\"dns\",\"value\":\"b.example\"},\"status\":\"revoked\"}"
 
--- the operator revokes an authorization
-abbrev pub AuthorizationRevoked : Type 0
-AuthorizationRevoked = Notes busy_desk (office.RevokeAuthz 2) revoked_authorization (authorization_ended 2 revoked)
-
--- again: nothing changes
-abbrev pub AuthorizationRevokedAgain : Type 0
-AuthorizationRevokedAgain = Repeats (on 0 (authorization_ended 2 revoked) ∷ busy_desk) (office.RevokeAuthz 2) revoked_authorization
-
--- one that ended otherwise is not revoked
-abbrev pub InvalidIsNotRevoked : Type 0
-InvalidIsNotRevoked = Turns busy_desk (office.RevokeAuthz 3) 409 unfit_report
-
--- nor one past its moment
-abbrev pub ExpiredIsNotRevoked : Type 0
-ExpiredIsNotRevoked = Gives busy_desk (asked 2592001 0 (ask.Office (office.RevokeAuthz 1))) (plain 409 (Problem false unfit_report)) []
-
--- an authorization that was never made
-abbrev pub UnknownAuthorizationRevoked : Type 0
-UnknownAuthorizationRevoked = Turns busy_desk (office.RevokeAuthz 6) 404 nothing_here
+-- the end of an account and what it does to its orders and authorizations
+pub record AccountsEnd : Type 0 where
+  -- the statuses of the orders while the account is valid
+  pub orders_before : order_statuses busy_desk ≡ order.Pending ∷ order.Ready ∷ order.Invalid ∷ order.Processing ∷ order.Valid ∷ []
+  -- and of their authorizations
+  pub authorizations_before : authorization_statuses busy_desk ≡ authz.Pending ∷ authz.Valid ∷ authz.Invalid ∷ authz.Valid ∷ authz.Valid ∷ []
+  -- the orders of an account, by number, without those that are invalid (7.1.2.1)
+  pub orders_listed : Reads busy_desk (request (to.Orders 1) [])
+      (codes "{\"orders\":[\"https://ca.example/order/1\",\"https://ca.example/order/2\",\"https://ca.example/order/4\",\"https://ca.example/order/5\"]}")
+  -- the account is deactivated by its client
+  pub account_deactivated : Answers busy_desk (request (to.Account 1) (codes "{\"contact\":1,\"status\":\"deactivated\"}"))
+      (shows (codes "{\"contact\":[],\"orders\":\"https://ca.example/account/1/orders\",\"status\":\"deactivated\"}")) (account_ended 1 deactivated ∷ [])
+  -- then no order of it goes on, and the valid one stays
+  pub orders_after : order_statuses deactivated_desk ≡ order.Invalid ∷ order.Invalid ∷ order.Invalid ∷ order.Invalid ∷ order.Valid ∷ []
+  -- its pending and valid authorizations are deactivated
+  pub authorizations_after : authorization_statuses deactivated_desk ≡ authz.Deactivated ∷ authz.Deactivated ∷ authz.Invalid ∷ authz.Deactivated
+      ∷ authz.Deactivated ∷ []
+  -- its next request is refused
+  pub next_request : Refuses deactivated_desk (request (to.Order 5) []) 401 unauthorized
+  -- newAccount too
+  pub next_new_account : Refuses deactivated_desk (request to.NewAccount (codes "{}")) 401 unauthorized
+  -- ---- the operator
+  -- the operator revokes an account
+  pub account_revoked : Notes busy_desk (office.RevokeAccount 1) revoked_account (account_ended 1 revoked)
+  -- its authorizations take that end
+  pub authorizations_of_revoked : authorization_statuses revoked_desk ≡ authz.Revoked ∷ authz.Revoked ∷ authz.Invalid ∷ authz.Revoked ∷ authz.Revoked ∷ []
+  -- again: nothing changes
+  pub account_revoked_again : Repeats revoked_desk (office.RevokeAccount 1) revoked_account
+  -- an account that its client ended is not revoked
+  pub deactivated_is_not_revoked : Turns deactivated_desk (office.RevokeAccount 1) 409 unfit_report
+  -- an account that was never opened
+  pub unknown_account_revoked : Turns busy_desk (office.RevokeAccount 2) 404 nothing_here
+  -- the operator revokes an authorization
+  pub authorization_revoked : Notes busy_desk (office.RevokeAuthz 2) revoked_authorization (authorization_ended 2 revoked)
+  -- again: nothing changes
+  pub authorization_revoked_again : Repeats (on 0 (authorization_ended 2 revoked) ∷ busy_desk) (office.RevokeAuthz 2) revoked_authorization
+  -- one that ended otherwise is not revoked
+  pub invalid_is_not_revoked : Turns busy_desk (office.RevokeAuthz 3) 409 unfit_report
+  -- nor one past its moment
+  pub expired_is_not_revoked : Gives busy_desk (asked 2592001 0 (ask.Office (office.RevokeAuthz 1))) (plain 409 (Problem false unfit_report)) []
+  -- an authorization that was never made
+  pub unknown_authorization_revoked : Turns busy_desk (office.RevokeAuthz 6) 404 nothing_here

@@ -12,18 +12,13 @@ utf8_contact = codes "mailto:" ++ (195 ∷ 188 ∷ codes "@b.example")
 abbrev pub latin_contact : List ℕ
 latin_contact = codes "mailto:" ++ (252 ∷ codes "@b.example")
 
--- contacts are changed to a text
-abbrev pub ChangesToText : Type 0
-ChangesToText = IsFormed (contacts_changed 1 (utf8_contact ∷ []))
-
--- and to nothing that is none, in whatever place
-abbrev pub ChangesToLatin : Type 0
-ChangesToLatin = ¬ IsFormed (contacts_changed 1 (utf8_contact ∷ latin_contact ∷ []))
-
--- nor is an account opened with it
-abbrev pub OpensWithLatin : Type 0
-OpensWithLatin = ¬ IsFormed (opened first_key (latin_contact ∷ []))
-
--- nor does an order fail by it
-abbrev pub FailsByLatin : Type 0
-FailsByLatin = ¬ IsFormed (failed 1 (record { kind = codes "badCSR"; detail = latin_contact }))
+-- what an entry may keep as text
+pub record EntriesAreFormed : Type 0 where
+  -- contacts are changed to a text
+  pub changes_to_text : IsFormed (contacts_changed 1 (utf8_contact ∷ []))
+  -- and to nothing that is none, in whatever place
+  pub changes_to_latin : ¬ IsFormed (contacts_changed 1 (utf8_contact ∷ latin_contact ∷ []))
+  -- nor is an account opened with it
+  pub opens_with_latin : ¬ IsFormed (opened first_key (latin_contact ∷ []))
+  -- nor does an order fail by it
+  pub fails_by_latin : ¬ IsFormed (failed 1 (record { kind = codes "badCSR"; detail = latin_contact }))

@@ -16,20 +16,15 @@ processing_desk = on 0 (finalized 1 (1 ∷ [])) ∷ on 0 (reported 1 good) ∷ o
 abbrev pub certifying : ℕ → OfficeAsk
 certifying n = office.Certify 1 (replicate n 65)
 
--- a certificate of 65536 bytes
-abbrev pub LargestCertificate : Type 0
-LargestCertificate = Notes processing_desk (certifying 65536)
-    (codes "{\"authorizations\":[\"https://ca.example/authz/1\"],\"certificate\":\"https://ca.example/cert/1\",\"expires\":\"1970-01-08T00:00:00Z\",\"finalize\":\"https://ca.example/order/1/finalize\",\"identifiers\":[{\"type\":\"dns\",\"value\":\"a.example\"}],\"status\":\"valid\"}")
-    (certified 1 (replicate 65536 65))
-
--- and one more
-abbrev pub TooLargeCertificate : Type 0
-TooLargeCertificate = Turns processing_desk (certifying 65537) 413 too_large
-
--- the bytes of the longest CSR; its text is too long to be computed
-abbrev pub LargestCsr : Type 0
-LargestCsr = if_fits (replicate 8192 0) ≡ Some (replicate 8192 0)
-
--- and one more byte
-abbrev pub TooLargeCsr : Type 0
-TooLargeCsr = if_fits (replicate 8193 0) ≡ None
+-- certificates and CSRs at the limit of their size
+pub record CertificatesHaveLimits : Type 0 where
+  -- a certificate of 65536 bytes
+  pub largest_certificate : Notes processing_desk (certifying 65536)
+      (codes "{\"authorizations\":[\"https://ca.example/authz/1\"],\"certificate\":\"https://ca.example/cert/1\",\"expires\":\"1970-01-08T00:00:00Z\",\"finalize\":\"https://ca.example/order/1/finalize\",\"identifiers\":[{\"type\":\"dns\",\"value\":\"a.example\"}],\"status\":\"valid\"}")
+      (certified 1 (replicate 65536 65))
+  -- and one more
+  pub too_large_certificate : Turns processing_desk (certifying 65537) 413 too_large
+  -- the bytes of the longest CSR; its text is too long to be computed
+  pub largest_csr : if_fits (replicate 8192 0) ≡ Some (replicate 8192 0)
+  -- and one more byte
+  pub too_large_csr : if_fits (replicate 8193 0) ≡ None

@@ -10,24 +10,18 @@ use Rattle.model_examples.specs.Fifty.{names, order_text}
 abbrev pub ordering : ℕ → Call
 ordering count = request to.NewOrder (order_text (names count))
 
--- one name more is malformed
-abbrev pub FiftyOneNames : Type 0
-FiftyOneNames = Refuses account_desk (ordering 51) 400 malformed
-
--- identifiers are counted as they come: fifty-one of one name are too many
-abbrev pub OneNameTooOften : Type 0
-OneNameTooOften = Refuses account_desk (request to.NewOrder (order_text (map (λ name. codes "a.example") (names 51)))) 400 malformed
-
--- ---- identifiers that are refused
-
--- the first identifier that is refused gives the refusal, and each is listed
-abbrev pub TwoFaultyIdentifiers : Type 0
-TwoFaultyIdentifiers = Refuses account_desk (request to.NewOrder (codes
-    "{\"identifiers\":[{\"type\":\"ip\",\"value\":\"a.example\"},{\"type\":\"dns\",\"value\":\"a..b\"},{\"type\":\"dns\",\"value\":\"c.example\"}]}")) 400
-    (codes "{\"detail\":\"the identifier type is not supported\",\"status\":400,\"subproblems\":[{\"detail\":\"the identifier type is not supported\",\"identifier\":{\"type\":\"ip\",\"value\":\"a.example\"},\"type\":\"urn:ietf:params:acme:error:unsupportedIdentifier\"},{\"detail\":\"the name is not accepted\",\"identifier\":{\"type\":\"dns\",\"value\":\"a..b\"},\"type\":\"urn:ietf:params:acme:error:rejectedIdentifier\"}],\"type\":\"urn:ietf:params:acme:error:unsupportedIdentifier\"}")
-
--- a name that is none
-abbrev pub FaultyName : Type 0
-FaultyName =
-    Refuses account_desk (request to.NewOrder (codes "{\"identifiers\":[{\"type\":\"dns\",\"value\":\"c.example\"},{\"type\":\"dns\",\"value\":\"*\"}]}")) 400
-    (codes "{\"detail\":\"the name is not accepted\",\"status\":400,\"subproblems\":[{\"detail\":\"the name is not accepted\",\"identifier\":{\"type\":\"dns\",\"value\":\"*\"},\"type\":\"urn:ietf:params:acme:error:rejectedIdentifier\"}],\"type\":\"urn:ietf:params:acme:error:rejectedIdentifier\"}")
+-- how many identifiers an order may have, and how some are refused
+pub record IdentifiersAreCounted : Type 0 where
+  -- one name more is malformed
+  pub fifty_one_names : Refuses account_desk (ordering 51) 400 malformed
+  -- identifiers are counted as they come: fifty-one of one name are too many
+  pub one_name_too_often : Refuses account_desk (request to.NewOrder (order_text (map (λ name. codes "a.example") (names 51)))) 400 malformed
+  -- ---- identifiers that are refused
+  -- the first identifier that is refused gives the refusal, and each is listed
+  pub two_faulty_identifiers : Refuses account_desk (request to.NewOrder (codes
+      "{\"identifiers\":[{\"type\":\"ip\",\"value\":\"a.example\"},{\"type\":\"dns\",\"value\":\"a..b\"},{\"type\":\"dns\",\"value\":\"c.example\"}]}")) 400
+      (codes "{\"detail\":\"the identifier type is not supported\",\"status\":400,\"subproblems\":[{\"detail\":\"the identifier type is not supported\",\"identifier\":{\"type\":\"ip\",\"value\":\"a.example\"},\"type\":\"urn:ietf:params:acme:error:unsupportedIdentifier\"},{\"detail\":\"the name is not accepted\",\"identifier\":{\"type\":\"dns\",\"value\":\"a..b\"},\"type\":\"urn:ietf:params:acme:error:rejectedIdentifier\"}],\"type\":\"urn:ietf:params:acme:error:unsupportedIdentifier\"}")
+  -- a name that is none
+  pub faulty_name :
+      Refuses account_desk (request to.NewOrder (codes "{\"identifiers\":[{\"type\":\"dns\",\"value\":\"c.example\"},{\"type\":\"dns\",\"value\":\"*\"}]}")) 400
+      (codes "{\"detail\":\"the name is not accepted\",\"status\":400,\"subproblems\":[{\"detail\":\"the name is not accepted\",\"identifier\":{\"type\":\"dns\",\"value\":\"*\"},\"type\":\"urn:ietf:params:acme:error:rejectedIdentifier\"}],\"type\":\"urn:ietf:params:acme:error:rejectedIdentifier\"}")

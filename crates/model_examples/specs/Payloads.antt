@@ -17,86 +17,47 @@ IsOnlyRead target = IsMalformed target (codes "{}")
 abbrev pub IsMalformedAccount : List ℕ → Type 0
 IsMalformedAccount payload = Refuses with_nonce (request to.NewAccount payload) 400 malformed
 
--- newAccount wants an object
-abbrev pub AccountOfList : Type 0
-AccountOfList = IsMalformedAccount (codes "[]")
-
--- an empty text is no object
-abbrev pub AccountOfNothing : Type 0
-AccountOfNothing = IsMalformedAccount []
-
--- contacts are a list
-abbrev pub ContactNoList : Type 0
-ContactNoList = IsMalformedAccount (codes "{\"contact\":\"mailto:a@b\"}")
-
--- of strings
-abbrev pub ContactNoString : Type 0
-ContactNoString = IsMalformedAccount (codes "{\"contact\":[\"mailto:a@b\",1]}")
-
--- a member that is null is there
-abbrev pub ContactNull : Type 0
-ContactNull = IsMalformedAccount (codes "{\"contact\":null}")
-
--- onlyReturnExisting is true or false
-abbrev pub ExistingNoTruth : Type 0
-ExistingNoTruth = IsMalformedAccount (codes "{\"onlyReturnExisting\":1}")
-
--- of a known key the form of the payload is looked at
-abbrev pub KnownKeyMalformed : Type 0
-KnownKeyMalformed = IsMalformed to.NewAccount (codes "{\"contact\":1}")
-
--- an account is changed by an object
-abbrev pub AccountChangeOfList : Type 0
-AccountChangeOfList = IsMalformed (to.Account 1) (codes "[]")
-
--- whose contacts are a list of strings
-abbrev pub AccountChangeContact : Type 0
-AccountChangeContact = IsMalformed (to.Account 1) (codes "{\"contact\":{}}")
-
--- the list of orders is only read
-abbrev pub OrdersWithPayload : Type 0
-OrdersWithPayload = IsOnlyRead (to.Orders 1)
-
--- an order is only read
-abbrev pub OrderWithPayload : Type 0
-OrderWithPayload = IsOnlyRead (to.Order 1)
-
--- a certificate is only read: the form is tested before the order's status
-abbrev pub CertificateWithPayload : Type 0
-CertificateWithPayload = IsOnlyRead (to.Cert 1)
-
--- an authorization is read or deactivated, and nothing else
-abbrev pub AuthorizationOtherStatus : Type 0
-AuthorizationOtherStatus = IsMalformed (to.Authz 1) (codes "{\"status\":\"valid\"}")
-
--- a challenge is answered by an object
-abbrev pub ChallengeOfList : Type 0
-ChallengeOfList = IsMalformed (to.Chall 1) (codes "[]")
-
--- a CSR is a string
-abbrev pub CsrNoString : Type 0
-CsrNoString = IsMalformed (to.Finalize 1) (codes "{\"csr\":1}")
-
--- newOrder wants identifiers
-abbrev pub NoIdentifiers : Type 0
-NoIdentifiers = IsMalformed to.NewOrder (codes "{}")
-
--- one at least
-abbrev pub EmptyIdentifiers : Type 0
-EmptyIdentifiers = IsMalformed to.NewOrder (codes "{\"identifiers\":[]}")
-
--- each with a value
-abbrev pub IdentifierWithoutValue : Type 0
-IdentifierWithoutValue = IsMalformed to.NewOrder (codes "{\"identifiers\":[{\"type\":\"dns\"}]}")
-
--- that is a string
-abbrev pub IdentifierNoString : Type 0
-IdentifierNoString = IsMalformed to.NewOrder (codes "{\"identifiers\":[{\"type\":\"dns\",\"value\":1}]}")
-
--- an order has no notBefore, whatever it is
-abbrev pub NotBefore : Type 0
-NotBefore = IsMalformed to.NewOrder (codes "{\"identifiers\":[{\"type\":\"dns\",\"value\":\"a.example\"}],\"notBefore\":null}")
-
--- nor a notAfter
-abbrev pub NotAfter : Type 0
-NotAfter = IsMalformed to.NewOrder (codes "{\"identifiers\":[{\"type\":\"dns\",\"value\":\"a.example\"}],\"notAfter\":\"1970-01-08T00:00:00Z\"}")
+-- payloads that have not the form that their route reads
+pub record PayloadsAreRefused : Type 0 where
+  -- newAccount wants an object
+  pub account_of_list : IsMalformedAccount (codes "[]")
+  -- an empty text is no object
+  pub account_of_nothing : IsMalformedAccount []
+  -- contacts are a list
+  pub contact_no_list : IsMalformedAccount (codes "{\"contact\":\"mailto:a@b\"}")
+  -- of strings
+  pub contact_no_string : IsMalformedAccount (codes "{\"contact\":[\"mailto:a@b\",1]}")
+  -- a member that is null is there
+  pub contact_null : IsMalformedAccount (codes "{\"contact\":null}")
+  -- onlyReturnExisting is true or false
+  pub existing_no_truth : IsMalformedAccount (codes "{\"onlyReturnExisting\":1}")
+  -- of a known key the form of the payload is looked at
+  pub known_key_malformed : IsMalformed to.NewAccount (codes "{\"contact\":1}")
+  -- an account is changed by an object
+  pub account_change_of_list : IsMalformed (to.Account 1) (codes "[]")
+  -- whose contacts are a list of strings
+  pub account_change_contact : IsMalformed (to.Account 1) (codes "{\"contact\":{}}")
+  -- the list of orders is only read
+  pub orders_with_payload : IsOnlyRead (to.Orders 1)
+  -- an order is only read
+  pub order_with_payload : IsOnlyRead (to.Order 1)
+  -- a certificate is only read: the form is tested before the order's status
+  pub certificate_with_payload : IsOnlyRead (to.Cert 1)
+  -- an authorization is read or deactivated, and nothing else
+  pub authorization_other_status : IsMalformed (to.Authz 1) (codes "{\"status\":\"valid\"}")
+  -- a challenge is answered by an object
+  pub challenge_of_list : IsMalformed (to.Chall 1) (codes "[]")
+  -- a CSR is a string
+  pub csr_no_string : IsMalformed (to.Finalize 1) (codes "{\"csr\":1}")
+  -- newOrder wants identifiers
+  pub no_identifiers : IsMalformed to.NewOrder (codes "{}")
+  -- one at least
+  pub empty_identifiers : IsMalformed to.NewOrder (codes "{\"identifiers\":[]}")
+  -- each with a value
+  pub identifier_without_value : IsMalformed to.NewOrder (codes "{\"identifiers\":[{\"type\":\"dns\"}]}")
+  -- that is a string
+  pub identifier_no_string : IsMalformed to.NewOrder (codes "{\"identifiers\":[{\"type\":\"dns\",\"value\":1}]}")
+  -- an order has no notBefore, whatever it is
+  pub not_before : IsMalformed to.NewOrder (codes "{\"identifiers\":[{\"type\":\"dns\",\"value\":\"a.example\"}],\"notBefore\":null}")
+  -- nor a notAfter
+  pub not_after : IsMalformed to.NewOrder (codes "{\"identifiers\":[{\"type\":\"dns\",\"value\":\"a.example\"}],\"notAfter\":\"1970-01-08T00:00:00Z\"}")

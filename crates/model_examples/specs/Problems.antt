@@ -18,72 +18,41 @@ problem why subproblems = record { refusal = why; subproblems = subproblems; all
 abbrev pub Says : ℕ → Refusal → List ℕ → Type 0
 Says n why text = ((refusal_of why).number ≡ n) × (compact_text (problem_document (problem why [])) ≡ text)
 
--- the request is not well formed
-abbrev pub Malformed : Type 0
-Malformed = Says 1 refusal.Malformed malformed
-
--- there is nothing here
-abbrev pub NothingHere : Type 0
-NothingHere = Says 2 refusal.NotFound nothing_here
-
--- this method is not served here
-abbrev pub WrongMethod : Type 0
-WrongMethod = Says 3 refusal.MethodNotAllowed wrong_method
-
--- the nonce is not open
-abbrev pub BadNonce : Type 0
-BadNonce = Says 4 refusal.BadNonce bad_nonce
-
--- the key is not accepted
-abbrev pub BadPublicKey : Type 0
-BadPublicKey = Says 5 refusal.BadPublicKey bad_public_key
-
--- no account has this key
-abbrev pub NoAccount : Type 0
-NoAccount = Says 6 refusal.AccountDoesNotExist no_account
-
--- the account is not valid
-abbrev pub Unauthorized : Type 0
-Unauthorized = Says 7 refusal.Unauthorized unauthorized
-
--- the contact scheme is not supported
-abbrev pub UnsupportedContact : Type 0
-UnsupportedContact = Says 8 refusal.UnsupportedContact unsupported_contact
-
--- the contact is not accepted
-abbrev pub InvalidContact : Type 0
-InvalidContact = Says 9 refusal.InvalidContact invalid_contact
-
--- the identifier type is not supported
-abbrev pub UnsupportedIdentifier : Type 0
-UnsupportedIdentifier = Says 10 refusal.UnsupportedIdentifier unsupported_identifier
-
--- the name is not accepted
-abbrev pub RejectedIdentifier : Type 0
-RejectedIdentifier = Says 11 refusal.RejectedIdentifier rejected_identifier
-
--- the order is not ready
-abbrev pub OrderNotReady : Type 0
-OrderNotReady = Says 12 refusal.OrderNotReady order_not_ready
-
--- the CSR is not accepted
-abbrev pub BadCsr : Type 0
-BadCsr = Says 13 refusal.BadCsr bad_csr
-
--- the report does not fit the records
-abbrev pub UnfitReport : Type 0
-UnfitReport = Says 14 refusal.Conflict unfit_report
-
--- the desk could not act
-abbrev pub CouldNotAct : Type 0
-CouldNotAct = Says 15 refusal.ServerInternal could_not_act
-
--- the request is too large
-abbrev pub TooLarge : Type 0
-TooLarge = Says 16 refusal.TooLarge too_large
-
--- a subproblem has its identifier as received, and no status
-abbrev pub OneSubproblem : Type 0
-OneSubproblem = compact_text (problem_document
-    (problem refusal.RejectedIdentifier ((record { refusal = refusal.RejectedIdentifier; kind = codes "dns"; value = codes "A..b" }) ∷ [])))
-    ≡ codes "{\"detail\":\"the name is not accepted\",\"status\":400,\"subproblems\":[{\"detail\":\"the name is not accepted\",\"identifier\":{\"type\":\"dns\",\"value\":\"A..b\"},\"type\":\"urn:ietf:params:acme:error:rejectedIdentifier\"}],\"type\":\"urn:ietf:params:acme:error:rejectedIdentifier\"}"
+-- the document of each refusal, byte for byte
+pub record ProblemsAreSaid : Type 0 where
+  -- the request is not well formed
+  pub malformed : Says 1 refusal.Malformed malformed
+  -- there is nothing here
+  pub nothing_here : Says 2 refusal.NotFound nothing_here
+  -- this method is not served here
+  pub wrong_method : Says 3 refusal.MethodNotAllowed wrong_method
+  -- the nonce is not open
+  pub bad_nonce : Says 4 refusal.BadNonce bad_nonce
+  -- the key is not accepted
+  pub bad_public_key : Says 5 refusal.BadPublicKey bad_public_key
+  -- no account has this key
+  pub no_account : Says 6 refusal.AccountDoesNotExist no_account
+  -- the account is not valid
+  pub unauthorized : Says 7 refusal.Unauthorized unauthorized
+  -- the contact scheme is not supported
+  pub unsupported_contact : Says 8 refusal.UnsupportedContact unsupported_contact
+  -- the contact is not accepted
+  pub invalid_contact : Says 9 refusal.InvalidContact invalid_contact
+  -- the identifier type is not supported
+  pub unsupported_identifier : Says 10 refusal.UnsupportedIdentifier unsupported_identifier
+  -- the name is not accepted
+  pub rejected_identifier : Says 11 refusal.RejectedIdentifier rejected_identifier
+  -- the order is not ready
+  pub order_not_ready : Says 12 refusal.OrderNotReady order_not_ready
+  -- the CSR is not accepted
+  pub bad_csr : Says 13 refusal.BadCsr bad_csr
+  -- the report does not fit the records
+  pub unfit_report : Says 14 refusal.Conflict unfit_report
+  -- the desk could not act
+  pub could_not_act : Says 15 refusal.ServerInternal could_not_act
+  -- the request is too large
+  pub too_large : Says 16 refusal.TooLarge too_large
+  -- a subproblem has its identifier as received, and no status
+  pub one_subproblem : compact_text (problem_document
+      (problem refusal.RejectedIdentifier ((record { refusal = refusal.RejectedIdentifier; kind = codes "dns"; value = codes "A..b" }) ∷ [])))
+      ≡ codes "{\"detail\":\"the name is not accepted\",\"status\":400,\"subproblems\":[{\"detail\":\"the name is not accepted\",\"identifier\":{\"type\":\"dns\",\"value\":\"A..b\"},\"type\":\"urn:ietf:params:acme:error:rejectedIdentifier\"}],\"type\":\"urn:ietf:params:acme:error:rejectedIdentifier\"}"

@@ -17,21 +17,6 @@ use Rattle.model_examples.specs.Calls.{on, zeros, order_desk, default_terms, ter
 use Rattle.model_examples.specs.Accounts.{with_account}
 use Rattle.model_examples.specs.Orders.{with_order, any_example_org}
 
--- after the first account: the counters, the one open nonce and the account
-abbrev pub FirstRows : Type 0
-FirstRows =
-    picture with_account
-    ≡ (record {
-      meta = record {
-        policy = default_terms;
-        counters = record { clock = 0; nonces = 2; accounts = 1; orders = 0; authorizations = 0; challenges = 0 };
-      };
-      nonces = (record { serial = 2; random = zeros 16; issued = 0 }) ∷ [];
-      accounts = (record { number = 1; key = first_key; contacts = codes "mailto:a@b.example" ∷ []; opened = 0; ended = None; status = account.Valid }) ∷ [];
-      authorizations = [];
-      orders = [];
-    })
-
 -- the row of a challenge as it is made
 abbrev pub made_challenge : ℕ → Kind → ChallengeRow
 made_challenge number kind = record { number = number; kind = kind; token = zeros 16; answered = None; reported = None; status = chall.Pending }
@@ -41,64 +26,15 @@ abbrev pub made_authorization : ℕ → Name → List ChallengeRow → Authoriza
 made_authorization number name challenges =
     record { number = number; account = 1; name = name; made = 0; expires = 2592000; ended = None; challenges = challenges; status = authz.Pending }
 
--- the rows of the first order's authorizations: a wildcard has one of its own
-abbrev pub AuthorizationRows : Type 0
-AuthorizationRows = (picture with_order).authorizations
-    ≡ made_authorization 1 (simple (codes "example.org")) (made_challenge 1 http_01 ∷ made_challenge 2 dns_01 ∷ [])
-    ∷ made_authorization 2 any_example_org (made_challenge 3 dns_01 ∷ []) ∷ []
-
--- the row of the first order, with its authorizations in their places
-abbrev pub OrderRows : Type 0
-OrderRows =
-    (picture with_order).orders
-    ≡ (record {
-      number = 1;
-      account = 1;
-      made = 0;
-      expires = 604800;
-      listed = (record { place = 1; authorization = 1 }) ∷ (record { place = 2; authorization = 2 }) ∷ [];
-      finalized = None;
-      certified = None;
-      failed = None;
-      status = order.Pending;
-    })
-    ∷ []
-
--- a nonce stands in its table to the end of its life, whether or not anything else happens
-abbrev pub NonceGone : Type 0
-NonceGone = (tables_at with_account 3601).nonces ≡ []
-
 -- a desk whose authorization ended by a bad report at 20
 abbrev pub failed_desk : History
 failed_desk = on 20 (reported 1 connection) ∷ on 10 (answered 1) ∷ order_desk (terms_of 3600 100 100)
 
--- the end of an authorization by a bad report
-abbrev pub EndRow : Type 0
-EndRow = map (λ a. a.ended) (picture failed_desk).authorizations ≡ Some (record { date = 20; kind = kind.Invalid }) ∷ []
-
--- the first end counts, and a later entry leaves it
-abbrev pub FirstEndRow : Type 0
-FirstEndRow =
-    map (λ a. a.ended) (picture (on 30 (authorization_ended 1 revoked) ∷ failed_desk)).authorizations ≡ Some (record { date = 20; kind = kind.Invalid }) ∷ []
-
--- one dated past the authorization's moment does not count
-abbrev pub LateEndRow : Type 0
-LateEndRow =
-    map (λ a. a.ended) (picture (on 101 (authorization_ended 1 revoked) ∷ order_desk (terms_of 3600 100 100))).authorizations ≡ None ∷ []
-
 -- ---- status faults
-
--- rows as they are kept have none
-abbrev pub NoFaults : Type 0
-NoFaults = status_faults (picture with_order) ≡ []
 
 -- the rows with the first order stored as ready
 abbrev pub with_ready : Tables → Tables
 with_ready T = record T { orders = map (λ (o : OrderRow). record o { status = order.Ready }) T.orders }
-
--- it ought to be pending
-abbrev pub OrderFault : Type 0
-OrderFault = status_faults (with_ready (picture with_order)) ≡ fault.Order 1 order.Ready order.Pending ∷ []
 
 -- the rows with other statuses of accounts, authorizations and challenges
 abbrev pub with_statuses : Tables → Tables
@@ -113,8 +49,54 @@ with_statuses T =
           T.authorizations;
     }
 
--- faults stand by kind, then number; an order ought to follow the stored statuses of its authorizations
-abbrev pub AllFaults : Type 0
-AllFaults = status_faults (with_statuses (picture with_order)) ≡ fault.Account 1 account.Revoked account.Valid ∷ fault.Order 1 order.Pending order.Invalid
-    ∷ fault.Authz 1 authz.Expired authz.Pending ∷ fault.Authz 2 authz.Expired authz.Pending
-    ∷ fault.Chall 1 chall.Valid chall.Pending ∷ fault.Chall 2 chall.Valid chall.Pending ∷ fault.Chall 3 chall.Valid chall.Pending ∷ []
+-- the rows that a desk keeps of its history, and which stored statuses are faults
+pub record RowsAreKept : Type 0 where
+  -- after the first account: the counters, the one open nonce and the account
+  pub first_rows : picture with_account
+      ≡ (record {
+        meta = record {
+          policy = default_terms;
+          counters = record { clock = 0; nonces = 2; accounts = 1; orders = 0; authorizations = 0; challenges = 0 };
+        };
+        nonces = (record { serial = 2; random = zeros 16; issued = 0 }) ∷ [];
+        accounts = (record { number = 1; key = first_key; contacts = codes "mailto:a@b.example" ∷ []; opened = 0; ended = None; status = account.Valid }) ∷ [];
+        authorizations = [];
+        orders = [];
+      })
+  -- the rows of the first order's authorizations: a wildcard has one of its own
+  pub authorization_rows : (picture with_order).authorizations
+      ≡ made_authorization 1 (simple (codes "example.org")) (made_challenge 1 http_01 ∷ made_challenge 2 dns_01 ∷ [])
+      ∷ made_authorization 2 any_example_org (made_challenge 3 dns_01 ∷ []) ∷ []
+  -- the row of the first order, with its authorizations in their places
+  pub order_rows : (picture with_order).orders
+      ≡ (record {
+        number = 1;
+        account = 1;
+        made = 0;
+        expires = 604800;
+        listed = (record { place = 1; authorization = 1 }) ∷ (record { place = 2; authorization = 2 }) ∷ [];
+        finalized = None;
+        certified = None;
+        failed = None;
+        status = order.Pending;
+      })
+      ∷ []
+  -- a nonce stands in its table to the end of its life, whether or not anything else happens
+  pub nonce_gone : (tables_at with_account 3601).nonces ≡ []
+  -- the end of an authorization by a bad report
+  pub end_row : map (λ a. a.ended) (picture failed_desk).authorizations ≡ Some (record { date = 20; kind = kind.Invalid }) ∷ []
+  -- the first end counts, and a later entry leaves it
+  pub first_end_row :
+      map (λ a. a.ended) (picture (on 30 (authorization_ended 1 revoked) ∷ failed_desk)).authorizations ≡ Some (record { date = 20; kind = kind.Invalid }) ∷ []
+  -- one dated past the authorization's moment does not count
+  pub late_end_row : map (λ a. a.ended) (picture (on 101 (authorization_ended 1 revoked) ∷ order_desk (terms_of 3600 100 100))).authorizations ≡ None ∷ []
+  -- ---- status faults
+  -- rows as they are kept have none
+  pub no_faults : status_faults (picture with_order) ≡ []
+  -- it ought to be pending
+  pub order_fault : status_faults (with_ready (picture with_order)) ≡ fault.Order 1 order.Ready order.Pending ∷ []
+  -- faults stand by kind, then number; an order ought to follow the stored statuses of its authorizations
+  pub all_faults :
+      status_faults (with_statuses (picture with_order)) ≡ fault.Account 1 account.Revoked account.Valid ∷ fault.Order 1 order.Pending order.Invalid
+      ∷ fault.Authz 1 authz.Expired authz.Pending ∷ fault.Authz 2 authz.Expired authz.Pending
+      ∷ fault.Chall 1 chall.Valid chall.Pending ∷ fault.Chall 2 chall.Valid chall.Pending ∷ fault.Chall 3 chall.Valid chall.Pending ∷ []

@@ -45,96 +45,29 @@ Unfit F call = Gives F call (plain 409 (Problem false unfit_report)) []
 abbrev pub processing_challenge : List ℕ
 processing_challenge = codes "{\"status\":\"processing\",\"token\":\"AAAAAAAAAAAAAAAAAAAAAA\",\"type\":\"http-01\",\"url\":\"https://ca.example/chall/1\"}"
 
--- the client says that a challenge can be validated (7.5.1)
-abbrev pub ChallengeAnswered : Type 0
-ChallengeAnswered = Challenged short_desk 10 1 processing_challenge (answered 1 ∷ [])
-
 -- the first challenge was answered at 10
 abbrev pub answered_desk : History
 answered_desk = on 10 (answered 1) ∷ short_desk
-
--- answering again changes nothing
-abbrev pub AnswersAgain : Type 0
-AnswersAgain = Challenged answered_desk 11 1 processing_challenge []
 
 -- the challenge that was proved at 100
 abbrev pub valid_challenge : List ℕ
 valid_challenge =
     codes "{\"status\":\"valid\",\"token\":\"AAAAAAAAAAAAAAAAAAAAAA\",\"type\":\"http-01\",\"url\":\"https://ca.example/chall/1\",\"validated\":\"1970-01-01T00:01:40Z\"}"
 
--- a matching report in the authorization's last second
-abbrev pub ReportInTime : Type 0
-ReportInTime = Gives answered_desk (matching 100) (shows valid_challenge) (reported 1 good ∷ [])
-
--- and proved at 100
+-- and reported good at 100
 abbrev pub ready_desk : History
 ready_desk = on 100 (reported 1 good) ∷ answered_desk
 
--- makes the authorization valid, which then shows that challenge alone
-abbrev pub ValidAuthorization : Type 0
-ValidAuthorization = Reads ready_desk (reading 100 (to.Authz 1))
-    (codes "{\"challenges\":[{\"status\":\"valid\",\"token\":\"AAAAAAAAAAAAAAAAAAAAAA\",\"type\":\"http-01\",\"url\":\"https://ca.example/chall/1\",\"validated\":\"1970-01-01T00:01:40Z\"}],\"expires\":\"1970-01-01T00:01:40Z\",\"identifier\":{\"type\":\"dns\",\"value\":\"a.example\"},\"status\":\"valid\"}")
-
--- and the order ready
-abbrev pub ReadyOrder : Type 0
-ReadyOrder = Reads ready_desk (reading 100 (to.Order 1))
-    (codes "{\"authorizations\":[\"https://ca.example/authz/1\"],\"expires\":\"1970-01-01T00:01:40Z\",\"finalize\":\"https://ca.example/order/1/finalize\",\"identifiers\":[{\"type\":\"dns\",\"value\":\"a.example\"}],\"status\":\"ready\"}")
-
--- a second later the report comes too late
-abbrev pub ReportTooLate : Type 0
-ReportTooLate = Unfit answered_desk (matching 101)
-
--- the order is invalid
-abbrev pub ExpiredOrder : Type 0
-ExpiredOrder = Reads answered_desk (reading 101 (to.Order 1))
-    (codes "{\"authorizations\":[\"https://ca.example/authz/1\"],\"expires\":\"1970-01-01T00:01:40Z\",\"finalize\":\"https://ca.example/order/1/finalize\",\"identifiers\":[{\"type\":\"dns\",\"value\":\"a.example\"}],\"status\":\"invalid\"}")
-
--- the authorization with that challenge, past its moment
-abbrev pub expired_authorization : List ℕ
-expired_authorization =
+-- the authorization with its first challenge answered, past its moment
+abbrev pub expired_document : List ℕ
+expired_document =
     codes "{\"challenges\":[{\"status\":\"processing\",\"token\":\"AAAAAAAAAAAAAAAAAAAAAA\",\"type\":\"http-01\",\"url\":\"https://ca.example/chall/1\"},{\"status\":\"pending\",\"token\":\"AAAAAAAAAAAAAAAAAAAAAA\",\"type\":\"dns-01\",\"url\":\"https://ca.example/chall/2\"}],\"expires\":\"1970-01-01T00:01:40Z\",\"identifier\":{\"type\":\"dns\",\"value\":\"a.example\"},\"status\":\"expired\"}"
-
--- its authorization expired
-abbrev pub ExpiredAuthorization : Type 0
-ExpiredAuthorization = Reads answered_desk (reading 101 (to.Authz 1)) expired_authorization
-
--- a valid authorization expires too
-abbrev pub ValidExpires : Type 0
-ValidExpires = Reads ready_desk (reading 101 (to.Authz 1))
-    (codes "{\"challenges\":[{\"status\":\"valid\",\"token\":\"AAAAAAAAAAAAAAAAAAAAAA\",\"type\":\"http-01\",\"url\":\"https://ca.example/chall/1\",\"validated\":\"1970-01-01T00:01:40Z\"}],\"expires\":\"1970-01-01T00:01:40Z\",\"identifier\":{\"type\":\"dns\",\"value\":\"a.example\"},\"status\":\"expired\"}")
-
--- an answer that comes too late is not recorded
-abbrev pub AnswerTooLate : Type 0
-AnswerTooLate = Challenged short_desk 101 1
-    (codes "{\"status\":\"pending\",\"token\":\"AAAAAAAAAAAAAAAAAAAAAA\",\"type\":\"http-01\",\"url\":\"https://ca.example/chall/1\"}") []
-
--- an end that comes past the authorization's moment does not show: it has expired
-abbrev pub LateEnd : Type 0
-LateEnd = Reads answered_desk (request_at 101 (to.Authz 1) (codes "{\"status\":\"deactivated\"}")) expired_authorization
-
--- ---- the same report again, and others
-
--- a matching report again records nothing
-abbrev pub ReportAgain : Type 0
-ReportAgain = Gives ready_desk (matching 100) (shows valid_challenge) []
-
--- another finding contradicts it
-abbrev pub ReportContradicts : Type 0
-ReportContradicts = Unfit ready_desk (asked 100 0 (ask.Office (office.Report 1 (found.Error fetch.Connection))))
-
--- a challenge that nobody answered waits for no report
-abbrev pub ReportUnasked : Type 0
-ReportUnasked = Unfit short_desk (matching 10)
 
 -- ---- an authorization is deactivated
 
 -- the order was proved and finalized
 abbrev pub processing_desk : History
 processing_desk = on 0 (finalized 1 (1 ∷ 2 ∷ 3 ∷ [])) ∷ on 0 (reported 1 good) ∷ on 0 (answered 1) ∷ order_desk default_terms
-
--- there is no certificate while the order is processing
-abbrev pub NoCertificateYet : Type 0
-NoCertificateYet = Refuses processing_desk (reading 0 (to.Cert 1)) 404 nothing_here
 
 -- the client deactivates the authorization
 abbrev pub deactivating : Call
@@ -145,49 +78,13 @@ abbrev pub deactivated_authorization : List ℕ
 deactivated_authorization =
     codes "{\"challenges\":[{\"status\":\"valid\",\"token\":\"AAAAAAAAAAAAAAAAAAAAAA\",\"type\":\"http-01\",\"url\":\"https://ca.example/chall/1\",\"validated\":\"1970-01-01T00:00:00Z\"}],\"expires\":\"1970-01-31T00:00:00Z\",\"identifier\":{\"type\":\"dns\",\"value\":\"a.example\"},\"status\":\"deactivated\"}"
 
--- a valid authorization is deactivated by its client (7.5.2)
-abbrev pub Deactivates : Type 0
-Deactivates = Answers processing_desk deactivating (shows deactivated_authorization) (authorization_ended 1 deactivated ∷ [])
-
--- the desk after it
+-- the desk after that
 abbrev pub fallen_desk : History
 fallen_desk = on 0 (authorization_ended 1 deactivated) ∷ processing_desk
-
--- again: nothing changes
-abbrev pub DeactivatesAgain : Type 0
-DeactivatesAgain = Reads fallen_desk deactivating deactivated_authorization
-
--- the order that was processing is invalid
-abbrev pub ProcessingFalls : Type 0
-ProcessingFalls = Reads fallen_desk (reading 0 (to.Order 1))
-    (codes "{\"authorizations\":[\"https://ca.example/authz/1\"],\"expires\":\"1970-01-08T00:00:00Z\",\"finalize\":\"https://ca.example/order/1/finalize\",\"identifiers\":[{\"type\":\"dns\",\"value\":\"a.example\"}],\"status\":\"invalid\"}")
-
--- and gets no certificate
-abbrev pub FallenIsNotCertified : Type 0
-FallenIsNotCertified = Unfit fallen_desk (handed (office.Certify 1 (codes "chain")))
-
--- an order that is invalid stands in no list of orders (7.1.2.1)
-abbrev pub FallenIsNotListed : Type 0
-FallenIsNotListed = Reads fallen_desk (reading 0 (to.Orders 1)) (codes "{\"orders\":[]}")
 
 -- an order that got its certificate before its authorization was deactivated
 abbrev pub valid_desk : History
 valid_desk = on 0 (authorization_ended 1 deactivated) ∷ on 0 (certified 1 (codes "chain")) ∷ processing_desk
-
--- a valid order stays valid
-abbrev pub ValidStays : Type 0
-ValidStays = Reads valid_desk (reading 0 (to.Order 1))
-    (codes "{\"authorizations\":[\"https://ca.example/authz/1\"],\"certificate\":\"https://ca.example/cert/1\",\"expires\":\"1970-01-08T00:00:00Z\",\"finalize\":\"https://ca.example/order/1/finalize\",\"identifiers\":[{\"type\":\"dns\",\"value\":\"a.example\"}],\"status\":\"valid\"}")
-
--- past its moment too
-abbrev pub ValidNeverExpires : Type 0
-ValidNeverExpires = Gives (on 604801 (issued (zeros 16)) ∷ valid_desk) (asked 604801 16 (signed first_key nonce_two (to.Orders 1) []))
-    (renewed (codes "AAAAAAAAAAMAAAAAAAAAAAAAAAAAAAAA") (plain 200 (Json (codes "{\"orders\":[\"https://ca.example/order/1\"]}"))))
-    (spent 2 ∷ issued (zeros 16) ∷ [])
-
--- and its certificate is given as it was handed in (7.4.2)
-abbrev pub CertificateGiven : Type 0
-CertificateGiven = Answers valid_desk (reading 0 (to.Cert 1)) (plain 200 (Certificate (codes "chain"))) []
 
 -- ---- an order of two names
 
@@ -199,59 +96,100 @@ half_desk = on 0 (reported 1 good) ∷ on 0 (answered 1) ∷ on 0 (ordered 1 (wa
 abbrev pub whole_desk : History
 whole_desk = on 0 (reported 4 good) ∷ on 0 (answered 4) ∷ half_desk
 
--- one validated of two: the order is pending
-abbrev pub OneOfTwo : Type 0
-OneOfTwo = Reads half_desk (reading 0 (to.Order 1))
-    (codes "{\"authorizations\":[\"https://ca.example/authz/1\",\"https://ca.example/authz/2\"],\"expires\":\"1970-01-08T00:00:00Z\",\"finalize\":\"https://ca.example/order/1/finalize\",\"identifiers\":[{\"type\":\"dns\",\"value\":\"a.example\"},{\"type\":\"dns\",\"value\":\"b.example\"}],\"status\":\"pending\"}")
-
 -- the client finalizes the order
 abbrev pub finalizing : List ℕ → Call
 finalizing payload = request (to.Finalize 1) payload
 
--- and is not finalized (7.4)
-abbrev pub PendingIsNotFinalized : Type 0
-PendingIsNotFinalized = Refuses half_desk (finalizing (codes "{\"csr\":\"AQID\"}")) 403 order_not_ready
-
--- both: it is ready
-abbrev pub BothOfTwo : Type 0
-BothOfTwo = Reads whole_desk (reading 0 (to.Order 1))
-    (codes "{\"authorizations\":[\"https://ca.example/authz/1\",\"https://ca.example/authz/2\"],\"expires\":\"1970-01-08T00:00:00Z\",\"finalize\":\"https://ca.example/order/1/finalize\",\"identifiers\":[{\"type\":\"dns\",\"value\":\"a.example\"},{\"type\":\"dns\",\"value\":\"b.example\"}],\"status\":\"ready\"}")
-
--- a CSR of no bytes
-abbrev pub EmptyCsr : Type 0
-EmptyCsr = Refuses whole_desk (finalizing (codes "{\"csr\":\"\"}")) 400 bad_csr
-
--- a text that is no base64url
-abbrev pub NoCsr : Type 0
-NoCsr = Refuses whole_desk (finalizing (codes "{\"csr\":\"AQID=\"}")) 400 bad_csr
-
--- a CSR of three bytes: the order is processing
-abbrev pub Finalizes : Type 0
-Finalizes = Answers whole_desk (finalizing (codes "{\"csr\":\"AQID\"}")) (located (codes "https://ca.example/order/1") (shows (codes
-    "{\"authorizations\":[\"https://ca.example/authz/1\",\"https://ca.example/authz/2\"],\"expires\":\"1970-01-08T00:00:00Z\",\"finalize\":\"https://ca.example/order/1/finalize\",\"identifiers\":[{\"type\":\"dns\",\"value\":\"a.example\"},{\"type\":\"dns\",\"value\":\"b.example\"}],\"status\":\"processing\"}")))
-    (finalized 1 (1 ∷ 2 ∷ 3 ∷ []) ∷ [])
-
--- the desk after it
+-- the desk after that
 abbrev pub finalized_desk : History
 finalized_desk = on 0 (finalized 1 (1 ∷ 2 ∷ 3 ∷ [])) ∷ whole_desk
 
--- again: it is not ready any more
-abbrev pub FinalizesOnce : Type 0
-FinalizesOnce = Refuses finalized_desk (finalizing (codes "{\"csr\":\"AQID\"}")) 403 order_not_ready
-
--- the signing office sees its CSR and its names
-abbrev pub OrderWork : Type 0
-OrderWork = Repeats finalized_desk office.OrderWork (codes "{\"orders\":[{\"csr\":\"AQID\",\"names\":[\"a.example\",\"b.example\"],\"order\":1}]}")
-
--- ---- what the client of a proved or pending authorization may do
-
--- a challenge beside the one that proved the authorization is not answered any more
-abbrev pub OtherChallengeAnswered : Type 0
-OtherChallengeAnswered = Challenged ready_desk 100 2
-    (codes "{\"status\":\"pending\",\"token\":\"AAAAAAAAAAAAAAAAAAAAAA\",\"type\":\"dns-01\",\"url\":\"https://ca.example/chall/2\"}") []
-
--- a pending authorization is deactivated in its last second
-abbrev pub DeactivatesPending : Type 0
-DeactivatesPending = Answers short_desk (request_at 100 (to.Authz 1) (codes "{\"status\":\"deactivated\"}")) (shows (codes
-    "{\"challenges\":[{\"status\":\"pending\",\"token\":\"AAAAAAAAAAAAAAAAAAAAAA\",\"type\":\"http-01\",\"url\":\"https://ca.example/chall/1\"},{\"status\":\"pending\",\"token\":\"AAAAAAAAAAAAAAAAAAAAAA\",\"type\":\"dns-01\",\"url\":\"https://ca.example/chall/2\"}],\"expires\":\"1970-01-01T00:01:40Z\",\"identifier\":{\"type\":\"dns\",\"value\":\"a.example\"},\"status\":\"deactivated\"}"))
-    (authorization_ended 1 deactivated ∷ [])
+-- statuses over time: validation, expiry, deactivation, and what orders make of them
+pub record StatusesAreDerived : Type 0 where
+  -- ---- a challenge is answered and reported
+  -- the client says that a challenge can be validated (7.5.1)
+  pub challenge_answered : Challenged short_desk 10 1 processing_challenge (answered 1 ∷ [])
+  -- answering again changes nothing
+  pub answers_again : Challenged answered_desk 11 1 processing_challenge []
+  -- a matching report in the authorization's last second
+  pub report_in_time : Gives answered_desk (matching 100) (shows valid_challenge) (reported 1 good ∷ [])
+  -- makes the authorization valid, which then shows that challenge alone
+  pub valid_authorization : Reads ready_desk (reading 100 (to.Authz 1))
+      (codes "{\"challenges\":[{\"status\":\"valid\",\"token\":\"AAAAAAAAAAAAAAAAAAAAAA\",\"type\":\"http-01\",\"url\":\"https://ca.example/chall/1\",\"validated\":\"1970-01-01T00:01:40Z\"}],\"expires\":\"1970-01-01T00:01:40Z\",\"identifier\":{\"type\":\"dns\",\"value\":\"a.example\"},\"status\":\"valid\"}")
+  -- and the order ready
+  pub ready_order : Reads ready_desk (reading 100 (to.Order 1))
+      (codes "{\"authorizations\":[\"https://ca.example/authz/1\"],\"expires\":\"1970-01-01T00:01:40Z\",\"finalize\":\"https://ca.example/order/1/finalize\",\"identifiers\":[{\"type\":\"dns\",\"value\":\"a.example\"}],\"status\":\"ready\"}")
+  -- a second later the report comes too late
+  pub report_too_late : Unfit answered_desk (matching 101)
+  -- the order is invalid
+  pub expired_order : Reads answered_desk (reading 101 (to.Order 1))
+      (codes "{\"authorizations\":[\"https://ca.example/authz/1\"],\"expires\":\"1970-01-01T00:01:40Z\",\"finalize\":\"https://ca.example/order/1/finalize\",\"identifiers\":[{\"type\":\"dns\",\"value\":\"a.example\"}],\"status\":\"invalid\"}")
+  -- its authorization expired
+  pub expired_authorization : Reads answered_desk (reading 101 (to.Authz 1)) expired_document
+  -- a valid authorization expires too
+  pub valid_expires : Reads ready_desk (reading 101 (to.Authz 1))
+      (codes "{\"challenges\":[{\"status\":\"valid\",\"token\":\"AAAAAAAAAAAAAAAAAAAAAA\",\"type\":\"http-01\",\"url\":\"https://ca.example/chall/1\",\"validated\":\"1970-01-01T00:01:40Z\"}],\"expires\":\"1970-01-01T00:01:40Z\",\"identifier\":{\"type\":\"dns\",\"value\":\"a.example\"},\"status\":\"expired\"}")
+  -- an answer that comes too late is not recorded
+  pub answer_too_late : Challenged short_desk 101 1
+      (codes "{\"status\":\"pending\",\"token\":\"AAAAAAAAAAAAAAAAAAAAAA\",\"type\":\"http-01\",\"url\":\"https://ca.example/chall/1\"}") []
+  -- an end that comes past the authorization's moment does not show: it has expired
+  pub late_end : Reads answered_desk (request_at 101 (to.Authz 1) (codes "{\"status\":\"deactivated\"}")) expired_document
+  -- ---- the same report again, and others
+  -- a matching report again records nothing
+  pub report_again : Gives ready_desk (matching 100) (shows valid_challenge) []
+  -- another finding contradicts it
+  pub report_contradicts : Unfit ready_desk (asked 100 0 (ask.Office (office.Report 1 (found.Error fetch.Connection))))
+  -- a challenge that nobody answered waits for no report
+  pub report_unasked : Unfit short_desk (matching 10)
+  -- ---- an authorization is deactivated
+  -- there is no certificate while the order is processing
+  pub no_certificate_yet : Refuses processing_desk (reading 0 (to.Cert 1)) 404 nothing_here
+  -- a valid authorization is deactivated by its client (7.5.2)
+  pub deactivates : Answers processing_desk deactivating (shows deactivated_authorization) (authorization_ended 1 deactivated ∷ [])
+  -- again: nothing changes
+  pub deactivates_again : Reads fallen_desk deactivating deactivated_authorization
+  -- the order that was processing is invalid
+  pub processing_falls : Reads fallen_desk (reading 0 (to.Order 1))
+      (codes "{\"authorizations\":[\"https://ca.example/authz/1\"],\"expires\":\"1970-01-08T00:00:00Z\",\"finalize\":\"https://ca.example/order/1/finalize\",\"identifiers\":[{\"type\":\"dns\",\"value\":\"a.example\"}],\"status\":\"invalid\"}")
+  -- and gets no certificate
+  pub fallen_is_not_certified : Unfit fallen_desk (handed (office.Certify 1 (codes "chain")))
+  -- an order that is invalid stands in no list of orders (7.1.2.1)
+  pub fallen_is_not_listed : Reads fallen_desk (reading 0 (to.Orders 1)) (codes "{\"orders\":[]}")
+  -- a valid order stays valid
+  pub valid_stays : Reads valid_desk (reading 0 (to.Order 1))
+      (codes "{\"authorizations\":[\"https://ca.example/authz/1\"],\"certificate\":\"https://ca.example/cert/1\",\"expires\":\"1970-01-08T00:00:00Z\",\"finalize\":\"https://ca.example/order/1/finalize\",\"identifiers\":[{\"type\":\"dns\",\"value\":\"a.example\"}],\"status\":\"valid\"}")
+  -- past its moment too
+  pub valid_never_expires : Gives (on 604801 (issued (zeros 16)) ∷ valid_desk) (asked 604801 16 (signed first_key nonce_two (to.Orders 1) []))
+      (renewed (codes "AAAAAAAAAAMAAAAAAAAAAAAAAAAAAAAA") (plain 200 (Json (codes "{\"orders\":[\"https://ca.example/order/1\"]}"))))
+      (spent 2 ∷ issued (zeros 16) ∷ [])
+  -- and its certificate is given as it was handed in (7.4.2)
+  pub certificate_given : Answers valid_desk (reading 0 (to.Cert 1)) (plain 200 (Certificate (codes "chain"))) []
+  -- ---- an order of two names
+  -- one validated of two: the order is pending
+  pub one_of_two : Reads half_desk (reading 0 (to.Order 1))
+      (codes "{\"authorizations\":[\"https://ca.example/authz/1\",\"https://ca.example/authz/2\"],\"expires\":\"1970-01-08T00:00:00Z\",\"finalize\":\"https://ca.example/order/1/finalize\",\"identifiers\":[{\"type\":\"dns\",\"value\":\"a.example\"},{\"type\":\"dns\",\"value\":\"b.example\"}],\"status\":\"pending\"}")
+  -- and is not finalized (7.4)
+  pub pending_is_not_finalized : Refuses half_desk (finalizing (codes "{\"csr\":\"AQID\"}")) 403 order_not_ready
+  -- both: it is ready
+  pub both_of_two : Reads whole_desk (reading 0 (to.Order 1))
+      (codes "{\"authorizations\":[\"https://ca.example/authz/1\",\"https://ca.example/authz/2\"],\"expires\":\"1970-01-08T00:00:00Z\",\"finalize\":\"https://ca.example/order/1/finalize\",\"identifiers\":[{\"type\":\"dns\",\"value\":\"a.example\"},{\"type\":\"dns\",\"value\":\"b.example\"}],\"status\":\"ready\"}")
+  -- a CSR of no bytes
+  pub empty_csr : Refuses whole_desk (finalizing (codes "{\"csr\":\"\"}")) 400 bad_csr
+  -- a text that is no base64url
+  pub no_csr : Refuses whole_desk (finalizing (codes "{\"csr\":\"AQID=\"}")) 400 bad_csr
+  -- a CSR of three bytes: the order is processing
+  pub finalizes : Answers whole_desk (finalizing (codes "{\"csr\":\"AQID\"}")) (located (codes "https://ca.example/order/1") (shows (codes
+      "{\"authorizations\":[\"https://ca.example/authz/1\",\"https://ca.example/authz/2\"],\"expires\":\"1970-01-08T00:00:00Z\",\"finalize\":\"https://ca.example/order/1/finalize\",\"identifiers\":[{\"type\":\"dns\",\"value\":\"a.example\"},{\"type\":\"dns\",\"value\":\"b.example\"}],\"status\":\"processing\"}")))
+      (finalized 1 (1 ∷ 2 ∷ 3 ∷ []) ∷ [])
+  -- again: it is not ready any more
+  pub finalizes_once : Refuses finalized_desk (finalizing (codes "{\"csr\":\"AQID\"}")) 403 order_not_ready
+  -- the signing office sees its CSR and its names
+  pub order_work : Repeats finalized_desk office.OrderWork (codes "{\"orders\":[{\"csr\":\"AQID\",\"names\":[\"a.example\",\"b.example\"],\"order\":1}]}")
+  -- ---- what the client of a proved or pending authorization may do
+  -- a challenge beside the one that proved the authorization is not answered any more
+  pub other_challenge_answered : Challenged ready_desk 100 2
+      (codes "{\"status\":\"pending\",\"token\":\"AAAAAAAAAAAAAAAAAAAAAA\",\"type\":\"dns-01\",\"url\":\"https://ca.example/chall/2\"}") []
+  -- a pending authorization is deactivated in its last second
+  pub deactivates_pending : Answers short_desk (request_at 100 (to.Authz 1) (codes "{\"status\":\"deactivated\"}")) (shows (codes
+      "{\"challenges\":[{\"status\":\"pending\",\"token\":\"AAAAAAAAAAAAAAAAAAAAAA\",\"type\":\"http-01\",\"url\":\"https://ca.example/chall/1\"},{\"status\":\"pending\",\"token\":\"AAAAAAAAAAAAAAAAAAAAAA\",\"type\":\"dns-01\",\"url\":\"https://ca.example/chall/2\"}],\"expires\":\"1970-01-01T00:01:40Z\",\"identifier\":{\"type\":\"dns\",\"value\":\"a.example\"},\"status\":\"deactivated\"}"))
+      (authorization_ended 1 deactivated ∷ [])
