@@ -1,5 +1,5 @@
 //! Worked examples of the desk, computed on its definitions.
-#![tactic(auto)]
+#![tactic(auto, unfolding(crate::proofs::Computing::computing, crate::proofs::Hashing::hashing))]
 
 mod histories;
 mod lives;

@@ -1,6 +1,0 @@
-use Rattle.model_examples.proofs.histories.entries_follow.Goals as goal
-use Rattle.model_examples.proofs.Computing.{computing}
-
-pub returns : goal.returns
-unfolding computing
-returns c = assumption
