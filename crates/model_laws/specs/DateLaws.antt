@@ -1,7 +1,6 @@
 -- When the rows of a history are dated.
 use Rattle.std.specs.Prelude.{ℕ, ◌≤◌, IfSome}
-use Rattle.desk_model.specs.{Entry.History, History.clock, Kept.EachOf, Legal.EachFollows, Limits.last_moment}
-use Rattle.desk_model.specs.Tables.{Tables, tables_at}
+use Rattle.desk_model.specs.{Kept.EachOf, Tables.Tables}
 use Rattle.desk_model.specs.declared.rows.{AccountRow.AccountRow, AuthorizationRow.AuthorizationRow, ChallengeRow.ChallengeRow, OrderRow.OrderRow}
 
 -- no date of the account is after this moment
@@ -33,11 +32,3 @@ pub record AreDatedBy (t : ℕ) (T : Tables) : Type 0 where
   pub accounts : EachOf (IsAccountDatedBy t) T.accounts
   pub authorizations : EachOf (IsAuthorizationDatedBy t) T.authorizations
   pub orders : EachOf (IsOrderDatedBy t) T.orders
-
--- no row has a date after the latest recorded moment
-abbrev pub NoDateIsLater : Type 0
-NoDateIsLater = (F : History) (t : ℕ) → AreDatedBy (clock F) (tables_at F t)
-
--- and that moment is not after the last of all
-abbrev pub ClockIsInTime : Type 0
-ClockIsInTime = (F : History) → EachFollows F → clock F ≤ last_moment

@@ -1,8 +1,7 @@
 -- Histories in which no account got another key: those of a file of format 1.
 use Rattle.std.specs.Prelude.{ℕ, List, ◌≡◌, IfSome}
-use Rattle.desk_model.specs.{Effect.key_numbered, Entry.History, Keys.thumbprint, Kept.EachOf, Legal.EachFollows}
+use Rattle.desk_model.specs.{Effect.key_numbered, Entry.History, Keys.thumbprint, Kept.EachOf, Tables.Tables}
 use Rattle.desk_model.specs.declared.{entry.Entry.Entry, entry.Entry.TheVariants.KeyChanged as key_changed, rows.ChallengeRow.ChallengeRow}
-use Rattle.desk_model.specs.Tables.{Tables, tables_at}
 
 -- the entry gives no account another key
 abbrev pub IsNoKeyChange : Entry → Type 0
@@ -20,7 +19,3 @@ IsUnder key c = IfSome c.answered (λ a. a.thumb ≡ thumbprint key)
 -- each answer was under the key that its account has now
 abbrev pub AreUnderKeysNow : Tables → Type 0
 AreUnderKeysNow T = EachOf (λ a. EachOf (IsUnder (key_numbered a.account T.accounts)) a.challenges) T.authorizations
-
--- so it is in the tables of a history in which no account got another key
-abbrev pub KeptKeysAnswer : Type 0
-KeptKeysAnswer = (F : History) → EachFollows F → KeepsKeys F → (t : ℕ) → AreUnderKeysNow (tables_at F t)

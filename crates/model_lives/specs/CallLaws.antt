@@ -7,26 +7,18 @@ use Rattle.desk_model.specs.Legal.{EachFollows, Legal, numbers_fit}
 use Rattle.desk_model.specs.Run.{count_pieces, fault, IsFormedCall}
 use Rattle.desk_model.specs.declared.call.Call.{Call}
 
--- a call acts no earlier than the latest recorded moment
-abbrev pub MomentsDoNotFall : Type 0
-MomentsDoNotFall = (F : History) (call : Call) → clock F ≤ moment_of call.at F
-
--- and no later than the last moment of all, where it was made no later
-abbrev pub MomentsAreInTime : Type 0
-MomentsAreInTime = (F : History) (call : Call) → EachFollows F → call.at ≤ last_moment → moment_of call.at F ≤ last_moment
-
--- each entry of a call may follow those before it, whatever numbers it gives
-abbrev pub CallsFollow : Type 0
-CallsFollow =
-    (F : History) (call : Call) → Legal F → IsFormedCall call → call.at ≤ last_moment →
-    16 * count_pieces (decide F call).entries ≤ length call.random →
-    EachFollows (after F call)
-
--- where its numbers fit, too, the history stays legal
-abbrev pub NumbersMakeLegal : Type 0
-NumbersMakeLegal =
-    (F : History) (call : Call) → Legal F → EachFollows (after F call) → IsTrue (numbers_fit (after F call)) → Legal (after F call)
-
--- a call without a fault keeps the history legal
-abbrev pub CallsKeepLegal : Type 0
-CallsKeepLegal = (F : History) (call : Call) → Legal F → IsFormedCall call → fault F call ≡ None → Legal (after F call)
+-- what a call records may follow what was recorded before it, and keeps the history legal
+pub record CallsKeepLegal : Type 0 where
+  -- a call acts no earlier than the latest recorded moment
+  pub clock : (F : History) (call : Call) → clock F ≤ moment_of call.at F
+  -- and no later than the last moment of all, where it was made no later
+  pub in_time : (F : History) (call : Call) → EachFollows F → call.at ≤ last_moment → moment_of call.at F ≤ last_moment
+  -- each entry of a call may follow those before it, whatever numbers it gives
+  pub each :
+      (F : History) (call : Call) → Legal F → IsFormedCall call → call.at ≤ last_moment →
+      16 * count_pieces (decide F call).entries ≤ length call.random →
+      EachFollows (after F call)
+  -- where its numbers fit, too, the history stays legal
+  pub numbered : (F : History) (call : Call) → Legal F → EachFollows (after F call) → IsTrue (numbers_fit (after F call)) → Legal (after F call)
+  -- a call without a fault keeps the history legal
+  pub legal : (F : History) (call : Call) → Legal F → IsFormedCall call → fault F call ≡ None → Legal (after F call)

@@ -1,14 +1,10 @@
 //! The laws of all lives of a desk.
 ghost use Rattle.desk_model.specs.Life.{HistoriesAreLegal, HistoriesAreOfCalls, AcknowledgedStays, RepliesAreDecided, NoncesServeOnce, EndedStays};
-ghost use Rattle.model_lives.specs.CallLaws.{MomentsDoNotFall, MomentsAreInTime, CallsFollow, CallsKeepLegal, NumbersMakeLegal};
+ghost use Rattle.model_lives.specs.CallLaws.{CallsKeepLegal};
 
 /// What a call records may follow what was recorded before it, and keeps the history legal.
 pub fn calls_keep_legal()
-    ensures clock { MomentsDoNotFall }
-    ensures in_time { MomentsAreInTime }
-    ensures each { CallsFollow }
-    ensures numbered { NumbersMakeLegal }
-    ensures legal { CallsKeepLegal }
+    ensures { CallsKeepLegal }
 {}
 
 /// What holds over every life of a desk.

@@ -3,38 +3,19 @@ use Rattle.model_laws.proofs.{KeptInOrder.records_keep, NewChildren.records_brin
 use Rattle.model_laws.proofs.Recorded.{tables_ordered, challenges_ordered, sweep_makes, changes_make, recorded}
 use Rattle.model_laws.proofs.changes_make_pictures.Goals as goal
 
-pub returns-clause-ordered : goal.returns-clause-ordered
-returns-clause-ordered c = tables_ordered
-
-pub returns-clause-challenges : goal.returns-clause-challenges
-returns-clause-challenges c = challenges_ordered
-
-pub returns-clause-sweep : goal.returns-clause-sweep
-returns-clause-sweep c = sweep_makes
-
-pub returns-clause-entry : goal.returns-clause-entry
-returns-clause-entry c = changes_make
-
-pub returns-clause-picture : goal.returns-clause-picture
-returns-clause-picture c = recorded
-
-pub returns-clause-sweep_differs : goal.returns-clause-sweep_differs
-returns-clause-sweep_differs c = swept_puts_differ
-
-pub returns-clause-entry_differs : goal.returns-clause-entry_differs
-returns-clause-entry_differs c = puts_differ
-
-pub returns-clause-news : goal.returns-clause-news
-returns-clause-news c = records_put_news
-
-pub returns-clause-sweep_children : goal.returns-clause-sweep_children
-returns-clause-sweep_children c = swept_puts_keep_children
-
-pub returns-clause-entry_children : goal.returns-clause-entry_children
-returns-clause-entry_children c = puts_keep_children
-
-pub returns-clause-kept : goal.returns-clause-kept
-returns-clause-kept c = records_keep
-
-pub returns-clause-fresh : goal.returns-clause-fresh
-returns-clause-fresh c = records_bring_new_children
+pub returns : goal.returns
+returns c =
+    record {
+      ordered = tables_ordered;
+      challenges = challenges_ordered;
+      sweep = sweep_makes;
+      entry = changes_make;
+      picture = recorded;
+      sweep_differs = swept_puts_differ;
+      entry_differs = puts_differ;
+      news = records_put_news;
+      sweep_children = swept_puts_keep_children;
+      entry_children = puts_keep_children;
+      kept = records_keep;
+      fresh = records_bring_new_children;
+    }
