@@ -1,13 +1,13 @@
 -- A text of one of the shapes is the canonical text of a key, and the other way round.
-use Rattle.std.proofs.Common.{◌≡◌, ℕ, List, ◌∷◌, ◌++◌, refl, ◌∙◌, ap, inl, inr}
-use Rattle.std.specs.Prelude.{IsTrue, codes}
-use Rattle.desk_model.specs.Keys.{Key, is_number_text, ec, rsa, okp, IsKey, IsCurve, IsKeyText, canonical_text}
+use Rattle.std.proofs.Common.{◌≡◌, ℕ, List, ◌∷◌, ◌++◌, refl, ◌∙◌, ap, inl, inr, Bool, true, false}
+use Rattle.std.specs.Prelude.{IsTrue, ◌||◌, bytes_eq, codes}
+use Rattle.std.proofs.lemmas.Slice.Eq.{bytes_eq-Decides}
+use Rattle.desk_model.specs.Keys.{Key, is_curve, is_number_text, ec, rsa, okp, IsKey, IsCurve, IsKeyText, canonical_text}
 use Rattle.desk_model.specs.KeyTexts.{HasEcShape, HasKeyShape, HasOneNumber, HasTwoNumbers, ec_head}
 
 -- two numbers behind a head, written out
 two_whole : (head between text : List ℕ) (h : HasTwoNumbers head between text) → text ≡ head ++ (h.2.1.0 ++ 34 ∷ (between ++ (h.2.2.2.0 ++ 34 ∷ codes "}")))
-two_whole head between text h =
-    h.1 ∙ ap (λ l. head ++ l) (h.2.1.2 ∙ ap (λ l. h.2.1.0 ++ 34 ∷ l) (h.2.2.1 ∙ ap (λ l. between ++ l) h.2.2.2.2))
+two_whole head between text h = h.1 ∙ ap (λ l. head ++ l) (h.2.1.2 ∙ ap (λ l. h.2.1.0 ++ 34 ∷ l) (h.2.2.1 ∙ ap (λ l. between ++ l) h.2.2.2.2))
 
 -- one number behind a head, written out
 one_whole : (head text : List ℕ) (h : HasOneNumber head text) → text ≡ head ++ (h.2.0 ++ 34 ∷ codes "}")
@@ -65,3 +65,17 @@ shape_of text (okp x) p h = inr (inr (x ++ 34 ∷ codes "}", h, (x, p, refl)))
 -- a key's text is of one of the shapes
 pub shape_of_key : (text : List ℕ) → IsKeyText text → HasKeyShape text
 shape_of_key text k = shape_of text k.key k.formed k.whole
+
+-- a curve that is served is one of the three
+pub curve_known : (crv : List ℕ) → is_curve crv ≡ true → IsCurve crv
+curve_known crv = by (bytes_eq crv (codes "P-256")) refl (bytes_eq crv (codes "P-384")) refl (bytes_eq crv (codes "P-521")) refl
+  where
+    same : (text : List ℕ) → bytes_eq crv text ≡ true → crv ≡ text
+    same text e = (bytes_eq-Decides crv text).0 e
+
+    by : (a : Bool) → bytes_eq crv (codes "P-256") ≡ a → (b : Bool) → bytes_eq crv (codes "P-384") ≡ b →
+        (c : Bool) → bytes_eq crv (codes "P-521") ≡ c → (a || (b || c)) ≡ true → IsCurve crv
+    by true p b q c r h = inl (same (codes "P-256") p)
+    by false p true q c r h = inr (inl (same (codes "P-384") q))
+    by false p false q true r h = inr (inr (same (codes "P-521") r))
+    by false p false q false r h = cc

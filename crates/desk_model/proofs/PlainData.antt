@@ -23,22 +23,19 @@ not_so true h = absurd (cc h)
 not_so false h = refl
 
 -- a list whose items are made of others is plain where each of these is
-pub each_plain : {X : Type 0} (n : ℕ) (f : X → Data) → ((x : X) → is_plain n (f x) ≡ true) → (xs : List X)
-    → items_are_plain n (items_of (map f xs)) ≡ true
+pub each_plain : {X : Type 0} (n : ℕ) (f : X → Data) → ((x : X) → is_plain n (f x) ≡ true) → (xs : List X) → items_are_plain n (items_of (map f xs)) ≡ true
 each_plain n f plain [] = refl
 each_plain n f plain (x ∷ xs) = ap (λ b. b && items_are_plain n (items_of (map f xs))) (plain x) ∙ each_plain n f plain xs
 
 mutual
   -- a plain value holds no float
   pub plain_has_no_float : (n : ℕ) (d : Data) → is_plain n d ≡ true → has_float d ≡ false
-  plain_has_no_float n null h = refl
-  plain_has_no_float n (boolean b) h = refl
   plain_has_no_float n (number x) h = not_so (is_float x) h
-  plain_has_no_float n (string s) h = refl
   plain_has_no_float zero (array ds) h = absurd (cc h)
   plain_has_no_float (suc n) (array ds) h = items_have_none n ds h
   plain_has_no_float zero (object ms) h = absurd (cc h)
   plain_has_no_float (suc n) (object ms) h = members_have_none n ms h
+  plain_has_no_float n _ h = refl
 
   items_have_none : (n : ℕ) (ds : Items) → items_are_plain n ds ≡ true → items_have_float ds ≡ false
   items_have_none n no_items h = refl
@@ -55,14 +52,11 @@ mutual
 mutual
   -- a plain value is no deeper than it may be
   pub plain_is_shallow : (n : ℕ) (d : Data) → is_plain n d ≡ true → depth d ≤ n
-  plain_is_shallow n null h = omega arith
-  plain_is_shallow n (boolean b) h = omega arith
-  plain_is_shallow n (number x) h = omega arith
-  plain_is_shallow n (string s) h = omega arith
   plain_is_shallow zero (array ds) h = absurd (cc h)
   plain_is_shallow (suc n) (array ds) h = let low = items_are_shallow n ds h in omega (arith, low)
   plain_is_shallow zero (object ms) h = absurd (cc h)
   plain_is_shallow (suc n) (object ms) h = let low = members_are_shallow n ms h in omega (arith, low)
+  plain_is_shallow n _ h = omega arith
 
   items_are_shallow : (n : ℕ) (ds : Items) → items_are_plain n ds ≡ true → items_depth ds ≤ n
   items_are_shallow n no_items h = omega arith
@@ -93,6 +87,5 @@ written_text bytes (Err e) value shown is plain text = tt
 -- and reads back as it
 pub written_reads : {X E : Type 0} (bytes : X → List ℕ) (r : Result X E) (value shown : Data) → value ≡ shown → is_document shown ≡ true
     → IfOk r (λ s. depth value ≤ max_depth → read (bytes s) ≡ Some value) → IfOk r (λ s. read (bytes s) ≡ Some shown)
-written_reads bytes (Ok s) value shown is plain reads =
-    reads (subst (λ d. depth d ≤ max_depth) (sym is) (document_fits shown plain)) ∙ ap Some is
+written_reads bytes (Ok s) value shown is plain reads = reads (subst (λ d. depth d ≤ max_depth) (sym is) (document_fits shown plain)) ∙ ap Some is
 written_reads bytes (Err e) value shown is plain reads = tt

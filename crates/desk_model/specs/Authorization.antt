@@ -1,10 +1,10 @@
 -- Authorizations and their challenges (RFC 8555, 7.1.4, 7.1.5, 7.1.6, 7.5).
-use Rattle.std.specs.Prelude.{ℕ, ◌+◌, List, [], ◌∷◌, ◌++◌, length, Bool, false, true, not, ◌||◌, ◌==◌, nat_lt, nat_le, Option}
-use Rattle.std.specs.Prelude.{Some, None, find, if◌then◌else◌, is_some}
+use Rattle.std.specs.Prelude.{ℕ, ◌+◌, List, [], ◌∷◌, ◌++◌, length, Bool, false, true, not, ◌||◌, ◌==◌, nat_lt, nat_le, Option, Some, None, find, if◌then◌else◌}
+use Rattle.std.specs.Prelude.{is_some}
 use Rattle.std.specs.List.{list_any}
 use Rattle.desk_model.specs.{Name.Name, Account.account_key, Keys.thumbprint}
-use Rattle.desk_model.specs.Entry.{Entry, ordered, answered, reported, authorization_ended, account_ended, Wanted, new, reused, Ending}
-use Rattle.desk_model.specs.Entry.{deactivated, revoked, Outcome, good, History}
+use Rattle.desk_model.specs.Entry.{Entry, ordered, answered, reported, authorization_ended, account_ended, Wanted, new, reused, Ending, deactivated, revoked}
+use Rattle.desk_model.specs.Entry.{Outcome, good, History}
 use Rattle.desk_model.specs.History.{first, earlier, terms}
 pub use Rattle.desk_model.specs.declared.objects.Kind.{Kind}
 pub use Rattle.desk_model.specs.declared.objects.Kind.TheVariants.{Http01 as http_01, Dns01 as dns_01}
@@ -15,9 +15,8 @@ pub use Rattle.desk_model.specs.declared.objects.Report.{Report}
 pub use Rattle.desk_model.specs.declared.objects.AuthorizationEnd.{AuthorizationEnd}
 pub use Rattle.desk_model.specs.declared.objects.EndKind.{EndKind}
 use Rattle.desk_model.specs.declared.objects.EndKind.TheVariants as kind
-use Rattle.desk_model.specs.declared.status.AuthzStatus.{AuthzStatus}
+use Rattle.desk_model.specs.declared.{status.AuthzStatus.AuthzStatus, status.ChallengeStatus.ChallengeStatus}
 use Rattle.desk_model.specs.declared.status.AuthzStatus.TheVariants as authz
-use Rattle.desk_model.specs.declared.status.ChallengeStatus.{ChallengeStatus}
 use Rattle.desk_model.specs.declared.status.ChallengeStatus.TheVariants as chall
 
 -- the challenges that a name gets

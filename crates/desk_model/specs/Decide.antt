@@ -6,9 +6,8 @@ use Rattle.desk_model.specs.Tables.{Tables, tables_at}
 use Rattle.desk_model.specs.Verdict.{Verdict, refused, key_taken, answers, opens, orders, moves}
 use Rattle.desk_model.specs.Rules.{signed_verdict, office_verdict, open_nonce}
 use Rattle.desk_model.specs.Shown.{Reply, reply_of, made_account, made_order, moved_reply, refusal_reply, taken_reply, nonce_reply, with_nonce, fresh_nonce}
-use Rattle.desk_model.specs.declared.call.{Call.Call, Ask.Ask}
+use Rattle.desk_model.specs.declared.{call.Call.Call, call.Ask.Ask, call.Signed.Signed}
 use Rattle.desk_model.specs.declared.call.Ask.TheVariants as ask
-use Rattle.desk_model.specs.declared.call.Signed.{Signed}
 use Rattle.desk_model.specs.declared.refusal.Refusal.TheVariants as refusal
 
 pub record Decision : Type 0 where

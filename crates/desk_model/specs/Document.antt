@@ -1,27 +1,24 @@
 -- The JSON documents of replies (RFC 8555, 7.1), by the rows that they show.
-use Rattle.std.specs.Prelude.{ℕ, List, [], ◌∷◌, ◌++◌, map, Bool, false, true, not, ◌&&◌, ◌==◌, Option, Some, None, is_some, if◌then◌else◌}
-use Rattle.std.specs.Prelude.{bytes_eq, codes, decimal}
+use Rattle.std.specs.Prelude.{ℕ, List, [], ◌∷◌, ◌++◌, map, Bool, false, true, not, ◌&&◌, ◌==◌, Option, Some, None, is_some, if◌then◌else◌, bytes_eq, codes}
+use Rattle.std.specs.Prelude.{decimal}
 use Rattle.std.specs.List.{filter, flat_map, slice_split}
 use Rattle.serde_json.specs.Data.{unsigned, Data, boolean, number, string}
 use Rattle.desk_model.specs.Json.{document, list, when}
-use Rattle.desk_model.specs.{Terms.Terms, Name.Name, Moment.moment_text}
+use Rattle.desk_model.specs.{Terms.Terms, Name.Name, Moment.moment_text, Facts.outcome_text, Legal.is_processing_challenge}
 use Rattle.desk_model.specs.Names.{dns_type, shown_name}
 use Rattle.desk_model.specs.Tokens.{base64url, token_text, authorization_of, dns_value_of}
 use Rattle.desk_model.specs.Refusals.{error_type, refusal_of}
 use Rattle.desk_model.specs.declared.refusal.Refusal.TheVariants as refusal
-use Rattle.desk_model.specs.{Facts.outcome_text, Legal.is_processing_challenge}
 use Rattle.desk_model.specs.Entry.{Outcome, good, incorrect_response, connection, dns}
 use Rattle.desk_model.specs.Authorization.{Kind, http_01, dns_01, Answer, Report, is_good, is_pending}
 use Rattle.desk_model.specs.Order.{DatedBytes, DatedProblem, is_processing}
 use Rattle.desk_model.specs.Tables.{Tables, AccountRow, ChallengeRow, AuthorizationRow, OrderRow}
 use Rattle.desk_model.specs.Derived.{authorization_numbered, numbers_of}
-use Rattle.desk_model.specs.declared.status.AccountStatus.{AccountStatus}
-use Rattle.desk_model.specs.declared.status.AccountStatus.TheVariants as account
-use Rattle.desk_model.specs.declared.status.AuthzStatus.{AuthzStatus}
-use Rattle.desk_model.specs.declared.status.AuthzStatus.TheVariants as authz
-use Rattle.desk_model.specs.declared.status.ChallengeStatus.{ChallengeStatus}
-use Rattle.desk_model.specs.declared.status.ChallengeStatus.TheVariants as chall
+use Rattle.desk_model.specs.declared.{status.AccountStatus.AccountStatus, status.AuthzStatus.AuthzStatus, status.ChallengeStatus.ChallengeStatus}
 use Rattle.desk_model.specs.declared.status.OrderStatus.{OrderStatus}
+use Rattle.desk_model.specs.declared.status.AccountStatus.TheVariants as account
+use Rattle.desk_model.specs.declared.status.AuthzStatus.TheVariants as authz
+use Rattle.desk_model.specs.declared.status.ChallengeStatus.TheVariants as chall
 use Rattle.desk_model.specs.declared.status.OrderStatus.TheVariants as order
 
 -- ---- statuses and kinds as RFC 8555 spells them

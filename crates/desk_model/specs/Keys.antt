@@ -1,7 +1,7 @@
 -- The keys of accounts, their canonical texts (RFC 7638, 3) and what is made of them.
 use Rattle.std.specs.Prelude.{◌≡◌, ℕ, Bool, ◌⊎◌, ◌&&◌, ◌||◌, ◌==◌, List, ◌++◌}
 use Rattle.std.specs.Prelude.{length, codes, Option, Some, None, IsTrue, bytes_eq, option_and_then, if◌then◌else◌}
-use Rattle.std.specs.{Int.is_in_range, Char.is_ascii_alphanumeric, List.list_all}
+use Rattle.std.specs.{Int.is_in_range, Char.is_ascii_alphanumeric, List.list_all, Option.option_zip}
 use Rattle.serde_json.specs.Data.{Data}
 use Rattle.sha2.specs.Sha256.{sha256}
 use Rattle.serde_json.specs.Find.{get, as_str}
@@ -27,6 +27,10 @@ IsCurve crv = (crv ≡ codes "P-256") ⊎ (crv ≡ codes "P-384") ⊎ (crv ≡ c
 -- the value's string of this name
 abbrev pub text_member : List ℕ → Data → Option (List ℕ)
 text_member name d = option_and_then as_str (get name d)
+
+-- the value's strings of these names
+abbrev pub text_members : (first second : List ℕ) → Data → Option (List ℕ × List ℕ)
+text_members first second d = option_zip (text_member first d) (text_member second d)
 
 -- the value's number of this name, written in base64url
 abbrev pub number_member : List ℕ → Data → Option (List ℕ)

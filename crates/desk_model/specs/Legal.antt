@@ -17,12 +17,10 @@ use Rattle.desk_model.specs.declared.status.ChallengeStatus.{ChallengeStatus}
 use Rattle.desk_model.specs.declared.status.ChallengeStatus.TheVariants as chall
 
 abbrev pub is_pending_challenge : ChallengeStatus → Bool
-is_pending_challenge chall.Pending = true
-is_pending_challenge _ = false
+is_pending_challenge status = elim status [ chall.Pending ↦ true | _ ↦ false ]
 
 abbrev pub is_processing_challenge : ChallengeStatus → Bool
-is_processing_challenge chall.Processing = true
-is_processing_challenge _ = false
+is_processing_challenge status = elim status [ chall.Processing ↦ true | _ ↦ false ]
 
 abbrev pub has_length : {X : Type 0} → ℕ → ℕ → List X → Bool
 has_length low high xs = nat_le low (length xs) && nat_le (length xs) high

@@ -5,13 +5,11 @@ use Rattle.desk_model.specs.Tables.{Tables, AccountRow, ChallengeRow, Authorizat
 use Rattle.desk_model.specs.Questions.{account_on, order_on, authorization_on, owner_on, challenge_of}
 use Rattle.desk_model.specs.Decide.{decide, after}
 use Rattle.desk_model.specs.Run.{fault, IsFormedCall}
-use Rattle.desk_model.specs.declared.call.Call.{Call}
-use Rattle.desk_model.specs.declared.call.Ask.TheVariants as ask
-use Rattle.desk_model.specs.declared.{call.Signed.Signed, reply.Reply.Reply, status.AccountStatus.AccountStatus}
-use Rattle.desk_model.specs.declared.status.AccountStatus.TheVariants as account
-use Rattle.desk_model.specs.declared.status.OrderStatus.{OrderStatus}
-use Rattle.desk_model.specs.declared.status.OrderStatus.TheVariants as order
+use Rattle.desk_model.specs.declared.{call.Call.Call, call.Signed.Signed, reply.Reply.Reply, status.AccountStatus.AccountStatus, status.OrderStatus.OrderStatus}
 use Rattle.desk_model.specs.declared.status.ChallengeStatus.{ChallengeStatus}
+use Rattle.desk_model.specs.declared.call.Ask.TheVariants as ask
+use Rattle.desk_model.specs.declared.status.AccountStatus.TheVariants as account
+use Rattle.desk_model.specs.declared.status.OrderStatus.TheVariants as order
 use Rattle.desk_model.specs.declared.status.ChallengeStatus.TheVariants as chall
 
 pub data Event : Type 0 where

@@ -4,7 +4,7 @@ use Rattle.std.specs.Prelude.{option_map, option_and_then, unwrap_or}
 use Rattle.serde_json.specs.Data.{Data, Items, no_items, item}
 use Rattle.serde_json.specs.Find.{get, as_str, as_object, as_array, as_bool}
 use Rattle.serde_json.specs.Read.{read}
-use Rattle.desk_model.specs.Keys.{canonical_text, key_in, text_member}
+use Rattle.desk_model.specs.Keys.{canonical_text, key_in, text_member, text_members}
 pub use Rattle.desk_model.specs.declared.payload.NewAccount.{NewAccount}
 pub use Rattle.desk_model.specs.declared.payload.AccountChange.{AccountChange}
 pub use Rattle.desk_model.specs.declared.payload.AccountChange.TheVariants as account
@@ -110,13 +110,9 @@ challenge_change (b ∷ bs) = option_map (λ d. chall.Answer) (object_in (b ∷ 
 
 -- ---- orders (RFC 8555, 7.4)
 
-abbrev pub identifier_by : Option (List ℕ) → Option (List ℕ) → Option Identifier
-identifier_by (Some kind) (Some value) = Some (record { kind = kind; value = value })
-identifier_by _ _ = None
-
 -- an identifier is an object with two texts
 abbrev pub identifier_in : Data → Option Identifier
-identifier_in d = identifier_by (text_member (codes "type") d) (text_member (codes "value") d)
+identifier_in d = option_map (λ p. record { kind = p.0; value = p.1 }) (text_members (codes "type") (codes "value") d)
 
 -- an order with dates of its own is malformed, since the desk can't keep them
 abbrev pub new_order_in : Data → Option (List Identifier)

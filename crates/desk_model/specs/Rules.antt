@@ -1,6 +1,6 @@
 -- The rules on requests: which are refused, and what the others record and show, by the tables at their moment.
-use Rattle.std.specs.Prelude.{ℕ, suc, zero, ◌*◌, List, [], ◌∷◌, length, take, drop, filter, Bool, false, true, not, ◌&&◌, ◌==◌}
-use Rattle.std.specs.Prelude.{nat_le, Option, Some, None, Ok, Err, is_none, if◌then◌else◌, bytes_eq, option_and_then}
+use Rattle.std.specs.Prelude.{ℕ, suc, zero, ◌*◌, List, [], ◌∷◌, length, take, drop, filter, Bool, false, true, not, ◌&&◌, ◌==◌, nat_le, Option, Some, None, Ok}
+use Rattle.std.specs.Prelude.{Err, is_none, if◌then◌else◌, bytes_eq, option_and_then}
 use Rattle.desk_model.specs.{Lookup.holds, Nonce.Nonce, Account.is_valid as is_valid_account, Contact.contacts_fault}
 use Rattle.desk_model.specs.Name.{Name, same_name}
 use Rattle.desk_model.specs.Names.{dns_type, name_of}
@@ -12,23 +12,20 @@ use Rattle.desk_model.specs.Legal.{is_problem, has_length, is_pending_challenge,
 use Rattle.desk_model.specs.Limits.{longest_certificate, longest_csr, most_names}
 use Rattle.desk_model.specs.Tables.{Tables, AccountRow, ChallengeRow, AuthorizationRow, OrderRow}
 use Rattle.desk_model.specs.Questions.{nonce_on, account_on, account_with_key, order_on, authorization_on, owner_on, challenge_of, serving_on}
-use Rattle.desk_model.specs.Payload.{NewAccount, new_account, AccountChange, account_change, KeyChange, key_change, AuthorizationChange}
-use Rattle.desk_model.specs.Payload.{authorization_change, ChallengeChange, challenge_change, Identifier, new_order, finalize}
+use Rattle.desk_model.specs.Payload.{NewAccount, new_account, AccountChange, account_change, KeyChange, key_change, AuthorizationChange, authorization_change}
+use Rattle.desk_model.specs.Payload.{ChallengeChange, challenge_change, Identifier, new_order, finalize}
 use Rattle.desk_model.specs.Payload as payload
 use Rattle.desk_model.specs.Document.{account_url, expected}
-use Rattle.desk_model.specs.declared.refusal.Refusal.{Refusal}
+use Rattle.desk_model.specs.declared.{refusal.Refusal.Refusal, reply.Subproblem.Subproblem, status.AuthzStatus.AuthzStatus, call.OfficeAsk.OfficeAsk}
+use Rattle.desk_model.specs.declared.{call.Signed.Signed, call.Target.Target, call.Finding.Finding}
 use Rattle.desk_model.specs.declared.refusal.Refusal.TheVariants as refusal
 use Rattle.desk_model.specs.Verdict.{Verdict, refused, key_taken, answers, opens, orders, moves, check, given, unless_fault, choose}
 use Rattle.desk_model.specs.declared.verdict.Shows.TheVariants as show
 use Rattle.desk_model.specs.declared.verdict.Listing.TheVariants as list
 use Rattle.desk_model.specs.declared.moves.Move.TheVariants as move
-use Rattle.desk_model.specs.declared.{reply.Subproblem.Subproblem, status.AuthzStatus.AuthzStatus}
 use Rattle.desk_model.specs.declared.status.AuthzStatus.TheVariants as authz
-use Rattle.desk_model.specs.declared.call.OfficeAsk.{OfficeAsk}
 use Rattle.desk_model.specs.declared.call.OfficeAsk.TheVariants as office
-use Rattle.desk_model.specs.declared.call.{Signed.Signed, Target.Target}
 use Rattle.desk_model.specs.declared.call.Target.TheVariants as to
-use Rattle.desk_model.specs.declared.call.Finding.{Finding}
 use Rattle.desk_model.specs.declared.call.Finding.TheVariants as found
 use Rattle.desk_model.specs.declared.call.FetchError.TheVariants as fetch
 

@@ -3,11 +3,9 @@ use Rattle.std.specs.Prelude.{ℕ, ◌+◌, ◌*◌, List, [], ◌∷◌, length
 use Rattle.desk_model.specs.Entry.{Entry, issued, ordered, Wanted, new, reused, History}
 use Rattle.desk_model.specs.{Keys.IsKeyText, Legal.numbers_fit, Limits.last_moment, Texts.IsTextProblem}
 use Rattle.desk_model.specs.Decide.{decide, after}
-use Rattle.desk_model.specs.declared.call.{BadKey.BadKey, Call.Call, Ask.Ask}
+use Rattle.desk_model.specs.declared.{call.BadKey.BadKey, call.Call.Call, call.Ask.Ask, call.OfficeAsk.OfficeAsk, call.Signed.Signed, reply.Reply.Reply}
 use Rattle.desk_model.specs.declared.call.Ask.TheVariants as ask
-use Rattle.desk_model.specs.declared.call.OfficeAsk.{OfficeAsk}
 use Rattle.desk_model.specs.declared.call.OfficeAsk.TheVariants as office
-use Rattle.desk_model.specs.declared.{call.Signed.Signed, reply.Reply.Reply}
 
 -- ---- faults of a call
 

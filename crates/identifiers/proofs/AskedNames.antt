@@ -3,9 +3,8 @@ use Rattle.std.proofs.Common.{◌≡◌, ℕ, List, [], ◌∷◌, Bool, true, f
 use Rattle.std.specs.Prelude.{if◌then◌else◌, option_and_then}
 use Rattle.desk_model.specs.{Asked.target_names, Legal.has_length, Limits.most_names, Payload.new_order}
 use Rattle.desk_model.specs.Rules.{names_asked, names_of, subproblems}
-use Rattle.desk_model.specs.declared.{payload.Identifier.Identifier, call.Target.Target}
+use Rattle.desk_model.specs.declared.{payload.Identifier.Identifier, call.Target.Target, reply.Subproblem.Subproblem}
 use Rattle.desk_model.specs.declared.call.Target.TheVariants as to
-use Rattle.desk_model.specs.declared.reply.Subproblem.{Subproblem}
 use Rattle.identifiers.specs.AskedOrders.{order_by, order_if, order_names, target_order}
 use Rattle.identifiers.specs.declared.asked.AskedOrder.TheVariants as order
 
@@ -26,12 +25,4 @@ by_form (Some ids) = by_length (has_length 1 most_names ids) ids
 -- of a request
 pub names_of_order : (target : Target) (payload : List ℕ) → order_names (target_order target payload) ≡ target_names target payload
 names_of_order to.NewOrder payload = by_form (new_order payload)
-names_of_order to.NewAccount payload = refl
-names_of_order to.KeyChange payload = refl
-names_of_order (to.Account n) payload = refl
-names_of_order (to.Orders n) payload = refl
-names_of_order (to.Order n) payload = refl
-names_of_order (to.Finalize n) payload = refl
-names_of_order (to.Cert n) payload = refl
-names_of_order (to.Authz n) payload = refl
-names_of_order (to.Chall n) payload = refl
+names_of_order _ payload = refl

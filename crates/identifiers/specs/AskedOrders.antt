@@ -2,9 +2,8 @@
 use Rattle.std.specs.Prelude.{ℕ, ◌≡◌, List, [], ◌∷◌, Option, Some, None, if◌then◌else◌, option_map}
 use Rattle.desk_model.specs.{Legal.has_length, Limits.most_names, Name.Name, Payload.new_order}
 use Rattle.desk_model.specs.Rules.{kept, names_in, subproblems}
-use Rattle.desk_model.specs.declared.{payload.Identifier.Identifier, call.Target.Target}
+use Rattle.desk_model.specs.declared.{payload.Identifier.Identifier, call.Target.Target, reply.Subproblem.Subproblem}
 use Rattle.desk_model.specs.declared.call.Target.TheVariants as to
-use Rattle.desk_model.specs.declared.reply.Subproblem.{Subproblem}
 use Rattle.serde_json.specs.{Read.read, View.view}
 use Rattle.serde_json.specs.declared.value.Value.{Value}
 use Rattle.identifiers.specs.declared.asked.AskedOrder.{AskedOrder}

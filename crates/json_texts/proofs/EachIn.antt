@@ -21,8 +21,7 @@ each_in-none form (w ∷ ws) (suc i) v lt is none =
 last_form : {X : Type 0} (form : Data → Option X) (vs : List Value) (v : Value) (xs : List X) (x : X)
     → each_in form (items_view vs) ≡ Some xs → form (view v) ≡ Some x →
     each_in form (items_view (vs ++ v ∷ [])) ≡ Some (xs ++ x ∷ [])
-last_form {X} form [] v xs x read there =
-    ap (λ o. and_each o (Some [])) there ∙ ap (λ (l : List X). Some (l ++ x ∷ [])) (same_Some [] xs read)
+last_form {X} form [] v xs x read there = ap (λ o. and_each o (Some [])) there ∙ ap (λ (l : List X). Some (l ++ x ∷ [])) (same_Some [] xs read)
 last_form {X} form (w ∷ ws) v xs x read there =
     by (form (view w)) (each_in form (items_view ws)) refl (λ ys q. last_form form ws v ys x q there) read
   where
@@ -32,8 +31,7 @@ last_form {X} form (w ∷ ws) v xs x read there =
         → and_each o (each_in form (items_view (ws ++ v ∷ []))) ≡ Some (xs ++ x ∷ [])
     by None p q ih e = cc e
     by (Some y) None q ih e = cc e
-    by (Some y) (Some ys) q ih e =
-        ap (λ p. and_each (Some y) p) (ih ys q) ∙ ap (λ (l : List X). Some (l ++ x ∷ [])) (same_Some (y ∷ ys) xs e)
+    by (Some y) (Some ys) q ih e = ap (λ p. and_each (Some y) p) (ih ys q) ∙ ap (λ (l : List X). Some (l ++ x ∷ [])) (same_Some (y ∷ ys) xs e)
 
 -- one more item in the form
 pub each_in-last : {X : Type 0} (form : Data → Option X) (vs : List Value) (i : ℕ) (v : Value) (xs : List X) (x : X) → i < length vs → v ≡ get_or vs i v →

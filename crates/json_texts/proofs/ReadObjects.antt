@@ -20,11 +20,7 @@ use Rattle.json_texts.specs.Objects.{are_shallow, are_texts, is_shallow, is_text
 -- a string
 text_read : (j : json.Json) → is_text j ≡ true → of_json j ≡ Some (plain_value j)
 text_read (json.string s) is = refl
-text_read json.null is = absurd (let e = is in cc)
-text_read (json.boolean b) is = absurd (let e = is in cc)
-text_read (json.number s) is = absurd (let e = is in cc)
-text_read (json.array js) is = absurd (let e = is in cc)
-text_read (json.object ms) is = absurd (let e = is in cc)
+text_read _ is = absurd (let e = is in cc)
 
 both : (a b : Bool) → (a && b) ≡ true → (a ≡ true) × (b ≡ true)
 both true b is = (refl, is)
@@ -41,10 +37,7 @@ texts_read (json.member k j ms) found are =
 member_read : (j : json.Json) → is_text_or_texts j ≡ true → of_json j ≡ Some (plain_value j)
 member_read (json.string s) is = refl
 member_read (json.object ms) is = ap (λ o. option_map object o) (texts_read ms no_members is)
-member_read json.null is = absurd (let e = is in cc)
-member_read (json.boolean b) is = absurd (let e = is in cc)
-member_read (json.number s) is = absurd (let e = is in cc)
-member_read (json.array js) is = absurd (let e = is in cc)
+member_read _ is = absurd (let e = is in cc)
 
 -- members
 shallow_members_read : (ms : json.Members) (found : Members) → are_shallow ms ≡ true → of_members ms found ≡ Some (plain_members ms found)
@@ -56,11 +49,7 @@ shallow_members_read (json.member k j ms) found are =
 -- an object of them
 pub shallow_read : (j : json.Json) → is_shallow j ≡ true → of_json j ≡ Some (plain_value j)
 shallow_read (json.object ms) is = ap (λ o. option_map object o) (shallow_members_read ms no_members is)
-shallow_read json.null is = absurd (let e = is in cc)
-shallow_read (json.boolean b) is = absurd (let e = is in cc)
-shallow_read (json.number s) is = absurd (let e = is in cc)
-shallow_read (json.string s) is = absurd (let e = is in cc)
-shallow_read (json.array js) is = absurd (let e = is in cc)
+shallow_read _ is = absurd (let e = is in cc)
 
 -- ---- members
 
@@ -83,21 +72,16 @@ found_member name (json.member k j ms) found =
     by None true is =
         let one : k ≡ name = (bytes_eq-Decides k name).0 is in
         subst (λ n. get_member n (put k (plain_value j) found) ≡ Some (plain_value j)) one (get_member-put k (plain_value j) found)
-    by None false is = get_member-put_other name k (plain_value j) found
-        (λ one. absurd (let e = sym ((bytes_eq-Decides k name).1 (sym one)) ∙ is in cc))
+    by None false is = get_member-put_other name k (plain_value j) found (λ one. absurd (let e = sym ((bytes_eq-Decides k name).1 (sym one)) ∙ is in cc))
 
 -- so it is found in the value as in what was read
 pub plain_get : (name : List ℕ) (j : json.Json) → get name (plain_value j) ≡ option_map plain_value (json_find.get name j)
-plain_get name json.null = refl
-plain_get name (json.boolean b) = refl
-plain_get name (json.number s) = refl
-plain_get name (json.string s) = refl
-plain_get name (json.array js) = refl
 plain_get name (json.object ms) = found_member name ms no_members ∙ by (json_find.get_member name ms)
   where
     by : (o : Option json.Json) → or_before o None ≡ option_map plain_value o
     by None = refl
     by (Some j) = refl
+plain_get name _ = refl
 
 -- as what is looked up there shows it
 pub member_found : {X : Type 0} (f : X → json.Json) (found : Option X) (name : List ℕ) (j : json.Json) → option_map f found ≡ json_find.get name j
@@ -133,6 +117,5 @@ pub shallow_told : {A : Type 0} (v : Vec (Bor (List ℕ) × TextValue A) A)
 shallow_told v = all_shallow v.items ∙ sym (ap is_shallow (object_viewed v))
 
 -- a text of nothing else
-pub whole_read : (text : List ℕ) (j : json.Json) → json.value max_depth (tokens text) ≡ Some (j, []) → is_shallow j ≡ true
-    → read text ≡ Some (plain_value j)
+pub whole_read : (text : List ℕ) (j : json.Json) → json.value max_depth (tokens text) ≡ Some (j, []) → is_shallow j ≡ true → read text ≡ Some (plain_value j)
 whole_read text j is shallow = ap (λ o. option_and_then of_json (option_and_then (λ p. json.if_last p.0 p.1) o)) is ∙ shallow_read j shallow

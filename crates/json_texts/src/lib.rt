@@ -15,4 +15,4 @@ pub use problems::order_problem;
 pub use refusal_replies::refusal_reply;
 pub use refused::{problem_document, problem_text, type_text};
 pub use short_lists::{lone_text, written_list};
-pub use values::{text_of, value_of};
+pub use values::{text_of, texts_of, value_of};

@@ -3,8 +3,8 @@ ghost use Rattle.std.specs.Prelude.{◌≡◌, IfOk};
 ghost use Rattle.serde_json.specs.View.{view};
 ghost use Rattle.json_texts.specs.Problems.{order_problem, order_problem_in};
 
-use crate::values::{text_of, value_of};
-use desk_model::{OrderProblem, Text};
+use crate::values::{texts_of, value_of};
+use desk_model::OrderProblem;
 use serde_json::Value;
 use std::alloc::{AllocError, Global};
 
@@ -27,14 +27,8 @@ pub fn order_problem(alloc: Global, text: &str) -> Result<Option<OrderProblem>, 
 fn order_problem_in(alloc: Global, problem: &Value) -> Result<Option<OrderProblem>, AllocError>
     ensures { IfOk result (λ o. o ≡ order_problem_in (view problem.now)) }
 {
-    let Some(kind) = text_of(problem, "type") else {
-        return Ok(None);
-    };
-    let Some(detail) = text_of(problem, "detail") else {
-        return Ok(None);
-    };
-    Ok(Some(OrderProblem {
-        kind: Text::new(String::from_str(alloc, kind)?),
-        detail: Text::new(String::from_str(alloc, detail)?),
-    }))
+    match texts_of(alloc, problem, "type", "detail")? {
+        Some((kind, detail)) => Ok(Some(OrderProblem { kind, detail })),
+        None => Ok(None),
+    }
 }

@@ -3,6 +3,7 @@ use Rattle.std.proofs.Common.{◌≡◌, ℕ, Bool, true, false, cond, List, Opt
 use Rattle.std.specs.Prelude.{◌||◌, bytes_eq, codes, option_map}
 use Rattle.std.proofs.lemmas.Slice.Eq.{bytes_eq-Decides}
 use Rattle.serde_json.specs.Data.{Data}
+use Rattle.desk_model.proofs.KeyShapes.{curve_known}
 use Rattle.desk_model.specs.Keys.{Key, ec, rsa, okp, IsCurve, IsKeyOf, canonical_text, ec_by, is_curve, key_in, key_of_type, number_member}
 use Rattle.desk_model.specs.Keys.{okp_by, rsa_by, text_member}
 use Rattle.desk_model.specs.Payload.{key_text_in}
@@ -14,20 +15,6 @@ curve_served : (crv : List ℕ) → IsCurve crv → is_curve crv ≡ true
 curve_served crv (inl e) = subst (λ t. is_curve t ≡ true) (sym e) refl
 curve_served crv (inr (inl e)) = subst (λ t. is_curve t ≡ true) (sym e) refl
 curve_served crv (inr (inr e)) = subst (λ t. is_curve t ≡ true) (sym e) refl
-
--- and each of them is one
-curve_known : (crv : List ℕ) → is_curve crv ≡ true → IsCurve crv
-curve_known crv = by (bytes_eq crv (codes "P-256")) refl (bytes_eq crv (codes "P-384")) refl (bytes_eq crv (codes "P-521")) refl
-  where
-    same : (text : List ℕ) → bytes_eq crv text ≡ true → crv ≡ text
-    same text e = (bytes_eq-Decides crv text).0 e
-
-    by : (a : Bool) → bytes_eq crv (codes "P-256") ≡ a → (b : Bool) → bytes_eq crv (codes "P-384") ≡ b →
-        (c : Bool) → bytes_eq crv (codes "P-521") ≡ c → (a || (b || c)) ≡ true → IsCurve crv
-    by true p b q c r h = inl (same (codes "P-256") p)
-    by false p true q c r h = inr (inl (same (codes "P-384") q))
-    by false p false q true r h = inr (inr (same (codes "P-521") r))
-    by false p false q false r h = cc
 
 -- ---- keys
 
@@ -88,10 +75,8 @@ key_spelled d k h = by (text_member (codes "kty") d) refl h
             (cond c (okp_by (text_member (codes "crv") d) (number_member (codes "x") d)) None)) ≡ Some k → IsKeyOf d k
         typed true p b q c r g =
             on_curve (text_member (codes "crv") d) (number_member (codes "x") d) (number_member (codes "y") d) (same (codes "EC") p) refl refl refl g
-        typed false p true q c r g =
-            of_rsa (number_member (codes "e") d) (number_member (codes "n") d) (same (codes "RSA") q) refl refl g
-        typed false p false q true r g =
-            of_okp (text_member (codes "crv") d) (number_member (codes "x") d) (same (codes "OKP") r) refl refl g
+        typed false p true q c r g = of_rsa (number_member (codes "e") d) (number_member (codes "n") d) (same (codes "RSA") q) refl refl g
+        typed false p false q true r g = of_okp (text_member (codes "crv") d) (number_member (codes "x") d) (same (codes "OKP") r) refl refl g
         typed false p false q false r g = cc
 
 -- ---- their texts

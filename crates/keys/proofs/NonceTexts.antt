@@ -14,16 +14,8 @@ use Rattle.keys.proofs.Nonces.{decodes_whole, length-base64url, slice_of_decode}
 
 -- eight bytes write one number
 pub number_from-from_be_bytes : (bs : List ℕ) → length bs ≡ 8 → number_from 0 bs ≡ from_be_bytes w64 bs
-number_from-from_be_bytes [] h = absurd (omega arith)
-number_from-from_be_bytes (a ∷ []) h = absurd (omega arith)
-number_from-from_be_bytes (a ∷ b ∷ []) h = absurd (omega arith)
-number_from-from_be_bytes (a ∷ b ∷ c ∷ []) h = absurd (omega arith)
-number_from-from_be_bytes (a ∷ b ∷ c ∷ d ∷ []) h = absurd (omega arith)
-number_from-from_be_bytes (a ∷ b ∷ c ∷ d ∷ e ∷ []) h = absurd (omega arith)
-number_from-from_be_bytes (a ∷ b ∷ c ∷ d ∷ e ∷ f ∷ []) h = absurd (omega arith)
-number_from-from_be_bytes (a ∷ b ∷ c ∷ d ∷ e ∷ f ∷ g ∷ []) h = absurd (omega arith)
 number_from-from_be_bytes (a ∷ b ∷ c ∷ d ∷ e ∷ f ∷ g ∷ k ∷ []) h = omega arith
-number_from-from_be_bytes (a ∷ b ∷ c ∷ d ∷ e ∷ f ∷ g ∷ k ∷ l ∷ m) h = absurd (omega arith)
+number_from-from_be_bytes _ h = absurd (omega arith)
 
 -- the nonce of what a text decodes to, and of the outcome of decoding
 abbrev nonce_by : Option (List ℕ) → Option NonceText

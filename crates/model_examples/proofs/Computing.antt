@@ -1,6 +1,5 @@
 -- One name to unfold where a definition of the desk is computed on what is written out.
-use Rattle.std.specs.Prelude.{⊤}
-use Rattle.std.specs.Fmt.{digits}
+use Rattle.std.specs.{Prelude.⊤, Fmt.digits}
 use Rattle.base64.proofs.OnLiterals.{base64_on_literals}
 use Rattle.serde_json.proofs.OnLiterals.{serde_json_on_literals}
 use Rattle.desk_model.specs.Verdict.{check, given, unless_fault, choose}

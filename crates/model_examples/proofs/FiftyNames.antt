@@ -4,13 +4,12 @@ use Rattle.std.specs.Cmp.Lexicographic.{bytes_decides}
 use Rattle.std.specs.List.{list_all, list_any}
 use Rattle.std.proofs.Common.{ap, ◌∙◌, bytes_eq}
 use Rattle.std.proofs.lemmas.Bool.{and_parts, not-true}
-use Rattle.desk_model.specs.{BaseName.is_base_name, Names.name_of}
+use Rattle.desk_model.specs.{BaseName.is_base_name, Names.name_of, Name.Name, Tables.Tables}
 use Rattle.desk_model.specs.declared.refusal.Refusal.TheVariants as refusal
 use Rattle.desk_model.specs.Rules.{subproblems, names_in, kept, wanted, order_of, new_order_verdict}
 use Rattle.desk_model.specs.Verdict.{check, given}
 use Rattle.desk_model.specs.declared.{verdict.Verdict.TheVariants.Orders as orders, entry.Wanted.Wanted, payload.Identifier.Identifier}
-use Rattle.desk_model.specs.declared.{reply.Subproblem.Subproblem}
-use Rattle.desk_model.specs.{Name.Name, Tables.Tables}
+use Rattle.desk_model.specs.declared.reply.Subproblem.{Subproblem}
 use Rattle.model_examples.proofs.Computing.{computing}
 use Rattle.model_examples.proofs.PlainNames.{is_marked, is_plain, lowered, plain_name}
 use Rattle.model_examples.specs.Calls.{simple, zeros}
@@ -19,8 +18,7 @@ use Rattle.model_examples.specs.Fifty.{FiftyOrdered}
 
 -- the text is plain, and a name in its own spelling
 abbrev is_simple : List ℕ → Bool
-is_simple text =
-    is_plain text && (not (is_marked text) && (not (list_any (λ c. c == 42) text) && (bytes_eq (lowered text) text && is_base_name text)))
+is_simple text = is_plain text && (not (is_marked text) && (not (list_any (λ c. c == 42) text) && (bytes_eq (lowered text) text && is_base_name text)))
 
 -- such a text is the name's base
 simple_name : (text : List ℕ) → is_simple text ≡ true → name_of text ≡ Some (simple text)

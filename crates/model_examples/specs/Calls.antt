@@ -1,10 +1,9 @@
 -- How the examples write histories and calls.
 use Rattle.std.specs.Prelude.{ℕ, List, [], ◌∷◌, false, Some, Ok, codes, replicate}
 use Rattle.desk_model.specs.{Terms.Terms, Name.Name}
-use Rattle.desk_model.specs.declared.{entry.Wanted.Wanted, call.Call.Call, call.Ask.Ask}
+use Rattle.desk_model.specs.declared.{entry.Wanted.Wanted, call.Call.Call, call.Ask.Ask, call.Target.Target}
 use Rattle.model_examples.specs.Entries.{Entry, made, issued, opened, ordered, new, Dated, History}
 use Rattle.desk_model.specs.declared.call.Ask.TheVariants as ask
-use Rattle.desk_model.specs.declared.call.Target.{Target}
 
 -- the base https://ca.example, and these lives
 abbrev pub terms_of : (nonce_life order_life authz_life : ℕ) → Terms

@@ -1,8 +1,7 @@
 -- Documents that no other example shows: keys, accounts and an authorization that failed (RFC 8555, 7.1; RFC 7638, 3).
 use Rattle.std.specs.Prelude.{◌≡◌, ℕ, List, [], ◌∷◌, ◌++◌, replicate, Some, None, unwrap_or, codes}
-use Rattle.serde_json.specs.Data.{Data}
+use Rattle.serde_json.specs.{Data.Data, Read.read, Written.compact_text}
 use Rattle.serde_json.specs.Data as json
-use Rattle.serde_json.specs.{Read.read, Written.compact_text}
 use Rattle.desk_model.specs.Keys.{Key, ec, rsa, okp, canonical_text, number_member, IsKeyOf}
 use Rattle.desk_model.specs.Document.{key_document}
 use Rattle.desk_model.specs.declared.call.Target.TheVariants as to

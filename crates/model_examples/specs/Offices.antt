@@ -1,16 +1,13 @@
 -- The validator and the signing office: what waits for them, and what they hand in (RFC 8555, 7.4, 8).
 use Rattle.std.specs.Prelude.{ℕ, List, [], ◌∷◌, ◌++◌, replicate, false, codes}
-use Rattle.desk_model.specs.declared.call.Call.{Call}
+use Rattle.desk_model.specs.declared.{call.Call.Call, call.OfficeAsk.OfficeAsk, call.Finding.Finding, call.OrderProblem.OrderProblem}
 use Rattle.desk_model.specs.declared.call.Ask.TheVariants as ask
-use Rattle.desk_model.specs.declared.call.OfficeAsk.{OfficeAsk}
 use Rattle.desk_model.specs.declared.call.OfficeAsk.TheVariants as office
-use Rattle.desk_model.specs.declared.call.Finding.{Finding}
 use Rattle.desk_model.specs.declared.call.Finding.TheVariants as found
 use Rattle.desk_model.specs.declared.call.FetchError.TheVariants as fetch
-use Rattle.desk_model.specs.declared.call.OrderProblem.{OrderProblem}
 use Rattle.model_examples.specs.Computed.{Gives, plain, shows, Problem}
-use Rattle.model_examples.specs.Entries.{Entry, opened, ordered, answered, reported, good, incorrect_response, connection}
-use Rattle.model_examples.specs.Entries.{dns, finalized, certified, failed, History}
+use Rattle.model_examples.specs.Entries.{Entry, opened, ordered, answered, reported, good, incorrect_response, connection, dns, finalized, certified, failed}
+use Rattle.model_examples.specs.Entries.{History}
 use Rattle.model_examples.specs.Calls.{on, new_desk, asked, wants, second_key}
 use Rattle.model_examples.specs.Keys.{rsa_key}
 use Rattle.model_examples.specs.Texts.{malformed, nothing_here, unfit_report}

@@ -3,9 +3,8 @@ use Rattle.std.specs.Prelude.{◌≡◌, ℕ, [], ◌∷◌, true, false, Some, 
 use Rattle.desk_model.specs.Name.{Name}
 use Rattle.desk_model.specs.Run.{fault, run}
 use Rattle.model_examples.specs.Entries.{Entry, issued, spent, ordered, new, History}
-use Rattle.desk_model.specs.declared.call.Call.{Call}
+use Rattle.desk_model.specs.declared.{call.Call.Call, call.Target.Target}
 use Rattle.desk_model.specs.declared.call.Ask.TheVariants as ask
-use Rattle.desk_model.specs.declared.call.Target.{Target}
 use Rattle.desk_model.specs.declared.call.Target.TheVariants as to
 use Rattle.model_examples.specs.Computed.{Answer, Gives, plain, located, renewed, shows, Json, below}
 use Rattle.model_examples.specs.Calls.{on, zeros, new_desk, first_key, asked, signed, nonce_four, nonce_five, nonce_six, nonce_seven}

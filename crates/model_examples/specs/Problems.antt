@@ -1,14 +1,13 @@
 -- The document of each refusal (RFC 7807; RFC 8555, 6.7, 6.7.1).
 use Rattle.std.specs.Prelude.{◌≡◌, ℕ, List, [], ◌∷◌, true, codes}
 use Rattle.serde_json.specs.Written.{compact_text}
-use Rattle.desk_model.specs.declared.refusal.Refusal.{Refusal}
+use Rattle.desk_model.specs.declared.{refusal.Refusal.Refusal, reply.Problem.Problem, reply.Subproblem.Subproblem}
 use Rattle.desk_model.specs.Refusals.{problem_document, refusal_of}
 use Rattle.desk_model.specs.declared.refusal.Refusal.TheVariants as refusal
-use Rattle.desk_model.specs.declared.reply.{Problem.Problem, Subproblem.Subproblem}
 use Rattle.desk_model.specs.declared.reply.Allow.TheVariants as allow
-use Rattle.model_examples.specs.Texts.{malformed, nothing_here, wrong_method, bad_nonce, bad_public_key, no_account, unauthorized}
-use Rattle.model_examples.specs.Texts.{unsupported_contact, invalid_contact, unsupported_identifier, rejected_identifier}
-use Rattle.model_examples.specs.Texts.{order_not_ready, bad_csr, unfit_report, could_not_act, too_large}
+use Rattle.model_examples.specs.Texts.{malformed, nothing_here, wrong_method, bad_nonce, bad_public_key, no_account, unauthorized, unsupported_contact}
+use Rattle.model_examples.specs.Texts.{invalid_contact, unsupported_identifier, rejected_identifier, order_not_ready, bad_csr, unfit_report, could_not_act}
+use Rattle.model_examples.specs.Texts.{too_large}
 
 -- this refusal, with these subproblems
 abbrev pub problem : Refusal → List Subproblem → Problem

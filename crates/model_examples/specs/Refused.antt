@@ -1,9 +1,8 @@
 -- Refusals of signed requests: which test answers, and that the nonce is spent (RFC 8555, 6.2, 6.5, 6.7).
 use Rattle.std.specs.Prelude.{ℕ, List, [], ◌∷◌, Option, Some, None, Ok, Err, codes}
 use Rattle.model_examples.specs.Entries.{issued, opened, account_ended, revoked, History}
-use Rattle.desk_model.specs.declared.call.Call.{Call}
+use Rattle.desk_model.specs.declared.{call.Call.Call, call.Target.Target}
 use Rattle.desk_model.specs.declared.call.Ask.TheVariants as ask
-use Rattle.desk_model.specs.declared.call.Target.{Target}
 use Rattle.desk_model.specs.declared.call.Target.TheVariants as to
 use Rattle.model_examples.specs.Computed.{Gives, refuses, Reads, Refuses}
 use Rattle.model_examples.specs.Calls.{on, zeros, account_desk, order_desk, default_terms, first_key, second_key, asked, signed, request, nonce_one, nonce_two}

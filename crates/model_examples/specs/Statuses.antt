@@ -1,17 +1,16 @@
 -- Statuses over time: validation, expiry, deactivation and what orders make of them (RFC 8555, 7.1.6).
 use Rattle.std.specs.Prelude.{ℕ, List, [], ◌∷◌, false, codes}
-use Rattle.desk_model.specs.declared.call.Call.{Call}
+use Rattle.desk_model.specs.declared.{call.Call.Call, call.Target.Target}
 use Rattle.desk_model.specs.declared.call.Ask.TheVariants as ask
 use Rattle.desk_model.specs.declared.call.OfficeAsk.TheVariants as office
 use Rattle.desk_model.specs.declared.call.Finding.TheVariants as found
 use Rattle.desk_model.specs.declared.call.FetchError.TheVariants as fetch
-use Rattle.desk_model.specs.declared.call.Target.{Target}
 use Rattle.desk_model.specs.declared.call.Target.TheVariants as to
 use Rattle.model_examples.specs.Computed.{Gives, plain, renewed, shows, located, below, Json, Problem, Certificate, Answers, Reads, Refuses}
-use Rattle.model_examples.specs.Entries.{Entry, issued, spent, ordered, answered, reported, good, authorization_ended}
-use Rattle.model_examples.specs.Entries.{finalized, certified, deactivated, History}
-use Rattle.model_examples.specs.Calls.{on, zeros, order_desk, account_desk, terms_of, default_terms, first_key, asked, signed}
-use Rattle.model_examples.specs.Calls.{request, request_at, nonce_two, wants}
+use Rattle.model_examples.specs.Entries.{Entry, issued, spent, ordered, answered, reported, good, authorization_ended, finalized, certified, deactivated}
+use Rattle.model_examples.specs.Entries.{History}
+use Rattle.model_examples.specs.Calls.{on, zeros, order_desk, account_desk, terms_of, default_terms, first_key, asked, signed, request, request_at, nonce_two}
+use Rattle.model_examples.specs.Calls.{wants}
 use Rattle.model_examples.specs.Offices.{handed, Repeats}
 use Rattle.model_examples.specs.Texts.{nothing_here, unfit_report, order_not_ready, bad_csr}
 

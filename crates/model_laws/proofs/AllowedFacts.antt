@@ -94,8 +94,7 @@ challenge_allowed F m test n =
 -- ---- nonces
 
 -- no serial below all others is found
-none_above : (q : Nonce → Bool) (k n : ℕ) (xs : List Nonce) → k < n → Ascends (λ x. x.serial) n xs →
-    is_some (find (λ x. x.serial == k) (filter q xs)) ≡ false
+none_above : (q : Nonce → Bool) (k n : ℕ) (xs : List Nonce) → k < n → Ascends (λ x. x.serial) n xs → is_some (find (λ x. x.serial == k) (filter q xs)) ≡ false
 none_above q k n [] lt h = refl
 none_above q k n (x ∷ xs) lt h = by (q x) (x.serial == k) refl (none_above q k (x.serial + 1) xs (let up : n ≤ x.serial = h.0 in omega arith) h.1)
   where
@@ -144,8 +143,7 @@ pub allowed : (F : History) (e : Entry) (m : ℕ) → IsLater e → may_follow F
 allowed F (made t) m h = absurd h
 allowed F (issued r) m h = refl
 allowed F (spent n) m h = nonce_open (is_open F m) n 1 (nonces F) (numbered_ascends (λ x. x.serial) 1 (nonces F) (nonces_numbered F))
-allowed F (opened key cs) m h =
-    ap (λ b. b && contacts_pass cs) (unkeyed F key)
+allowed F (opened key cs) m h = ap (λ b. b && contacts_pass cs) (unkeyed F key)
 allowed F (contacts_changed n cs) m h =
     ap (λ b. b && contacts_pass cs) (sym (row_holds (λ a. is_valid_account a.status) (λ a. a.number == n) (account_row F) (accounts F)))
 allowed F (key_changed n key) m h =
@@ -156,14 +154,12 @@ allowed F (ordered n ws) m h =
     && (has_length 1 most_names ws && (all_different (map wanted_name ws) && (list_all is_wanted ws && reused_allowed F m n ws i)))
 allowed F (answered n) m h = challenge_allowed F m is_pending_challenge n
 allowed F (reported n o) m h = challenge_allowed F m is_processing_challenge n
-allowed F (authorization_ended n s) m h =
-    sym (row_holds (λ a. is_live a.status) (λ a. a.number == n) (authorization_row F m) (authorizations F))
+allowed F (authorization_ended n s) m h = sym (row_holds (λ a. is_live a.status) (λ a. a.number == n) (authorization_row F m) (authorizations F))
 allowed F (finalized n csr) m h =
     ap (λ b. b && has_length 1 longest_csr csr) (sym (row_holds (λ o. is_ready o.status) (λ o. o.number == n) (order_row F m) (orders F)))
 allowed F (certified n c) m h =
     ap (λ b. b && has_length 1 longest_certificate c) (sym (row_holds (λ o. is_processing o.status) (λ o. o.number == n) (order_row F m) (orders F)))
-allowed F (failed n f) m h =
-    ap (λ b. b && is_problem f) (sym (row_holds (λ o. is_processing o.status) (λ o. o.number == n) (order_row F m) (orders F)))
+allowed F (failed n f) m h = ap (λ b. b && is_problem f) (sym (row_holds (λ o. is_processing o.status) (λ o. o.number == n) (order_row F m) (orders F)))
 
 -- what the tables allow keeps the history legal
 pub legal_grows : (F : History) (e : Entry) (m : ℕ) → EachFollows F → clock F ≤ m → m ≤ last_moment → IsLater e → IsFormed e →

@@ -16,8 +16,7 @@ use Rattle.desk_model.specs.Terms.{Terms, are_terms, has_scheme, is_base, is_bas
 
 -- bytes that pass a test that ASCII alone passes are a text
 pub passing_text : (test : ℕ → Bool) → ((c : ℕ) → test c ≡ true → c < 128) → (bytes : List ℕ) → list_all test bytes ≡ true → IsUtf8 bytes
-passing_text test low bytes h =
-    IsUtf8-from_ascii bytes (IsAscii-from_all bytes (λ k d there. low _ (AllPass-from_list_all test bytes h k d there)))
+passing_text test low bytes h = IsUtf8-from_ascii bytes (IsAscii-from_all bytes (λ k d there. low _ (AllPass-from_list_all test bytes h k d there)))
 
 -- ASCII bytes are a text
 pub ascii_text : (bytes : List ℕ) → list_all is_ascii bytes ≡ true → IsUtf8 bytes
@@ -60,8 +59,7 @@ base_text t h =
 
 -- a label is a text
 label_text : (label : List ℕ) → is_label label ≡ true → IsUtf8 label
-label_text label h =
-    passing_text is_label_byte (λ c k. grind (arith, nat_tests)) label (and_parts (list_all is_label_byte label) _ (and_parts _ _ h).1).0
+label_text label h = passing_text is_label_byte (λ c k. grind (arith, nat_tests)) label (and_parts (list_all is_label_byte label) _ (and_parts _ _ h).1).0
 
 -- labels with a full stop between each two are a text
 joined_text : (labels : List (List ℕ)) → list_all is_label labels ≡ true → IsUtf8 (join_with_byte 46 labels)
@@ -105,8 +103,7 @@ canonical_is_text (ec crv x y) h =
 canonical_is_text (rsa e n) h =
     ascii_then (codes "{\"e\":\"") _ refl (IsUtf8-append e _ (number_text e h.0)
     (ascii_then (codes "\",\"kty\":\"RSA\",\"n\":\"") _ refl (IsUtf8-append n _ (number_text n h.1) object_end)))
-canonical_is_text (okp x) h =
-    ascii_then (codes "{\"crv\":\"Ed25519\",\"kty\":\"OKP\",\"x\":\"") _ refl (IsUtf8-append x _ (number_text x h) object_end)
+canonical_is_text (okp x) h = ascii_then (codes "{\"crv\":\"Ed25519\",\"kty\":\"OKP\",\"x\":\"") _ refl (IsUtf8-append x _ (number_text x h) object_end)
 
 -- as the desk keeps it
 pub key_text : (text : List ℕ) → IsKeyText text → IsUtf8 text

@@ -70,8 +70,7 @@ map-each f g [] h = refl
 map-each f g (x ∷ xs) h = λ i. h.0 i ∷ map-each f g xs h.1 i
 
 -- moved row by row
-pub map-moved : {X Y : Type 0} (f : X → Y) (move : Y → Y) (g : X → Y) (xs : List X) → EachOf (λ x. g x ≡ move (f x)) xs →
-    map g xs ≡ map move (map f xs)
+pub map-moved : {X Y : Type 0} (f : X → Y) (move : Y → Y) (g : X → Y) (xs : List X) → EachOf (λ x. g x ≡ move (f x)) xs → map g xs ≡ map move (map f xs)
 map-moved f move g [] h = refl
 map-moved f move g (x ∷ xs) h = λ i. h.0 i ∷ map-moved f move g xs h.1 i
 
@@ -90,8 +89,7 @@ pub find-append : {X : Type 0} (p : X → Bool) (xs ys : List X) (x : X) → fin
 find-append p [] ys x h = cc
 find-append p (y ∷ xs) ys x h = by (p y) h (find-append p xs ys x)
   where
-    by : (b : Bool) → cond b (Some y) (find p xs) ≡ Some x → (find p xs ≡ Some x → find p (xs ++ ys) ≡ Some x) →
-        cond b (Some y) (find p (xs ++ ys)) ≡ Some x
+    by : (b : Bool) → cond b (Some y) (find p xs) ≡ Some x → (find p xs ≡ Some x → find p (xs ++ ys) ≡ Some x) → cond b (Some y) (find p (xs ++ ys)) ≡ Some x
     by true k ih = k
     by false k ih = ih k
 
@@ -100,8 +98,7 @@ pub still_some : {X : Type 0} (p : X → Bool) (xs ys : List X) → IsSome (find
 still_some p [] ys h = cc
 still_some p (x ∷ xs) ys h = by (p x) h (still_some p xs ys)
   where
-    by : (b : Bool) → IsSome (cond b (Some x) (find p xs)) → (IsSome (find p xs) → IsSome (find p (xs ++ ys))) →
-        IsSome (cond b (Some x) (find p (xs ++ ys)))
+    by : (b : Bool) → IsSome (cond b (Some x) (find p xs)) → (IsSome (find p xs) → IsSome (find p (xs ++ ys))) → IsSome (cond b (Some x) (find p (xs ++ ys)))
     by true k ih = refl
     by false k ih = ih k
 

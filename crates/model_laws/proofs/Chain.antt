@@ -105,16 +105,14 @@ effect_part k T m e closed holders fresh =
         ∙ sym (filter-append (λ n. k.nonces n.serial) (filter (not_spent e) T.nonces) (issued_by e m (T.meta.counters.nonces + 1)))
 
 -- the part changes as the whole by entries in a row
-pub all_changes_local : (k : Kept) (m : ℕ) (T : Tables) (es : List Entry) → CoversAll k m T es →
-    all_changes m (restricted k T) es ≡ all_changes m T es
+pub all_changes_local : (k : Kept) (m : ℕ) (T : Tables) (es : List Entry) → CoversAll k m T es → all_changes m (restricted k T) es ≡ all_changes m T es
 all_changes_local k m T [] h = refl
 all_changes_local k m T (e ∷ es) h =
     λ i. changes_local k T m e h.0 h.1 h.2 i ++
     (ap (λ P. all_changes m P es) (effect_part k T m e h.0 h.1.holders h.2) ∙ all_changes_local k m (effect m T e) es h.3) i
 
 -- the part after some entries is the part of the tables after them
-pub effects_part : (k : Kept) (m : ℕ) (T : Tables) (es : List Entry) → CoversAll k m T es →
-    effects m (restricted k T) es ≡ restricted k (effects m T es)
+pub effects_part : (k : Kept) (m : ℕ) (T : Tables) (es : List Entry) → CoversAll k m T es → effects m (restricted k T) es ≡ restricted k (effects m T es)
 effects_part k m T [] h = refl
 effects_part k m T (e ∷ es) h = ap (λ P. effects m P es) (effect_part k T m e h.0 h.1.holders h.2) ∙ effects_part k m (effect m T e) es h.3
 

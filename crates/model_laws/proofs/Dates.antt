@@ -115,8 +115,7 @@ orders_made [] = tt
 orders_made (e ∷ F) =
     each-append _ (orders F) (ordered_now e F) (each _ _ (orders F) (λ o. grown e F o.made) (orders_made F)) (more e.entry)
   where
-    more : (entry : Entry) →
-        EachOf (λ o. o.made ≤ clock (e ∷ F)) (ordered_by entry e.date (terms F) (length (authorizations F) + 1) (length (orders F) + 1))
+    more : (entry : Entry) → EachOf (λ o. o.made ≤ clock (e ∷ F)) (ordered_by entry e.date (terms F) (length (authorizations F) + 1) (length (orders F) + 1))
     more (ordered k ws) = (omega arith, tt)
     more _ = tt
 
@@ -142,8 +141,7 @@ no_date_later F t =
                   reported = first_dated (λ x. x.date) _ (λ e. report_dated c.number e.entry e.date) F;
                 }));
           }) (authorizations_made F));
-      orders = each-map _ (order_row F t) (orders F)
-          (each _ _ (orders F) (order_dated F t) (orders_made F));
+      orders = each-map _ (order_row F t) (orders F) (each _ _ (orders F) (order_dated F t) (orders_made F));
     }
 
 -- and that moment is not after the last of all

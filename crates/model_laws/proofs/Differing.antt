@@ -1,5 +1,5 @@
 -- A row that does not differ afterwards is the row itself, and one that differs is another.
-use Rattle.std.proofs.Common.{◌≡◌, ℕ, List, [], ◌∷◌, map, Some, refl, sym, ap, ◌∙◌, true, false, Bool, cond, not}
+use Rattle.std.proofs.Common.{◌≡◌, ℕ, List, [], ◌∷◌, map, Some, refl, sym, ap, ◌∙◌, true, false, Bool, cond, get_or, not}
 use Rattle.std.specs.Prelude.{◌==◌, ◌||◌, bytes_eq}
 use Rattle.std.specs.Cmp.Lexicographic.{pointwise}
 use Rattle.std.specs.List.{list_any, zip}
@@ -23,48 +23,31 @@ use Rattle.model_laws.proofs.StatedFacts.{earlier_stays, none_gained}
 
 -- ---- statuses by their codes
 
--- the status of a code, for an account
-account_by_code : ℕ → AccountStatus
-account_by_code n = cond (n == 0) account.Valid (cond (n == 1) account.Deactivated account.Revoked)
+-- the codes of all values of a kind, in their order: a code tells its value
+unfoldable AreCoded : {S : Type 0} → (S → ℕ) → S → List S → Type 0
+AreCoded {S} code first more = (s : S) → get_or (first ∷ more) (code s) first ≡ s
 
--- a code tells the status
-account_coded : (s : AccountStatus) → account_by_code (account_code s) ≡ s
-unfolding account_by_code
+-- of accounts
+account_coded : AreCoded account_code account.Valid (account.Deactivated ∷ account.Revoked ∷ [])
+unfolding AreCoded
 account_coded account.Valid = refl
 account_coded _ = refl
 
--- for a challenge
-chall_by_code : ℕ → ChallengeStatus
-chall_by_code n = cond (n == 0) chall.Pending (cond (n == 1) chall.Processing (cond (n == 2) chall.Valid chall.Invalid))
-
--- a code tells the status
-chall_coded : (s : ChallengeStatus) → chall_by_code (chall_code s) ≡ s
-unfolding chall_by_code
+-- of challenges
+chall_coded : AreCoded chall_code chall.Pending (chall.Processing ∷ chall.Valid ∷ chall.Invalid ∷ [])
+unfolding AreCoded
 chall_coded chall.Pending = refl
 chall_coded _ = refl
 
--- for an authorization
-authz_by_code : ℕ → AuthzStatus
-authz_by_code n =
-    cond (n == 0) authz.Pending
-    (cond (n == 1) authz.Valid
-    (cond (n == 2) authz.Invalid (cond (n == 3) authz.Deactivated (cond (n == 4) authz.Expired authz.Revoked))))
-
--- a code tells the status
-authz_coded : (s : AuthzStatus) → authz_by_code (authz_code s) ≡ s
-unfolding authz_by_code
+-- of authorizations
+authz_coded : AreCoded authz_code authz.Pending (authz.Valid ∷ authz.Invalid ∷ authz.Deactivated ∷ authz.Expired ∷ authz.Revoked ∷ [])
+unfolding AreCoded
 authz_coded authz.Pending = refl
 authz_coded _ = refl
 
--- for an order
-order_by_code : ℕ → OrderStatus
-order_by_code n =
-    cond (n == 0) order.Pending
-    (cond (n == 1) order.Ready (cond (n == 2) order.Processing (cond (n == 3) order.Valid order.Invalid)))
-
--- a code tells the status
-order_coded : (s : OrderStatus) → order_by_code (order_code s) ≡ s
-unfolding order_by_code
+-- of orders
+order_coded : AreCoded order_code order.Pending (order.Ready ∷ order.Processing ∷ order.Valid ∷ order.Invalid ∷ [])
+unfolding AreCoded
 order_coded order.Pending = refl
 order_coded _ = refl
 
@@ -74,9 +57,10 @@ unnegated true h = refl
 unnegated false h = cc
 
 -- equal codes are of equal values
-same_coded : {S : Type 0} (code : S → ℕ) (by_code : ℕ → S) → ((s : S) → by_code (code s) ≡ s) → (a b : S) → not (code a == code b) ≡ false → b ≡ a
-same_coded code by_code coded a b h =
-    sym (coded b) ∙ (ap by_code (sym (eqb-true (code a) (code b) (unnegated (code a == code b) h))) ∙ coded a)
+same_coded : {S : Type 0} (code : S → ℕ) (first : S) (more : List S) → AreCoded code first more → (a b : S) → not (code a == code b) ≡ false → b ≡ a
+unfolding AreCoded
+same_coded code first more coded a b h =
+    sym (coded b) ∙ (ap (λ n. get_or (first ∷ more) n first) (sym (eqb-true (code a) (code b) (unnegated (code a == code b) h))) ∙ coded a)
 
 -- a value's code is its own
 own_code : (n : ℕ) → not (n == n) ≡ false
@@ -102,7 +86,7 @@ account_unmoved e m row h =
     let key : after.key ≡ row.key = same_key row.key after.key k.0 in
     let contacts : after.contacts ≡ row.contacts = same_contacts row.contacts after.contacts p.0 in
     let ended : after.ended ≡ row.ended = earlier_stays row.ended (account_ends row.number e m) q.0 in
-    let status : after.status ≡ row.status = same_coded account_code account_by_code account_coded row.status after.status q.1 in
+    let status : after.status ≡ row.status = same_coded account_code _ _ account_coded row.status after.status q.1 in
     λ i. record row { key = key i; contacts = contacts i; ended = ended i; status = status i }
 
 -- no account's row differs from itself
@@ -130,7 +114,7 @@ challenge_unmoved (answered n) m key row h = by (n == row.number) h
         let fact : (answered_challenge m key row).answered ≡ row.answered =
         earlier_stays row.answered (Some (record { date = m; thumb = thumbprint key })) p.0 in
         let status : (answered_challenge m key row).status ≡ row.status =
-        same_coded chall_code chall_by_code chall_coded row.status (answered_challenge m key row).status q.1 in
+        same_coded chall_code _ _ chall_coded row.status (answered_challenge m key row).status q.1 in
         λ i. record row { answered = fact i; status = status i }
     by false k = refl
 challenge_unmoved (reported n o) m key row h = by (n == row.number) h
@@ -141,7 +125,7 @@ challenge_unmoved (reported n o) m key row h = by (n == row.number) h
         let q = or_parts (is_gained row.reported (reported_challenge o m row).reported) _ p.1 in
         let fact : (reported_challenge o m row).reported ≡ row.reported = earlier_stays row.reported (Some (record { date = m; outcome = o })) q.0 in
         let status : (reported_challenge o m row).status ≡ row.status =
-        same_coded chall_code chall_by_code chall_coded row.status (reported_challenge o m row).status q.1 in
+        same_coded chall_code _ _ chall_coded row.status (reported_challenge o m row).status q.1 in
         λ i. record row { reported = fact i; status = status i }
     by false k = refl
 challenge_unmoved _ m key row h = refl
@@ -171,7 +155,7 @@ authorization_unmoved e m accounts row h =
     let p = or_parts (is_gained row.ended after.ended) _ h in
     let q = or_parts (not (authz_code row.status == authz_code after.status)) _ p.1 in
     let ended : after.ended ≡ row.ended = earlier_stays row.ended _ p.0 in
-    let status : after.status ≡ row.status = same_coded authz_code authz_by_code authz_coded row.status after.status q.0 in
+    let status : after.status ≡ row.status = same_coded authz_code _ _ authz_coded row.status after.status q.0 in
     let challenges : after.challenges ≡ row.challenges =
     kept_challenges (noted_challenge e m key) row.challenges (challenges_unmoved e m key row.challenges q.1) in
     λ i. record row { ended = ended i; status = status i; challenges = challenges i }
@@ -193,7 +177,7 @@ pub order_unmoved : (e : Entry) (m : ℕ) (rows : List AuthorizationRow) (row : 
 order_unmoved e m rows row h =
     let s : OrderStatus = derived_order m rows (noted_order e m row) in
     let p = order_dates_kept e m row s h in
-    let status : s ≡ row.status = same_coded order_code order_by_code order_coded row.status s p.1 in
+    let status : s ≡ row.status = same_coded order_code _ _ order_coded row.status s p.1 in
     λ i. record (p.0 i) { status = status i }
 
 -- no order's row differs from itself

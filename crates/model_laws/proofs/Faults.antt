@@ -15,8 +15,7 @@ use Rattle.model_laws.proofs.RowFacts.{answered_alike, authorization_stated}
 use Rattle.model_laws.proofs.OrderFacts.{order_stated}
 
 -- rows without a fault, one by one
-none_of : {X Y : Type 0} (row : X → Y) (faults : Y → List StatusFault) (xs : List X) → EachOf (λ x. faults (row x) ≡ []) xs →
-    flat_map faults (map row xs) ≡ []
+none_of : {X Y : Type 0} (row : X → Y) (faults : Y → List StatusFault) (xs : List X) → EachOf (λ x. faults (row x) ≡ []) xs → flat_map faults (map row xs) ≡ []
 none_of row faults [] h = refl
 none_of row faults (x ∷ xs) h = λ i. h.0 i ++ none_of row faults xs h.1 i
 

@@ -57,9 +57,7 @@ tokens_drawn (e ∷ F) h = each-append _ (authorizations F) (made_now e F) (toke
     more : (entry : Entry) → may_follow F entry e.date ≡ true →
         EachOf HasTokens
         (made_by entry e.date (terms F).authz_life (length (authorizations F) + 1) (count_challenges (authorizations F) + 1))
-    more (ordered k ws) may =
-        made_for_drawn k e.date _ ws _ _
-        (may_be_ordered F e.date k ws may).wanted
+    more (ordered k ws) may = made_for_drawn k e.date _ ws _ _ (may_be_ordered F e.date k ws may).wanted
     more _ may = tt
 
 -- ---- problems
@@ -78,7 +76,6 @@ problem_formed n F h =
     stated true x k = k
     stated false x k = tt
 
-    by : (entry : Entry) (date : ℕ) (before : History) → may_follow before entry date ≡ true →
-        IfSome (failing n entry date) (λ f. is_problem f.problem ≡ true)
+    by : (entry : Entry) (date : ℕ) (before : History) → may_follow before entry date ≡ true → IfSome (failing n entry date) (λ f. is_problem f.problem ≡ true)
     by (failed k problem) date before may = stated (k == n) _ (and_parts _ (is_problem problem) may).1
     by _ date before may = tt

@@ -10,7 +10,7 @@ use Rattle.desk_model.specs.Account.{status_of as account_status_of, is_valid as
 use Rattle.desk_model.specs.Authorization.{authorizations, has_challenge, made_for, kinds_of, challenges_from, count_challenges, authorization_end, ends}
 use Rattle.desk_model.specs.Authorization.{in_time, is_good, kind_of, answering, reporting, answer, answer_by, when_answered, report, challenge_status_by}
 use Rattle.desk_model.specs.Order.{orders, ordered_by, listed_by}
-use Rattle.desk_model.specs.Tables.{account_row, challenge_row, authorization_row, order_row}
+use Rattle.desk_model.specs.Tables.{account_row, challenge_row, authorization_row, order_row, row_of_challenge}
 use Rattle.desk_model.specs.Derived.{restated_authorization, restated_order}
 use Rattle.desk_model.specs.Effect.{names_order, fresh_account, fresh_challenge, fresh_authorization, fresh_order}
 use Rattle.desk_model.specs.declared.objects.EndKind.TheVariants as kind
@@ -42,8 +42,7 @@ new_order_unnamed c n new _ h = refl
 order_unnamed : (F : History) (t m : ℕ) (rows : List AuthorizationRow) (o : Order) → EachOf (λ d. names_order d.entry o.number ≡ false) F →
     restated_order m rows (order_row F t o) ≡ restated_order m rows (fresh_order o)
 order_unnamed [] t m rows o h = refl
-order_unnamed (e ∷ F) t m rows o h =
-    ap (restated_order m rows) (order_unnoted e.entry e.date (order_row F t o) h.0) ∙ order_unnamed F t m rows o h.1
+order_unnamed (e ∷ F) t m rows o h = ap (restated_order m rows) (order_unnoted e.entry e.date (order_row F t o) h.0) ∙ order_unnamed F t m rows o h.1
 
 -- a challenge of a number that was not given has no answer
 new_challenge_answer : (c : Counts) (n : ℕ) → c.challenges < n → (e : Entry) (m : ℕ) → NamesGiven c e → answering n e m ≡ None
@@ -106,8 +105,7 @@ accounts_fresh F (opened k cs) m h =
       (λ i. record {
         number = n;
         key = unwrap_or (earlier None (rekeyed_none i)) k;
-        contacts = unwrap_or
-            (earlier None (changed_none i)) cs;
+        contacts = unwrap_or (earlier None (changed_none i)) cs;
         opened = m;
         ended = ended_none i;
         status = account_status_of (ended_none i);
@@ -172,14 +170,7 @@ challenges_fresh F account n (c ∷ cs) h lt numbered =
     let when_none : when_answered c.number F ≡ None = no_first (λ d. answering c.number d.entry d.date) F never in
     let reported_none : report c.number F ≡ None =
     no_first (λ d. reporting c.number d.entry d.date) F (each _ _ F (λ d. new_challenge_report (counts F) c.number new d.entry d.date) named) in (
-      (λ i. record {
-        number = c.number;
-        kind = c.kind;
-        token = c.token;
-        answered = answered_none i;
-        reported = reported_none i;
-        status = challenge_status_by (reported_none i) (is_some (when_none i));
-      }),
+      (λ i. row_of_challenge c (answered_none i) (reported_none i) (challenge_status_by (reported_none i) (is_some (when_none i)))),
       challenges_fresh F account (n + 1) cs h (omega arith) numbered.1,
     )
 

@@ -33,8 +33,7 @@ use Rattle.model_laws.proofs.Numbers.{accounts_numbered, all_named, first_no, ma
 -- where no item has the fact, none is left
 none_pass : {X Y : Type 0} (fact : X → Option Y) (xs : List X) → EachOf (λ x. fact x ≡ None) xs → filter (λ x. is_some (fact x)) xs ≡ []
 none_pass fact [] h = refl
-none_pass fact (x ∷ xs) h =
-    ap (λ o. cond (is_some o) (x ∷ filter (λ y. is_some (fact y)) xs) (filter (λ y. is_some (fact y)) xs)) h.0 ∙ none_pass fact xs h.1
+none_pass fact (x ∷ xs) h = ap (λ o. cond (is_some o) (x ∷ filter (λ y. is_some (fact y)) xs) (filter (λ y. is_some (fact y)) xs)) h.0 ∙ none_pass fact xs h.1
 
 -- a challenge is reported on at most once
 pub reported_once : (F : History) → EachFollows F → (n : ℕ) → length (filter (reports_on n) F) ≤ 1
@@ -52,8 +51,7 @@ reported_once (e ∷ F) h n = by (reports_on n e) refl (reported_once F h.1 n)
         same false p q = cc
     unreported _ m may is = cc
 
-    by : (b : Bool) → reports_on n e ≡ b → length (filter (reports_on n) F) ≤ 1 →
-        length (cond b (e ∷ filter (reports_on n) F) (filter (reports_on n) F)) ≤ 1
+    by : (b : Bool) → reports_on n e ≡ b → length (filter (reports_on n) F) ≤ 1 → length (cond b (e ∷ filter (reports_on n) F) (filter (reports_on n) F)) ≤ 1
     by true p ih =
         let none : filter (reports_on n) F ≡ [] =
         none_pass (λ d. reporting n d.entry d.date) F (first_no (λ d. reporting n d.entry d.date) F (unreported e.entry e.date h.0.allowed p)) in
@@ -77,8 +75,7 @@ none_found value key (x ∷ xs) h = by (bytes_eq (value x) key) refl h (none_fou
 -- values that are equal differ alike
 distinct_alike : {X Y : Type 0} (f g : X → Y) (xs : List X) → ((x : X) → f x ≡ g x) → Distinct g xs → Distinct f xs
 distinct_alike f g [] same h = tt
-distinct_alike f g (x ∷ xs) same h =
-    (each _ _ xs (λ y differs is. differs (sym (same x) ∙ is ∙ same y)) h.0, distinct_alike f g xs same h.1)
+distinct_alike f g (x ∷ xs) same h = (each _ _ xs (λ y differs is. differs (sym (same x) ∙ is ∙ same y)) h.0, distinct_alike f g xs same h.1)
 
 -- the key of an account after an entry
 key_moves : (e : Dated) (F : History) (a : Account) → key_of a (e ∷ F) ≡ unwrap_or (rekeying a.number e.entry) (key_of a F)
@@ -272,8 +269,7 @@ pub orders_end : (F : History) → EachFollows F → EachOf (λ o. o.expires ≤
 orders_end [] h = tt
 orders_end (e ∷ F) h = each-append _ (orders F) (ordered_now e F) (orders_end F h.1) (more e.entry)
   where
-    more : (entry : Entry) →
-        EachOf (λ o. o.expires ≤ last_end) (ordered_by entry e.date (terms F) (length (authorizations F) + 1) (length (orders F) + 1))
+    more : (entry : Entry) → EachOf (λ o. o.expires ≤ last_end) (ordered_by entry e.date (terms F) (length (authorizations F) + 1) (length (orders F) + 1))
     more (ordered k ws) =
         let life : (terms F).order_life ≤ longest_life = (lives_fit F h.1).orders in
         let date : e.date ≤ last_moment = h.0.in_time in
@@ -338,8 +334,7 @@ made_for_named account date expires [] n c h = tt
 made_for_named account date expires (New name tokens ∷ ws) n c h =
     let p = and_parts (is_wanted (New name tokens)) _ h in (
       (and_parts (is_base_name name.base) _ p.0).0,
-      made_for_named account date expires ws (n + 1)
-          (c + length (challenges_from c (kinds_of name) tokens)) p.1,
+      made_for_named account date expires ws (n + 1) (c + length (challenges_from c (kinds_of name) tokens)) p.1,
     )
 made_for_named account date expires (Reused name k ∷ ws) n c h = made_for_named account date expires ws n c (and_parts (is_wanted (Reused name k)) _ h).1
 
@@ -351,9 +346,7 @@ names_formed (e ∷ F) h = each-append _ (authorizations F) (made_now e F) (name
     more : (entry : Entry) → may_follow F entry e.date ≡ true →
         EachOf (λ a. IsTrue (is_base_name a.name.base))
         (made_by entry e.date (terms F).authz_life (length (authorizations F) + 1) (count_challenges (authorizations F) + 1))
-    more (ordered k ws) may =
-        made_for_named k e.date _ ws _ _
-        (may_be_ordered F e.date k ws may).wanted
+    more (ordered k ws) may = made_for_named k e.date _ ws _ _ (may_be_ordered F e.date k ws may).wanted
     more _ may = tt
 
 -- and so in the rows

@@ -33,8 +33,7 @@ picked kept p q f g (x ∷ xs) h k = by (kept x) refl (q x) refl (picked kept p 
   where
     by : (b : Bool) → kept x ≡ b → (c : Bool) → q x ≡ c → map f (filter p (filter kept xs)) ≡ map g (filter q xs) →
         map f (filter p (cond b (x ∷ filter kept xs) (filter kept xs))) ≡ map g (cond c (x ∷ filter q xs) (filter q xs))
-    by true e true r ih =
-        ap (λ z. map f (cond z (x ∷ filter p (filter kept xs)) (filter p (filter kept xs)))) ((h.0 e).0 ∙ r) ∙ (λ i. (h.0 e).1 i ∷ ih i)
+    by true e true r ih = ap (λ z. map f (cond z (x ∷ filter p (filter kept xs)) (filter p (filter kept xs)))) ((h.0 e).0 ∙ r) ∙ (λ i. (h.0 e).1 i ∷ ih i)
     by true e false r ih = ap (λ z. map f (cond z (x ∷ filter p (filter kept xs)) (filter p (filter kept xs)))) ((h.0 e).0 ∙ r) ∙ ih
     by false e true r ih = let yes : kept x ≡ true = k.0 r in cc
     by false e false r ih = ih
@@ -90,8 +89,7 @@ pub restated_same : (m : ℕ) (rows others : List AuthorizationRow) (row : Order
 restated_same m rows others row h = restated_alike m rows others row (statuses_same rows others (numbers_of row.listed) h)
 
 -- the look-ups agree for kept authorizations
-kept_before : (k : Kept) (T : Tables) (ns : List ℕ) → EachOf (λ n. k.authorizations n ≡ true) ns →
-    SameFor (restricted k T).authorizations T.authorizations ns
+kept_before : (k : Kept) (T : Tables) (ns : List ℕ) → EachOf (λ n. k.authorizations n ≡ true) ns → SameFor (restricted k T).authorizations T.authorizations ns
 kept_before k T ns h = each _ _ ns (λ n yes. find_kept (λ (a : AuthorizationRow). a.number) k.authorizations n T.authorizations yes) h
 
 -- a moved authorization keeps its number
@@ -182,8 +180,7 @@ touches_same k T e row h =
     (lists_same (touches_authorization e) _ T.authorizations (numbers_of row.listed) (kept_before k T (numbers_of row.listed) h))
 
 -- the part changes as the whole by an entry
-pub changes_local : (k : Kept) (T : Tables) (m : ℕ) (e : Entry) → IsClosed k T → Covers k T e →
-    FreshKept k T m e → changes m (restricted k T) e ≡ changes m T e
+pub changes_local : (k : Kept) (T : Tables) (m : ℕ) (e : Entry) → IsClosed k T → Covers k T e → FreshKept k T m e → changes m (restricted k T) e ≡ changes m T e
 changes_local k T m e closed covers fresh_kept =
     let accounts : accounts_put (restricted k T) e m ≡ accounts_put T e m =
     ap (λ rows. rows ++ map fresh_account (opened_by e m (T.meta.counters.accounts + 1)))
@@ -283,8 +280,7 @@ swept_part k T m closed = swept_alike k T m (each _ _ T.orders (λ o all yes. fa
 -- ---- what a decision reads: the first row that passes a test, and all rows that pass one
 
 -- the first row that passes is the same in a part that keeps the rows that pass
-pub find_part : {X : Type 0} (test kept : X → Bool) (xs : List X) → EachOf (λ x. test x ≡ true → kept x ≡ true) xs →
-    find test (filter kept xs) ≡ find test xs
+pub find_part : {X : Type 0} (test kept : X → Bool) (xs : List X) → EachOf (λ x. test x ≡ true → kept x ≡ true) xs → find test (filter kept xs) ≡ find test xs
 find_part test kept [] h = refl
 find_part test kept (x ∷ xs) h = by (kept x) refl (test x) refl (find_part test kept xs h.1)
   where

@@ -42,8 +42,7 @@ order_dates_kept e m row s h =
     )
 
 -- a row with the same facts differs by its status alone
-pub order_status_differs : (row : OrderRow) (s : OrderStatus) →
-    order_differs row (record row { status = s }) ≡ not (order_code row.status == order_code s)
+pub order_status_differs : (row : OrderRow) (s : OrderStatus) → order_differs row (record row { status = s }) ≡ not (order_code row.status == order_code s)
 order_status_differs row s =
     λ i. none_gained row.finalized i || (none_gained row.certified i || (none_gained row.failed i || not (order_code row.status == order_code s)))
 

@@ -130,8 +130,7 @@ abbrev statuses_of : History → ℕ → List Authorization → List AuthzStatus
 statuses_of F t xs = map (λ a. authorization_status a F t) xs
 
 -- the stored statuses are those that the history gives
-stored : (F : History) (t : ℕ) (ns : List ℕ) →
-    stored_statuses (map (authorization_row F t) (authorizations F)) ns ≡ statuses_of F t (authorizations_at ns F)
+stored : (F : History) (t : ℕ) (ns : List ℕ) → stored_statuses (map (authorization_row F t) (authorizations F)) ns ≡ statuses_of F t (authorizations_at ns F)
 stored F t [] = refl
 stored F t (n ∷ ns) = (λ i. and_status (numbered_row F t n i) (stored F t ns i)) ∙ one (authorization n F) (authorizations_at ns F)
   where
@@ -152,8 +151,7 @@ pub restated_alike : (m : ℕ) (rows others : List AuthorizationRow) (row : Orde
 restated_alike m rows others row same = rw same
 
 -- the status that a history gives is the one that the row ought to have
-pub order_stated : (F : History) (t u : ℕ) (o : Order) →
-    order_row F t o ≡ restated_order t (map (authorization_row F t) (authorizations F)) (order_row F u o)
+pub order_stated : (F : History) (t u : ℕ) (o : Order) → order_row F t o ≡ restated_order t (map (authorization_row F t) (authorizations F)) (order_row F u o)
 order_stated F t u o = rw (stored_listed F t o, list_any-map is_over, list_all-map is_valid)
 
 -- ---- an entry

@@ -1,11 +1,12 @@
 -- A signed request spends a nonce and issues one before its own entry: these two touch no other table.
-use Rattle.std.proofs.Common.{◌≡◌, ℕ, ◌+◌, List, [], ◌∷◌, ◌++◌, map, Option, Some, None, refl, sym, ap, subst, true, false, cond, arith}
+use Rattle.std.proofs.Common.{◌≡◌, ℕ, ◌+◌, List, [], ◌∷◌, ◌++◌, map, Option, Some, None, refl, sym, ap, ◌∙◌, subst, true, false, cond, arith}
 use Rattle.std.specs.Prelude.{◌||◌}
 use Rattle.desk_model.specs.{Lookup.holds, Tables.Tables, Order.listed_by}
-use Rattle.desk_model.specs.Derived.{numbers_of, authorization_numbered, restated_order}
-use Rattle.desk_model.specs.Effect.{effect, moved_order, lists_one, noted_order, new_authorizations}
+use Rattle.desk_model.specs.Derived.{numbers_of, authorization_numbered}
+use Rattle.desk_model.specs.Effect.{effect, moved_order, lists_one, new_authorizations, touches_account, touches_authorization, touches_order}
 use Rattle.desk_model.specs.Kept.{Kept, EachOf, IsClosed, Covers}
-use Rattle.desk_model.specs.declared.{entry.Entry.Entry, objects.Authorization.Authorization, rows.AuthorizationRow.AuthorizationRow}
+use Rattle.desk_model.specs.declared.{entry.Entry.Entry, objects.Authorization.Authorization, rows.AccountRow.AccountRow}
+use Rattle.desk_model.specs.declared.rows.{AuthorizationRow.AuthorizationRow, OrderRow.OrderRow}
 use Rattle.desk_model.specs.declared.entry.Entry.TheVariants.{Issued as issued, Spent as spent, Ordered as ordered}
 use Rattle.model_laws.proofs.{RowLists.numbered_ascends, Basics.each_all, Chain.up_kept}
 use Rattle.model_laws.proofs.OrderFacts.{each_listed, made_by_numbered, numbers_listed}
@@ -20,101 +21,85 @@ nothing_touched rows (n ∷ ns) = λ i. nowhere (authorization_numbered n rows) 
     nowhere None = refl
     nowhere (Some a) = refl
 
--- rows that nothing moves
-same_rows : {X : Type 0} (xs : List X) → map (λ x. x) xs ++ [] ≡ xs
-same_rows [] = refl
-same_rows (x ∷ xs) = ap (λ l. x ∷ l) (same_rows xs)
-
 -- rows that stay what they are
 kept_rows : {X : Type 0} (f : X → X) (xs : List X) → ((x : X) → f x ≡ x) → map f xs ++ [] ≡ xs
 kept_rows f [] h = refl
 kept_rows f (x ∷ xs) h = λ i. h x i ∷ kept_rows f xs h i
 
--- a nonce that is spent changes the meta row and the nonces
-pub spent_effect : (m : ℕ) (T : Tables) (n : ℕ) →
-    effect m T (spent n) ≡ record T { meta = (effect m T (spent n)).meta; nonces = (effect m T (spent n)).nonces }
-spent_effect m T n =
-    λ i. record (effect m T (spent n)) {
-      accounts = same_rows T.accounts i;
-      authorizations = same_rows T.authorizations i;
-      orders = kept_rows (moved_order (spent n) m T.authorizations (effect m T (spent n)).authorizations) T.orders
-          (λ o. ap (λ b. cond b (restated_order m (effect m T (spent n)).authorizations (noted_order (spent n) m o)) o)
-          (nothing_touched T.authorizations (numbers_of o.listed))) i;
-    }
+-- the entry changes the meta row and the nonces
+abbrev pub LeavesRows : ℕ → Tables → Entry → Type 0
+LeavesRows m T e = effect m T e ≡ record T { meta = (effect m T e).meta; nonces = (effect m T e).nonces }
 
--- so does a nonce that is issued
-pub issued_effect : (m : ℕ) (T : Tables) (r : List ℕ) →
-    effect m T (issued r) ≡ record T { meta = (effect m T (issued r)).meta; nonces = (effect m T (issued r)).nonces }
-issued_effect m T r =
-    λ i. record (effect m T (issued r)) {
-      accounts = same_rows T.accounts i;
-      authorizations = same_rows T.authorizations i;
-      orders = kept_rows (moved_order (issued r) m T.authorizations (effect m T (issued r)).authorizations) T.orders
-          (λ o. ap (λ b. cond b (restated_order m (effect m T (issued r)).authorizations (noted_order (issued r) m o)) o)
-          (nothing_touched T.authorizations (numbers_of o.listed))) i;
-    }
+-- so does one that moves no account and no authorization, and touches no order
+leaves_rows : (m : ℕ) (T : Tables) (e : Entry) → (effect m T e).accounts ≡ T.accounts → (effect m T e).authorizations ≡ T.authorizations →
+    ((o : OrderRow) → moved_order e m T.authorizations (effect m T e).authorizations o ≡ o) →
+    (effect m T e).orders ≡ map (moved_order e m T.authorizations (effect m T e).authorizations) T.orders ++ [] → LeavesRows m T e
+leaves_rows m T e accounts authorizations stays orders =
+    λ i. record (effect m T e) { accounts = accounts i; authorizations = authorizations i; orders = (orders ∙ kept_rows _ T.orders stays) i }
+
+-- an order that lists no row which passes a test that none passes is not touched
+order_stays : (T : Tables) (move : OrderRow → OrderRow) (o : OrderRow) → cond (lists_one (λ a. false) T.authorizations (numbers_of o.listed)) (move o) o ≡ o
+order_stays T move o = ap (λ b. cond b (move o) o) (nothing_touched T.authorizations (numbers_of o.listed))
+
+-- a nonce that is spent
+pub spent_effect : (m : ℕ) (T : Tables) (n : ℕ) → LeavesRows m T (spent n)
+spent_effect m T n = leaves_rows m T (spent n) (kept_rows _ T.accounts (λ a. refl)) (kept_rows _ T.authorizations (λ r. refl)) (order_stays T _) refl
+
+-- and one that is issued
+pub issued_effect : (m : ℕ) (T : Tables) (r : List ℕ) → LeavesRows m T (issued r)
+issued_effect m T r = leaves_rows m T (issued r) (kept_rows _ T.accounts (λ a. refl)) (kept_rows _ T.authorizations (λ r. refl)) (order_stays T _) refl
 
 -- ---- what holds of a part stays so
 
--- a closed part stays closed when a nonce is spent
+-- a closed part stays closed
+pub left_closed : (k : Kept) (m : ℕ) (T : Tables) (e : Entry) → LeavesRows m T e → IsClosed k T → IsClosed k (effect m T e)
+left_closed k m T e left h =
+    subst (IsClosed k) (sym left)
+    (record {
+      listed = h.listed;
+      new_nonces = λ j lt. h.new_nonces j (omega arith);
+      new_accounts = λ j lt. h.new_accounts j (omega arith);
+      new_authorizations = λ j lt. h.new_authorizations j (omega arith);
+      new_orders = λ j lt. h.new_orders j (omega arith);
+    })
+
+-- where a nonce is spent
 pub spent_closed : (k : Kept) (m : ℕ) (T : Tables) (n : ℕ) → IsClosed k T → IsClosed k (effect m T (spent n))
-spent_closed k m T n h =
-    subst (IsClosed k) (sym (spent_effect m T n))
-    (record {
-      listed = h.listed;
-      new_nonces = λ j lt. h.new_nonces j (omega arith);
-      new_accounts = λ j lt. h.new_accounts j (omega arith);
-      new_authorizations = λ j lt. h.new_authorizations j (omega arith);
-      new_orders = λ j lt. h.new_orders j (omega arith);
-    })
+spent_closed k m T n h = left_closed k m T (spent n) (spent_effect m T n) h
 
--- and when one is issued
+-- and where one is issued
 pub issued_closed : (k : Kept) (m : ℕ) (T : Tables) (r : List ℕ) → IsClosed k T → IsClosed k (effect m T (issued r))
-issued_closed k m T r h =
-    subst (IsClosed k) (sym (issued_effect m T r))
-    (record {
-      listed = h.listed;
-      new_nonces = λ j lt. h.new_nonces j (omega arith);
-      new_accounts = λ j lt. h.new_accounts j (omega arith);
-      new_authorizations = λ j lt. h.new_authorizations j (omega arith);
-      new_orders = λ j lt. h.new_orders j (omega arith);
-    })
+issued_closed k m T r h = left_closed k m T (issued r) (issued_effect m T r) h
 
--- a part that covers an entry covers it when a nonce was spent
-pub spent_covers : (k : Kept) (m : ℕ) (T : Tables) (n : ℕ) (e : Entry) → Covers k T e → Covers k (effect m T (spent n)) e
-spent_covers k m T n e h =
-    subst (λ U. Covers k U e) (sym (spent_effect m T n))
+-- a part that covers an entry covers it behind such an entry
+pub left_covers : (k : Kept) (m : ℕ) (T : Tables) (first e : Entry) → LeavesRows m T first → Covers k T e → Covers k (effect m T first) e
+left_covers k m T first e left h =
+    subst (λ U. Covers k U e) (sym left)
     (record { accounts = h.accounts; authorizations = h.authorizations; orders = h.orders; holders = h.holders })
 
--- and when one was issued
-pub issued_covers : (k : Kept) (m : ℕ) (T : Tables) (r : List ℕ) (e : Entry) → Covers k T e → Covers k (effect m T (issued r)) e
-issued_covers k m T r e h =
-    subst (λ U. Covers k U e) (sym (issued_effect m T r))
-    (record { accounts = h.accounts; authorizations = h.authorizations; orders = h.orders; holders = h.holders })
+-- the entry touches nothing of the tables
+abbrev TouchesNone : Tables → Entry → Type 0
+TouchesNone T e =
+    ((a : AccountRow) → touches_account e a ≡ false) × ((r : AuthorizationRow) → touches_authorization e r ≡ false)
+    × ((o : OrderRow) → touches_order e T.authorizations o ≡ false)
 
--- each part covers the spending of a nonce
-pub covers_spent : (k : Kept) (T : Tables) (n : ℕ) → Covers k T (spent n)
-covers_spent k T n =
+-- each part covers such an entry
+none_covered : (k : Kept) (T : Tables) (e : Entry) → TouchesNone T e → Covers k T e
+none_covered k T e none =
     record {
-      accounts = each_all _ T.accounts (λ a h. cc);
-      authorizations = each_all _ T.authorizations (λ a h. cc);
-      orders =
-          each_all _ T.orders (λ o h. let no : lists_one (λ a. false) T.authorizations (numbers_of o.listed)
-          ≡ false = nothing_touched T.authorizations (numbers_of o.listed) in cc);
-      holders = each_all _ T.authorizations (λ a h. cc);
+      accounts = each_all _ T.accounts (λ a h. let no = none.0 a in cc);
+      authorizations = each_all _ T.authorizations (λ r h. let no = none.1 r in cc);
+      orders = each_all _ T.orders (λ o h. let no = none.2 o in cc);
+      holders = each_all _ T.authorizations (λ r h. let no = none.1 r in cc);
     }
+
+-- the spending of a nonce
+pub covers_spent : (k : Kept) (T : Tables) (n : ℕ) → Covers k T (spent n)
+covers_spent k T n = none_covered k T (spent n) (λ a. refl, λ r. refl, λ o. nothing_touched T.authorizations (numbers_of o.listed))
 
 -- and the issuing of one
 pub covers_issued : (k : Kept) (T : Tables) (r : List ℕ) → Covers k T (issued r)
-covers_issued k T r =
-    record {
-      accounts = each_all _ T.accounts (λ a h. cc);
-      authorizations = each_all _ T.authorizations (λ a h. cc);
-      orders =
-          each_all _ T.orders (λ o h. let no : lists_one (λ a. false) T.authorizations (numbers_of o.listed)
-          ≡ false = nothing_touched T.authorizations (numbers_of o.listed) in cc);
-      holders = each_all _ T.authorizations (λ a h. cc);
-    }
+covers_issued k T r = none_covered k T (issued r) (λ a. refl, λ r. refl, λ o. nothing_touched T.authorizations (numbers_of o.listed))
 
 -- a new order lists new authorizations, and those that it uses again
 pub fresh_kept : (k : Kept) (T : Tables) (m : ℕ) (e : Entry) → IsClosed k T → ReusedKept k e → FreshKept k T m e
@@ -133,5 +118,4 @@ fresh_kept k T m _ h again = tt
 -- a part covers the entries of nonces, and then what it covered before
 pub nonces_covered : (k : Kept) (m : ℕ) (T : Tables) (n : ℕ) (r : List ℕ) (es : List Entry) → IsClosed k T →
     CoversAll k m (effect m (effect m T (spent n)) (issued r)) es → CoversAll k m T (spent n ∷ issued r ∷ es)
-nonces_covered k m T n r es closed rest =
-    (closed, covers_spent k T n, tt, (spent_closed k m T n closed, covers_issued k (effect m T (spent n)) r, tt, rest))
+nonces_covered k m T n r es closed rest = (closed, covers_spent k T n, tt, (spent_closed k m T n closed, covers_issued k (effect m T (spent n)) r, tt, rest))

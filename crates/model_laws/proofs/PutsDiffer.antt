@@ -48,8 +48,7 @@ each_fresh number last n rows Q f lt below [] h = tt
 each_fresh number last n rows Q f lt below (x ∷ xs) h =
     let up : n ≤ number x = h.0 in (
       f x (none_below number (last + 1) (number x) rows (omega arith) below),
-      each_fresh number last (number x + 1) rows Q f
-          (omega arith) below xs h.1,
+      each_fresh number last (number x + 1) rows Q f (omega arith) below xs h.1,
     )
 
 -- what holds of the moved rows that differ, and of new ones
@@ -73,8 +72,7 @@ another number rows x y same differs here k =
     differs (ap (λ o. unwrap_or o x) (sym there ∙ k))
 
 -- a row that stands nowhere
-nowhere : {X : Type 0} (number : X → ℕ) (rows : List X) (x : X) → find (λ z. number z == number x) rows ≡ None →
-    find (λ z. number z == number x) rows ≢ Some x
+nowhere : {X : Type 0} (number : X → ℕ) (rows : List X) (x : X) → find (λ z. number z == number x) rows ≡ None → find (λ z. number z == number x) rows ≢ Some x
 nowhere number rows x none k = cc
 
 -- rows that differ are other rows
@@ -86,8 +84,7 @@ others differs never x y h e = let no : differs x y ≡ false = ap (differs x) (
 -- of the row that stands there
 of_standing : {X : Type 0} (number : X → ℕ) (rows : List X) (x y : X) (P : X → Type 0) → number y ≡ number x → P x → Stands number rows x →
     IfSome (find (λ z. number z == number y) rows) P
-of_standing number rows x y P same p here =
-    subst (λ o. IfSome o P) (sym (ap (λ n. find (λ z. number z == n) rows) same ∙ here)) p
+of_standing number rows x y P same p here = subst (λ o. IfSome o P) (sym (ap (λ n. find (λ z. number z == n) rows) same ∙ here)) p
 
 -- of no row
 of_none : {X : Type 0} (number : X → ℕ) (rows : List X) (x : X) (P : X → Type 0) → find (λ z. number z == number x) rows ≡ None →
@@ -121,8 +118,7 @@ nonces_differ T m e rows below =
     (nonces_put T e m) (issued_up e m (T.meta.counters.nonces + 1))
 
 -- the accounts that it puts are others than those that stand there
-pub accounts_differ : (T : Tables) (m : ℕ) (e : Entry) → IsOrdered T →
-    EachOf (λ x. find (λ a. a.number == x.number) T.accounts ≢ Some x) (accounts_put T e m)
+pub accounts_differ : (T : Tables) (m : ℕ) (e : Entry) → IsOrdered T → EachOf (λ x. find (λ a. a.number == x.number) T.accounts ≢ Some x) (accounts_put T e m)
 accounts_differ T m e h =
     each_put (λ a. a.number) (touches_account e) account_differs (noted_account e m) T.meta.counters.accounts T.accounts _ _
     (λ x d. another (λ a. a.number) T.accounts x (noted_account e m x) refl (others account_differs account_differs_not x (noted_account e m x) d))
@@ -141,8 +137,7 @@ authorizations_differ T m e h =
     (made_up e m T.meta.policy.authz_life (T.meta.counters.authorizations + 1) (T.meta.counters.challenges + 1))
 
 -- and the orders
-pub orders_differ : (T : Tables) (m : ℕ) (e : Entry) → IsOrdered T →
-    EachOf (λ x. find (λ o. o.number == x.number) T.orders ≢ Some x) (orders_put T e m)
+pub orders_differ : (T : Tables) (m : ℕ) (e : Entry) → IsOrdered T → EachOf (λ x. find (λ o. o.number == x.number) T.orders ≢ Some x) (orders_put T e m)
 orders_differ T m e h =
     each_put (λ o. o.number) (touches_order e T.authorizations) order_differs
     (λ r. restated_order m (authorizations_after T e m) (noted_order e m r)) T.meta.counters.orders T.orders _ _
@@ -233,8 +228,7 @@ fails m rows row h e =
     cc
 
 -- the authorizations that a sweep puts are others than those that stand there
-pub expired_differ : (T : Tables) (m : ℕ) → IsOrdered T →
-    EachOf (λ x. find (λ a. a.number == x.number) T.authorizations ≢ Some x) (authorizations_expired m T)
+pub expired_differ : (T : Tables) (m : ℕ) → IsOrdered T → EachOf (λ x. find (λ a. a.number == x.number) T.authorizations ≢ Some x) (authorizations_expired m T)
 expired_differ T m h =
     each_moved (λ a. a.number) (is_overdue m) (λ (r : AuthorizationRow). record r { status = authz.Expired }) T.authorizations _
     (λ x picked. another (λ a. a.number) T.authorizations x (record x { status = authz.Expired }) refl (expires m x picked))

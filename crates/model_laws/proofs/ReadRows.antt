@@ -31,15 +31,13 @@ want_local k T account (Reused name j ∷ ws) h =
 -- what may follow is the same by a part that keeps the rows that are read
 pub may_local : (k : Kept) (T : Tables) (e : Entry) → ReadsKept k T e → may_on (restricted k T) e ≡ may_on T e
 may_local k T (spent n) h = ap is_some (find_part (λ x. x.serial == n) (λ x. k.nonces x.serial) T.nonces h)
-may_local k T (opened key cs) h =
-    ap (λ o. is_none o && contacts_pass cs) (find_part (λ a. bytes_eq a.key key) (λ a. k.accounts a.number) T.accounts h)
+may_local k T (opened key cs) h = ap (λ o. is_none o && contacts_pass cs) (find_part (λ a. bytes_eq a.key key) (λ a. k.accounts a.number) T.accounts h)
 may_local k T (contacts_changed n cs) h =
     ap (λ o. holds (λ a. is_valid_account a.status) o && contacts_pass cs) (find_part (λ a. a.number == n) (λ a. k.accounts a.number) T.accounts h)
 may_local k T (key_changed n key) h =
     λ i. holds (λ a. is_valid_account a.status) (find_part (λ a. a.number == n) (λ a. k.accounts a.number) T.accounts h.0 i)
     && is_none (find_part (λ a. bytes_eq a.key key) (λ a. k.accounts a.number) T.accounts h.1 i)
-may_local k T (account_ended n s) h =
-    ap (holds (λ a. is_valid_account a.status)) (find_part (λ a. a.number == n) (λ a. k.accounts a.number) T.accounts h)
+may_local k T (account_ended n s) h = ap (holds (λ a. is_valid_account a.status)) (find_part (λ a. a.number == n) (λ a. k.accounts a.number) T.accounts h)
 may_local k T (ordered n ws) h =
     λ i. holds (λ a. is_valid_account a.status) (find_part (λ a. a.number == n) (λ a. k.accounts a.number) T.accounts h.0 i)
     && (has_length 1 most_names ws && (all_different (map wanted_name ws) && (list_all is_wanted ws && want_local k T n ws h.1 i)))

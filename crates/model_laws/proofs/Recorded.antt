@@ -95,8 +95,7 @@ tables_ordered F t =
     record {
       nonces = (
         ascends_filter _ _ 1 (nonces F) (numbered_ascends _ 1 (nonces F) (nonces_numbered F)),
-        below_filter _ _ _ (nonces F)
-            (numbered_below _ 1 (length (nonces F) + 1) (nonces F) (omega arith) (nonces_numbered F)),
+        below_filter _ _ _ (nonces F) (numbered_below _ 1 (length (nonces F) + 1) (nonces F) (omega arith) (nonces_numbered F)),
       );
       accounts = (
         ascends_map (λ a. a.number) _ (account_row F) (λ a. refl) 1 (accounts F) (numbered_ascends _ 1 (accounts F) (accounts_numbered F)),
@@ -133,8 +132,7 @@ challenges_in_rows F t n (a ∷ xs) h =
     (challenges_in_rows F t (n + length a.challenges) xs h.1)
 
 -- the challenges of a history stand by number
-pub challenges_ordered : (F : History) (t : ℕ) →
-    Ascends (λ c. c.number) 1 (flat_map (λ (a : AuthorizationRow). a.challenges) (tables_at F t).authorizations)
+pub challenges_ordered : (F : History) (t : ℕ) → Ascends (λ c. c.number) 1 (flat_map (λ (a : AuthorizationRow). a.challenges) (tables_at F t).authorizations)
 challenges_ordered F t = numbered_ascends (λ c. c.number) 1 _ (challenges_in_rows F t 1 (authorizations F) (challenges_count F))
 
 -- ---- one table
@@ -179,8 +177,7 @@ ordered_up (ordered k ws) m t first n rows = (omega arith, tt)
 ordered_up _ m t first n rows = tt
 
 -- and those of new authorizations
-pub made_up : (e : Entry) (m life n c : ℕ) →
-    Ascends (λ x. x.number) n (map (λ a. restated_authorization m (fresh_authorization a)) (made_by e m life n c))
+pub made_up : (e : Entry) (m life n c : ℕ) → Ascends (λ x. x.number) n (map (λ a. restated_authorization m (fresh_authorization a)) (made_by e m life n c))
 made_up e m life n c =
     ascends_map (λ a. a.number) (λ x. x.number) (λ a. restated_authorization m (fresh_authorization a)) (λ a. refl) n (made_by e m life n c)
     (numbered_ascends (λ a. a.number) n (made_by e m life n c) (made_by_numbered e m life n c))

@@ -22,9 +22,7 @@ stays e F n h = still_some (λ a. a.number == n) (accounts F) (opened_by e.entry
 
 -- the account that an order is made for
 orders_for : (F : History) (k m : ℕ) (ws : List Wanted) → may_follow F (ordered k ws) m ≡ true → HasAccount F k
-orders_for F k m ws may =
-    there (λ a. is_valid (account_status a F)) (account_by_number k F)
-    (may_be_ordered F m k ws may).holder
+orders_for F k m ws may = there (λ a. is_valid (account_status a F)) (account_by_number k F) (may_be_ordered F m k ws may).holder
 
 -- the authorizations of an account that is there
 made_for_account : (F : History) (account date expires : ℕ) (ws : List Wanted) (n c : ℕ) → HasAccount F account →

@@ -11,7 +11,7 @@ use Rattle.desk_model.specs.Authorization.{ends, in_time, authorization_end, aut
 use Rattle.desk_model.specs.Authorization.{answer, answer_by, answering, reporting, when_answered, report, challenge_status, challenge_status_by, is_good}
 use Rattle.desk_model.specs.Authorization.{has_challenge, status_of, kind_of, is_live}
 use Rattle.desk_model.specs.Legal.{may_follow, is_processing_challenge, EachFollows}
-use Rattle.desk_model.specs.Tables.{account_row, challenge_row, authorization_row}
+use Rattle.desk_model.specs.Tables.{account_row, authorization_row, challenge_row, row_of_challenge}
 use Rattle.desk_model.specs.Derived.{is_proved, restated_authorization}
 use Rattle.desk_model.specs.Effect.{key_in, key_numbered, noted_challenge, answered_challenge, reported_challenge, noted_authorization, row_ends, has_row}
 use Rattle.desk_model.specs.Effect.{touches_authorization, moved_authorization, is_overdue, swept_authorization}
@@ -58,16 +58,10 @@ challenge_moves F (answered n) m account c = by (n == c.number)
         ∙ ap (λ b. b || true) (sym (answered_alike account c.number F))
         ∙ sym (is_some-earlier (answer account c.number F) (Some given))
 
-    by : (b : Bool) → (let x : ChallengeRow =
-        record {
-          number = c.number;
-          kind = c.kind;
-          token = c.token;
-          answered = earlier (answer account c.number F) (answer_by key (cond b (Some m) None));
-          reported = report c.number F;
-          status = challenge_status_by (report c.number F) (is_some (earlier (when_answered c.number F) (cond b (Some m) None)));
-        } in
-        x ≡ cond b (answered_challenge m key (challenge_row F account c)) (challenge_row F account c))
+    by : (b : Bool) →
+        row_of_challenge c (earlier (answer account c.number F) (answer_by key (cond b (Some m) None))) (report c.number F)
+        (challenge_status_by (report c.number F) (is_some (earlier (when_answered c.number F) (cond b (Some m) None))))
+        ≡ cond b (answered_challenge m key (challenge_row F account c)) (challenge_row F account c)
     by true =
         λ i. record (challenge_row F account c) {
           answered = earlier (answer account c.number F) (Some given);
@@ -77,16 +71,8 @@ challenge_moves F (answered n) m account c = by (n == c.number)
 challenge_moves F (reported n o) m account c = by (n == c.number)
   where
     by : (b : Bool) → (let r : Option Report = earlier (report c.number F) (cond b (Some (record { date = m; outcome = o })) None) in
-        let x : ChallengeRow =
-        record {
-          number = c.number;
-          kind = c.kind;
-          token = c.token;
-          answered = answer account c.number F;
-          reported = r;
-          status = challenge_status_by r (is_some (when_answered c.number F));
-        } in
-        x ≡ cond b (reported_challenge o m (challenge_row F account c)) (challenge_row F account c))
+        row_of_challenge c (answer account c.number F) r (challenge_status_by r (is_some (when_answered c.number F)))
+        ≡ cond b (reported_challenge o m (challenge_row F account c)) (challenge_row F account c))
     by true =
         let r : Option Report = earlier (report c.number F) (Some (record { date = m; outcome = o })) in
         λ i. record (challenge_row F account c) { reported = r; status = challenge_status_by r (sym (answered_alike account c.number F) i) }
@@ -227,8 +213,7 @@ proving_any a n o m = by (is_good o) refl
     by false e = sym (list_any-same _ (λ c. false) a.challenges (λ c. each_one false (n == c.number) e) ∙ nowhere a.challenges)
 
 -- a good report stands exactly where one of the challenges has a good one: there is never a second report
-pub proved_by : (a : Authorization) (F : History) → EachFollows F →
-    is_some (when_proved a F) ≡ list_any (λ c. is_good_report (report c.number F)) a.challenges
+pub proved_by : (a : Authorization) (F : History) → EachFollows F → is_some (when_proved a F) ≡ list_any (λ c. is_good_report (report c.number F)) a.challenges
 proved_by a [] each = none a.challenges
   where
     none : (cs : List Challenge) → false ≡ list_any (λ (c : Challenge). false) cs
@@ -372,8 +357,7 @@ authorization_later F t m a le =
     swept_status (authorization_end a F) (nat_lt a.expires t) (nat_lt a.expires m) (is_some (when_proved a F)) (past_later a.expires t m le)
 
 -- an authorization's row at a later moment
-pub authorization_swept : (F : History) (t m : ℕ) (a : Authorization) → t ≤ m →
-    authorization_row F m a ≡ swept_authorization m (authorization_row F t a)
+pub authorization_swept : (F : History) (t m : ℕ) (a : Authorization) → t ≤ m → authorization_row F m a ≡ swept_authorization m (authorization_row F t a)
 authorization_swept F t m a le =
     (λ i. record (authorization_row F t a) { status = authorization_later F t m a le i }) ∙ by (is_overdue m (authorization_row F t a))
   where

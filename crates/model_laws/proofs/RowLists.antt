@@ -72,8 +72,7 @@ put_first number x [] h = refl
 put_first number x (y ∷ ys) h = put_before number x y ys h.0
 
 -- rows are put behind one with a lower number
-pub puts_past : {X : Type 0} (number : X → ℕ) (xs : List X) (y : X) (ys : List X) → Above number (number y) xs →
-    puts number xs (y ∷ ys) ≡ y ∷ puts number xs ys
+pub puts_past : {X : Type 0} (number : X → ℕ) (xs : List X) (y : X) (ys : List X) → Above number (number y) xs → puts number xs (y ∷ ys) ≡ y ∷ puts number xs ys
 puts_past number [] y ys h = refl
 puts_past number (x ∷ xs) y ys h = ap (puts number xs) (put_past number x y ys h.0) ∙ puts_past number xs y (put number x ys) h.1
 
@@ -122,8 +121,7 @@ put_last number x [] h = refl
 put_last number x (y ∷ ys) h = put_past number x y ys h.0 ∙ ap (λ l. y ∷ l) (put_last number x ys h.1)
 
 -- rows above all others come last
-pub puts_last : {X : Type 0} (number : X → ℕ) (n : ℕ) (xs rows : List X) → Ascends number n xs → Below number n rows →
-    puts number xs rows ≡ rows ++ xs
+pub puts_last : {X : Type 0} (number : X → ℕ) (n : ℕ) (xs rows : List X) → Ascends number n xs → Below number n rows → puts number xs rows ≡ rows ++ xs
 puts_last number n [] rows h below = sym (nothing rows)
   where
     nothing : {X : Type 0} (ys : List X) → ys ++ [] ≡ ys
@@ -211,8 +209,7 @@ later_found number n (x ∷ xs) h =
     )
 
 -- each row is found by its number
-pub ascends_found : {X : Type 0} (number : X → ℕ) (n : ℕ) (xs : List X) → Ascends number n xs →
-    EachOf (λ x. find (λ y. number y == number x) xs ≡ Some x) xs
+pub ascends_found : {X : Type 0} (number : X → ℕ) (n : ℕ) (xs : List X) → Ascends number n xs → EachOf (λ x. find (λ y. number y == number x) xs ≡ Some x) xs
 ascends_found number n xs h = each _ _ xs (λ x p. p.0) (later_found number n xs h)
 
 -- none is found by a number above all

@@ -279,9 +279,7 @@ passes_chall : (b : Bool) (k : Kept) (T : Tables) (m : ℕ) (s : Signed) (j : �
 passes_chall b k T m s j stated closed restated kept =
     record {
       nonce = ap (λ P. open_nonce P s.nonce) (swept_part k T m closed) ∙ nonce_same k (swept m T) (record s { target = to.Chall j }) named.nonce;
-      issues = record {
-        records = λ r. recorded_local k T m (issued r ∷ []) closed covers (swept_closed k T m closed, covers_issued k (swept m T) r, tt, tt);
-      };
+      issues = record { records = λ r. recorded_local k T m (issued r ∷ []) closed covers (swept_closed k T m closed, covers_issued k (swept m T) r, tt, tt) };
       judged = λ r. ap (λ P. signed_verdict P r (record s { target = to.Chall j })) (swept_part k T m closed)
           ∙ signed_same k (swept m T) r (record s { target = to.Chall j }) named;
       verdict = λ r. carried_answer k T m (signed_verdict (swept m T) r (record s { target = to.Chall j })) closed (replied r);

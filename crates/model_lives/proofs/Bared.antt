@@ -235,11 +235,9 @@ new_after w m S e new n lt = let up : S.meta.counters.authorizations + length (n
 pub effects_bared : (w : ℕ → Bool) (m : ℕ) (S : Tables) (es : List Entry) → NewWhole w S → AllWhole w m S es →
     effects m (bared w S) es ≡ bared w (effects m S es)
 effects_bared w m S [] new h = refl
-effects_bared w m S (e ∷ es) new h =
-    ap (λ U. effects m U es) (effect_bared w m S e new h.0) ∙ effects_bared w m (effect m S e) es (new_after w m S e new) h.1
+effects_bared w m S (e ∷ es) new h = ap (λ U. effects m U es) (effect_bared w m S e new h.0) ∙ effects_bared w m (effect m S e) es (new_after w m S e new) h.1
 
-all_changes_bared : (w : ℕ → Bool) (m : ℕ) (S : Tables) (es : List Entry) → NewWhole w S → AllWhole w m S es →
-    all_changes m (bared w S) es ≡ all_changes m S es
+all_changes_bared : (w : ℕ → Bool) (m : ℕ) (S : Tables) (es : List Entry) → NewWhole w S → AllWhole w m S es → all_changes m (bared w S) es ≡ all_changes m S es
 all_changes_bared w m S [] new h = refl
 all_changes_bared w m S (e ∷ es) new h =
     λ i. changes_bared w m S e new h.0 i

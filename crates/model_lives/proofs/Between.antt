@@ -195,8 +195,7 @@ open_wider k T m a holds n h =
 -- where the touched rows answer, a part that holds them has the accounts
 holders_of : (k : Kept) (T : Tables) (m : ℕ) (a : Ask) (v : Verdict) → Keeps k (touched_rows T m a) →
     IsAnswered (grown (kept_by T m a) T) m (swept m T) v → HoldersOf (open_kept k T) (swept m T) v
-holders_of k T m a (moves move) holds h =
-    each _ _ (swept m T).authorizations (λ r f yes. open_wider k T m a holds r.account (f yes)) h.0.holders
+holders_of k T m a (moves move) holds h = each _ _ (swept m T).authorizations (λ r f yes. open_wider k T m a holds r.account (f yes)) h.0.holders
 holders_of k T m a _ holds h = tt
 
 touched_ready : (T : Tables) (m : ℕ) (a : Ask) → IsOrdered T → IsReady (grown (kept_by T m a) T) T m a
@@ -223,8 +222,7 @@ entry_stands k T m e h holders =
 authorizations_stand : (k : Kept) (T : Tables) (m : ℕ) (v : Verdict) → IsOrdered T → HoldersOf (open_kept k T) (swept m T) v →
     (effects m (swept m (restricted k T)) (entries_of v)).authorizations
     ≡ filter (λ r. (open_kept k T).authorizations r.number) (effects m (swept m T) (entries_of v)).authorizations
-authorizations_stand k T m (opens key contacts) h holders =
-    entry_stands k T m (opened key contacts) h (each_all _ (swept m T).authorizations (λ a yes. cc))
+authorizations_stand k T m (opens key contacts) h holders = entry_stands k T m (opened key contacts) h (each_all _ (swept m T).authorizations (λ a yes. cc))
 authorizations_stand k T m (orders account wanted) h holders =
     entry_stands k T m (ordered account wanted) h (each_all _ (swept m T).authorizations (λ a yes. cc))
 authorizations_stand k T m (moves move) h holders = entry_stands k T m (entry_of move) h holders
@@ -367,20 +365,9 @@ part_answers k T m (ask.Office office.Directory) h holds =
     (answers_at no_rows (restricted k T) m (ask.Office office.Directory) (restricted_ordered k T h) (none_listed (restricted k T)) none))
 part_answers k T m (ask.NewNonce head) h holds = rows_answer k T m (ask.NewNonce head) h tt holds refl refl
 part_answers k T m (ask.Signed s) h holds = rows_answer k T m (ask.Signed s) h (signed_holders k T m s h holds) holds refl refl
-part_answers k T m (ask.Office (office.Report n finding)) h holds =
-    rows_answer k T m (ask.Office (office.Report n finding)) h (office_holders k T m (office.Report n finding) tt h holds) holds refl refl
-part_answers k T m (ask.Office (office.Certify n bytes)) h holds =
-    rows_answer k T m (ask.Office (office.Certify n bytes)) h (office_holders k T m (office.Certify n bytes) tt h holds) holds refl refl
-part_answers k T m (ask.Office (office.FailOrder n problem)) h holds =
-    rows_answer k T m (ask.Office (office.FailOrder n problem)) h (office_holders k T m (office.FailOrder n problem) tt h holds) holds refl refl
-part_answers k T m (ask.Office (office.RevokeAuthz n)) h holds =
-    rows_answer k T m (ask.Office (office.RevokeAuthz n)) h (office_holders k T m (office.RevokeAuthz n) tt h holds) holds refl refl
-part_answers k T m (ask.Office (office.RevokeAccount n)) h holds =
-    rows_answer k T m (ask.Office (office.RevokeAccount n)) h (office_holders k T m (office.RevokeAccount n) tt h holds) holds refl refl
 part_answers k T m (ask.Office office.ChallengeWork) h holds = work_as k T m office.ChallengeWork holds
 part_answers k T m (ask.Office office.OrderWork) h holds = work_as k T m office.OrderWork holds
-part_answers k T m (ask.Office (office.KeyOf n)) h holds =
-    rows_answer k T m (ask.Office (office.KeyOf n)) h (office_holders k T m (office.KeyOf n) tt h holds) holds refl refl
+part_answers k T m (ask.Office a) h holds = rows_answer k T m (ask.Office a) h (office_holders k T m a tt h holds) holds refl refl
 
 -- a part for a call answers it as the whole
 pub parts_answer : (T P : Tables) (call : Call) → IsOrdered T → IsPartFor call T P → AnswersAs (max call.at T.meta.counters.clock) call.ask T P

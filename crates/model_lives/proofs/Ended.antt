@@ -64,8 +64,7 @@ challenge_moved T e m n a row may owner found ended = by (touches_authorization 
 entry_stays : (T : Tables) (e : Entry) (m : ℕ) → IsStated m T → may_on T e ≡ true → EndedRowsStay T (effect m T e)
 entry_stays T e m stated may = record { accounts = accounts_stay; orders = orders_stay; authorizations = authorizations_stay; challenges = challenges_stay }
   where
-    accounts_stay : (n : ℕ) (row : AccountRow) → account_on T n ≡ Some row → IsTrue (is_final_account row.status) →
-        account_on (effect m T e) n ≡ Some row
+    accounts_stay : (n : ℕ) (row : AccountRow) → account_on T n ≡ Some row → IsTrue (is_final_account row.status) → account_on (effect m T e) n ≡ Some row
     accounts_stay n row found ended =
         find-append (λ a. a.number == n) (map (moved_account e m) T.accounts) _ row
         (found_moved (λ a. a.number == n) (moved_account e m)
@@ -172,8 +171,7 @@ tables_stated F m h =
     record {
       authorizations = each-map _ (authorization_row F m) (authorizations F)
           (each_all _ (authorizations F) (λ a. ap (λ (r : AuthorizationRow). r.status) (authorization_stated F h m m a)));
-      orders = each-map _ (order_row F m) (orders F)
-          (each_all _ (orders F) (λ o. ap (λ (r : OrderRow). r.status) (order_stated F m m o)));
+      orders = each-map _ (order_row F m) (orders F) (each_all _ (orders F) (λ o. ap (λ (r : OrderRow). r.status) (order_stated F m m o)));
       challenges = challenges_ordered F m;
     }
 

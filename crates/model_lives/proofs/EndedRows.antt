@@ -179,8 +179,7 @@ challenge_shut T test differ k n a c changed owner found ended may =
 pub challenge_stays : (T : Tables) (e : Entry) (m n : ℕ) (key : List ℕ) (a : AuthorizationRow) (c : ChallengeRow) → may_on T e ≡ true → owner_on T n ≡ Some a →
     challenge_of n a ≡ Some c → is_final_challenge c.status ≡ true →
     noted_challenge e m key c ≡ c
-challenge_stays T (answered k) m n key a c may owner found ended =
-    challenge_shut T is_pending_challenge pending_challenge_lasts k n a c _ owner found ended may
+challenge_stays T (answered k) m n key a c may owner found ended = challenge_shut T is_pending_challenge pending_challenge_lasts k n a c _ owner found ended may
 challenge_stays T (reported k o) m n key a c may owner found ended =
     challenge_shut T is_processing_challenge processing_challenge_lasts k n a c _ owner found ended may
 challenge_stays T _ m n key a c may owner found ended = refl

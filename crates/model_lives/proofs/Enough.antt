@@ -27,7 +27,7 @@ use Rattle.model_lives.proofs.{Listed.KeepsListed, Lists.filtered_each, Thin.who
 use Rattle.desk_model.specs.Touched.{touched, touched_at, touched_rows}
 use Rattle.model_lives.proofs.Grown.{KeepsTouched, grown, grown_closed, grown_part, keeps_falling, keeps_named, keeps_restated, keeps_rows, keeps_touched}
 use Rattle.model_lives.proofs.Grown.{may_restate}
-use Rattle.model_laws.proofs.Plain.{covers_issued, fresh_kept, issued_closed, issued_covers, nonces_covered, spent_closed, spent_covers}
+use Rattle.model_laws.proofs.Plain.{covers_issued, fresh_kept, issued_closed, issued_effect, left_covers, nonces_covered, spent_closed, spent_effect}
 use Rattle.model_lives.proofs.Ready.{IsAnswered, IsReady, swept_names}
 use Rattle.model_lives.proofs.Verdicts.{nonce_same, office_same, signed_same}
 use Rattle.model_lives.proofs.Walks.{IsNoWork, office_answered, signed_answered}
@@ -74,7 +74,8 @@ later_covered k m S n r e closed again covers =
     let T1 : Tables = effect m S (spent n) in
     let T2 : Tables = effect m T1 (issued r) in
     let later : IsClosed k T2 = issued_closed k m T1 r (spent_closed k m S n closed) in
-    nonces_covered k m S n r (e ∷ []) closed (later, issued_covers k m T1 r e (spent_covers k m S n e covers), fresh_kept k T2 m e later again, tt)
+    let covered : Covers k T2 e = left_covers k m T1 (issued r) e (issued_effect m T1 r) (left_covers k m S (spent n) e (spent_effect m S n) covers) in
+    nonces_covered k m S n r (e ∷ []) closed (later, covered, fresh_kept k T2 m e later again, tt)
 
 nonce_covered : (k : Kept) (m : ℕ) (S : Tables) (n : ℕ) (r : List ℕ) (v : Verdict) → IsClosed k S → IsAnswered k m S v →
     CoversAll k m S (spent n ∷ issued r ∷ entries_of v)
@@ -235,12 +236,7 @@ answers_at k T m (ask.Office (office.KeyOf n)) ordered listed h = rows_settle k 
 
 -- all rows are a part for each call
 pub whole_part : (T : Tables) (call : Call) → IsPartFor call T T
-whole_part T call =
-    record {
-      kept = all_rows;
-      cut = sym (restricted_all all_rows T (keeps_all T));
-      holds = keeps_all (touched T call);
-    }
+whole_part T call = record { kept = all_rows; cut = sym (restricted_all all_rows T (keeps_all T)); holds = keeps_all (touched T call) }
 
 -- and so are the same rows
 pub same_part : (T B : Tables) (call : Call) → B ≡ T → IsPartFor call T B

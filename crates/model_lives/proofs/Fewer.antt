@@ -58,8 +58,7 @@ few_cut T m a h =
       accounts = filter_same _ _ T.accounts (each _ _ T.accounts (λ x e. sym e)
           (numbered (λ (x : AccountRow). x.number) (is_few_account T a) 1 T.accounts h.accounts.0)) i;
       authorizations = filter_same _ _ T.authorizations (each _ _ T.authorizations (λ r e. sym e) (few_authorizations T m a h)) i;
-      orders = filter_same _ _ T.orders (each _ _ T.orders (λ o e. sym e)
-          (numbered (λ (o : OrderRow). o.number) (is_few_order T m a) 1 T.orders h.orders.0)) i;
+      orders = filter_same _ _ T.orders (each _ _ T.orders (λ o e. sym e) (numbered (λ (o : OrderRow). o.number) (is_few_order T m a) 1 T.orders h.orders.0)) i;
     }
 
 pub few_hold : (T : Tables) (m : ℕ) (a : Ask) → IsOrdered T → Keeps (few_kept T m a) (few_rows T m a)
@@ -243,8 +242,7 @@ few_pass T m s h stated =
     k = few_kept T m (ask.Signed s)
 
     restated : KeepsRestated (restates (ask.Signed s)) (grown k T) T m (ask.Signed s)
-    restated =
-        few_restated k T m (ask.Signed s) (few_holders k T m (ask.Signed s) refl (few_hold T m (ask.Signed s) h)) (few_hold T m (ask.Signed s) h)
+    restated = few_restated k T m (ask.Signed s) (few_holders k T m (ask.Signed s) refl (few_hold T m (ask.Signed s) h)) (few_hold T m (ask.Signed s) h)
 
     named : KeepsNamed (grown k T) T (ask.Signed s)
     named = keeps_named k T (ask.Signed s) (few_named k T m (ask.Signed s) (few_hold T m (ask.Signed s) h))

@@ -169,8 +169,7 @@ unfolding content
 escape_then n more [] fits text = tt
 escape_then n more (x ∷ rest) fits text = by (x == 117) refl
   where
-    short : (o : Option ℕ) → IfSome o (λ c. (x < 128) × (c < 128)) →
-        IsTextBehind [] (option_and_then (λ c. prepend (c ∷ []) (content plain rest)) o)
+    short : (o : Option ℕ) → IfSome o (λ c. (x < 128) × (c < 128)) → IsTextBehind [] (option_and_then (λ c. prepend (c ∷ []) (content plain rest)) o)
     short None h = tt
     short (Some c) h =
         prepended [] (c ∷ []) (content plain rest)

@@ -96,8 +96,7 @@ module _ (parse : Parse json.Json) (parses : Parses IsTextTree parse) where
       Gives HoldTextTrees (option_and_then (λ q. members_step parse more q.0 q.1) o)
   member_turn more again None h = tt
   member_turn more again (Some (None, ts)) h = (tt, h.1)
-  member_turn more again (Some (Some k, ts)) h =
-      and_more HoldTextTrees (json.member k) (λ j ms p q. (h.0, p, q)) more again (parse ts) (parses ts h.1)
+  member_turn more again (Some (Some k, ts)) h = and_more HoldTextTrees (json.member k) (λ j ms p q. (h.0, p, q)) more again (parse ts) (parses ts h.1)
 
   -- the members of an object
   members_texts : (n : ℕ) → Parses HoldTextTrees (json.members parse n)

@@ -80,16 +80,12 @@ byte_texts between backslash x rest next quoted more = (tt, more in_word)
 byte_texts between operator x rest next quoted more = (operator_text x, more between)
 byte_texts between space x rest next quoted more = more between
 byte_texts between other x rest next quoted more = (word_text (x ∷ rest), more in_word)
-byte_texts in_word quote x rest next quoted more = more in_word
-byte_texts in_word backslash x rest next quoted more = more in_word
 byte_texts in_word operator x rest next quoted more = (operator_text x, more between)
 byte_texts in_word space x rest next quoted more = more between
-byte_texts in_word other x rest next quoted more = more in_word
+byte_texts in_word _ x rest next quoted more = more in_word
 byte_texts in_string quote x rest next quoted more = more between
 byte_texts in_string backslash x rest next quoted more = more in_escape
-byte_texts in_string operator x rest next quoted more = more in_string
-byte_texts in_string space x rest next quoted more = more in_string
-byte_texts in_string other x rest next quoted more = more in_string
+byte_texts in_string _ x rest next quoted more = more in_string
 byte_texts in_escape c x rest next quoted more = more in_string
 
 -- the lexemes of the end of a text
@@ -129,20 +125,10 @@ punctuate_texts : (p : Place) (ls : List Lexeme) → EachOf IsTextLexeme ls → 
 unfolding punctuate
 punctuate_texts fresh [] h = tt
 punctuate_texts after_value [] h = tt
-punctuate_texts after_comma [] h = (tt, tt)
-punctuate_texts after_key [] h = (tt, tt)
-punctuate_texts fresh (token t ∷ ls) h = place_texts fresh t (begins_colon ls) (λ q. punctuate q ls) h.0 (λ q. punctuate_texts q ls h.1)
-punctuate_texts after_value (token t ∷ ls) h = place_texts after_value t (begins_colon ls) (λ q. punctuate q ls) h.0 (λ q. punctuate_texts q ls h.1)
-punctuate_texts after_comma (token t ∷ ls) h = place_texts after_comma t (begins_colon ls) (λ q. punctuate q ls) h.0 (λ q. punctuate_texts q ls h.1)
-punctuate_texts after_key (token t ∷ ls) h = place_texts after_key t (begins_colon ls) (λ q. punctuate q ls) h.0 (λ q. punctuate_texts q ls h.1)
-punctuate_texts fresh (comma ∷ ls) h = (tt, tt)
 punctuate_texts after_value (comma ∷ ls) h = punctuate_texts after_comma ls h.1
-punctuate_texts after_comma (comma ∷ ls) h = (tt, tt)
-punctuate_texts after_key (comma ∷ ls) h = (tt, tt)
-punctuate_texts fresh (colon ∷ ls) h = (tt, tt)
-punctuate_texts after_value (colon ∷ ls) h = (tt, tt)
-punctuate_texts after_comma (colon ∷ ls) h = (tt, tt)
 punctuate_texts after_key (colon ∷ ls) h = punctuate_texts fresh ls h.1
+punctuate_texts p (token t ∷ ls) h = place_texts p t (begins_colon ls) (λ q. punctuate q ls) h.0 (λ q. punctuate_texts q ls h.1)
+punctuate_texts _ _ h = (tt, tt)
 
 -- the tokens of a text
 pub tokens_texts : (text : List ℕ) → IsUtf8 text → EachOf IsTextToken (tokens text)

@@ -1,7 +1,7 @@
 -- The keys that payloads spell are keys that the desk accepts.
 use Rattle.std.proofs.Common.{◌≡◌, ℕ, List, Option, Some, None, IfSome, Bool, true, false, cond, refl, inl, inr}
 use Rattle.std.specs.Prelude.{IsTrue, ◌||◌, bytes_eq, codes}
-use Rattle.std.proofs.lemmas.Slice.Eq.{bytes_eq-Decides}
+use Rattle.desk_model.proofs.KeyShapes.{curve_known}
 use Rattle.serde_json.specs.Data.{Data}
 use Rattle.desk_model.specs.Keys.{Key, IsCurve, IsKey, IsKeyText, canonical_text, ec_by, is_curve, is_number_text, key_in, key_of_type, number_member, okp_by}
 use Rattle.desk_model.specs.Keys.{rsa_by, text_member}
@@ -28,20 +28,6 @@ number_formed name d =
     by s true e = e
     by s false e = tt
 
--- a curve that is served
-curve_formed : (crv : List ℕ) → is_curve crv ≡ true → IsCurve crv
-curve_formed crv = by (bytes_eq crv (codes "P-256")) refl (bytes_eq crv (codes "P-384")) refl (bytes_eq crv (codes "P-521")) refl
-  where
-    same : (text : List ℕ) → bytes_eq crv text ≡ true → crv ≡ text
-    same text e = (bytes_eq-Decides crv text).0 e
-
-    by : (a : Bool) → bytes_eq crv (codes "P-256") ≡ a → (b : Bool) → bytes_eq crv (codes "P-384") ≡ b →
-        (c : Bool) → bytes_eq crv (codes "P-521") ≡ c → (a || (b || c)) ≡ true → IsCurve crv
-    by true p b q c r h = inl (same (codes "P-256") p)
-    by false p true q c r h = inr (inl (same (codes "P-384") q))
-    by false p false q true r h = inr (inr (same (codes "P-521") r))
-    by false p false q false r h = cc
-
 -- a key on a curve
 ec_formed : (crv x y : Option (List ℕ)) → IfSome x IsNumber → IfSome y IsNumber → IfSome (ec_by crv x y) IsKey
 ec_formed None x y p q = tt
@@ -50,7 +36,7 @@ ec_formed (Some crv) (Some x) None p q = tt
 ec_formed (Some crv) (Some x) (Some y) p q = by (is_curve crv) refl
   where
     by : (b : Bool) → is_curve crv ≡ b → IfSome (cond b (Some (Key.ec crv x y)) None) IsKey
-    by true e = (curve_formed crv e, p, q)
+    by true e = (curve_known crv e, p, q)
     by false e = tt
 
 -- an RSA key
@@ -80,8 +66,7 @@ type_formed d (Some kty) = by (bytes_eq kty (codes "EC")) (bytes_eq kty (codes "
     by true b c =
         ec_formed (text_member (codes "crv") d) (number_member (codes "x") d) (number_member (codes "y") d) (number_formed (codes "x") d)
         (number_formed (codes "y") d)
-    by false true c =
-        rsa_formed (number_member (codes "e") d) (number_member (codes "n") d) (number_formed (codes "e") d) (number_formed (codes "n") d)
+    by false true c = rsa_formed (number_member (codes "e") d) (number_member (codes "n") d) (number_formed (codes "e") d) (number_formed (codes "n") d)
     by false false true = okp_formed (text_member (codes "crv") d) (number_member (codes "x") d) (number_formed (codes "x") d)
     by false false false = tt
 

@@ -87,8 +87,7 @@ module _ (l : ℕ → Bool) (m : ℕ) (P : Tables) (kept : ListsFalling l m P) w
       λ i. sweep_same i ++ (same i ++ PutMeta (effects m (swept m P) (spent n ∷ issued r ∷ [])).meta ∷ [])
     where
       same : all_changes m (swept m some) (spent n ∷ issued r ∷ []) ≡ all_changes m (swept m P) (spent n ∷ issued r ∷ [])
-      same =
-          nonces_bare m (swept m some) n r ∙ ap (λ T. all_changes m T (spent n ∷ issued r ∷ [])) bare_same ∙ sym (nonces_bare m (swept m P) n r)
+      same = nonces_bare m (swept m some) n r ∙ ap (λ T. all_changes m T (spent n ∷ issued r ∷ [])) bare_same ∙ sym (nonces_bare m (swept m P) n r)
 
   issued_same : (r : List ℕ) → recorded_changes m some (issued r ∷ []) ≡ recorded_changes m P (issued r ∷ [])
   issued_same r =

@@ -207,8 +207,7 @@ accounts_named T a h =
     (found_by of_account (λ k x. x.number == k) (accounts_numbered T) T.accounts
     (λ k. found_filter of_account (λ x. x.number == k) 1 T.accounts h.accounts.0) (account_numbers a))))
   where
-    keys_found : (texts : List (List ℕ)) →
-        IsFound of_account (λ x. list_any (λ k. bytes_eq x.key k) texts) T.accounts (flat_map (accounts_with_key T) texts)
+    keys_found : (texts : List (List ℕ)) → IsFound of_account (λ x. list_any (λ k. bytes_eq x.key k) texts) T.accounts (flat_map (accounts_with_key T) texts)
     keys_found texts =
         found_by of_account (λ k x. bytes_eq x.key k) (accounts_with_key T) T.accounts
         (λ k. found_filter of_account (λ x. bytes_eq x.key k) 1 T.accounts h.accounts.0) texts

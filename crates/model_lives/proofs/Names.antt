@@ -152,8 +152,7 @@ different-filter q (n ∷ ns) h =
 -- names that are kept are different
 different-kept : (ns : List Name) → all_different (kept ns) ≡ true
 different-kept [] = refl
-different-kept (n ∷ ns) =
-    rw (any-filter_not (same_name n) (kept ns)) (different-filter (λ other. not (same_name n other)) (kept ns) (different-kept ns))
+different-kept (n ∷ ns) = rw (any-filter_not (same_name n) (kept ns)) (different-filter (λ other. not (same_name n other)) (kept ns) (different-kept ns))
 
 -- ---- tokens
 

@@ -103,8 +103,7 @@ orders_shown k E n h =
 pub rows_same : (k : Kept) (rows : List AuthorizationRow) (ns : List ℕ) → EachOf (λ n. k.authorizations n ≡ true) ns →
     rows_of (filter (λ a. k.authorizations a.number) rows) ns ≡ rows_of rows ns
 rows_same k rows [] h = refl
-rows_same k rows (n ∷ ns) h =
-    λ i. and_row (find_kept (λ (a : AuthorizationRow). a.number) k.authorizations n rows h.0 i) (rows_same k rows ns h.1 i)
+rows_same k rows (n ∷ ns) h = λ i. and_row (find_kept (λ (a : AuthorizationRow). a.number) k.authorizations n rows h.0 i) (rows_same k rows ns h.1 i)
 
 document_same : (k : Kept) (E : Tables) (o : OrderRow) → EachOf (λ n. k.authorizations n ≡ true) (numbers_of o.listed) →
     order_document (restricted k E) o ≡ order_document E o

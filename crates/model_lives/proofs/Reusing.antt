@@ -1,7 +1,6 @@
 -- A part that keeps the authorizations which a new order may use again lets it use the same.
 use Rattle.std.proofs.Common.{◌≡◌, ℕ, List, [], ◌∷◌, Option, Some, None, refl, ap, ◌∙◌, true, false, Bool, cond}
-use Rattle.std.specs.Prelude.{◌==◌}
-use Rattle.std.specs.List.{list_any}
+use Rattle.std.specs.{Prelude.◌==◌, List.list_any}
 use Rattle.std.proofs.lemmas.Bool.{and_parts}
 use Rattle.desk_model.specs.{Authorization.is_valid, Legal.has_length, Limits.most_names, Lookup.holds, Tables.Tables, Verdict.check}
 use Rattle.desk_model.specs.Kept.{EachOf, Kept, restricted}

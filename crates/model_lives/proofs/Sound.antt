@@ -132,11 +132,7 @@ order_sound : (r : List ℕ) (T : Tables) (n : ℕ) (a : AccountRow) (ids : List
 order_sound r T n a ids (s ∷ ss) in_order found valid fits is = refused_sound _ (s ∷ ss)
 order_sound r T n a ids [] in_order found valid fits is =
     record {
-      records = λ enough. record {
-        later = tt;
-        formed = tt;
-        allowed = rw found (and_from _ _ valid (wanted_fits T n ids r in_order fits is enough));
-      };
+      records = λ enough. record { later = tt; formed = tt; allowed = rw found (and_from _ _ valid (wanted_fits T n ids r in_order fits is enough)) };
     }
 
 -- newOrder
@@ -167,12 +163,10 @@ finalize_sound r T n o text found =
 authorization_sound : (r : List ℕ) (T : Tables) (n : ℕ) (a : AuthorizationRow) (p : AuthorizationChange) → authorization_on T n ≡ Some a →
     IsSound r T (authorization_verdict n a p)
 authorization_sound r T n a authz_change.Read found = none_sound _
-authorization_sound r T n a authz_change.Deactivate found =
-    choose_sound r T (is_live a.status) _ _ (λ live. move_sound _ tt tt (rw found live)) (none_sound _)
+authorization_sound r T n a authz_change.Deactivate found = choose_sound r T (is_live a.status) _ _ (λ live. move_sound _ tt tt (rw found live)) (none_sound _)
 
 -- a pending challenge is answered
-challenge_sound : (r : List ℕ) (T : Tables) (n : ℕ) (a : AuthorizationRow) (p : ChallengeChange) → owner_on T n ≡ Some a →
-    IsSound r T (challenge_verdict n a p)
+challenge_sound : (r : List ℕ) (T : Tables) (n : ℕ) (a : AuthorizationRow) (p : ChallengeChange) → owner_on T n ≡ Some a → IsSound r T (challenge_verdict n a p)
 challenge_sound r T n a chall_change.Read found = none_sound _
 challenge_sound r T n a chall_change.Answer found =
     choose_sound r T (stands_open (λ c. is_pending_challenge c.status) a n) _ _ (λ open_one. move_sound _ tt tt (rw found open_one)) (none_sound _)
@@ -279,8 +273,7 @@ fail_sound r T n problem o texts found =
     (check_sound r T (is_processing o.status) refusal.Conflict _ (λ waits. move_sound _ tt texts (rw found (and_from _ _ waits formed)))))
 
 -- the operator takes back an authorization
-revoke_authorization_sound : (r : List ℕ) (T : Tables) (n : ℕ) (a : AuthorizationRow) → authorization_on T n ≡ Some a →
-    IsSound r T (revoke_authorization n a)
+revoke_authorization_sound : (r : List ℕ) (T : Tables) (n : ℕ) (a : AuthorizationRow) → authorization_on T n ≡ Some a → IsSound r T (revoke_authorization n a)
 revoke_authorization_sound r T n a found =
     choose_sound r T _ _ _ (λ _. none_sound _) (check_sound r T (is_live a.status) refusal.Conflict _ (λ live. move_sound _ tt tt (rw found live)))
 

@@ -1,6 +1,8 @@
 -- Steps of verdicts: what holds of a refusal, and of what comes after a test that passed, holds of the verdict.
-use Rattle.std.proofs.Common.{◌≡◌, Bool, true, false, Option, Some, None, [], refl}
+use Rattle.std.proofs.Common.{◌≡◌, ℕ, Bool, true, false, Option, Some, None, [], refl, ap}
+use Rattle.desk_model.specs.Rules.{own}
 use Rattle.desk_model.specs.Verdict.{check, choose, given, unless_fault}
+use Rattle.desk_model.specs.declared.refusal.Refusal.TheVariants as refusal
 use Rattle.desk_model.specs.declared.{refusal.Refusal.Refusal, verdict.Verdict.Verdict, verdict.Verdict.TheVariants.Refused as refused}
 
 -- a test
@@ -35,3 +37,8 @@ no_fault_keeps P o v r h = fault_keeps P o v r (λ _. h)
 -- one of two, by either
 pub either_keeps : (P : Verdict → Type 0) (b : Bool) (v w : Verdict) → P v → P w → P (choose b v w)
 either_keeps P b v w h = choose_keeps P b v w (λ _. h)
+
+-- an object of an account, where the same is found
+pub own_same : {X : Type 0} (account : X → ℕ) (n : ℕ) (f : X → Verdict) (o p : Option X) → o ≡ p →
+    given (own account n o) refusal.NotFound f ≡ given (own account n p) refusal.NotFound f
+own_same account n f o p same = ap (λ x. given (own account n x) refusal.NotFound f) same

@@ -35,10 +35,7 @@ whole_orders (o ∷ os) = ap (λ l. o ∷ l) (whole_orders os)
 
 pub thinned_whole : (k : Kept) (T : Tables) → thinned (in_whole k) T ≡ restricted k T
 thinned_whole k T =
-    λ i. record (restricted k T) {
-      authorizations = whole_authorizations (restricted k T).authorizations i;
-      orders = whole_orders (restricted k T).orders i;
-    }
+    λ i. record (restricted k T) { authorizations = whole_authorizations (restricted k T).authorizations i; orders = whole_orders (restricted k T).orders i }
 
 -- ---- rows by number
 
@@ -142,10 +139,7 @@ ListsFalling l m T = EachOf (λ o. falls m T.authorizations o ≡ true → l o.n
 
 pub swept_thin : (c : ℕ → ChallengeRow → Bool) (l : ℕ → Bool) (m : ℕ) (P : Tables) → ListsFalling l m P → swept m (thin c l P) ≡ thin c l (swept m P)
 swept_thin c l m P kept =
-    λ i. record (swept m P) {
-      authorizations = swept_authorizations_thin c m P.authorizations i;
-      orders = orders P.orders kept i;
-    }
+    λ i. record (swept m P) { authorizations = swept_authorizations_thin c m P.authorizations i; orders = orders P.orders kept i }
   where
     orders : (os : List OrderRow) → EachOf (λ o. falls m P.authorizations o ≡ true → l o.number ≡ true) os →
         map (swept_order m (map (with_challenges c) P.authorizations)) (map (with_listed l) os)

@@ -42,8 +42,7 @@ use Rattle.model_lives.proofs.Verdicts.{is_key, nonce_same, signed_same, verdict
 -- ---- what falls
 
 -- a number that is not kept is not found in the part
-not_found : (kept : ℕ → Bool) (n : ℕ) (xs : List AuthorizationRow) → kept n ≡ false →
-    find (λ a. a.number == n) (filter (λ a. kept a.number) xs) ≡ None
+not_found : (kept : ℕ → Bool) (n : ℕ) (xs : List AuthorizationRow) → kept n ≡ false → find (λ a. a.number == n) (filter (λ a. kept a.number) xs) ≡ None
 not_found kept n [] h = refl
 not_found kept n (x ∷ xs) h = by (kept x.number) refl (x.number == n) refl (not_found kept n xs h)
   where
@@ -65,8 +64,7 @@ found_alike kept test n xs h = by (kept n) refl
 
     none : kept n ≡ false → (o : Option AuthorizationRow) → authorization_numbered n xs ≡ o → holds test o ≡ false
     none e None is = refl
-    none e (Some r) is =
-        fails r (eqb-true r.number n (found_passes (λ a. a.number == n) xs r is)) e (each_found _ (λ a. a.number == n) xs r h is) (test r) refl
+    none e (Some r) is = fails r (eqb-true r.number n (found_passes (λ a. a.number == n) xs r is)) e (each_found _ (λ a. a.number == n) xs r h is) (test r) refl
 
     by : (b : Bool) → kept n ≡ b → holds test (authorization_numbered n (filter (λ a. kept a.number) xs)) ≡ holds test (authorization_numbered n xs)
     by true e = ap (holds test) (find_kept (λ (a : AuthorizationRow). a.number) kept n xs e)
@@ -221,8 +219,7 @@ signed_shown k S r s e named = by s.key (λ x h. or_left _ _ h)
 carried_open : (k : Kept) (T : Tables) (m : ℕ) (v : Verdict) → IsOrdered T → CoversSweep k T m → IsShown k (swept m T) v → CarriesOutAs m T (restricted k T) v
 carried_open k T m (refused why ss) h covers shown = carries_by k T m (refused why ss) h tt (λ index. refl)
 carried_open k T m (key_taken account) h covers shown = carries_by k T m (key_taken account) h tt (λ index. refl)
-carried_open k T m (answers what) h covers shown =
-    carries_by k T m (answers what) h tt (λ index. ap (λ P. reply_of P what) (swept_open k T m covers) ∙ shown)
+carried_open k T m (answers what) h covers shown = carries_by k T m (answers what) h tt (λ index. ap (λ P. reply_of P what) (swept_open k T m covers) ∙ shown)
 carried_open k T m _ h covers shown = absurd shown
 
 records_open : (k : Kept) (T : Tables) (m : ℕ) (v : Verdict) → IsOrdered T → CoversSweep k T m → IsShown k (swept m T) v → (n : ℕ) (fresh : List ℕ) →

@@ -4,13 +4,13 @@ use Rattle.std.specs.Prelude.{◌==◌, ◌&&◌, bytes_eq, option_and_then}
 use Rattle.std.proofs.lemmas.Bool.{or_left}
 use Rattle.desk_model.specs.declared.refusal.Refusal.TheVariants as refusal
 use Rattle.desk_model.specs.{Account.is_valid as is_valid_account, Document.account_url, Effect.has_row, Lookup.holds, Tables.Tables}
-use Rattle.desk_model.specs.Payload.{authorization_change, challenge_change, finalize, key_change, new_order}
+use Rattle.desk_model.specs.Payload.{key_change, new_order}
 use Rattle.desk_model.specs.declared.{payload.KeyChange.KeyChange, payload.Identifier.Identifier, verdict.Verdict.Verdict, call.OfficeAsk.OfficeAsk}
 use Rattle.desk_model.specs.declared.{call.BadKey.BadKey, call.Finding.Finding, call.Signed.Signed, call.Target.Target, objects.Nonce.Nonce}
 use Rattle.desk_model.specs.declared.{rows.AccountRow.AccountRow, rows.AuthorizationRow.AuthorizationRow, rows.OrderRow.OrderRow}
 use Rattle.desk_model.specs.Questions.{account_on, account_with_key, authorization_on, order_on, owner_on, challenge_of}
-use Rattle.desk_model.specs.Rules.{certificate_verdict, certify_verdict, challenge_verdict, authorization_verdict, fail_verdict, finalize_verdict}
-use Rattle.desk_model.specs.Rules.{finding_verdict, if_spelled, key_verdict, nothing, office_verdict, open_nonce, open_nonce_in, own, report_verdict}
+use Rattle.desk_model.specs.Rules.{certify_verdict, fail_verdict}
+use Rattle.desk_model.specs.Rules.{finding_verdict, if_spelled, key_verdict, office_verdict, open_nonce, open_nonce_in, report_verdict}
 use Rattle.desk_model.specs.Rules.{revoke_account, revoke_authorization, signed_verdict, key_change_verdict, rekey_verdict, target_verdict, names_asked}
 use Rattle.desk_model.specs.Rules.{new_order_verdict}
 use Rattle.desk_model.specs.Tokens.{NonceText, nonce_in}
@@ -24,7 +24,7 @@ use Rattle.desk_model.specs.declared.verdict.Shows.TheVariants as show
 use Rattle.model_laws.proofs.Local.{find_kept, find_part}
 use Rattle.model_laws.proofs.Finds.{each_found, found_passes}
 use Rattle.desk_model.specs.Asked.{carries, target_new_key, target_order, target_authorization, target_owner, target_names}
-use Rattle.model_lives.proofs.{Grown.KeepsNamed, Lists.same_number}
+use Rattle.model_lives.proofs.{Grown.KeepsNamed, Lists.same_number, Steps.own_same}
 use Rattle.model_lives.proofs.Reusing.{KeepsAsked, new_order_same}
 use Rattle.model_laws.proofs.Basics.{each}
 
@@ -80,6 +80,14 @@ key_change_same k S n p kept free = by (key_change p) free
         λ i. check (bytes_eq c.account (account_url S.meta.policy n) && holds (λ key. holds (λ a. bytes_eq a.key key) (account_same k S n kept i)) c.old_key)
         refusal.Malformed (rekeyed c.new_key h i)
 
+-- a new order, where what its names may use again is kept
+asked_same : (k : Kept) (S : Tables) (r : List ℕ) (n : ℕ) (asked : Option (List Identifier)) →
+    KeepsAsked k S.authorizations n (option_and_then names_asked asked) →
+    given asked refusal.Malformed (new_order_verdict (restricted k S) r n) ≡ given asked refusal.Malformed (new_order_verdict S r n)
+unfolding given
+asked_same k S r n None h = refl
+asked_same k S r n (Some ids) h = new_order_same k S r n ids h
+
 target_same : (k : Kept) (S : Tables) (r : List ℕ) (n : ℕ) (p : List ℕ) (t : Target) → k.accounts n ≡ true →
     EachOf (λ x. target_new_key t p x.key ≡ true → k.accounts x.number ≡ true) S.accounts →
     ((j : ℕ) → target_order t j ≡ true → k.orders j ≡ true) →
@@ -87,32 +95,14 @@ target_same : (k : Kept) (S : Tables) (r : List ℕ) (n : ℕ) (p : List ℕ) (t
     EachOf (λ a. target_owner t a ≡ true → k.authorizations a.number ≡ true) S.authorizations →
     KeepsAsked k S.authorizations n (target_names t p) →
     target_verdict (restricted k S) r n p t ≡ target_verdict S r n p t
-unfolding given
-target_same k S r n p to.NewAccount y f o a c w = refl
 target_same k S r n p to.KeyChange y f o a c w = key_change_same k S n p y f
-target_same k S r n p to.NewOrder y f o a c w = by (new_order p) w
-  where
-    by : (asked : Option (List Identifier)) → KeepsAsked k S.authorizations n (option_and_then names_asked asked) →
-        given asked refusal.Malformed (new_order_verdict (restricted k S) r n) ≡ given asked refusal.Malformed (new_order_verdict S r n)
-    by None h = refl
-    by (Some ids) h = new_order_same k S r n ids h
-target_same k S r n p (to.Account j) y f o a c w = refl
-target_same k S r n p (to.Orders j) y f o a c w = refl
-target_same k S r n p (to.Order j) y f o a c w =
-    ap (λ x. given (own (λ (y : OrderRow). y.account) n x) refusal.NotFound
-    (λ y. check (nothing p) refusal.Malformed (answers (show.Order j)))) (order_same k S j (o j (same_number j)))
-target_same k S r n p (to.Finalize j) y f o a c w =
-    ap (λ x. given (own (λ (y : OrderRow). y.account) n x) refusal.NotFound
-    (λ y. given (finalize p) refusal.Malformed (finalize_verdict j y))) (order_same k S j (o j (same_number j)))
-target_same k S r n p (to.Cert j) y f o a c w =
-    ap (λ x. given (own (λ (y : OrderRow). y.account) n x) refusal.NotFound
-    (λ y. check (nothing p) refusal.Malformed (certificate_verdict j y))) (order_same k S j (o j (same_number j)))
-target_same k S r n p (to.Authz j) y f o a c w =
-    ap (λ x. given (own (λ (y : AuthorizationRow). y.account) n x) refusal.NotFound
-    (λ y. given (authorization_change p) refusal.Malformed (authorization_verdict j y))) (authorization_same k S j (a j (same_number j)))
-target_same k S r n p (to.Chall j) y f o a c w =
-    ap (λ x. given (own (λ (y : AuthorizationRow). y.account) n x) refusal.NotFound
-    (λ y. given (challenge_change p) refusal.Malformed (challenge_verdict j y))) (owner_same k S j c)
+target_same k S r n p to.NewOrder y f o a c w = asked_same k S r n (new_order p) w
+target_same k S r n p (to.Order j) y f o a c w = own_same _ n _ _ _ (order_same k S j (o j (same_number j)))
+target_same k S r n p (to.Finalize j) y f o a c w = own_same _ n _ _ _ (order_same k S j (o j (same_number j)))
+target_same k S r n p (to.Cert j) y f o a c w = own_same _ n _ _ _ (order_same k S j (o j (same_number j)))
+target_same k S r n p (to.Authz j) y f o a c w = own_same _ n _ _ _ (authorization_same k S j (a j (same_number j)))
+target_same k S r n p (to.Chall j) y f o a c w = own_same _ n _ _ _ (owner_same k S j c)
+target_same k S r n p _ y f o a c w = refl
 
 keyed_same : (k : Kept) (S : Tables) (r key p : List ℕ) (t : Target) →
     EachOf (λ x. bytes_eq x.key key ≡ true → k.accounts x.number ≡ true) S.accounts →

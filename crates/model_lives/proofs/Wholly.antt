@@ -17,8 +17,8 @@ use Rattle.desk_model.specs.Limits.{longest_certificate, most_names}
 use Rattle.desk_model.specs.Order.{is_processing, is_ready}
 use Rattle.desk_model.specs.Payload.{account_change, authorization_change, challenge_change, finalize, key_change, new_account, new_order}
 use Rattle.desk_model.specs.Questions.{account_on, account_with_key, authorization_on, challenge_of, order_end, order_on, owner_on, serves, serving_on}
-use Rattle.desk_model.specs.Rules.{account_verdict, authorization_verdict, certificate_verdict, certify_verdict, challenge_verdict, csr_in, fail_verdict}
-use Rattle.desk_model.specs.Rules.{finalize_verdict, finding_verdict, has_this_key, is_revoked, is_revoked_status, kept, key_verdict, left_by, names_in}
+use Rattle.desk_model.specs.Rules.{account_verdict, authorization_verdict, certify_verdict, challenge_verdict, csr_in, fail_verdict}
+use Rattle.desk_model.specs.Rules.{finding_verdict, has_this_key, is_revoked, is_revoked_status, kept, key_verdict, left_by, names_in}
 use Rattle.desk_model.specs.Rules.{new_order_verdict, nothing, office_verdict, open_nonce, order_of, outcome_of, own, rekey_verdict, report_verdict}
 use Rattle.desk_model.specs.Rules.{revoke_account, revoke_authorization, same_outcome, same_problem, signed_verdict, stands_open, subproblems, target_verdict}
 use Rattle.desk_model.specs.Rules.{wanted, wanted_by}
@@ -51,7 +51,7 @@ use Rattle.model_lives.specs.Thinned.{all_listed, with_challenges}
 use Rattle.model_lives.proofs.{Replies.owner_then, Lists.same_number, Ready.swept_named}
 use Rattle.model_lives.proofs.Bared.{AllWhole, AreWhole, NewWhole, bared, effects_bared, find_changed, recorded_bared, row_whole, swept_bared, those}
 use Rattle.model_lives.proofs.Bared.{touches_bared}
-use Rattle.model_lives.proofs.Steps.{check_keeps, either_keeps, given_keeps, no_fault_keeps}
+use Rattle.model_lives.proofs.Steps.{check_keeps, either_keeps, given_keeps, no_fault_keeps, own_same}
 use Rattle.model_lives.proofs.Thin.{carries_thin, found_thin, rows_thin, whole_orders}
 use Rattle.model_lives.proofs.Verdicts.{is_key, verdict_by}
 use Rattle.model_lives.proofs.Walks.{IsNoWork, sent}
@@ -109,8 +109,7 @@ authorization_bared w S n h = found_bared w S n ∙ by (authorization_on S n) re
 order_bared : (w : ℕ → Bool) (S : Tables) (n : ℕ) → order_on (bared w S) n ≡ order_on S n
 order_bared w S n = ap (find (λ o. o.number == n)) (whole_orders S.orders)
 
-serving_bared : (w : ℕ → Bool) (S : Tables) (n : ℕ) (name : Name) → serving_on (bared w S) n name
-    ≡ option_map (with_challenges (those w)) (serving_on S n name)
+serving_bared : (w : ℕ → Bool) (S : Tables) (n : ℕ) (name : Name) → serving_on (bared w S) n name ≡ option_map (with_challenges (those w)) (serving_on S n name)
 serving_bared w S n name = find-map (serves n name (order_end S)) (with_challenges (those w)) S.authorizations
 
 -- ---- the verdict
@@ -171,19 +170,11 @@ judged_bared w S n p j =
 target_bared : (w : ℕ → Bool) (S : Tables) (r : List ℕ) (n : ℕ) (s : Signed) (t : Target) → KeepsWhole w S (sent s t) →
     target_verdict (bared w S) r n s.payload t ≡ target_verdict S r n s.payload t
 target_bared w S r n s to.NewOrder h = λ i. given (new_order s.payload) refusal.Malformed (λ ids. new_order_bared w S r n ids i)
-target_bared w S r n s (to.Order j) h =
-    ap (λ x. given (own (λ (y : OrderRow). y.account) n x) refusal.NotFound
-    (λ y. check (nothing s.payload) refusal.Malformed (answers (show.Order j)))) (order_bared w S j)
-target_bared w S r n s (to.Finalize j) h =
-    ap (λ x. given (own (λ (y : OrderRow). y.account) n x) refusal.NotFound
-    (λ y. given (finalize s.payload) refusal.Malformed (finalize_verdict j y))) (order_bared w S j)
-target_bared w S r n s (to.Cert j) h =
-    ap (λ x. given (own (λ (y : OrderRow). y.account) n x) refusal.NotFound
-    (λ y. check (nothing s.payload) refusal.Malformed (certificate_verdict j y))) (order_bared w S j)
+target_bared w S r n s (to.Order j) h = own_same _ n _ _ _ (order_bared w S j)
+target_bared w S r n s (to.Finalize j) h = own_same _ n _ _ _ (order_bared w S j)
+target_bared w S r n s (to.Cert j) h = own_same _ n _ _ _ (order_bared w S j)
 target_bared w S r n s (to.Authz j) h = judged_bared w S n s.payload j
-target_bared w S r n s (to.Chall j) h =
-    ap (λ x. given (own (λ (y : AuthorizationRow). y.account) n x) refusal.NotFound
-    (λ y. given (challenge_change s.payload) refusal.Malformed (challenge_verdict j y))) (owner_bared w S j h.owner)
+target_bared w S r n s (to.Chall j) h = own_same _ n _ _ _ (owner_bared w S j h.owner)
 target_bared w S r n s _ h = refl
 
 key_bared : (w : ℕ → Bool) (S : Tables) (r key : List ℕ) (s : Signed) (t : Target) → KeepsWhole w S (sent s t) → (o : Option AccountRow) →
@@ -251,10 +242,8 @@ moved_reply_bared w m S (move.AuthorizationEnded n ending) new h =
     reply_bared w (effect m S (entry_of (move.AuthorizationEnded n ending))) (show.Authorization n) h
 moved_reply_bared w m S (move.Finalized n csr) new h =
     order_by_bared w (effect m S (entry_of (move.Finalized n csr))) n (λ o d. at (order_url S.meta.policy o.number) (ok 200 d))
-moved_reply_bared w m S (move.Certified n certificate) new h =
-    order_by_bared w (effect m S (entry_of (move.Certified n certificate))) n (λ o d. ok 200 d)
-moved_reply_bared w m S (move.Failed n problem) new h =
-    order_by_bared w (effect m S (entry_of (move.Failed n problem))) n (λ o d. ok 200 d)
+moved_reply_bared w m S (move.Certified n certificate) new h = order_by_bared w (effect m S (entry_of (move.Certified n certificate))) n (λ o d. ok 200 d)
+moved_reply_bared w m S (move.Failed n problem) new h = order_by_bared w (effect m S (entry_of (move.Failed n problem))) n (λ o d. ok 200 d)
 moved_reply_bared w m S _ new h = refl
 
 -- by the tables after its entries
@@ -293,8 +282,7 @@ nonces_touch w m S n r es h = (
 )
 
 -- also behind them
-later_touches : (w : ℕ → Bool) (m : ℕ) (S : Tables) (n : ℕ) (r : List ℕ) (v : Verdict) → IsWholly w S v →
-    AllWhole w m S (spent n ∷ issued r ∷ entries_of v)
+later_touches : (w : ℕ → Bool) (m : ℕ) (S : Tables) (n : ℕ) (r : List ℕ) (v : Verdict) → IsWholly w S v → AllWhole w m S (spent n ∷ issued r ∷ entries_of v)
 later_touches w m S n r v h = nonces_touch w m S n r (entries_of v) (by v h)
   where
     U : Tables
@@ -344,10 +332,8 @@ revoke_account_wholly w S n x h found =
 pub office_wholly : (w : ℕ → Bool) (S : Tables) (a : OfficeAsk) → IsNoWork a → KeepsWhole w S (ask.Office a) → IsWholly w S (office_verdict S a)
 office_wholly w S office.Directory none h = tt
 office_wholly w S (office.Report n finding) none h = report_wholly w S n finding h.owner
-office_wholly w S (office.Certify n bytes) none h =
-    given_keeps (IsWholly w S) (order_on S n) refusal.NotFound _ tt (λ o found. certify_wholly w S n bytes o)
-office_wholly w S (office.FailOrder n problem) none h =
-    given_keeps (IsWholly w S) (order_on S n) refusal.NotFound _ tt (λ o found. fail_wholly w S n problem o)
+office_wholly w S (office.Certify n bytes) none h = given_keeps (IsWholly w S) (order_on S n) refusal.NotFound _ tt (λ o found. certify_wholly w S n bytes o)
+office_wholly w S (office.FailOrder n problem) none h = given_keeps (IsWholly w S) (order_on S n) refusal.NotFound _ tt (λ o found. fail_wholly w S n problem o)
 office_wholly w S (office.RevokeAuthz n) none h =
     let whole : w n ≡ true = h.authorization n (same_number n) in
     given_keeps (IsWholly w S) (authorization_on S n) refusal.NotFound _ tt (λ r found.

@@ -343,14 +343,8 @@ few_enough T call h stated = by call.ask refl
     by (ask.Office office.Directory) is =
         enough_by T call (ask.Office office.Directory) no_rows is (no_part T)
         (answers_at no_rows T m (ask.Office office.Directory) h (none_listed T) (record { nonces = tt; accounts = tt; authorizations = tt; orders = tt }))
-    by (ask.NewNonce head) is =
-        needed_by T call (ask.NewNonce head) tt h is refl refl (few_issue T m (ask.NewNonce head) h refl refl refl)
+    by (ask.NewNonce head) is = needed_by T call (ask.NewNonce head) tt h is refl refl (few_issue T m (ask.NewNonce head) h refl refl refl)
     by (ask.Signed s) is =
         thinned_by T call (ask.Signed s) (needed T m (ask.Signed s)) is (needed_cut T m (ask.Signed s) h)
         (needed_answers T m (ask.Signed s) h tt (needed_pass T m s h (few_pass T m s h (subst (λ a. IsStatedFor a m T) is stated))))
-    by (ask.Office (office.Report n finding)) is = few (office.Report n finding) tt is refl
-    by (ask.Office (office.Certify n bytes)) is = few (office.Certify n bytes) tt is refl
-    by (ask.Office (office.FailOrder n problem)) is = few (office.FailOrder n problem) tt is refl
-    by (ask.Office (office.RevokeAuthz n)) is = few (office.RevokeAuthz n) tt is refl
-    by (ask.Office (office.RevokeAccount n)) is = few (office.RevokeAccount n) tt is refl
-    by (ask.Office (office.KeyOf n)) is = few (office.KeyOf n) tt is refl
+    by (ask.Office a) is = few a tt is refl

@@ -5,10 +5,9 @@ use Rattle.desk_model.specs.{Change.recorded_changes, Tables.Tables, Kept.EachOf
 use Rattle.desk_model.specs.Decide.{entries_of, verdict_reply}
 use Rattle.desk_model.specs.Effect.{effects, swept}
 use Rattle.desk_model.specs.Rules.{office_verdict, open_nonce, signed_verdict}
-use Rattle.desk_model.specs.declared.call.Ask.{Ask}
+use Rattle.desk_model.specs.declared.{call.Ask.Ask, call.OfficeAsk.OfficeAsk, call.Signed.Signed, rows.AuthorizationRow.AuthorizationRow}
+use Rattle.desk_model.specs.declared.{rows.ChallengeRow.ChallengeRow, verdict.Verdict.Verdict}
 use Rattle.desk_model.specs.declared.call.Ask.TheVariants as ask
-use Rattle.desk_model.specs.declared.{call.OfficeAsk.OfficeAsk, call.Signed.Signed, rows.AuthorizationRow.AuthorizationRow, rows.ChallengeRow.ChallengeRow}
-use Rattle.desk_model.specs.declared.{verdict.Verdict.Verdict}
 use Rattle.desk_model.specs.declared.entry.Entry.TheVariants.{Issued as issued, Spent as spent}
 use Rattle.model_lives.specs.Thinned.{with_challenges}
 

@@ -6,14 +6,12 @@ use Rattle.desk_model.specs.Derived.{restated_authorization, restated_order}
 use Rattle.desk_model.specs.Effect.{is_overdue, swept}
 use Rattle.desk_model.specs.{Kept.EachOf, Lookup.holds, Payload.account_change, Rules.nothing, Tables.Tables}
 use Rattle.desk_model.specs.Touched.{is_named_account, is_named_authorization, is_named_order, is_own_authorization, is_past_order, is_touched_nonce, lists}
-use Rattle.desk_model.specs.declared.call.Ask.{Ask}
+use Rattle.desk_model.specs.declared.{call.Ask.Ask, call.Target.Target, payload.AccountChange.AccountChange, rows.AccountRow.AccountRow}
+use Rattle.desk_model.specs.declared.{rows.AuthorizationRow.AuthorizationRow, rows.OrderRow.OrderRow}
 use Rattle.desk_model.specs.declared.call.Ask.TheVariants as ask
 use Rattle.desk_model.specs.declared.call.OfficeAsk.TheVariants as office
-use Rattle.desk_model.specs.declared.call.Target.{Target}
 use Rattle.desk_model.specs.declared.call.Target.TheVariants as to
-use Rattle.desk_model.specs.declared.payload.AccountChange.{AccountChange}
 use Rattle.desk_model.specs.declared.payload.AccountChange.TheVariants as change
-use Rattle.desk_model.specs.declared.rows.{AccountRow.AccountRow, AuthorizationRow.AuthorizationRow, OrderRow.OrderRow}
 
 -- ---- what an ask may change, and what it needs of orders
 

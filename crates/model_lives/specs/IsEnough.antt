@@ -1,15 +1,12 @@
 -- When rows are enough for a call, though they may lack what it touches.
-use Rattle.std.specs.Prelude.{◌≡◌, ◌&&◌, ℕ, max, [], Bool, map}
+use Rattle.std.specs.Prelude.{◌≡◌, ◌&&◌, ℕ, max, Bool, map}
 use Rattle.std.specs.List.{filter, list_any}
 use Rattle.desk_model.specs.{Legal.is_processing_challenge, Order.is_processing, Tables.Tables}
 use Rattle.desk_model.specs.Touched.{lists, only_meta}
-use Rattle.desk_model.specs.declared.call.Ask.{Ask}
+use Rattle.desk_model.specs.declared.{call.Ask.Ask, call.Call.Call, rows.AuthorizationRow.AuthorizationRow}
 use Rattle.desk_model.specs.declared.call.Ask.TheVariants as ask
-use Rattle.desk_model.specs.declared.call.Call.{Call}
 use Rattle.desk_model.specs.declared.call.OfficeAsk.TheVariants as office
-use Rattle.desk_model.specs.declared.rows.AuthorizationRow.{AuthorizationRow}
-use Rattle.model_lives.specs.AnswersAs.{AnswersAs}
-use Rattle.model_lives.specs.Few.{needed_rows}
+use Rattle.model_lives.specs.{AnswersAs.AnswersAs, Few.needed_rows}
 use Rattle.model_lives.specs.Thinned.{Thinning, thinned, waiting_challenges, with_challenges, without_challenges}
 
 -- the part is cut from the whole, of whose rows it may lack what belongs to them, and answers the call as the whole does
@@ -30,22 +27,12 @@ is_worked_on T r = list_any (λ o. is_processing o.status && lists o r.number) T
 
 -- for the work of the validator: these authorizations, whose ends tell whether they are still pending, with the challenges that wait alone
 abbrev pub challenge_work_rows : Tables → Tables
-challenge_work_rows T =
-    record {
-      meta = T.meta;
-      nonces = [];
-      accounts = [];
-      authorizations = map (with_challenges waiting_challenges) (filter has_work T.authorizations);
-      orders = [];
-    }
+challenge_work_rows T = record (only_meta T) { authorizations = map (with_challenges waiting_challenges) (filter has_work T.authorizations) }
 
 -- for the work of the issuer: these orders, and the authorizations that they list, whose ends let an order fall, without challenges
 abbrev pub order_work_rows : Tables → Tables
 order_work_rows T =
-    record {
-      meta = T.meta;
-      nonces = [];
-      accounts = [];
+    record (only_meta T) {
       authorizations = map without_challenges (filter (is_worked_on T) T.authorizations);
       orders = filter (λ o. is_processing o.status) T.orders;
     }

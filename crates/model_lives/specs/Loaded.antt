@@ -2,21 +2,19 @@
 use Rattle.std.specs.Prelude.{ℕ, ◌-◌, max, List, [], ◌∷◌, ◌++◌, if◌then◌else◌, Option, Some, None, Ok, Err, option_and_then}
 use Rattle.std.specs.List.{filter, flat_map}
 use Rattle.model_laws.specs.Placing.{puts}
-use Rattle.desk_model.specs.{Derived.numbers_of, Payload.key_change, Tables.Tables}
+use Rattle.desk_model.specs.{Derived.numbers_of, Payload.key_change, Tables.Tables, Touched.only_meta}
 use Rattle.desk_model.specs.Name.{Name, same_name}
 use Rattle.desk_model.specs.Tokens.{NonceText, nonce_in}
-use Rattle.desk_model.specs.declared.call.Ask.{Ask}
+use Rattle.desk_model.specs.declared.{call.Ask.Ask, call.Call.Call, call.Target.Target, objects.Nonce.Nonce, rows.AccountRow.AccountRow}
+use Rattle.desk_model.specs.declared.{rows.AuthorizationRow.AuthorizationRow, rows.OrderRow.OrderRow}
 use Rattle.desk_model.specs.declared.call.Ask.TheVariants as ask
 use Rattle.desk_model.specs.declared.call.OfficeAsk.TheVariants as office
-use Rattle.desk_model.specs.declared.call.{Call.Call, Target.Target}
 use Rattle.desk_model.specs.declared.call.Target.TheVariants as to
-use Rattle.desk_model.specs.declared.{objects.Nonce.Nonce, rows.AccountRow.AccountRow, rows.AuthorizationRow.AuthorizationRow, rows.OrderRow.OrderRow}
 use Rattle.desk_model.specs.declared.status.AuthzStatus.TheVariants as authz
 use Rattle.desk_model.specs.declared.status.OrderStatus.TheVariants as order
 use Rattle.model_lives.specs.LookUps.{accounts_numbered, accounts_with_key, authorizations_numbered, authorizations_of, authorizations_named}
 use Rattle.model_lives.specs.LookUps.{authorizations_past, nonces_before, nonces_numbered, orders_listing, orders_numbered, orders_of, orders_past, owners_of}
 use Rattle.desk_model.specs.Asked.{asked_names, asks_authorizations, asks_orders}
-use Rattle.desk_model.specs.Touched.{only_meta}
 
 -- ---- what an ask names, as lists of numbers
 
@@ -45,9 +43,7 @@ new_keys (ask.Signed s) = target_new_keys s.target s.payload
 new_keys _ = []
 
 abbrev pub target_accounts : Target → List ℕ
-target_accounts (to.Account k) = k ∷ []
-target_accounts (to.Orders k) = k ∷ []
-target_accounts _ = []
+target_accounts target = elim target [ to.Account k ↦ k ∷ [] | to.Orders k ↦ k ∷ [] | _ ↦ [] ]
 
 abbrev pub account_numbers : Ask → List ℕ
 account_numbers (ask.Signed s) = target_accounts s.target
@@ -56,10 +52,7 @@ account_numbers (ask.Office (office.KeyOf k)) = k ∷ []
 account_numbers _ = []
 
 abbrev pub target_order_numbers : Target → List ℕ
-target_order_numbers (to.Order k) = k ∷ []
-target_order_numbers (to.Finalize k) = k ∷ []
-target_order_numbers (to.Cert k) = k ∷ []
-target_order_numbers _ = []
+target_order_numbers target = elim target [ to.Order k ↦ k ∷ [] | to.Finalize k ↦ k ∷ [] | to.Cert k ↦ k ∷ [] | _ ↦ [] ]
 
 abbrev pub order_numbers : Ask → List ℕ
 order_numbers (ask.Signed s) = target_order_numbers s.target
@@ -68,8 +61,7 @@ order_numbers (ask.Office (office.FailOrder k problem)) = k ∷ []
 order_numbers _ = []
 
 abbrev pub target_authorization_numbers : Target → List ℕ
-target_authorization_numbers (to.Authz k) = k ∷ []
-target_authorization_numbers _ = []
+target_authorization_numbers target = elim target [ to.Authz k ↦ k ∷ [] | _ ↦ [] ]
 
 abbrev pub authorization_numbers : Ask → List ℕ
 authorization_numbers (ask.Signed s) = target_authorization_numbers s.target
@@ -77,8 +69,7 @@ authorization_numbers (ask.Office (office.RevokeAuthz k)) = k ∷ []
 authorization_numbers _ = []
 
 abbrev pub target_challenge_numbers : Target → List ℕ
-target_challenge_numbers (to.Chall k) = k ∷ []
-target_challenge_numbers _ = []
+target_challenge_numbers target = elim target [ to.Chall k ↦ k ∷ [] | _ ↦ [] ]
 
 abbrev pub challenge_numbers : Ask → List ℕ
 challenge_numbers (ask.Signed s) = target_challenge_numbers s.target

@@ -6,13 +6,11 @@ use Rattle.desk_model.specs.{Kept.EachOf, Legal.is_processing_challenge, Order.i
 use Rattle.desk_model.specs.declared.{objects.Nonce.Nonce, rows.AccountRow.AccountRow, rows.AuthorizationRow.AuthorizationRow, rows.ChallengeRow.ChallengeRow}
 use Rattle.desk_model.specs.declared.{rows.OrderRow.OrderRow, status.AuthzStatus.AuthzStatus, status.OrderStatus.OrderStatus}
 use Rattle.model_lives.specs.Thinned.{without_challenges, without_listed}
-use Rattle.model_lives.specs.declared.queries.AccountsWhere.{AccountsWhere}
-use Rattle.model_lives.specs.declared.queries.AccountsWhere.TheVariants as accounts
-use Rattle.model_lives.specs.declared.queries.AuthorizationsWhere.{AuthorizationsWhere}
-use Rattle.model_lives.specs.declared.queries.AuthorizationsWhere.TheVariants as authorizations
-use Rattle.model_lives.specs.declared.queries.NoncesWhere.{NoncesWhere}
-use Rattle.model_lives.specs.declared.queries.NoncesWhere.TheVariants as nonces
+use Rattle.model_lives.specs.declared.{queries.AccountsWhere.AccountsWhere, queries.AuthorizationsWhere.AuthorizationsWhere, queries.NoncesWhere.NoncesWhere}
 use Rattle.model_lives.specs.declared.queries.OrdersWhere.{OrdersWhere}
+use Rattle.model_lives.specs.declared.queries.AccountsWhere.TheVariants as accounts
+use Rattle.model_lives.specs.declared.queries.AuthorizationsWhere.TheVariants as authorizations
+use Rattle.model_lives.specs.declared.queries.NoncesWhere.TheVariants as nonces
 use Rattle.model_lives.specs.declared.queries.OrdersWhere.TheVariants as orders
 
 -- ---- nonces

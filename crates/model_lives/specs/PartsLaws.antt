@@ -1,14 +1,12 @@
 -- That parts are enough for calls.
 use Rattle.std.specs.Prelude.{ℕ, max, ◌≡◌, ◌≤◌}
-use Rattle.desk_model.specs.{Effect.swept, Entry.History, History.clock, Legal.EachFollows}
+use Rattle.desk_model.specs.{Effect.swept, Entry.History, History.clock, Legal.EachFollows, Touched.touched}
 use Rattle.desk_model.specs.Tables.{Tables, picture}
 use Rattle.desk_model.specs.declared.call.Call.{Call}
 use Rattle.model_laws.specs.Ordered.{IsOrdered}
-use Rattle.model_lives.specs.AnswersAs.{AnswersAs}
+use Rattle.model_lives.specs.{AnswersAs.AnswersAs, IsPart.IsPartFor, Loaded.loaded}
 use Rattle.model_lives.specs.Few.{IsStated, IsStatedFor}
 use Rattle.model_lives.specs.IsEnough.{IsEnoughFor, enough}
-use Rattle.model_lives.specs.{IsPart.IsPartFor, Loaded.loaded}
-use Rattle.desk_model.specs.Touched.{touched}
 
 -- a part of the tables that holds the rows which a call touches answers it as the whole does
 pub record TouchedRowsAreEnough : Type 0 where

@@ -31,8 +31,7 @@ year_low d t e =
       day_low d t e,
       days_from_civil-day_count d.date.year d.date.month d.date.day,
       days_from_civil-day_count (pos 1970) 1 1,
-      day_count-lt_year d.date.year d.date.month d.date.day (pos 1970) 1 1 (civil d.date)
-          (omega arith) lt,
+      day_count-lt_year d.date.year d.date.month d.date.day (pos 1970) 1 1 (civil d.date) (omega arith) lt,
     )))
     (λ ge. ge)
 

@@ -45,8 +45,7 @@ late_count : (y m d : ℕ) → IsCivilDate (pos y) m d → 3 ≤ m → (day_coun
 late_count y m d civil low =
     let month = late_month (pos y) (pos (suc y)) m d low civil.1.1 civil.2.0 civil.2.1 in (
       omega (arith, day_count-late (pos y) (y + 10000) m d refl low civil.1.1 civil.2.0, march_days-shift y),
-      late_date y m d low civil.1.1
-          civil.2.0 (march_date y (m - 3) (march_months m + d - 1) (omega (arith, month.bound, march_days-suc y)) month.month_is),
+      late_date y m d low civil.1.1 civil.2.0 (march_date y (m - 3) (march_months m + d - 1) (omega (arith, month.bound, march_days-suc y)) month.month_is),
     )
 
 -- January and February, by the same count
@@ -58,8 +57,7 @@ early_count y m d civil high =
       omega (
         arith,
         day_count-early (pos (suc y)) (y + 10000) m d (ap (λ k. pos k) (omega arith)) civil.1.0 high civil.2.0,
-        march_days-shift
-            y,
+        march_days-shift y,
       ),
       early_date y m d civil.1.0 high civil.2.0
           (march_date y (m + 12 - 3) (march_months (m + 12) + d - 1) (omega (arith, month.bound, march_days-suc y)) month.month_is),
@@ -116,5 +114,4 @@ fields_early t (suc y) m d h mi s c high =
 
 -- the fields of a civil moment are those that the arithmetic gives
 pub fields_of_civil : (t y m d h mi s : ℕ) → IsCivil t y m d h mi s → AreFieldsOf t y m d h mi s
-fields_of_civil t y m d h mi s c =
-    ⊎_elim (λ early. fields_early t y m d h mi s c (omega arith)) (λ late. fields_late t y m d h mi s c late) (cases_lt m 3)
+fields_of_civil t y m d h mi s c = ⊎_elim (λ early. fields_early t y m d h mi s c (omega arith)) (λ late. fields_late t y m d h mi s c late) (cases_lt m 3)

@@ -13,23 +13,8 @@ pub late_month : (y z : ℤ) (m d : ℕ) → 3 ≤ m → m ≤ 12 → 1 ≤ d �
 late_month y z zero d low high first last = absurd (omega arith)
 late_month y z (suc zero) d low high first last = absurd (omega arith)
 late_month y z (suc (suc zero)) d low high first last = absurd (omega arith)
-late_month y z (suc (suc (suc zero))) d low high first last = record { month_is = grind arith; bound = grind arith }
-late_month y z (suc (suc (suc (suc zero)))) d low high first last = record { month_is = grind arith; bound = grind arith }
-late_month y z (suc (suc (suc (suc (suc zero))))) d low high first last = record { month_is = grind arith; bound = grind arith }
-late_month y z (suc (suc (suc (suc (suc (suc zero)))))) d low high first last = record { month_is = grind arith; bound = grind arith }
-late_month y z (suc (suc (suc (suc (suc (suc (suc zero))))))) d low high first last = record { month_is = grind arith; bound = grind arith }
-late_month y z (suc (suc (suc (suc (suc (suc (suc (suc zero)))))))) d low high first last = record { month_is = grind arith; bound = grind arith }
-late_month y z (suc (suc (suc (suc (suc (suc (suc (suc (suc zero))))))))) d low high first last = record { month_is = grind arith; bound = grind arith }
-late_month y z (suc (suc (suc (suc (suc (suc (suc (suc (suc (suc zero)))))))))) d low high first last = record { month_is = grind arith; bound = grind arith }
-late_month y z (suc (suc (suc (suc (suc (suc (suc (suc (suc (suc (suc zero))))))))))) d low high first last = record {
-  month_is = grind arith;
-  bound = grind arith;
-}
-late_month y z (suc (suc (suc (suc (suc (suc (suc (suc (suc (suc (suc (suc zero)))))))))))) d low high first last = record {
-  month_is = grind arith;
-  bound = grind arith;
-}
 late_month y z (suc (suc (suc (suc (suc (suc (suc (suc (suc (suc (suc (suc (suc m))))))))))))) d low high first last = absurd (omega arith)
+late_month y z m d low high first last = record { month_is = grind arith; bound = grind arith }
 
 -- January and February end the year before
 pub early_month : (y : ℤ) (m d : ℕ) → 1 ≤ m → m ≤ 2 → 1 ≤ d → d ≤ days_in_month y m → IsMonthOf y (m + 12) d

@@ -19,8 +19,7 @@ Ascends-from_test number n (x ∷ xs) h =
 -- and numbers that ascend pass it
 pub ascends-true : {X : Type 0} (number : X → ℕ) (n : ℕ) (xs : List X) → Ascends number n xs → ascends number n xs ≡ true
 ascends-true number n [] h = refl
-ascends-true number n (x ∷ xs) h =
-    ap (λ b. b && ascends number (number x + 1) xs) (le-leb n (number x) h.0) ∙ ascends-true number (number x + 1) xs h.1
+ascends-true number n (x ∷ xs) h = ap (λ b. b && ascends number (number x + 1) xs) (le-leb n (number x) h.0) ∙ ascends-true number (number x + 1) xs h.1
 
 -- what passes a test of each
 pub EachOf-from_test : {X : Type 0} (test : X → Bool) (P : X → Type 0) → ((x : X) → test x ≡ true → P x) → (xs : List X) → list_all test xs ≡ true → EachOf P xs

@@ -1,7 +1,6 @@
 -- Rows that are nested under their owners have these parents and these children, and none else do.
 use Rattle.std.proofs.Common.{◌≡◌, ℕ, ◌+◌, ◌<◌, ◌≤◌, Bool, true, false, cond, List, [], ◌∷◌, ◌++◌, map, refl, sym, ap, ◌∙◌, arith, append_assoc}
-use Rattle.std.specs.Prelude.{◌==◌}
-use Rattle.std.specs.List.{AllByRecursion}
+use Rattle.std.specs.{Prelude.◌==◌, List.AllByRecursion}
 use Rattle.std.proofs.lemmas.Bool.{eqb-true, eq-eqb}
 use Rattle.model_laws.specs.Ordered.{Ascends}
 use Rattle.store_columns.specs.declared.flat_rows.Owned.{Owned}
@@ -55,8 +54,7 @@ behind-above {T} n (r ∷ rs) h = ap (λ b. cond b (behind n rs) (r ∷ rs)) (mo
 -- the first rows of an owner are its own, before rows of higher owners
 first-own : {T : Type 0} (n : ℕ) (ts : List T) (rs : List (Owned T)) → AreAbove n rs → first_of n (owned_by n ts ++ rs) ≡ ts
 first-own n [] rs h = first-above n rs h
-first-own n (t ∷ ts) rs h =
-    ap (λ b. cond b (t ∷ first_of n (owned_by n ts ++ rs)) []) (eq-eqb n n refl) ∙ ap (λ l. t ∷ l) (first-own n ts rs h)
+first-own n (t ∷ ts) rs h = ap (λ b. cond b (t ∷ first_of n (owned_by n ts ++ rs)) []) (eq-eqb n n refl) ∙ ap (λ l. t ∷ l) (first-own n ts rs h)
 
 behind-own : {T : Type 0} (n : ℕ) (ts : List T) (rs : List (Owned T)) → AreAbove n rs → behind n (owned_by n ts ++ rs) ≡ rs
 behind-own n [] rs h = behind-above n rs h

@@ -139,8 +139,7 @@ picked_both {X} {Y} h p (x ∷ xs) = by (p x) (h x) refl (picked_both h p xs)
         front : (o : Option Y) → IsPermutation (filter_map h xs) (filter_map h (filter p xs) ++ filter_map h (filter (λ x. not (p x)) xs))
             → IsPermutation (cons_option o (filter_map h xs)) (cons_option o (filter_map h (filter p xs)) ++ filter_map h (filter (λ x. not (p x)) xs))
         front None rest = rest
-        front (Some y) rest =
-            IsPermutation-cons y (filter_map h xs) (filter_map h (filter p xs) ++ filter_map h (filter (λ x. not (p x)) xs)) rest
+        front (Some y) rest = IsPermutation-cons y (filter_map h xs) (filter_map h (filter p xs) ++ filter_map h (filter (λ x. not (p x)) xs)) rest
     by false o is rest =
         subst (λ m. IsPermutation (cons_option o (filter_map h xs)) (filter_map h (filter p xs) ++ cons_option m (filter_map h (filter (λ x. not (p x)) xs))))
         (sym is) (middle o rest)

@@ -12,8 +12,7 @@ use Rattle.store_book.specs.FaultNumbers.{challenges_of}
 -- one row's faults, and what is left
 pub pushed-step : {X : Type 0} (faults_of : X → List StatusFault) (x : X) (rest : List X) (before now whole : List StatusFault) →
     now ≡ before ++ faults_of x → before ++ flat_map faults_of (x ∷ rest) ≡ whole → now ++ flat_map faults_of rest ≡ whole
-pushed-step faults_of x rest before now whole e h =
-    ap (λ l. l ++ flat_map faults_of rest) e ∙ append_assoc before (faults_of x) (flat_map faults_of rest) ∙ h
+pushed-step faults_of x rest before now whole e h = ap (λ l. l ++ flat_map faults_of rest) e ∙ append_assoc before (faults_of x) (flat_map faults_of rest) ∙ h
 
 -- the faults of one authorization's challenges, and what is left
 pub pushed_all-step : (a : AuthorizationRow) (rest : List AuthorizationRow) (before now whole : List StatusFault) →

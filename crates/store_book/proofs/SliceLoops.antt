@@ -20,8 +20,7 @@ slice-step all_of one_of by_row xs index d before now whole more pushed kept =
 -- and behind the last row
 pub slice-end : {X Y : Type 0} (all_of : List X → List Y) → all_of [] ≡ [] → (xs : List X) (index : ℕ) (done whole : List Y) →
     length xs ≤ index → done ++ all_of (drop index xs) ≡ whole → done ≡ whole
-slice-end all_of none xs index done whole all kept =
-    sym (ap (λ l. done ++ l) (at_drop_all all_of xs index all ∙ none) ∙ append-nil done) ∙ kept
+slice-end all_of none xs index done whole all kept = sym (ap (λ l. done ++ l) (at_drop_all all_of xs index all ∙ none) ∙ append-nil done) ∙ kept
 
 -- a test of all rows, by one row that passes
 pub passed-step : {X : Type 0} (p : X → Bool) (x : X) (before rest : List X) (whole : Bool) → p x ≡ true → before ≡ x ∷ rest →

@@ -44,8 +44,7 @@ of_number-insert k c (d ∷ ds) = by (nat_le c.number d.number) refl (of_number-
 -- so does the sort
 of_number-sorted : (k : ℕ) (cs : List ChallengeRow) → of_number k (sorted_challenges cs) ≡ of_number k cs
 of_number-sorted k [] = refl
-of_number-sorted k (c ∷ cs) =
-    of_number-insert k c (sorted_challenges cs) ∙ ap (λ l. cond (are_even k c.number) (c ∷ l) l) (of_number-sorted k cs)
+of_number-sorted k (c ∷ cs) = of_number-insert k c (sorted_challenges cs) ∙ ap (λ l. cond (are_even k c.number) (c ∷ l) l) (of_number-sorted k cs)
 
 -- the faults of one number are those of the challenges of that number
 faults-of_number : (k : ℕ) (cs : List ChallengeRow) → faults_of_number k (flat_map challenge_faults cs) ≡ flat_map challenge_faults (of_number k cs)
@@ -84,8 +83,7 @@ rises-insert : (c : ChallengeRow) (ds : List ChallengeRow) → Rises number_of d
 rises-insert c [] h = (tt, tt)
 rises-insert c (d ∷ ds) h = by (nat_le c.number d.number) refl (rises-insert c ds h.1)
   where
-    by : (b : Bool) → nat_le c.number d.number ≡ b → Rises number_of (insert_challenge c ds) →
-        Rises number_of (cond b (c ∷ d ∷ ds) (d ∷ insert_challenge c ds))
+    by : (b : Bool) → nat_le c.number d.number ≡ b → Rises number_of (insert_challenge c ds) → Rises number_of (cond b (c ∷ d ∷ ds) (d ∷ insert_challenge c ds))
     by true e ih = let le = leb-true c.number d.number e in ((le, at_least-le number_of c.number d.number ds le h.0), h)
     by false e ih = let lt = leb-false c.number d.number e in (at_least-insert d.number c ds (omega (arith, lt)) h.0, ih)
 

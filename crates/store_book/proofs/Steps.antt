@@ -123,8 +123,7 @@ pub places_more : (rows : List (Owned Listed)) (row : Owned Listed) (order place
 places_more [] row order place next up rise = (tt, tt)
 places_more (r ∷ rows) row order place next up rise = (
   each_more (λ s. s.owner ≡ r.owner → r.row.place < s.row.place) rows row rise.0 (λ same. above next up.0 same),
-  places_more rows row order place next up.1
-      rise.1,
+  places_more rows row order place next up.1 rise.1,
 )
   where
     above : IsPlacedNext order place row.owner row.row.place → IsPlacedUpTo order place r → row.owner ≡ r.owner → r.row.place < row.row.place

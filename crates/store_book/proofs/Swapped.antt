@@ -96,8 +96,7 @@ picked_flat h (x ∷ xs) = by (h x) (picked_flat h xs)
 
 -- moves with it
 pub picked-permutation : {X Y : Type 0} (h : X → Option Y) (xs ys : List X) → IsPermutation xs ys → IsPermutation (filter_map h xs) (filter_map h ys)
-picked-permutation h xs ys moved =
-    rw (sym (picked_flat h xs), sym (picked_flat h ys)) (flat-permutation (λ x. cons_option (h x) []) xs ys moved)
+picked-permutation h xs ys moved = rw (sym (picked_flat h xs), sym (picked_flat h ys)) (flat-permutation (λ x. cons_option (h x) []) xs ys moved)
 
 -- a list whose image is another list in another order stands in that order
 pub lifted : {X Y : Type 0} (f : X → Y) (xs : List X) (ys : List Y) → IsPermutation (map f xs) ys → (zs : List X) × IsPermutation xs zs × (map f zs ≡ ys)
@@ -106,7 +105,6 @@ lifted {X} f xs ys moved =
     (λ l i j low lower h.
     let long : length l ≡ length h.0 = sym (ap length h.2) ∙ length-map h.0 f in (
       swap h.0 i j,
-      IsPermutation-trans xs h.0 (swap h.0 i j) h.1
-          (IsPermutation-swap h.0 (swap h.0 i j) i j (omega (arith, low, long)) (omega (arith, lower, long)) refl),
+      IsPermutation-trans xs h.0 (swap h.0 i j) h.1 (IsPermutation-swap h.0 (swap h.0 i j) i j (omega (arith, low, long)) (omega (arith, lower, long)) refl),
       map-swap f h.0 i j ∙ ap (λ m. swap m i j) h.2,
     )) ys moved

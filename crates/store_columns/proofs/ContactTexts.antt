@@ -47,6 +47,5 @@ of_compact_text text d compact contacts is tells tight = (tells (no_float_in con
 pub of_value : (text : List ℕ) (d : Data) (compact : Bool) (found : Option (List (List ℕ))) → read text ≡ Some d
     → (has_float d ≡ false → IsTrue compact ↔ (text ≡ compact_text d)) → compact ≡ true
     → IsRead contacts_list Unlimited d found → IsRead contacts_text Unlimited text found
-of_value text d compact None there tells tight other = λ contacts _ same.
-    none_of_other_value text d there (λ row is. other row tt is) contacts same
+of_value text d compact None there tells tight other = λ contacts _ same. none_of_other_value text d there (λ row is. other row tt is) contacts same
 of_value text d compact (Some contacts) there tells tight listed = (tt, of_compact_text text d compact contacts listed.1 tells tight)

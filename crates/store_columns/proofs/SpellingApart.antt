@@ -31,36 +31,26 @@ told_apart text all found x y same = same_Some x y (sym (found x) ∙ ap (found_
 pub account_statuses : AreSpelled account_status_text (account.Valid ∷ account.Deactivated ∷ account.Revoked ∷ [])
 unfolding AreSpelled
 account_statuses account.Valid = refl
-account_statuses account.Deactivated = refl
-account_statuses account.Revoked = refl
+account_statuses _ = refl
 
 -- of an order
 pub order_statuses : AreSpelled order_status_text (order.Pending ∷ order.Ready ∷ order.Processing ∷ order.Valid ∷ order.Invalid ∷ [])
 unfolding AreSpelled
 order_statuses order.Pending = refl
-order_statuses order.Ready = refl
-order_statuses order.Processing = refl
-order_statuses order.Valid = refl
-order_statuses order.Invalid = refl
+order_statuses _ = refl
 
 -- of an authorization
 pub authorization_statuses : AreSpelled authorization_status_text
     (authz.Pending ∷ authz.Valid ∷ authz.Invalid ∷ authz.Deactivated ∷ authz.Expired ∷ authz.Revoked ∷ [])
 unfolding AreSpelled
 authorization_statuses authz.Pending = refl
-authorization_statuses authz.Valid = refl
-authorization_statuses authz.Invalid = refl
-authorization_statuses authz.Deactivated = refl
-authorization_statuses authz.Expired = refl
-authorization_statuses authz.Revoked = refl
+authorization_statuses _ = refl
 
 -- of a challenge
 pub challenge_statuses : AreSpelled challenge_status_text (chall.Pending ∷ chall.Processing ∷ chall.Valid ∷ chall.Invalid ∷ [])
 unfolding AreSpelled
 challenge_statuses chall.Pending = refl
-challenge_statuses chall.Processing = refl
-challenge_statuses chall.Valid = refl
-challenge_statuses chall.Invalid = refl
+challenge_statuses _ = refl
 
 -- the kinds of a challenge
 pub kinds : AreSpelled kind_text (kind.Http01 ∷ kind.Dns01 ∷ [])
@@ -78,16 +68,13 @@ endings ending.Revoked = refl
 pub end_kinds : AreSpelled end_kind_text (end.Invalid ∷ end.Deactivated ∷ end.Revoked ∷ [])
 unfolding AreSpelled
 end_kinds end.Invalid = refl
-end_kinds end.Deactivated = refl
-end_kinds end.Revoked = refl
+end_kinds _ = refl
 
 -- what a validation shows
 pub outcomes : AreSpelled outcome_text (outcome.Good ∷ outcome.IncorrectResponse ∷ outcome.Connection ∷ outcome.Dns ∷ [])
 unfolding AreSpelled
 outcomes outcome.Good = refl
-outcomes outcome.IncorrectResponse = refl
-outcomes outcome.Connection = refl
-outcomes outcome.Dns = refl
+outcomes _ = refl
 
 unlike : pos 0 ≡ pos 1 → ⊥
 unlike same = let numbers : ◌≡◌ {A = ℕ} 0 1 = cc same in omega (arith, numbers)

@@ -1,6 +1,6 @@
 -- The texts of a list of strings, and the list that they are.
 use Rattle.std.proofs.Common.{◌≡◌, ℕ, List, [], ◌∷◌, map, Option, Some, None, refl, sym, ap, ◌∙◌}
-use Rattle.serde_json.specs.Data.{Data, null, boolean, number, string, array, object, Items, no_items, item}
+use Rattle.serde_json.specs.Data.{Data, string, array, Items, no_items, item}
 use Rattle.serde_json.specs.{Find.as_str, View.items_of}
 use Rattle.desk_model.specs.Json.{list}
 use Rattle.desk_model.specs.Payload.{and_each, each_in, texts_in}
@@ -8,12 +8,8 @@ use Rattle.store_columns.specs.Reading.{IsRead, Unlimited}
 
 -- a value with a string is that string
 as_str-some : (d : Data) (s : List ℕ) → as_str d ≡ Some s → d ≡ string s
-as_str-some null s e = absurd (cc e)
-as_str-some (boolean b) s e = absurd (cc e)
-as_str-some (number n) s e = absurd (cc e)
 as_str-some (string t) s e = let same : t ≡ s = cc e in ap string same
-as_str-some (array ds) s e = absurd (cc e)
-as_str-some (object ms) s e = absurd (cc e)
+as_str-some _ s e = absurd (cc e)
 
 -- items with these strings are these strings
 items-some : (ds : Items) (ss : List (List ℕ)) → each_in as_str ds ≡ Some ss → ds ≡ items_of (map string ss)
@@ -37,12 +33,8 @@ each_in-strings (s ∷ ss) = ap (and_each (Some s)) (each_in-strings ss)
 
 -- a value with texts is the list of these
 list-some : (d : Data) (ss : List (List ℕ)) → texts_in d ≡ Some ss → d ≡ list (map string ss)
-list-some null ss e = absurd (cc e)
-list-some (boolean b) ss e = absurd (cc e)
-list-some (number n) ss e = absurd (cc e)
-list-some (string t) ss e = absurd (cc e)
 list-some (array ds) ss e = ap array (items-some ds ss e)
-list-some (object ms) ss e = absurd (cc e)
+list-some _ ss e = absurd (cc e)
 
 -- the texts in a value are read: it is their list, or that of no texts
 pub texts_are_read : (d : Data) (found : Option (List (List ℕ))) → found ≡ texts_in d → IsRead (λ ss. list (map string ss)) Unlimited d found

@@ -32,8 +32,7 @@ ascends_back number n (x ∷ xs) ys h =
 parts_ascend : {X Y : Type 0} (number : Y → ℕ) (part : X → List Y) (n : ℕ) (xs : List X) → Ascends number n (flat_map part xs) →
     EachOf (λ x. Ascends number n (part x)) xs
 parts_ascend number part n [] h = tt
-parts_ascend number part n (x ∷ xs) h =
-    (ascends_front number n (part x) _ h, parts_ascend number part n xs (ascends_back number n (part x) _ h))
+parts_ascend number part n (x ∷ xs) h = (ascends_front number n (part x) _ h, parts_ascend number part n xs (ascends_back number n (part x) _ h))
 
 -- the tables of a history are in order
 in_order : (F : History) (t : ℕ) → AreInOrder (tables_at F t)
@@ -51,8 +50,7 @@ in_order F t =
 -- ---- counters
 
 -- challenges that count up through authorizations are below the end of the count
-counted_below : (n k : ℕ) (xs : List Authorization) → n + count_challenges xs ≤ k → AreNumbered n xs →
-    EachOf (λ a. Below (λ c. c.number) k a.challenges) xs
+counted_below : (n k : ℕ) (xs : List Authorization) → n + count_challenges xs ≤ k → AreNumbered n xs → EachOf (λ a. Below (λ c. c.number) k a.challenges) xs
 counted_below n k [] le h = tt
 counted_below n k (x ∷ xs) le h = (
   each _ _ x.challenges (λ c lt. let below : c.number < n + length x.challenges = lt in omega arith)
@@ -105,8 +103,7 @@ have_references F h t =
           (each _ _ (authorizations F) (λ a. some_map (λ b. b.number == a.account) (account_row F) (accounts F)) (authorizations_have_accounts F h));
       orders = each-map _ (order_row F t) (orders F)
           (each _ _ (orders F) (λ o. some_map (λ b. b.number == o.account) (account_row F) (accounts F)) (orders_have_accounts F h));
-      listed = each-map _ (order_row F t) (orders F)
-          (each _ _ (orders F) (λ o. listed_rows_found F t 1 o.authorizations) (listed_found F h));
+      listed = each-map _ (order_row F t) (orders F) (each _ _ (orders F) (λ o. listed_rows_found F t 1 o.authorizations) (listed_found F h));
     }
 
 -- ---- books

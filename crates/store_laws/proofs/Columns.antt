@@ -41,8 +41,7 @@ rows_of f xs cs p =
     (λ l i j low lower h.
     let long : length l ≡ length h.0 = ap length h.2 ∙ length-map h.0 f in (
       swap h.0 i j,
-      IsPermutation-trans xs h.0 (swap h.0 i j) h.1
-          (IsPermutation-swap h.0 (swap h.0 i j) i j (omega (arith, low, long)) (omega (arith, lower, long)) refl),
+      IsPermutation-trans xs h.0 (swap h.0 i j) h.1 (IsPermutation-swap h.0 (swap h.0 i j) i j (omega (arith, low, long)) (omega (arith, lower, long)) refl),
       ap (λ m. swap m i j) h.2 ∙ sym (map-swap f h.0 i j),
     )) cs (IsPermutation-sym cs (map f xs) p)
 
@@ -63,8 +62,7 @@ each_reordered P xs ys p h = from_all P ys (recursion_from_All P ys (All-permuta
 -- ---- all tables
 
 -- the columns of a book's rows, in any order, are those of the book
-book_of : (T : Tables) → IsBook T → AreStored (flat T) → (stored : StoredRows) → AreReorderedColumns stored (rows_columns (flat T)) →
-    IsBookOfStored stored T
+book_of : (T : Tables) → IsBook T → AreStored (flat T) → (stored : StoredRows) → AreReorderedColumns stored (rows_columns (flat T)) → IsBookOfStored stored T
 book_of T is_book limits stored order =
     let rows = flat T in
     let m = rows_of meta_columns rows.metas stored.metas order.metas in

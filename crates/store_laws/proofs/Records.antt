@@ -69,8 +69,7 @@ entry_in_limits T m e spent_numbers after =
     (λ r. restated_order m (authorizations_after T e m) (noted_order e m r)) T.orders _ after.orders)
 
 -- the changes of entries in a row
-entries_in_limits : (F : History) (m : ℕ) (es : List Entry) → Legal F → Legal (record_all m es F) →
-    EachOf IsPutInLimits (all_changes m (tables_at F m) es)
+entries_in_limits : (F : History) (m : ℕ) (es : List Entry) → Legal F → Legal (record_all m es F) → EachOf IsPutInLimits (all_changes m (tables_at F m) es)
 entries_in_limits F m [] h k = tt
 entries_in_limits F m (e ∷ es) h k =
     let G : History = record { date = m; entry = e } ∷ F in

@@ -69,8 +69,7 @@ moment_of : (F : History) → Legal F → (n : ℕ) → n ≤ clock F → IsMome
 moment_of F h n le = let last : clock F ≤ last_moment = clock_in_time F h.each in omega arith
 
 -- and so one that is recorded
-dated : {X : Type 0} (F : History) → Legal F → (date : X → ℕ) (o : Option X) → IfSome o (λ x. date x ≤ clock F) →
-    IfRecorded (λ x. IsMoment (date x)) o
+dated : {X : Type 0} (F : History) → Legal F → (date : X → ℕ) (o : Option X) → IfSome o (λ x. date x ≤ clock F) → IfRecorded (λ x. IsMoment (date x)) o
 dated F h date o = if_recorded (λ x. date x ≤ clock F) (λ x. IsMoment (date x)) (λ x. moment_of F h (date x)) o
 
 -- ---- the one row of a desk's own, nonces and accounts
@@ -158,8 +157,7 @@ first_thumb key (Some a) (Some date) h = h
 
 answer_thumbs : (account n : ℕ) (F : History) → HasThumb (answer account n F)
 answer_thumbs account n [] = tt
-answer_thumbs account n (e ∷ F) =
-    first_thumb (account_key account F) (answer account n F) (answering n e.entry e.date) (answer_thumbs account n F)
+answer_thumbs account n (e ∷ F) = first_thumb (account_key account F) (answer account n F) (answering n e.entry e.date) (answer_thumbs account n F)
 
 -- so it is row by row
 row_thumbs : (F : History) (t : ℕ) → EachOf (λ a. EachOf (λ c. HasThumb c.answered) a.challenges) (tables_at F t).authorizations

@@ -1,6 +1,5 @@
 -- Columns of a file, in any order, and the book that they tell.
-use Rattle.std.specs.Prelude.{◌≡◌}
-use Rattle.std.specs.List.Sorted.{IsPermutation}
+use Rattle.std.specs.{Prelude.◌≡◌, List.Sorted.IsPermutation}
 use Rattle.store_columns.specs.declared.columns.StoredRows.{StoredRows}
 use Rattle.desk_model.specs.Tables.{Tables}
 use Rattle.store_book.specs.IsBook.{IsBookOfStored}

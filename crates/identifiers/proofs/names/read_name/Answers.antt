@@ -1,5 +1,4 @@
-use Rattle.std.proofs.Common.{◌∙◌}
-use Rattle.std.proofs.lemmas.Result.{IfOk-weaker}
+use Rattle.std.proofs.{Common.◌∙◌, lemmas.Result.IfOk-weaker}
 use Rattle.identifiers.proofs.NameOf.{name_of-IsNameOf, name_of-finds}
 use Rattle.identifiers.proofs.names.read_name.Goals as goal
 

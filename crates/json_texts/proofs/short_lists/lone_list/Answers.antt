@@ -1,5 +1,4 @@
-use Rattle.std.proofs.Common.{◌∙◌}
-use Rattle.std.proofs.lemmas.Result.{IfOk-weaker}
+use Rattle.std.proofs.{Common.◌∙◌, lemmas.Result.IfOk-weaker}
 use Rattle.json_texts.proofs.PlainTexts.{lone-list}
 use Rattle.json_texts.proofs.short_lists.lone_list.Goals as goal
 

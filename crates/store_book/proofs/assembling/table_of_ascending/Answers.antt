@@ -1,9 +1,8 @@
 use Rattle.std.proofs.Common.{◌++◌, ◌∷◌, [], ◌∙◌, sym, ap, append_assoc, arith, subst}
 use Rattle.model_laws.specs.Ordered.{Ascends}
 use Rattle.store_book.proofs.Ascending.{put-ascending}
-use Rattle.std.proofs.lemmas.List.{append-nil}
+use Rattle.std.proofs.lemmas.List.{append-nil, nil_from_length}
 use Rattle.store_book.proofs.assembling.table_of_ascending.Goals as goal
-use Rattle.std.proofs.lemmas.List.{nil_from_length}
 
 pub loop-row-preserved : goal.loop-row-preserved
 loop-row-preserved g c =

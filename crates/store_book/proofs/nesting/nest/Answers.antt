@@ -1,9 +1,8 @@
 use Rattle.std.proofs.Common.{◌≡◌, true, false, length, deque_len, ◌++◌, [], ◌∷◌, ◌∙◌, sym, ap, append_assoc, arith}
 use Rattle.std.proofs.lemmas.Bool.{eqb-true, eq-eqb}
 use Rattle.store_book.specs.Nesting.{first_of, behind, nested, left_over}
-use Rattle.std.proofs.lemmas.List.{append-nil}
+use Rattle.std.proofs.lemmas.List.{append-nil, nil_from_length}
 use Rattle.store_book.proofs.nesting.nest.Goals as goal
-use Rattle.std.proofs.lemmas.List.{nil_from_length}
 
 pub loop-parent-preserved : goal.loop-parent-preserved
 loop-parent-preserved g c =

@@ -12,5 +12,4 @@ loop-test-preserved c =
     c.loop-test.invariant
 
 pub returns : goal.returns
-returns c =
-    passed-end (λ test. test) _ _ (none-left c.args.tests.now c.loop-test.test-index c.loop-test-test.false) c.loop-test.invariant
+returns c = passed-end (λ test. test) _ _ (none-left c.args.tests.now c.loop-test.test-index c.loop-test-test.false) c.loop-test.invariant

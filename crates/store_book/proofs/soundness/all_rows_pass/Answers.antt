@@ -15,5 +15,4 @@ loop-row-preserved g c =
     (one-more c.args.rows.now c.loop-row.row-index c.row-item.result c.loop-row-test.true) c.loop-row.invariant
 
 pub returns : goal.returns
-returns g c =
-    passed-end (g.Q.Test.passed c.args.test.now) _ _ (none-left c.args.rows.now c.loop-row.row-index c.loop-row-test.false) c.loop-row.invariant
+returns g c = passed-end (g.Q.Test.passed c.args.test.now) _ _ (none-left c.args.rows.now c.loop-row.row-index c.loop-row-test.false) c.loop-row.invariant

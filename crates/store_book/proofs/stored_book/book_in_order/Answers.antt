@@ -1,9 +1,8 @@
-use Rattle.std.proofs.Common.{◌≡◌}
-use Rattle.std.proofs.lemmas.Result.{err_from_is_err_and}
+use Rattle.std.proofs.{Common.◌≡◌, lemmas.Result.err_from_is_err_and}
 use Rattle.desk_model.specs.Tables.{Tables}
 use Rattle.store_book.specs.Joined.{AreMoved, joined}
 use Rattle.store_book.specs.IsBook.{AreInOrder}
-use Rattle.store_book.specs.declared.rows_fault.{RowsFault.RowsFault, RowsFault.TheVariants.NotABook}
+use Rattle.store_book.specs.declared.{rows_fault.RowsFault.RowsFault, rows_fault.RowsFault.TheVariants.NotABook}
 use Rattle.store_book.proofs.{Outcomes.outcome_both, SortedLists.same_single}
 use Rattle.store_book.proofs.SoundBooks.{authorizations-nest, orders-nest, in_order-from_tables}
 use Rattle.store_book.proofs.stored_book.book_in_order.Goals as goal

@@ -5,5 +5,4 @@ use Rattle.store_columns.proofs.ContactTexts.{none_of_no_value}
 use Rattle.store_columns.proofs.contacts.listed_contacts.Goals as goal
 
 pub returns-in-None : goal.returns-in-None
-returns-in-None c =
-    λ contacts _ same. none_of_no_value c.args.text.now (sym c.in_ok-value.ensures ∙ ap (option_map (λ v. view v)) c.in-None.is) contacts same
+returns-in-None c = λ contacts _ same. none_of_no_value c.args.text.now (sym c.in_ok-value.ensures ∙ ap (option_map (λ v. view v)) c.in-None.is) contacts same

@@ -4,5 +4,4 @@ use Rattle.identifiers.specs.AskedOrders.{order_names}
 use Rattle.identifiers.proofs.parsed.ParsedSigned.names.Goals as goal
 
 pub returns : goal.returns
-returns c =
-    c.names.ensures ∙ ap order_names c.order.ensures ∙ names_of_order c.args.self.now.target c.args.self.now.payload
+returns c = c.names.ensures ∙ ap order_names c.order.ensures ∙ names_of_order c.args.self.now.target c.args.self.now.payload
