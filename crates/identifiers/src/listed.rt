@@ -4,8 +4,8 @@ ghost use Rattle.serde_json.specs.View.{view, items_view};
 ghost use Rattle.desk_model.specs.Payload.{each_in, identifier_in, new_order_in, object_in};
 ghost use Rattle.serde_json.specs.Read.{read};
 
-use desk_model::{Identifier, Text};
-use json_texts::text_of;
+use desk_model::Identifier;
+use json_texts::texts_of;
 use serde_json::Value;
 use std::alloc::{AllocError, Global};
 
@@ -24,16 +24,10 @@ pub(crate) fn object_of<'a>(text: &str, value: &'a Option<Value>) -> Option<&'a 
 fn identifier_in(alloc: Global, value: &Value) -> Result<Option<Identifier>, AllocError>
     ensures { IfOk result (λ o. o ≡ identifier_in (view value.now)) }
 {
-    let Some(kind) = text_of(value, "type") else {
-        return Ok(None);
-    };
-    let Some(text) = text_of(value, "value") else {
-        return Ok(None);
-    };
-    Ok(Some(Identifier {
-        kind: Text::new(String::from_str(alloc, kind)?),
-        value: Text::new(String::from_str(alloc, text)?),
-    }))
+    match texts_of(alloc, value, "type", "value")? {
+        Some((kind, value)) => Ok(Some(Identifier { kind, value })),
+        None => Ok(None),
+    }
 }
 
 // The identifiers of a list, `None` where one of its items is none.

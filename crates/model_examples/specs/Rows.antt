@@ -53,10 +53,7 @@ pub record RowsAreKept : Type 0 where
   -- after the first account: the counters, the one open nonce and the account
   pub first_rows : picture with_account
       ≡ (record {
-        meta = record {
-          policy = default_terms;
-          counters = record { clock = 0; nonces = 2; accounts = 1; orders = 0; authorizations = 0; challenges = 0 };
-        };
+        meta = record { policy = default_terms; counters = record { clock = 0; nonces = 2; accounts = 1; orders = 0; authorizations = 0; challenges = 0 } };
         nonces = (record { serial = 2; random = zeros 16; issued = 0 }) ∷ [];
         accounts = (record { number = 1; key = first_key; contacts = codes "mailto:a@b.example" ∷ []; opened = 0; ended = None; status = account.Valid }) ∷ [];
         authorizations = [];

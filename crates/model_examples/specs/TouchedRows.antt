@@ -122,10 +122,7 @@ pub record RowsAreTouched : Type 0 where
   -- the directory touches the meta row alone, whatever is past its end
   pub directory : touched client_rows (asked 2592001 0 (ask.Office office.Directory))
       ≡ (record {
-        meta = record {
-          policy = default_terms;
-          counters = record { clock = 0; nonces = 2; accounts = 2; orders = 4; authorizations = 5; challenges = 10 };
-        };
+        meta = record { policy = default_terms; counters = record { clock = 0; nonces = 2; accounts = 2; orders = 4; authorizations = 5; challenges = 10 } };
         nonces = [];
         accounts = [];
         authorizations = [];

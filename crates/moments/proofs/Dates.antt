@@ -79,12 +79,7 @@ fields_by : (t y m d h mi s count : ℕ) → IsDateOf count y m d → h < 24 →
     → t + 719468 * 86400 ≡ count * 86400 + (h * 3600 + mi * 60 + s) → AreFieldsOf t y m d h mi s
 fields_by t y m d h mi s count date hh hm hs whole =
     let same : day_number t ≡ count = omega arith in
-    record {
-      date = subst (λ (n : ℕ). IsDateOf n y m d) (sym same) date;
-      hour_is = omega arith;
-      minute_is = omega arith;
-      second_is = omega arith;
-    }
+    record { date = subst (λ (n : ℕ). IsDateOf n y m d) (sym same) date; hour_is = omega arith; minute_is = omega arith; second_is = omega arith }
 
 -- the whole days and the seconds of a civil moment
 whole_days : (t y m d h mi s : ℕ) → IsCivil t y m d h mi s → t + 4371953 * 86400 ≡ day_count (pos y) m d * 86400 + (h * 3600 + mi * 60 + s)

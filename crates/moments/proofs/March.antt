@@ -88,11 +88,7 @@ date_in_parts q c p u n month hc hp hu room is =
     let era : (march_days (400 * q + 100 * c + 4 * p + u) + n) / 146097 ≡ q = rw whole (omega arith) in
     let year : year_of_era day ≡ 100 * c + 4 * p + u = h.year_is in
     let place : day_of_year day ≡ n = h.day_is in
-    record {
-      year_is = rw (rest, era, year) (omega arith);
-      month_is = rw (rest, place) is;
-      day_is = rw (rest, place) refl;
-    }
+    record { year_is = rw (rest, era, year) (omega arith); month_is = rw (rest, place) is; day_is = rw (rest, place) refl }
 
 -- a day before the next year has this date
 pub march_date : (year month n : ℕ) → march_days year + n < march_days (suc year) → (5 * n + 2) / 153 ≡ month → IsMarchDate (march_days year + n) year month n
