@@ -106,11 +106,7 @@ metas-apart row other kept kept2 same =
 
 pub nonces-apart : AreToldApart nonce_columns IsStoredNonce
 nonces-apart row other kept kept2 same =
-    λ i. record {
-      serial = pos-apart _ _ (ap (λ c. c.serial) same) i;
-      random = ap (λ c. c.random) same i;
-      issued = pos-apart _ _ (ap (λ c. c.issued) same) i;
-    }
+    λ i. record { serial = pos-apart _ _ (ap (λ c. c.serial) same) i; random = ap (λ c. c.random) same i; issued = pos-apart _ _ (ap (λ c. c.issued) same) i }
 
 pub accounts-apart : AreToldApart account_columns IsStoredAccount
 accounts-apart row other kept kept2 same =
@@ -142,10 +138,7 @@ authorizations-apart row other kept kept2 same =
     λ i. record {
       number = pos-apart _ _ (ap (λ c. c.num) same) i;
       account = pos-apart _ _ (ap (λ c. c.account) same) i;
-      name = record {
-        base = ap (λ c. c.name) same i;
-        wildcard = wildcard_column-apart row.name.wildcard other.name.wildcard (ap (λ c. c.wildcard) same) i;
-      };
+      name = record { base = ap (λ c. c.name) same i; wildcard = wildcard_column-apart row.name.wildcard other.name.wildcard (ap (λ c. c.wildcard) same) i };
       made = pos-apart _ _ (ap (λ c. c.made) same) i;
       expires = pos-apart _ _ (ap (λ c. c.expires) same) i;
       ended = authorization_end-apart row.ended other.ended (λ j. (ap (λ c. c.ended) same j, ap (λ c. c.end_kind) same j)) i;
@@ -157,10 +150,7 @@ pub listed-apart : AreToldApart listed_columns IsStoredListed
 listed-apart row other kept kept2 same =
     λ i. record {
       owner = pos-apart _ _ (ap (λ c. c.ord) same) i;
-      row = record {
-        place = pos-apart _ _ (ap (λ c. c.place) same) i;
-        authorization = pos-apart _ _ (ap (λ c. c.authz) same) i;
-      };
+      row = record { place = pos-apart _ _ (ap (λ c. c.place) same) i; authorization = pos-apart _ _ (ap (λ c. c.authz) same) i };
     }
 
 pub challenges-apart : AreToldApart challenge_columns IsStoredChallenge

@@ -27,15 +27,7 @@ challenge_rows rows = flat_map (λ a. owned_by a.number a.challenges) rows
 
 -- a challenge without the key of its answer
 abbrev pub bare : ChallengeRow → BareChallenge
-bare c =
-    record {
-      number = c.number;
-      kind = c.kind;
-      token = c.token;
-      answered = option_map (λ a. a.date) c.answered;
-      reported = c.reported;
-      status = c.status;
-    }
+bare c = record { number = c.number; kind = c.kind; token = c.token; answered = option_map (λ a. a.date) c.answered; reported = c.reported; status = c.status }
 
 -- the same, under its authorization
 abbrev pub bare_row : Owned ChallengeRow → Owned BareChallenge
