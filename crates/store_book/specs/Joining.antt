@@ -17,14 +17,7 @@ abbrev pub with_answer : Owned BareChallenge → Option Answer → Owned Challen
 with_answer c answer =
     record {
       owner = c.owner;
-      row = record {
-        number = c.row.number;
-        kind = c.row.kind;
-        token = c.row.token;
-        answered = answer;
-        reported = c.row.reported;
-        status = c.row.status;
-      };
+      row = record { number = c.row.number; kind = c.row.kind; token = c.row.token; answered = answer; reported = c.row.reported; status = c.row.status };
     }
 
 -- the challenge with the answer that was split off, and what is made of the keys behind
