@@ -156,8 +156,4 @@ rows_twice [] = refl
 rows_twice (a ∷ rows) = λ i. record a { challenges = challenges_twice a.challenges i } ∷ rows_twice rows i
 
 pub blank_books : BlankBooks
-blank_books = record {
-  book = blank_book;
-  stored = blank_stored;
-  twice = λ T. ap (λ rows. record T { authorizations = rows }) (rows_twice T.authorizations);
-}
+blank_books = record { book = blank_book; stored = blank_stored; twice = λ T. ap (λ rows. record T { authorizations = rows }) (rows_twice T.authorizations) }

@@ -8,52 +8,36 @@ use Rattle.desk_model.specs.Kept.{EachOf, Kept, restricted}
 use Rattle.desk_model.specs.Legal.{EachFollows, Legal}
 use Rattle.desk_model.specs.Tables.{Tables, picture, tables_at}
 use Rattle.desk_model.specs.declared.entry.Entry.{Entry}
+use Rattle.store_laws.specs.Blank.{BlankBooks}
 use Rattle.store_laws.specs.InLimits.{AreInLimits, IsPutInLimits}
 use Rattle.store_laws.specs.Told.{AreReorderedColumns, IsOnlyBookOf}
 use Rattle.store_book.specs.IsBook.{IsBook, IsStoredBook}
 
--- the tables of a history are a book, at each moment
-abbrev pub TablesAreBooks : Type 0
-TablesAreBooks = (F : History) → EachFollows F → (t : ℕ) → IsBook (tables_at F t)
-
--- their rows are in the limits of their columns, at each moment that a clock may show
-abbrev pub TablesAreInLimits : Type 0
-TablesAreInLimits = (F : History) → Legal F → (t : ℕ) → t ≤ last_moment → AreInLimits (tables_at F t)
-
--- so are those of any part of such tables
-abbrev pub PartsAreInLimits : Type 0
-PartsAreInLimits = (k : Kept) (T : Tables) → AreInLimits T → AreInLimits (restricted k T)
-
--- rows in their limits are so table by table, as a file has them
-abbrev pub RowsAreStored : Type 0
-RowsAreStored = (T : Tables) → AreInLimits T → AreStored (flat T)
-
--- and so are those of a desk's picture
-abbrev pub PicturesAreStored : Type 0
-PicturesAreStored = (F : History) → Legal F → AreStored (flat (picture F))
-
--- what a call records puts rows in their limits alone, where the longer history is legal
-abbrev pub RecordsAreInLimits : Type 0
-RecordsAreInLimits =
-    (F : History) (e : Entry) (es : List Entry) (m : ℕ) → clock F ≤ m → Legal F → Legal (record_all m (e ∷ es) F) →
-    EachOf IsPutInLimits (recorded_changes m (picture F) (e ∷ es))
-
--- the columns of a book's rows, in any order, tell the book, where the rows are in their limits
-abbrev pub BooksAreTold : Type 0
-BooksAreTold =
-    (T : Tables) → IsBook T → AreStored (flat T) → (stored : StoredRows) → AreReorderedColumns stored (rows_columns (flat T)) →
-    IsOnlyBookOf stored T
-
--- so a file that has the rows of a desk's picture, in any order, opens as that picture
-abbrev pub PicturesAreTold : Type 0
-PicturesAreTold =
-    (F : History) → Legal F → (stored : StoredRows) → AreReorderedColumns stored (rows_columns (flat (picture F))) →
-    IsOnlyBookOf stored (picture F)
-
--- each TEXT column of a desk's rows is UTF-8, at each moment
-abbrev pub TablesAreTexts : Type 0
-TablesAreTexts = (F : History) → EachFollows F → (t : ℕ) → ColumnsAreTexts (rows_columns (flat (tables_at F t)))
-
--- so the tables of a desk are a book that a file can hold
-abbrev pub PicturesAreStoredBooks : Type 0
-PicturesAreStoredBooks = (F : History) → Legal F → IsStoredBook (picture F)
+-- the tables of a legal history are a book in the limits of its columns, which tell it
+pub record PicturesAreBooks : Type 0 where
+  -- the tables of a history are a book, at each moment
+  pub book : (F : History) → EachFollows F → (t : ℕ) → IsBook (tables_at F t)
+  -- their rows are in the limits of their columns, at each moment that a clock may show
+  pub limits : (F : History) → Legal F → (t : ℕ) → t ≤ last_moment → AreInLimits (tables_at F t)
+  -- so are those of any part of such tables
+  pub parts : (k : Kept) (T : Tables) → AreInLimits T → AreInLimits (restricted k T)
+  -- rows in their limits are so table by table, as a file has them
+  pub rows : (T : Tables) → AreInLimits T → AreStored (flat T)
+  -- what a call records puts rows in their limits alone, where the longer history is legal
+  pub records :
+      (F : History) (e : Entry) (es : List Entry) (m : ℕ) → clock F ≤ m → Legal F → Legal (record_all m (e ∷ es) F) →
+      EachOf IsPutInLimits (recorded_changes m (picture F) (e ∷ es))
+  -- each TEXT column of a desk's rows is UTF-8, at each moment
+  pub texts : (F : History) → EachFollows F → (t : ℕ) → ColumnsAreTexts (rows_columns (flat (tables_at F t)))
+  -- the columns of a book's rows, in any order, tell the book, where the rows are in their limits
+  pub told : (T : Tables) → IsBook T → AreStored (flat T) → (stored : StoredRows) → AreReorderedColumns stored (rows_columns (flat T)) → IsOnlyBookOf stored T
+  -- so a file that has the rows of a desk's picture, in any order, opens as that picture
+  pub one_book :
+      (F : History) → Legal F → (stored : StoredRows) → AreReorderedColumns stored (rows_columns (flat (picture F))) →
+      IsOnlyBookOf stored (picture F)
+  -- so the tables of a desk are a book that a file can hold
+  pub stored_books : (F : History) → Legal F → IsStoredBook (picture F)
+  -- the rows of a desk's picture are in their limits, table by table
+  pub picture : (F : History) → Legal F → AreStored (flat (picture F))
+  -- the same of tables whose answers tell no keys
+  pub blank : BlankBooks

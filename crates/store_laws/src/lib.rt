@@ -1,22 +1,10 @@
 //! The tables of a desk's history as rows of a file: a book, in the limits of the columns, which the columns tell.
 #![tactic(auto)]
 
-ghost use Rattle.store_laws.specs.Blank.{BlankBooks};
-ghost use Rattle.store_laws.specs.Laws.{BooksAreTold, PartsAreInLimits, PicturesAreStored, PicturesAreStoredBooks, PicturesAreTold, RecordsAreInLimits};
-ghost use Rattle.store_laws.specs.Laws.{RowsAreStored, TablesAreBooks, TablesAreInLimits, TablesAreTexts};
+ghost use Rattle.store_laws.specs.Laws.{PicturesAreBooks};
 
 /// The tables of a legal history are a book whose rows are in the limits of their columns, and a file that holds these
 /// columns, in any order, holds no other book; their texts are UTF-8, and what a call records puts no row beyond the limits.
 pub fn pictures_are_books()
-    ensures book { TablesAreBooks }
-    ensures limits { TablesAreInLimits }
-    ensures parts { PartsAreInLimits }
-    ensures rows { RowsAreStored }
-    ensures picture { PicturesAreStored }
-    ensures records { RecordsAreInLimits }
-    ensures texts { TablesAreTexts }
-    ensures told { BooksAreTold }
-    ensures one_book { PicturesAreTold }
-    ensures stored_books { PicturesAreStoredBooks }
-    ensures blank { BlankBooks }
+    ensures { PicturesAreBooks }
 {}
