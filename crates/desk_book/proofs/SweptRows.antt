@@ -2,14 +2,12 @@
 use Rattle.std.proofs.Common.{◌≡◌, ℕ, ◌+◌, Option, None, Bool, true, false, cond, List, [], ◌∷◌, map, Some, refl, sym, ap, ◌∙◌}
 use Rattle.std.specs.Prelude.{◌==◌, ◌||◌, find, is_some}
 use Rattle.std.specs.{List.list_any, Option.option_map}
-use Rattle.desk_model.specs.{Tables.Tables, Name.Name}
+use Rattle.desk_model.specs.{Tables.Tables, Name.Name, declared.rows.AuthorizationRow.AuthorizationRow, declared.rows.ChallengeRow.ChallengeRow}
+use Rattle.desk_model.specs.declared.{rows.OrderRow.OrderRow, status.AuthzStatus.AuthzStatus, status.OrderStatus.OrderStatus}
 use Rattle.desk_model.specs.Effect.{has_row, is_overdue, falls, swept, swept_authorization, swept_order}
 use Rattle.desk_model.specs.Questions.{authorization_on, challenge_of, order_on, owner_on, serves, serving_on}
 use Rattle.model_laws.proofs.Basics.{find-map}
-use Rattle.desk_model.specs.declared.{rows.AuthorizationRow.AuthorizationRow, rows.ChallengeRow.ChallengeRow, rows.OrderRow.OrderRow}
-use Rattle.desk_model.specs.declared.{status.AuthzStatus.AuthzStatus}
 use Rattle.desk_model.specs.declared.status.AuthzStatus.TheVariants as authz
-use Rattle.desk_model.specs.declared.status.OrderStatus.{OrderStatus}
 use Rattle.desk_model.specs.declared.status.OrderStatus.TheVariants as order
 
 -- only the status of an authorization moves by the passing of time
@@ -36,15 +34,7 @@ swept_order-status m rows row = by (falls m rows row)
 -- a test that a move leaves passes the moved rows that it passed
 pub find-moved : {X : Type 0} (test : X → Bool) (move : X → X) (xs : List X) → ((x : X) → test (move x) ≡ test x)
     → find test (map move xs) ≡ option_map move (find test xs)
-find-moved test move [] same = refl
-find-moved {X} test move (x ∷ xs) same =
-    ap (λ b. cond b (Some (move x)) (find test (map move xs))) (same x)
-    ∙ by (test x) (find-moved test move xs same)
-  where
-    by : (b : Bool) → find test (map move xs) ≡ option_map move (find test xs) →
-        cond b (Some (move x)) (find test (map move xs)) ≡ option_map move (cond b (Some x) (find test xs))
-    by true ih = refl
-    by false ih = ih
+find-moved test move xs same = find-map test move xs ∙ (λ i. option_map move (find (λ x. same x i) xs))
 
 -- the authorization of a number, and the one that a challenge is of
 pub swept_authorization_on : (m : ℕ) (T : Tables) (n : ℕ) → authorization_on (swept m T) n ≡ option_map (swept_authorization m) (authorization_on T n)
@@ -67,30 +57,21 @@ swept_order_on m T n =
     number o = sym (ap (λ (r : OrderRow). r.number) (swept_order-status m T.authorizations o))
 
 -- a row that is found, with its status at the moment
-pub authorization-found : (m : ℕ) (T : Tables) (n : ℕ) (row : AuthorizationRow) (s : AuthzStatus) → Some row ≡ authorization_on T n
-    → s ≡ (swept_authorization m row).status →
-    Some (record row { status = s }) ≡ authorization_on (swept m T) n
-authorization-found m T n row s found is =
+pub authorization-found : (m : ℕ) (o found : Option AuthorizationRow) (row : AuthorizationRow) (s : AuthzStatus) → found ≡ option_map (swept_authorization m) o
+    → Some row ≡ o → s ≡ (swept_authorization m row).status → Some (record row { status = s }) ≡ found
+authorization-found m o found row s moves there is =
     ap (λ x. Some (record row { status = x })) is
     ∙ ap (λ r. Some r) (swept_authorization-status m row)
-    ∙ ap (option_map (swept_authorization m)) found
-    ∙ sym (swept_authorization_on m T n)
+    ∙ ap (option_map (swept_authorization m)) there
+    ∙ sym moves
 
-pub owner-found : (m : ℕ) (T : Tables) (n : ℕ) (row : AuthorizationRow) (s : AuthzStatus) → Some row ≡ owner_on T n → s ≡ (swept_authorization m row).status →
-    Some (record row { status = s }) ≡ owner_on (swept m T) n
-owner-found m T n row s found is =
+pub order-found : (m : ℕ) (rows : List AuthorizationRow) (o found : Option OrderRow) (row : OrderRow) (s : OrderStatus) → found ≡ option_map (swept_order m rows) o
+    → Some row ≡ o → s ≡ (swept_order m rows row).status → Some (record row { status = s }) ≡ found
+order-found m rows o found row s moves there is =
     ap (λ x. Some (record row { status = x })) is
-    ∙ ap (λ r. Some r) (swept_authorization-status m row)
-    ∙ ap (option_map (swept_authorization m)) found
-    ∙ sym (swept_owner_on m T n)
-
-pub order-found : (m : ℕ) (T : Tables) (n : ℕ) (row : OrderRow) (s : OrderStatus) → Some row ≡ order_on T n → s ≡ (swept_order m T.authorizations row).status →
-    Some (record row { status = s }) ≡ order_on (swept m T) n
-order-found m T n row s found is =
-    ap (λ x. Some (record row { status = x })) is
-    ∙ ap (λ r. Some r) (swept_order-status m T.authorizations row)
-    ∙ ap (option_map (swept_order m T.authorizations)) found
-    ∙ sym (swept_order_on m T n)
+    ∙ ap (λ r. Some r) (swept_order-status m rows row)
+    ∙ ap (option_map (swept_order m rows)) there
+    ∙ sym moves
 
 -- an authorization that has a challenge of a number has one to be found
 pub challenge_there : (n : ℕ) (a : AuthorizationRow) → is_some (challenge_of n a) ≡ has_row n a
@@ -106,12 +87,13 @@ challenge_there n a = by a.challenges
         one false ih = ih
 
 -- the authorization that serves, among the rows that stand
-pub swept_serving_on : (m : ℕ) (T : Tables) (account : ℕ) (name : Name) →
-    option_map (λ (r : AuthorizationRow). r.number)
-    (find (λ r. serves account name (m + T.meta.policy.order_life) (swept_authorization m r)) T.authorizations)
-    ≡ option_map (λ (r : AuthorizationRow). r.number) (serving_on (swept m T) account name)
-swept_serving_on m T account name =
-    number (find (λ r. serves account name (m + T.meta.policy.order_life) (swept_authorization m r)) T.authorizations)
+pub swept_serving_on : (m : ℕ) (T : Tables) (account : ℕ) (name : Name) (life : ℕ) (rows : List AuthorizationRow) (o : Option AuthorizationRow) →
+    life ≡ T.meta.policy.order_life → rows ≡ T.authorizations → o ≡ find (λ r. serves account name (m + life) (swept_authorization m r)) rows →
+    option_map (λ (r : AuthorizationRow). r.number) o ≡ option_map (λ (r : AuthorizationRow). r.number) (serving_on (swept m T) account name)
+swept_serving_on m T account name life rows o lives stand is =
+    ap (option_map (λ (r : AuthorizationRow). r.number))
+    (is ∙ (λ i. find (λ r. serves account name (m + lives i) (swept_authorization m r)) (stand i)))
+    ∙ number (find (λ r. serves account name (m + T.meta.policy.order_life) (swept_authorization m r)) T.authorizations)
     ∙ sym (ap (option_map (λ (r : AuthorizationRow). r.number))
     (find-map (serves account name (m + T.meta.policy.order_life)) (swept_authorization m) T.authorizations))
   where

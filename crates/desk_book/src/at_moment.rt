@@ -74,14 +74,16 @@ impl<'a> At<'a> {
     pub fn authorization(&self, number: u64) -> Option<(&AuthorizationRow, AuthzStatus)>
         ensures { option_map (λ p. record p.0.now { status = p.1 }) result ≡ authorization_on self.now number }
     {
-        authorization_at(self.book, self.moment, number)
+        let row = self.book.authorization(number)?;
+        Some((row, authorization_status(self.moment, row)))
     }
 
     /// The authorization that a challenge is of, with its status at the moment.
     pub fn owner(&self, challenge: u64) -> Option<(&AuthorizationRow, AuthzStatus)>
         ensures { option_map (λ p. record p.0.now { status = p.1 }) result ≡ owner_on self.now challenge }
     {
-        owner_at(self.book, self.moment, challenge)
+        let owner = self.book.owner(challenge)?;
+        Some((owner, authorization_status(self.moment, owner)))
     }
 
     /// The challenge of a number, behind the authorization that it is of and the status of that one at the moment.
@@ -97,63 +99,21 @@ impl<'a> At<'a> {
     pub fn serving(&self, account: u64, name: &DnsName) -> Option<u64>
         ensures { result ≡ option_map (λ r. r.number) (serving_on self.now account name.now) }
     {
-        serving_at(self.book, self.moment, account, name)
+        let need = Need {
+            account,
+            name,
+            moment: self.moment,
+            life: self.book.meta().policy.order_life(),
+        };
+        let row = serving_row(self.book.authorizations(), &need)?;
+        Some(row.number)
     }
 
     /// The order of a number, with its status at the moment.
     pub fn order(&self, number: u64) -> Option<(&OrderRow, OrderStatus)>
         ensures { option_map (λ p. record p.0.now { status = p.1 }) result ≡ order_on self.now number }
     {
-        order_at(self.book, self.moment, number)
-    }
-}
-
-// The authorization of a number, with its status at a moment.
-fn authorization_at(
-    book: &Book,
-    moment: u64,
-    number: u64,
-) -> Option<(&AuthorizationRow, AuthzStatus)>
-    ensures { option_map (λ p. record p.0.now { status = p.1 }) result ≡ authorization_on (swept moment book.now) number }
-{
-    match book.authorization(number) {
-        Some(row) => Some((row, authorization_status(moment, row))),
-        None => None,
-    }
-}
-
-// The authorization that a challenge is of, with its status at a moment.
-fn owner_at(book: &Book, moment: u64, challenge: u64) -> Option<(&AuthorizationRow, AuthzStatus)>
-    ensures { option_map (λ p. record p.0.now { status = p.1 }) result ≡ owner_on (swept moment book.now) challenge }
-{
-    match book.owner(challenge) {
-        Some(row) => Some((row, authorization_status(moment, row))),
-        None => None,
-    }
-}
-
-// The number of the authorization that an order of an account, made at a moment, uses again for a name.
-fn serving_at(book: &Book, moment: u64, account: u64, name: &DnsName) -> Option<u64>
-    ensures { result ≡ option_map (λ r. r.number) (serving_on (swept moment book.now) account name.now) }
-{
-    let need = Need {
-        account,
-        name,
-        moment,
-        life: book.meta().policy.order_life(),
-    };
-    match serving_row(book.authorizations(), &need) {
-        Some(row) => Some(row.number),
-        None => None,
-    }
-}
-
-// The order of a number, with its status at a moment.
-fn order_at(book: &Book, moment: u64, number: u64) -> Option<(&OrderRow, OrderStatus)>
-    ensures { option_map (λ p. record p.0.now { status = p.1 }) result ≡ order_on (swept moment book.now) number }
-{
-    match book.order(number) {
-        Some(row) => Some((row, order_status(book, moment, row))),
-        None => None,
+        let row = self.book.order(number)?;
+        Some((row, order_status(self.book, self.moment, row)))
     }
 }

@@ -1,6 +1,5 @@
 use Rattle.std.proofs.Common.{[], ◌∷◌, ◌++◌, ap, sym, ◌∙◌}
-use Rattle.desk_model.specs.Effect.{is_overdue}
-use Rattle.desk_model.specs.declared.rows.{AuthorizationRow.AuthorizationRow, Change.TheVariants.PutAuthorization}
+use Rattle.desk_model.specs.{Effect.is_overdue, declared.rows.AuthorizationRow.AuthorizationRow, declared.rows.Change.TheVariants.PutAuthorization}
 use Rattle.desk_model.specs.declared.status.AuthzStatus.TheVariants as authz
 use Rattle.desk_book.proofs.Sweeping.{change_added, change_spared}
 use Rattle.desk_book.proofs.sweep.push_expired.Goals as goal

@@ -1,8 +1,7 @@
 use Rattle.std.proofs.Common.{◌≡◌, ◌++◌, map, filter}
 use Rattle.desk_model.specs.{Change.authorizations_expired, Effect.is_overdue}
-use Rattle.desk_model.specs.declared.rows.AuthorizationRow.{AuthorizationRow}
+use Rattle.desk_model.specs.declared.rows.{AuthorizationRow.AuthorizationRow, Change.TheVariants.PutAuthorization}
 use Rattle.desk_model.specs.declared.status.AuthzStatus.TheVariants as authz
-use Rattle.desk_model.specs.declared.rows.Change.TheVariants.{PutAuthorization}
 use Rattle.desk_book.proofs.sweep.push_expired.Given as goal
 
 abbrev pub invariant-loop-row : goal.invariant-loop-row

@@ -1,6 +1,5 @@
 use Rattle.std.proofs.Common.{[], ◌∷◌, ◌++◌, ap, sym, ◌∙◌}
-use Rattle.desk_model.specs.Effect.{falls}
-use Rattle.desk_model.specs.declared.rows.{OrderRow.OrderRow, Change.TheVariants.PutOrder}
+use Rattle.desk_model.specs.{Effect.falls, declared.rows.OrderRow.OrderRow, declared.rows.Change.TheVariants.PutOrder}
 use Rattle.desk_model.specs.declared.status.OrderStatus.TheVariants as order
 use Rattle.desk_book.proofs.Sweeping.{change_added, change_spared}
 use Rattle.desk_book.proofs.sweep.push_fallen.Goals as goal

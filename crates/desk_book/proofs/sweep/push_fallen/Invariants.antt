@@ -1,8 +1,6 @@
 use Rattle.std.proofs.Common.{◌≡◌, ◌++◌, map, filter}
-use Rattle.desk_model.specs.{Change.orders_fallen, Effect.falls}
-use Rattle.desk_model.specs.declared.rows.OrderRow.{OrderRow}
+use Rattle.desk_model.specs.{Change.orders_fallen, Effect.falls, declared.rows.OrderRow.OrderRow, declared.rows.Change.TheVariants.PutOrder}
 use Rattle.desk_model.specs.declared.status.OrderStatus.TheVariants as order
-use Rattle.desk_model.specs.declared.rows.Change.TheVariants.{PutOrder}
 use Rattle.desk_book.proofs.sweep.push_fallen.Given as goal
 
 abbrev pub invariant-loop-row : goal.invariant-loop-row

@@ -1,6 +1,5 @@
 use Rattle.std.proofs.Common.{◌≡◌, ◌++◌, map, filter, not}
-use Rattle.desk_model.specs.{Change.nonces_gone, Effect.lasts}
-use Rattle.desk_model.specs.declared.rows.Change.TheVariants.{RemoveNonce}
+use Rattle.desk_model.specs.{Change.nonces_gone, Effect.lasts, declared.rows.Change.TheVariants.RemoveNonce}
 use Rattle.desk_book.proofs.sweep.remove_gone.Given as goal
 
 abbrev pub invariant-loop-nonce : goal.invariant-loop-nonce
