@@ -1,9 +1,8 @@
 -- What entries that touch no standing row do to the tables, and what they record.
 use Rattle.std.proofs.Common.{◌≡◌, ℕ, ◌+◌, List, [], ◌∷◌, ◌++◌, map, filter, Bool, false, cond, Option, Some, None, refl, ap, ◌∙◌, add-zero}
 use Rattle.std.specs.Prelude.{◌&&◌, ◌||◌}
-use Rattle.desk_model.specs.{Tables.Tables, Lookup.holds, Account.opened_by, Order.ordered_by}
-use Rattle.desk_model.specs.declared.{rows.Counters.Counters, objects.Nonce.Nonce, entry.Entry.Entry, rows.AccountRow.AccountRow}
-use Rattle.desk_model.specs.declared.{rows.AuthorizationRow.AuthorizationRow, rows.OrderRow.OrderRow}
+use Rattle.desk_model.specs.{Tables.Tables, Lookup.holds, Account.opened_by, Order.ordered_by, declared.rows.Counters.Counters, declared.objects.Nonce.Nonce}
+use Rattle.desk_model.specs.declared.{entry.Entry.Entry, rows.AccountRow.AccountRow, rows.AuthorizationRow.AuthorizationRow, rows.OrderRow.OrderRow}
 use Rattle.desk_model.specs.declared.rows.Change.TheVariants.{PutNonce, RemoveNonce, PutAccount, PutAuthorization, PutOrder}
 use Rattle.desk_model.specs.declared.entry.Entry.TheVariants.{Issued as issued, Spent as spent, Opened as opened}
 use Rattle.desk_model.specs.declared.status.AccountStatus.TheVariants as account

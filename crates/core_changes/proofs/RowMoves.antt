@@ -4,11 +4,10 @@ use Rattle.std.proofs.Common.{Result, Ok, Err, IfOk, IsOkAnd, OnOk, refl, sym, a
 use Rattle.std.proofs.lemmas.List.{at_drop_all, at_drop_more, map-append}
 use Rattle.std.specs.Prelude.{◌==◌, ◌&&◌, ◌||◌, find, unwrap_or}
 use Rattle.std.specs.Option.{option_map}
-use Rattle.desk_model.specs.{Lookup.holds, Change.moved_rows}
+use Rattle.desk_model.specs.{Lookup.holds, Change.moved_rows, declared.entry.Entry.Entry, declared.rows.AccountRow.AccountRow}
+use Rattle.desk_model.specs.declared.{rows.AuthorizationRow.AuthorizationRow, rows.OrderRow.OrderRow, rows.Listed.Listed, status.AuthzStatus.AuthzStatus}
 use Rattle.desk_model.specs.Derived.{and_status, authorization_numbered, numbers_of, stored_statuses}
 use Rattle.desk_model.specs.Effect.{swept_authorization, swept_order, touches_authorization, touches_order, names_order, lists_one, moved_authorization}
-use Rattle.desk_model.specs.declared.{entry.Entry.Entry, rows.AccountRow.AccountRow, rows.AuthorizationRow.AuthorizationRow, rows.OrderRow.OrderRow}
-use Rattle.desk_model.specs.declared.{rows.Listed.Listed, status.AuthzStatus.AuthzStatus}
 use Rattle.model_laws.proofs.{Local.moved_number, SweptParts.touches_swept}
 use Rattle.core_changes.specs.Moved.{authorizations_moved, standing_rows, rows_after, moved_one, row_of, stated_authorization, touched_one}
 use Rattle.desk_book.proofs.SweptRows.{swept_authorization-status, swept_order-status, find-moved}

@@ -4,8 +4,9 @@ use Rattle.std.specs.List.{filter}
 use Rattle.desk_model.specs.Derived.{restated_authorization, restated_order}
 use Rattle.desk_model.specs.Effect.{swept_authorization, swept_order, moved_authorization, noted_account, noted_authorization}
 use Rattle.desk_model.specs.Effect.{noted_order, touches_account, touches_authorization, touches_order}
-use Rattle.desk_model.specs.Tables.{Tables}
+use Rattle.desk_model.specs.{Entry.entry_of, Tables.Tables}
 use Rattle.desk_model.specs.declared.{entry.Entry.Entry, rows.AccountRow.AccountRow, rows.AuthorizationRow.AuthorizationRow, rows.OrderRow.OrderRow}
+use Rattle.core_changes.specs.declared.moved.Step.{Step}
 
 -- the authorizations at the moment, and after the entry
 abbrev pub standing_rows : ℕ → List AuthorizationRow → List AuthorizationRow
@@ -46,6 +47,13 @@ authorizations_moved e m accounts rows = map (stated_authorization e m accounts)
 abbrev pub orders_moved : Entry → ℕ → List AccountRow → List AuthorizationRow → List OrderRow → List OrderRow
 orders_moved e m accounts rows orders =
     map (stated_order e m accounts rows) (filter (touches_order e (standing_rows m rows)) (map (swept_order m rows) orders))
+
+-- the authorizations after a step, and those that it touches
+abbrev pub stepped_rows : Step → List AuthorizationRow
+stepped_rows s = rows_after (entry_of s.moved.now) s.moment s.book.now.accounts s.book.now.authorizations
+
+abbrev pub touched_rows : Step → List AuthorizationRow
+touched_rows s = authorizations_moved (entry_of s.moved.now) s.moment s.book.now.accounts s.book.now.authorizations
 
 -- these are the rows of a book that the entry touches, as it leaves them
 pub record AreMoved (m : ℕ) (B : Tables) (e : Entry) (xs : List AccountRow) (ys : List AuthorizationRow) (zs : List OrderRow) : Type 0 where

@@ -1,9 +1,8 @@
 -- What is recorded of some entries: the passing of time first, then entry by entry.
 use Rattle.std.specs.Prelude.{ℕ, ◌≡◌, List, ◌++◌, map}
-use Rattle.desk_model.specs.Tables.{Tables}
+use Rattle.desk_model.specs.{Tables.Tables, declared.rows.Change.Change, declared.rows.Counters.Counters, declared.entry.Entry.Entry}
 use Rattle.desk_model.specs.Effect.{effects, swept, swept_order, noted_account, touches_account, touches_authorization, touches_order}
 use Rattle.desk_model.specs.Change.{all_changes, sweep_changes, moved_rows, account_differs, authorization_differs, order_differs}
-use Rattle.desk_model.specs.declared.{rows.Change.Change, rows.Counters.Counters, entry.Entry.Entry}
 use Rattle.desk_model.specs.declared.rows.Change.TheVariants.{PutAccount, PutAuthorization, PutOrder}
 use Rattle.core_changes.specs.Moved.{standing_rows, stated_authorization, stated_order}
 

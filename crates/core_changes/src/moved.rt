@@ -1,15 +1,14 @@
 //! Rows as a move leaves them, and the changes that this makes.
-ghost use Rattle.std.specs.Prelude.{◌≡◌, ◌==◌, ◌++◌, ◌∷◌, [], ⊤, ℕ, Bool, List, cond, map, find, option_copied, option_map, IfOk, IsOkAnd, OnOk};
+ghost use Rattle.std.specs.Prelude.{◌≡◌, ◌==◌, ◌++◌, ◌∷◌, [], ⊤, Bool, List, cond, map, find, option_copied, option_map, IfOk, IsOkAnd, OnOk};
 ghost use Rattle.std.specs.List.{filter};
 ghost use Rattle.desk_model.specs.Derived.{authorization_numbered, numbers_of, stored_statuses};
-ghost use Rattle.desk_model.specs.{Entry.entry_of, Tables.Tables};
+ghost use Rattle.desk_model.specs.Entry.{entry_of};
 ghost use Rattle.desk_model.specs.Effect.{has_row, swept_authorization, swept_order, noted_account, touches_account, touches_authorization, touches_order};
 ghost use Rattle.desk_model.specs.Change.{account_differs, authorization_differs, order_differs, moved_rows};
-ghost use Rattle.desk_model.specs.declared.{entry.Entry.Entry, rows.AuthorizationRow.AuthorizationRow as AuthorizationOf, rows.Change.Change as ChangeOf};
+ghost use Rattle.desk_model.specs.declared.rows.{AuthorizationRow.AuthorizationRow as AuthorizationOf, Change.Change as ChangeOf};
 ghost use Rattle.desk_model.specs.declared.rows.Change.TheVariants.{PutAccount, PutAuthorization, PutOrder};
-ghost use Rattle.core_changes.specs.Moved.{AreMoved, accounts_moved, authorizations_moved, moved_one, orders_moved, rows_after};
-ghost use Rattle.core_changes.specs.Moved.{standing_rows, stated_authorization, stated_order, row_of, touched_one};
-ghost use Rattle.core_changes.specs.Recorded.{book_moves};
+ghost use Rattle.core_changes.specs.Moved.{AreMoved, moved_one, row_of, standing_rows, stated_authorization, stated_order, stepped_rows, touched_one, touched_rows};
+ghost use Rattle.core_changes.specs.{Recorded.book_moves, declared.moved.Step.Step as StepOf};
 
 use crate::differing::{challenges_differ, is_gained, same_texts};
 use crate::noted::{account_end_by, end_after, note_contacts, note_key, noted_challenges};
@@ -100,7 +99,7 @@ fn push_row<R: Drop>(rows: &mut Vec<R>, row: Option<R>) -> Result<(), AllocError
     Ok(())
 }
 
-// Adds the row that a move leaves, if it touches one.
+// Adds the row that a step leaves, if it touches one.
 fn push_moved<R: Drop>(
     rows: &mut Vec<R>,
     moved: Result<Option<R>, AllocError>,
@@ -112,16 +111,25 @@ fn push_moved<R: Drop>(
 
 // ---- rows of any table
 
+/// A move of the rows of a book at a moment.
+#[derive(Clone, Copy)]
+struct Step<'a> {
+    alloc: Global,
+    book: &'a Book,
+    moved: &'a Move,
+    moment: u64,
+}
+
 /// A row that a move may touch.
 trait Movable: Row {
-    // Whether an entry at a moment touches it.
-    ghost touched: { Entry → ℕ → Tables → Self → Bool };
+    // Whether a step touches it.
+    ghost touched: { StepOf → Self → Bool };
 
-    // The row at a moment.
-    ghost standing: { ℕ → Tables → Self → Self };
+    // The row at its moment.
+    ghost standing: { StepOf → Self → Self };
 
-    // The row as an entry leaves it, with the status that it ought to have.
-    ghost stated: { Entry → ℕ → Tables → Self → Self };
+    // The row as the step leaves it, with the status that it ought to have.
+    ghost stated: { StepOf → Self → Self };
 
     // Whether a row after a step differs from the row before it.
     ghost differs: { (before after : Self) → Bool };
@@ -129,28 +137,21 @@ trait Movable: Row {
     // The change that puts it.
     ghost puts: { Self → ChangeOf };
 
-    // What is known of the authorizations that the entry touches, as it leaves them.
-    ghost Knows: { Entry → ℕ → Tables → List AuthorizationOf → Type 0 };
+    // What is known of the authorizations that the step touches, as it leaves them.
+    ghost Knows: { StepOf → List AuthorizationOf → Type 0 };
 
-    /// Whether a move touches the row.
-    fn is_touched(&self, book: &Book, moved: &Move) -> bool
-        ensures { (m : ℕ) → result ≡ touched (entry_of moved.now) m book.now (standing m book.now self.now) };
+    /// Whether a step touches the row.
+    fn is_touched(&self, step: &Step) -> bool
+        ensures { result ≡ touched step.now (standing step.now self.now) };
 
-    /// Brings the row to a moment.
-    fn stand(&mut self, book: &Book, moment: u64)
-        ensures { self.new ≡ standing moment book.now self.old };
+    /// Brings the row to the moment of a step.
+    fn stand(&mut self, step: &Step)
+        ensures { self.new ≡ standing step.now self.old };
 
-    /// Notes a move in the row, with the status that it then ought to have.
-    fn note(
-        &mut self,
-        alloc: Global,
-        book: &Book,
-        moved: &Move,
-        after: &[AuthorizationRow],
-        moment: u64,
-    ) -> Result<(), AllocError>
-        requires { Knows (entry_of moved.now) moment book.now after.now }
-        ensures { OnOk result (self.new ≡ stated (entry_of moved.now) moment book.now self.old) };
+    /// Notes a step in the row, with the status that it then ought to have.
+    fn note(&mut self, step: &Step, after: &[AuthorizationRow]) -> Result<(), AllocError>
+        requires { Knows step.now after.now }
+        ensures { OnOk result (self.new ≡ stated step.now self.old) };
 
     /// Whether the row after a step differs from this one.
     fn differs(&self, after: &Self) -> bool
@@ -178,74 +179,61 @@ fn record_noted<R: Movable + Drop>(
     push_change(changes, after.clone()?.put())
 }
 
-// A row that a move touches, as it leaves it, with the change that this makes.
+// A row that a step touches, as it leaves it, with the change that this makes.
 fn restate_row<R: Movable + Drop>(
     changes: &mut Vec<Change>,
-    alloc: Global,
-    book: &Book,
-    moved: &Move,
+    step: &Step,
     after: &[AuthorizationRow],
-    moment: u64,
     standing: &R,
 ) -> Result<R, AllocError>
-    requires { R.Knows (entry_of moved.now) moment book.now after.now }
+    requires { R.Knows step.now after.now }
     ensures changes { OnOk result (changes.new.items ≡ changes.old.items
-        ++ map R.puts (cond (R.differs standing.now (R.stated (entry_of moved.now) moment book.now standing.now))
-        (R.stated (entry_of moved.now) moment book.now standing.now ∷ []) [])) }
-    ensures row { IfOk result (λ r. r ≡ R.stated (entry_of moved.now) moment book.now standing.now) }
+        ++ map R.puts (cond (R.differs standing.now (R.stated step.now standing.now)) (R.stated step.now standing.now ∷ []) [])) }
+    ensures row { IfOk result (λ r. r ≡ R.stated step.now standing.now) }
 {
     let mut next = standing.clone()?;
-    let noted = next.note(alloc, book, moved, after, moment);
+    let noted = next.note(step, after);
     record_noted(changes, standing, &next, noted).and(Ok(next))
 }
 
-// The row as a move leaves it, if it touches it, with the change that this makes.
+// The row as a step leaves it, if it touches it, with the change that this makes.
 fn move_row<R: Movable + Drop>(
     changes: &mut Vec<Change>,
-    alloc: Global,
-    book: &Book,
-    moved: &Move,
+    step: &Step,
     after: &[AuthorizationRow],
-    moment: u64,
     row: &R,
 ) -> Result<Option<R>, AllocError>
-    requires { R.Knows (entry_of moved.now) moment book.now after.now }
+    requires { R.Knows step.now after.now }
     ensures changes { OnOk result (changes.new.items ≡ changes.old.items
-        ++ map R.puts (moved_one (R.touched (entry_of moved.now) moment book.now) R.differs
-        (R.stated (entry_of moved.now) moment book.now) (R.standing moment book.now row.now))) }
-    ensures row { IfOk result (λ o. o ≡ touched_one (R.touched (entry_of moved.now) moment book.now)
-        (R.stated (entry_of moved.now) moment book.now) (R.standing moment book.now row.now)) }
+        ++ map R.puts (moved_one (R.touched step.now) R.differs (R.stated step.now) (R.standing step.now row.now))) }
+    ensures row { IfOk result (λ o. o ≡ touched_one (R.touched step.now) (R.stated step.now) (R.standing step.now row.now)) }
 {
-    if !row.is_touched(book, moved) {
+    if !row.is_touched(step) {
         return Ok(None);
     }
     let mut standing = row.clone()?;
-    standing.stand(book, moment);
-    let next = restate_row(changes, alloc, book, moved, after, moment, &standing);
+    standing.stand(step);
+    let next = restate_row(changes, step, after, &standing);
     drop(standing);
     Ok(Some(next?))
 }
 
-// Puts the rows of a table that a move changes, and adds those that it touches to the rows.
+// Puts the rows of a table that a step changes, and adds those that it touches to the rows.
 fn record_moved<R: Movable + Drop>(
     changes: &mut Vec<Change>,
-    alloc: Global,
     rows: &mut Vec<R>,
     table: &Table<R>,
-    book: &Book,
-    moved: &Move,
+    step: &Step,
     after: &[AuthorizationRow],
-    moment: u64,
 ) -> Result<(), AllocError>
-    requires { R.Knows (entry_of moved.now) moment book.now after.now }
+    requires { R.Knows step.now after.now }
     ensures changes { OnOk result (changes.new.items ≡ changes.old.items
-        ++ map R.puts (moved_rows (R.touched (entry_of moved.now) moment book.now) R.differs
-        (R.stated (entry_of moved.now) moment book.now) (map (R.standing moment book.now) table.now))) }
-    ensures rows { OnOk result (rows.new.items ≡ rows.old.items ++ map (R.stated (entry_of moved.now) moment book.now)
-        (filter (R.touched (entry_of moved.now) moment book.now) (map (R.standing moment book.now) table.now))) }
+        ++ map R.puts (moved_rows (R.touched step.now) R.differs (R.stated step.now) (map (R.standing step.now) table.now))) }
+    ensures rows { OnOk result (rows.new.items ≡ rows.old.items
+        ++ map (R.stated step.now) (filter (R.touched step.now) (map (R.standing step.now) table.now))) }
 {
     for row in table.iter() {
-        let next = move_row(changes, alloc, book, moved, after, moment, row);
+        let next = move_row(changes, step, after, row);
         push_moved(rows, next)?;
     }
     Ok(())
@@ -254,20 +242,20 @@ fn record_moved<R: Movable + Drop>(
 // ---- accounts
 
 impl Movable for AccountRow {
-    ghost touched = { λ e m B. touches_account e };
+    ghost touched = { λ s. touches_account (entry_of s.moved.now) };
 
-    ghost standing = { λ m B row. row };
+    ghost standing = { λ s row. row };
 
-    ghost stated = { λ e m B. noted_account e m };
+    ghost stated = { λ s. noted_account (entry_of s.moved.now) s.moment };
 
     ghost differs = { account_differs };
 
     ghost puts = { PutAccount };
 
-    ghost Knows = { λ e m B after. ⊤ };
+    ghost Knows = { λ s after. ⊤ };
 
-    fn is_touched(&self, _book: &Book, moved: &Move) -> bool {
-        match moved {
+    fn is_touched(&self, step: &Step) -> bool {
+        match step.moved {
             Move::ContactsChanged(number, _) => *number == self.number,
             Move::KeyChanged(number, _) => *number == self.number,
             Move::AccountEnded(number, _) => *number == self.number,
@@ -275,19 +263,13 @@ impl Movable for AccountRow {
         }
     }
 
-    fn stand(&mut self, _book: &Book, _moment: u64) {}
+    fn stand(&mut self, _step: &Step) {}
 
-    fn note(
-        &mut self,
-        _alloc: Global,
-        _book: &Book,
-        moved: &Move,
-        _after: &[AuthorizationRow],
-        moment: u64,
-    ) -> Result<(), AllocError> {
-        note_contacts(self, moved)?;
-        note_key(self, moved)?;
-        self.ended = self.ended.or(account_end_by(moved, moment, self.number));
+    fn note(&mut self, step: &Step, _after: &[AuthorizationRow]) -> Result<(), AllocError> {
+        note_contacts(self, step.moved)?;
+        note_key(self, step.moved)?;
+        let end = account_end_by(step.moved, step.moment, self.number);
+        self.ended = self.ended.or(end);
         self.status = derived_account(self);
         Ok(())
     }
@@ -304,67 +286,36 @@ impl Movable for AccountRow {
     }
 }
 
-// Puts the accounts that a move changes, and adds those that it touches.
-fn record_accounts(
-    changes: &mut Vec<Change>,
-    alloc: Global,
-    rows: &mut Vec<AccountRow>,
-    book: &Book,
-    moved: &Move,
-    moment: u64,
-) -> Result<(), AllocError>
-    ensures changes { OnOk result (changes.new.items ≡ changes.old.items
-        ++ map PutAccount (moved_rows (touches_account (entry_of moved.now)) account_differs (noted_account (entry_of moved.now) moment) book.now.accounts)) }
-    ensures rows { OnOk result (rows.new.items ≡ rows.old.items ++ accounts_moved (entry_of moved.now) moment book.now.accounts) }
-{
-    record_moved(
-        changes,
-        alloc,
-        rows,
-        book.accounts(),
-        book,
-        moved,
-        &[],
-        moment,
-    )
-}
-
 // ---- authorizations
 
 impl Movable for AuthorizationRow {
-    ghost touched = { λ e m B. touches_authorization e };
+    ghost touched = { λ s. touches_authorization (entry_of s.moved.now) };
 
-    ghost standing = { λ m B. swept_authorization m };
+    ghost standing = { λ s. swept_authorization s.moment };
 
-    ghost stated = { λ e m B. stated_authorization e m B.accounts };
+    ghost stated = { λ s. stated_authorization (entry_of s.moved.now) s.moment s.book.now.accounts };
 
     ghost differs = { authorization_differs };
 
     ghost puts = { PutAuthorization };
 
-    ghost Knows = { λ e m B after. ⊤ };
+    ghost Knows = { λ s after. ⊤ };
 
-    fn is_touched(&self, _book: &Book, moved: &Move) -> bool {
-        touches_authorization(moved, self)
+    fn is_touched(&self, step: &Step) -> bool {
+        touches_authorization(step.moved, self)
     }
 
-    fn stand(&mut self, _book: &Book, moment: u64) {
-        self.status = authorization_status(moment, self);
+    fn stand(&mut self, step: &Step) {
+        self.status = authorization_status(step.moment, self);
     }
 
-    fn note(
-        &mut self,
-        alloc: Global,
-        book: &Book,
-        moved: &Move,
-        _after: &[AuthorizationRow],
-        moment: u64,
-    ) -> Result<(), AllocError> {
-        let key = book.account_key(self.account);
-        let challenges = noted_challenges(alloc, moved, moment, key, self.challenges.as_slice())?;
-        self.ended = end_after(moved, moment, self);
+    fn note(&mut self, step: &Step, _after: &[AuthorizationRow]) -> Result<(), AllocError> {
+        let key = step.book.account_key(self.account);
+        let rows = self.challenges.as_slice();
+        let challenges = noted_challenges(step.alloc, step.moved, step.moment, key, rows)?;
+        self.ended = end_after(step.moved, step.moment, self);
         self.challenges = challenges;
-        self.status = derived_authorization(moment, self);
+        self.status = derived_authorization(step.moment, self);
         Ok(())
     }
 
@@ -379,106 +330,62 @@ impl Movable for AuthorizationRow {
     }
 }
 
-// Puts the authorizations that a move changes, and adds those that it touches.
-fn record_authorizations(
-    changes: &mut Vec<Change>,
-    alloc: Global,
-    rows: &mut Vec<AuthorizationRow>,
-    book: &Book,
-    moved: &Move,
-    moment: u64,
-) -> Result<(), AllocError>
-    ensures changes { OnOk result (changes.new.items ≡ changes.old.items
-        ++ map PutAuthorization (moved_rows (touches_authorization (entry_of moved.now)) authorization_differs
-        (stated_authorization (entry_of moved.now) moment book.now.accounts) (standing_rows moment book.now.authorizations))) }
-    ensures rows { OnOk result (rows.new.items ≡ rows.old.items ++ authorizations_moved (entry_of moved.now) moment book.now.accounts book.now.authorizations) }
-{
-    record_moved(
-        changes,
-        alloc,
-        rows,
-        book.authorizations(),
-        book,
-        moved,
-        &[],
-        moment,
-    )
-}
-
 // ---- orders
 
-// The status of the authorization of a number after a move, by those that it touches.
-fn status_after(
-    book: &Book,
-    moved: &Move,
-    after: &[AuthorizationRow],
-    moment: u64,
-    number: u64,
-) -> Option<AuthzStatus>
-    requires { after.now ≡ authorizations_moved (entry_of moved.now) moment book.now.accounts book.now.authorizations }
-    ensures { result ≡ option_map (λ r. r.status)
-        (authorization_numbered number (rows_after (entry_of moved.now) moment book.now.accounts book.now.authorizations)) }
+// The status of the authorization of a number after a step, by those that it touches.
+fn status_after(step: &Step, after: &[AuthorizationRow], number: u64) -> Option<AuthzStatus>
+    requires { after.now ≡ touched_rows step.now }
+    ensures { result ≡ option_map (λ r. r.status) (authorization_numbered number (stepped_rows step.now)) }
 {
-    let row = book.authorization(number)?;
-    if !touches_authorization(moved, row) {
-        return Some(authorization_status(moment, row));
+    let row = step.book.authorization(number)?;
+    if !touches_authorization(step.moved, row) {
+        return Some(authorization_status(step.moment, row));
     }
     let next = row_numbered(after, number)?;
     Some(next.status)
 }
 
 fn statuses_after(
-    alloc: Global,
-    book: &Book,
-    moved: &Move,
+    step: &Step,
     after: &[AuthorizationRow],
-    moment: u64,
     listed: &[Listed],
 ) -> Result<Vec<AuthzStatus>, AllocError>
-    requires { after.now ≡ authorizations_moved (entry_of moved.now) moment book.now.accounts book.now.authorizations }
-    ensures { IfOk result (λ v. v.items
-        ≡ stored_statuses (rows_after (entry_of moved.now) moment book.now.accounts book.now.authorizations) (numbers_of listed.now)) }
+    requires { after.now ≡ touched_rows step.now }
+    ensures { IfOk result (λ v. v.items ≡ stored_statuses (stepped_rows step.now) (numbers_of listed.now)) }
 {
-    let mut statuses = Vec::new(alloc);
+    let mut statuses = Vec::new(step.alloc);
     for listed in listed {
-        let status = status_after(book, moved, after, moment, listed.authorization);
+        let status = status_after(step, after, listed.authorization);
         push_row(&mut statuses, status)?;
     }
     Ok(statuses)
 }
 
 impl Movable for OrderRow {
-    ghost touched = { λ e m B. touches_order e (standing_rows m B.authorizations) };
+    ghost touched = { λ s. touches_order (entry_of s.moved.now) (standing_rows s.moment s.book.now.authorizations) };
 
-    ghost standing = { λ m B. swept_order m B.authorizations };
+    ghost standing = { λ s. swept_order s.moment s.book.now.authorizations };
 
-    ghost stated = { λ e m B. stated_order e m B.accounts B.authorizations };
+    ghost stated = { λ s. stated_order (entry_of s.moved.now) s.moment s.book.now.accounts s.book.now.authorizations };
 
     ghost differs = { order_differs };
 
     ghost puts = { PutOrder };
 
-    ghost Knows = { λ e m B after. after ≡ authorizations_moved e m B.accounts B.authorizations };
+    ghost Knows = { λ s after. after ≡ touched_rows s };
 
-    fn is_touched(&self, book: &Book, moved: &Move) -> bool {
-        touches_order(moved, book, self)
+    fn is_touched(&self, step: &Step) -> bool {
+        touches_order(step.moved, step.book, self)
     }
 
-    fn stand(&mut self, book: &Book, moment: u64) {
-        self.status = order_status(book, moment, self);
+    fn stand(&mut self, step: &Step) {
+        self.status = order_status(step.book, step.moment, self);
     }
 
-    fn note(
-        &mut self,
-        alloc: Global,
-        book: &Book,
-        moved: &Move,
-        after: &[AuthorizationRow],
-        moment: u64,
-    ) -> Result<(), AllocError> {
-        let statuses = statuses_after(alloc, book, moved, after, moment, self.listed.as_slice())?;
-        note_dates(self, moved, moment)?;
-        self.status = derived_order(moment, self, &statuses);
+    fn note(&mut self, step: &Step, after: &[AuthorizationRow]) -> Result<(), AllocError> {
+        let statuses = statuses_after(step, after, self.listed.as_slice())?;
+        note_dates(self, step.moved, step.moment)?;
+        self.status = derived_order(step.moment, self, &statuses);
         Ok(())
     }
 
@@ -491,45 +398,15 @@ impl Movable for OrderRow {
     }
 }
 
-// Puts the orders that a move changes, by the authorizations that it touches, and adds those that it touches.
-fn record_orders(
-    changes: &mut Vec<Change>,
-    alloc: Global,
-    rows: &mut Vec<OrderRow>,
-    book: &Book,
-    moved: &Move,
-    after: &[AuthorizationRow],
-    moment: u64,
-) -> Result<(), AllocError>
-    requires { after.now ≡ authorizations_moved (entry_of moved.now) moment book.now.accounts book.now.authorizations }
-    ensures changes { OnOk result (changes.new.items ≡ changes.old.items
-        ++ map PutOrder (moved_rows (touches_order (entry_of moved.now) (standing_rows moment book.now.authorizations)) order_differs
-        (stated_order (entry_of moved.now) moment book.now.accounts book.now.authorizations)
-        (map (swept_order moment book.now.authorizations) book.now.orders))) }
-    ensures rows { OnOk result (rows.new.items ≡ rows.old.items
-        ++ orders_moved (entry_of moved.now) moment book.now.accounts book.now.authorizations book.now.orders) }
-{
-    record_moved(
-        changes,
-        alloc,
-        rows,
-        book.orders(),
-        book,
-        moved,
-        after,
-        moment,
-    )
-}
-
 // ---- all of them
 
 /// Puts the rows that a move changes, and adds those that it touches to rows that were none.
-pub(crate) fn record_rows(
+pub(crate) fn record_rows<'a>(
     changes: &mut Vec<Change>,
     alloc: Global,
     rows: &mut MovedRows,
-    book: &Book,
-    moved: &Move,
+    book: &'a Book,
+    moved: &'a Move,
     moment: u64,
 ) -> Result<(), AllocError>
     requires accounts { rows.old.accounts.items ≡ [] }
@@ -539,22 +416,14 @@ pub(crate) fn record_rows(
     ensures rows { OnOk result (AreMoved moment book.now (entry_of moved.now) rows.new.accounts.items rows.new.authorizations.items
         rows.new.orders.items) }
 {
-    record_accounts(changes, alloc, &mut rows.accounts, book, moved, moment)?;
-    record_authorizations(
-        changes,
+    let step = Step {
         alloc,
-        &mut rows.authorizations,
         book,
         moved,
         moment,
-    )?;
-    record_orders(
-        changes,
-        alloc,
-        &mut rows.orders,
-        book,
-        moved,
-        &rows.authorizations,
-        moment,
-    )
+    };
+    record_moved(changes, &mut rows.accounts, book.accounts(), &step, &[])?;
+    let authorizations = book.authorizations();
+    record_moved(changes, &mut rows.authorizations, authorizations, &step, &[])?;
+    record_moved(changes, &mut rows.orders, book.orders(), &step, &rows.authorizations)
 }

@@ -1,8 +1,7 @@
 //! Moves, written into the rows of accounts, challenges and authorizations.
 ghost use Rattle.std.specs.Prelude.{◌≡◌, map, unwrap_or, IfOk, OnOk};
-ghost use Rattle.desk_model.specs.{Entry.entry_of, History.earlier, Authorization.in_time};
+ghost use Rattle.desk_model.specs.{Entry.entry_of, History.earlier, Authorization.in_time, declared.entry.Entry.TheVariants.Reported as reported};
 ghost use Rattle.desk_model.specs.Account.{changing, rekeying, ends as account_ends};
-ghost use Rattle.desk_model.specs.declared.entry.Entry.TheVariants.{Reported as reported};
 ghost use Rattle.desk_model.specs.Effect.{noted_challenge, answered_challenge, reported_challenge, row_ends};
 
 use desk_book::{derived_challenge, has_challenge};
@@ -43,18 +42,13 @@ pub(crate) fn note_key(row: &mut AccountRow, moved: &Move) -> Result<(), AllocEr
 pub(crate) fn account_end_by(moved: &Move, moment: u64, number: u64) -> Option<AccountEnd>
     ensures { result ≡ account_ends number (entry_of moved.now) moment }
 {
-    match moved {
-        Move::AccountEnded(account, ending) => {
-            if *account == number {
-                return Some(AccountEnd {
-                    date: moment,
-                    ending: *ending,
-                });
-            }
-            None
-        }
-        _ => None,
-    }
+    let Move::AccountEnded(account, ending) = moved else {
+        return None;
+    };
+    (*account == number).then_some(AccountEnd {
+        date: moment,
+        ending: *ending,
+    })
 }
 
 // ---- challenges
@@ -154,28 +148,18 @@ fn end_by(moved: &Move, moment: u64, row: &AuthorizationRow) -> Option<Authoriza
         Move::AccountEnded(account, ending) => (*account == row.account, *ending),
         _ => return None,
     };
-    if ended {
-        return Some(AuthorizationEnd {
-            date: moment,
-            kind: ending.kind(),
-        });
-    }
-    None
+    ended.then_some(AuthorizationEnd {
+        date: moment,
+        kind: ending.kind(),
+    })
 }
 
 // An end that comes no later than the authorization expires.
 fn in_time(expires: u64, end: Option<AuthorizationEnd>) -> Option<AuthorizationEnd>
     ensures { result ≡ in_time expires end }
 {
-    match end {
-        Some(end) => {
-            if end.date <= expires {
-                return Some(end);
-            }
-            None
-        }
-        None => None,
-    }
+    let end = end?;
+    (end.date <= expires).then_some(end)
 }
 
 /// The end of an authorization after a move: the first one stays.

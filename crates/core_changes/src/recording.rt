@@ -1,13 +1,12 @@
 //! What a call records, change by change.
 ghost use Rattle.model_laws.specs.Ordered.{IsOrdered};
-ghost use Rattle.desk_model.specs.{Change.recorded_changes, Effect.swept, Entry.entry_of, Tables.Tables};
+ghost use Rattle.desk_model.specs.{Change.recorded_changes, Effect.swept, Entry.entry_of, Tables.Tables, declared.entry.Entry.Entry as EntryOf};
 ghost use Rattle.desk_model.specs.Limits.{last_moment, last_number};
 ghost use Rattle.desk_model.specs.Run.{count_new, count_tokens};
 ghost use Rattle.core_changes.specs.Made.{AreStanding, next_account, next_order, next_rows, ordered_counters};
 ghost use Rattle.std.specs.Prelude.{◌≡◌, ◌<◌, ◌≤◌, map, ◌+◌, ◌++◌, ◌∷◌, [], None, IfOk, OnOk, ℕ, List};
 ghost use Rattle.core_changes.specs.Moved.{AreMoved};
 ghost use Rattle.core_changes.specs.Recorded.{IsRecorded, IsUntouched, book_moves};
-ghost use Rattle.desk_model.specs.declared.entry.Entry.{Entry as EntryOf};
 ghost use Rattle.desk_model.specs.declared.entry.Entry.TheVariants.{Issued as issued, Spent as spent, Opened as opened, Ordered as ordered};
 ghost use Rattle.desk_model.specs.declared.rows.Change.TheVariants.{PutMeta, PutNonce, RemoveNonce, PutAccount, PutAuthorization, PutOrder};
 ghost use Rattle.desk_model.specs.declared.status.AccountStatus.TheVariants as account;

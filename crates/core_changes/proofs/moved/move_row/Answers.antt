@@ -1,5 +1,4 @@
 use Rattle.std.proofs.Common.{◌++◌, Some, map, refl, ap, sym, ◌∙◌, append-nil}
-use Rattle.desk_model.specs.Entry.{entry_of}
 use Rattle.core_changes.proofs.RowMoves.{moved_one-is, moved_one-untouched, touched_one-is}
 use Rattle.core_changes.proofs.moved.move_row.Goals as goal
 
@@ -7,30 +6,26 @@ pub returns-then-not-is_touched-clause-changes : goal.returns-then-not-is_touche
 returns-then-not-is_touched-clause-changes g c =
     sym (append-nil c.args.changes.now.items)
     ∙ ap (λ l. c.args.changes.now.items ++ map g.R.Movable.puts l)
-    (sym (moved_one-untouched (g.R.Movable.touched (entry_of c.args.moved.now) c.args.moment c.args.book.now) g.R.Movable.differs
-    (g.R.Movable.stated (entry_of c.args.moved.now) c.args.moment c.args.book.now)
-    (g.R.Movable.standing c.args.moment c.args.book.now c.args.row.now) (sym (c.is_touched.ensures c.args.moment) ∙ c.if-not-is_touched.true)))
+    (sym (moved_one-untouched (g.R.Movable.touched c.args.step.now) g.R.Movable.differs (g.R.Movable.stated c.args.step.now)
+    (g.R.Movable.standing c.args.step.now c.args.row.now) (sym c.is_touched.ensures ∙ c.if-not-is_touched.true)))
 
 pub returns-then-not-is_touched-clause-row : goal.returns-then-not-is_touched-clause-row
 returns-then-not-is_touched-clause-row g c =
-    sym (touched_one-is (g.R.Movable.touched (entry_of c.args.moved.now) c.args.moment c.args.book.now)
-    (g.R.Movable.stated (entry_of c.args.moved.now) c.args.moment c.args.book.now)
-    (g.R.Movable.standing c.args.moment c.args.book.now c.args.row.now) _ (sym (c.is_touched.ensures c.args.moment) ∙ c.if-not-is_touched.true))
+    sym (touched_one-is (g.R.Movable.touched c.args.step.now) (g.R.Movable.stated c.args.step.now)
+    (g.R.Movable.standing c.args.step.now c.args.row.now) _ (sym c.is_touched.ensures ∙ c.if-not-is_touched.true))
 
 pub returns-clause-changes : goal.returns-clause-changes
 returns-clause-changes g c =
     c.in_ok-next.ensures.changes
     ∙ ap (λ l. c.args.changes.now.items ++ map g.R.Movable.puts l)
-    (moved_one-is (g.R.Movable.touched (entry_of c.args.moved.now) c.args.moment c.args.book.now) g.R.Movable.differs
-    (g.R.Movable.stated (entry_of c.args.moved.now) c.args.moment c.args.book.now)
-    (g.R.Movable.standing c.args.moment c.args.book.now c.args.row.now) _ _ (sym (c.is_touched.ensures c.args.moment) ∙ c.if-not-is_touched.false)
-    (c.stand.ensures ∙ ap (g.R.Movable.standing c.args.moment c.args.book.now) (g.met.R.Row.clones _ _ c.in_ok-standing.ensures.cases)) refl)
+    (moved_one-is (g.R.Movable.touched c.args.step.now) g.R.Movable.differs (g.R.Movable.stated c.args.step.now)
+    (g.R.Movable.standing c.args.step.now c.args.row.now) _ _ (sym c.is_touched.ensures ∙ c.if-not-is_touched.false)
+    (c.stand.ensures ∙ ap (g.R.Movable.standing c.args.step.now) (g.met.R.Row.clones _ _ c.in_ok-standing.ensures.cases)) refl)
 
 pub returns-clause-row : goal.returns-clause-row
 returns-clause-row g c =
     ap Some (c.in_ok-next.ensures.row
-    ∙ ap (g.R.Movable.stated (entry_of c.args.moved.now) c.args.moment c.args.book.now)
-    (c.stand.ensures ∙ ap (g.R.Movable.standing c.args.moment c.args.book.now) (g.met.R.Row.clones _ _ c.in_ok-standing.ensures.cases)))
-    ∙ sym (touched_one-is (g.R.Movable.touched (entry_of c.args.moved.now) c.args.moment c.args.book.now)
-    (g.R.Movable.stated (entry_of c.args.moved.now) c.args.moment c.args.book.now)
-    (g.R.Movable.standing c.args.moment c.args.book.now c.args.row.now) _ (sym (c.is_touched.ensures c.args.moment) ∙ c.if-not-is_touched.false))
+    ∙ ap (g.R.Movable.stated c.args.step.now)
+    (c.stand.ensures ∙ ap (g.R.Movable.standing c.args.step.now) (g.met.R.Row.clones _ _ c.in_ok-standing.ensures.cases)))
+    ∙ sym (touched_one-is (g.R.Movable.touched c.args.step.now) (g.R.Movable.stated c.args.step.now)
+    (g.R.Movable.standing c.args.step.now c.args.row.now) _ (sym c.is_touched.ensures ∙ c.if-not-is_touched.false))

@@ -1,22 +1,18 @@
 use Rattle.std.proofs.Common.{◌++◌, ap, sym, ◌∙◌, append-nil}
 use Rattle.std.proofs.lemmas.List.{at_drop_all}
 use Rattle.desk_model.specs.Derived.{numbers_of, stored_statuses}
-use Rattle.desk_model.specs.Entry.{entry_of}
-use Rattle.core_changes.specs.Moved.{rows_after}
+use Rattle.core_changes.specs.Moved.{stepped_rows}
 use Rattle.core_changes.proofs.RowMoves.{statuses-step}
 use Rattle.core_changes.proofs.moved.statuses_after.Goals as goal
 
 pub loop-listed-preserved : goal.loop-listed-preserved
 loop-listed-preserved c =
-    statuses-step (rows_after (entry_of c.args.moved.now) c.args.moment c.args.book.now.accounts c.args.book.now.authorizations) c.args.listed.now
-    c.loop-listed.listed-index _
-    c.status_after-status.result c.loop-listed.statuses.items _ _ c.loop-listed-test.true c.status_after-status.ensures c.in_ok-push_row.ensures
-    c.loop-listed.invariant
+    statuses-step (stepped_rows c.args.step.now) c.args.listed.now c.loop-listed.listed-index _ c.status_after-status.result c.loop-listed.statuses.items _ _
+    c.loop-listed-test.true c.status_after-status.ensures c.in_ok-push_row.ensures c.loop-listed.invariant
 
 pub returns : goal.returns
 returns c =
     sym (ap (λ l. c.loop-listed.statuses.items ++ l)
-    (at_drop_all (λ l. stored_statuses (rows_after (entry_of c.args.moved.now) c.args.moment c.args.book.now.accounts c.args.book.now.authorizations)
-    (numbers_of l))
-    c.args.listed.now c.loop-listed.listed-index c.loop-listed-test.false) ∙ append-nil c.loop-listed.statuses.items)
+    (at_drop_all (λ l. stored_statuses (stepped_rows c.args.step.now) (numbers_of l)) c.args.listed.now c.loop-listed.listed-index c.loop-listed-test.false)
+    ∙ append-nil c.loop-listed.statuses.items)
     ∙ c.loop-listed.invariant
