@@ -30,24 +30,37 @@ fn asked<'a>(matches: &ArgMatches<'a>) -> Option<Asked<'a>> {
 // What a word asks for by what is given behind it.
 fn command<'a>(task: Task, given: &ArgMatches<'a>) -> Option<Command<'a>> {
     match task {
-        Task::Make => make(given),
+        Task::Make => Some(Command::Make {
+            file: file(given)?,
+            terms: terms(given)?,
+        }),
         Task::Serve => serve(given),
         Task::Batch => Some(batch(given)),
-        Task::About => about(given),
-        Task::Page => page(given),
-        Task::Status => status(given),
-        Task::Accounts => accounts(given),
-        Task::Authorizations => authorizations(given),
-        Task::Check => check(given),
-        Task::BackUp => back_up(given),
-        Task::RevokeAuthorization => revoke_authorization(given),
-        Task::RevokeAccount => revoke_account(given),
+        Task::About => Some(Command::About { file: file(given)? }),
+        Task::Page => Some(Command::Page { file: file(given)? }),
+        Task::Status => Some(Command::Status {
+            file: file(given)?,
+            listing: listing(given),
+        }),
+        Task::Accounts => Some(Command::Accounts {
+            file: file(given)?,
+            json: given.get_flag(arguments::JSON),
+        }),
+        Task::Authorizations => Some(Command::Authorizations {
+            file: file(given)?,
+            listing: authorization_listing(given),
+        }),
+        Task::Check => Some(Command::Check {
+            file: file(given)?,
+            json: given.get_flag(arguments::JSON),
+        }),
+        Task::BackUp => Some(Command::BackUp {
+            file: file(given)?,
+            to: given.get_str(arguments::TO)?,
+        }),
+        Task::RevokeAuthorization => revoke(given, Target::Authorization(number(given)?)),
+        Task::RevokeAccount => revoke(given, Target::Account(number(given)?)),
     }
-}
-
-fn make<'a>(given: &ArgMatches<'a>) -> Option<Command<'a>> {
-    let (file, terms) = file(given).zip(terms(given))?;
-    Some(Command::Make { file, terms })
 }
 
 fn serve<'a>(given: &ArgMatches<'a>) -> Option<Command<'a>> {
@@ -77,53 +90,6 @@ fn batch<'a>(given: &ArgMatches<'a>) -> Command<'a> {
         None => None,
     };
     Command::Batch { file }
-}
-
-fn about<'a>(given: &ArgMatches<'a>) -> Option<Command<'a>> {
-    let file = file(given)?;
-    Some(Command::About { file })
-}
-
-fn page<'a>(given: &ArgMatches<'a>) -> Option<Command<'a>> {
-    let file = file(given)?;
-    Some(Command::Page { file })
-}
-
-fn status<'a>(given: &ArgMatches<'a>) -> Option<Command<'a>> {
-    let file = file(given)?;
-    let listing = listing(given);
-    Some(Command::Status { file, listing })
-}
-
-fn accounts<'a>(given: &ArgMatches<'a>) -> Option<Command<'a>> {
-    let file = file(given)?;
-    let json = given.get_flag(arguments::JSON);
-    Some(Command::Accounts { file, json })
-}
-
-fn authorizations<'a>(given: &ArgMatches<'a>) -> Option<Command<'a>> {
-    let file = file(given)?;
-    let listing = authorization_listing(given);
-    Some(Command::Authorizations { file, listing })
-}
-
-fn check<'a>(given: &ArgMatches<'a>) -> Option<Command<'a>> {
-    let file = file(given)?;
-    let json = given.get_flag(arguments::JSON);
-    Some(Command::Check { file, json })
-}
-
-fn back_up<'a>(given: &ArgMatches<'a>) -> Option<Command<'a>> {
-    let (file, to) = file(given).zip(given.get_str(arguments::TO))?;
-    Some(Command::BackUp { file, to })
-}
-
-fn revoke_authorization<'a>(given: &ArgMatches<'a>) -> Option<Command<'a>> {
-    revoke(given, Target::Authorization(number(given)?))
-}
-
-fn revoke_account<'a>(given: &ArgMatches<'a>) -> Option<Command<'a>> {
-    revoke(given, Target::Account(number(given)?))
 }
 
 // By the desk that is served at a port, where one is given, else in the file.

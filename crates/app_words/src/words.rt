@@ -176,6 +176,40 @@ macro_rules! sync {
     };
 }
 
+// An option that may be left out.
+macro_rules! option {
+    ($id:expr, $name:literal, $value:ident, $help:literal) => {
+        Argument::Option {
+            id: $id,
+            value_name: $name,
+            value: Value::$value,
+            is_required: false,
+            help: $help,
+        }
+    };
+}
+
+// The option that asks for JSON.
+macro_rules! json {
+    ($help:literal) => {
+        Argument::Flag {
+            id: arguments::JSON,
+            help: $help,
+        }
+    };
+}
+
+// The life of an object, in seconds.
+macro_rules! life {
+    ($life:ident, $help:literal) => {
+        Argument::Seconds {
+            id: arguments::$life,
+            default: $life,
+            help: $help,
+        }
+    };
+}
+
 const MAKE: &[Argument] = &[
     Argument::Positional {
         id: arguments::FILE,
@@ -189,21 +223,9 @@ const MAKE: &[Argument] = &[
         is_required: true,
         help: "what each URL begins with, as https://ca.example: http:// or https://, 8 to 256 bytes, no / at its end",
     },
-    Argument::Seconds {
-        id: arguments::NONCE_LIFE,
-        default: NONCE_LIFE,
-        help: "seconds that a nonce is open, 1 to 315360000",
-    },
-    Argument::Seconds {
-        id: arguments::ORDER_LIFE,
-        default: ORDER_LIFE,
-        help: "seconds that an order lives, 1 to 315360000",
-    },
-    Argument::Seconds {
-        id: arguments::AUTHZ_LIFE,
-        default: AUTHZ_LIFE,
-        help: "seconds that an authorization lives, 1 to 315360000",
-    },
+    life! { NONCE_LIFE, "seconds that a nonce is open, 1 to 315360000" },
+    life! { ORDER_LIFE, "seconds that an order lives, 1 to 315360000" },
+    life! { AUTHZ_LIFE, "seconds that an authorization lives, 1 to 315360000" },
 ];
 
 const SERVE: &[Argument] = &[
@@ -215,19 +237,10 @@ const SERVE: &[Argument] = &[
         is_required: true,
         help: "the port of 127.0.0.1, 0 to 65535; 0 for one that the machine chooses",
     },
-    Argument::Option {
-        id: arguments::COUNT,
-        value_name: "N",
-        value: Value::Count,
-        is_required: false,
-        help: "how many connections to serve, 0 to 2^64 - 1; without it 2^64 - 1",
-    },
-    Argument::Option {
-        id: arguments::MAX_STEP,
-        value_name: "SECONDS",
-        value: Value::Step,
-        is_required: false,
-        help: "refuses by fault 24 a call whose moment is more than this above the latest known one, 1 to 250000000000; without it none; see below",
+    option! { arguments::COUNT, "N", Count, "how many connections to serve, 0 to 2^64 - 1; without it 2^64 - 1" },
+    option! {
+        arguments::MAX_STEP, "SECONDS", Step,
+        "refuses by fault 24 a call whose moment is more than this above the latest known one, 1 to 250000000000; without it none; see below"
     },
     Argument::Optional {
         id: arguments::LOG,
@@ -239,13 +252,7 @@ const SERVE: &[Argument] = &[
 ];
 
 const BATCH: &[Argument] = &[
-    Argument::Option {
-        id: arguments::BATCH_FILE,
-        value_name: "FILE",
-        value: Value::Text,
-        is_required: false,
-        help: "the file that holds the desk; without it a new desk in memory",
-    },
+    option! { arguments::BATCH_FILE, "FILE", Text, "the file that holds the desk; without it a new desk in memory" },
     sync!(arguments::BATCH_FILE),
     Argument::Wait {
         of: arguments::BATCH_FILE,
@@ -254,31 +261,10 @@ const BATCH: &[Argument] = &[
 
 const STATUS: &[Argument] = &[
     DESK_FILE,
-    Argument::Option {
-        id: arguments::ACCOUNT,
-        value_name: "N",
-        value: Value::Number,
-        is_required: false,
-        help: "only orders of the account of this number, 1 to 2^62; without it of all accounts",
-    },
-    Argument::Option {
-        id: arguments::STATUS,
-        value_name: "WORD",
-        value: Value::Status,
-        is_required: false,
-        help: "only orders of this status; without it of every status",
-    },
-    Argument::Option {
-        id: arguments::NAME,
-        value_name: "NAME",
-        value: Value::Text,
-        is_required: false,
-        help: "only orders that ask for this name, as www.example.org or '*.example.org'; without it of every name",
-    },
-    Argument::Flag {
-        id: arguments::JSON,
-        help: "one JSON document a line, an order each, and no count",
-    },
+    option! { arguments::ACCOUNT, "N", Number, "only orders of the account of this number, 1 to 2^62; without it of all accounts" },
+    option! { arguments::STATUS, "WORD", Status, "only orders of this status; without it of every status" },
+    option! { arguments::NAME, "NAME", Text, "only orders that ask for this name, as www.example.org or '*.example.org'; without it of every name" },
+    json! { "one JSON document a line, an order each, and no count" },
     DESK_WAIT,
 ];
 
@@ -288,42 +274,21 @@ const PAGE: &[Argument] = &[DESK_FILE, DESK_WAIT];
 
 const ACCOUNTS: &[Argument] = &[
     DESK_FILE,
-    Argument::Flag {
-        id: arguments::JSON,
-        help: "one JSON document a line, an account each, and no count",
-    },
+    json! { "one JSON document a line, an account each, and no count" },
     DESK_WAIT,
 ];
 
 const AUTHORIZATIONS: &[Argument] = &[
     DESK_FILE,
-    Argument::Option {
-        id: arguments::ACCOUNT,
-        value_name: "N",
-        value: Value::Number,
-        is_required: false,
-        help: "only authorizations of the account of this number, 1 to 2^62; without it of all accounts",
-    },
-    Argument::Option {
-        id: arguments::NAME,
-        value_name: "NAME",
-        value: Value::Text,
-        is_required: false,
-        help: "only authorizations for this name, as www.example.org or '*.example.org'; without it of every name",
-    },
-    Argument::Flag {
-        id: arguments::JSON,
-        help: "one JSON document a line, an authorization each, and no count",
-    },
+    option! { arguments::ACCOUNT, "N", Number, "only authorizations of the account of this number, 1 to 2^62; without it of all accounts" },
+    option! { arguments::NAME, "NAME", Text, "only authorizations for this name, as www.example.org or '*.example.org'; without it of every name" },
+    json! { "one JSON document a line, an authorization each, and no count" },
     DESK_WAIT,
 ];
 
 const CHECK: &[Argument] = &[
     DESK_FILE,
-    Argument::Flag {
-        id: arguments::JSON,
-        help: "one JSON document a line, a wrong status each; nothing where there is none",
-    },
+    json! { "one JSON document a line, a wrong status each; nothing where there is none" },
     DESK_WAIT,
 ];
 
@@ -340,104 +305,42 @@ const BACKUP: &[Argument] = &[
 const REVOKE: &[Argument] = &[
     DESK_FILE,
     NUMBER,
-    Argument::Option {
-        id: arguments::PORT,
-        value_name: "N",
-        value: Value::Port,
-        is_required: false,
-        help: "asks the desk that is served at this port of 127.0.0.1, 0 to 65535, and leaves the file alone",
-    },
+    option! { arguments::PORT, "N", Port, "asks the desk that is served at this port of 127.0.0.1, 0 to 65535, and leaves the file alone" },
     DESK_WAIT,
 ];
 
+// A word: what it asks for, its name, what it does, what help says below its arguments, and these.
+macro_rules! word {
+    ($task:ident, $name:literal, $about:literal, $after:ident, $arguments:ident) => {
+        Word {
+            task: Task::$task,
+            name: $name,
+            about: $about,
+            after: help::$after,
+            arguments: $arguments,
+        }
+    };
+}
+
 const DESK_WORDS: &[Word] = &[
-    Word {
-        task: Task::Make,
-        name: "make",
-        about: "Makes a desk in a new file",
-        after: help::MAKE,
-        arguments: MAKE,
-    },
-    Word {
-        task: Task::Serve,
-        name: "serve",
-        about: "Serves HTTP, one request a connection",
-        after: help::SERVE,
-        arguments: SERVE,
-    },
-    Word {
-        task: Task::Batch,
-        name: "batch",
-        about: "Answers the lines of standard input, a call each",
-        after: help::BATCH,
-        arguments: BATCH,
-    },
+    word! { Make, "make", "Makes a desk in a new file", MAKE, MAKE },
+    word! { Serve, "serve", "Serves HTTP, one request a connection", SERVE, SERVE },
+    word! { Batch, "batch", "Answers the lines of standard input, a call each", BATCH, BATCH },
 ];
 
 const OPERATOR_WORDS: &[Word] = &[
-    Word {
-        task: Task::About,
-        name: "about",
-        about: "Tells what a desk was made with, its clock, its objects by status, the size of its log",
-        after: help::ABOUT,
-        arguments: ABOUT,
+    word! { About, "about", "Tells what a desk was made with, its clock, its objects by status, the size of its log", ABOUT, ABOUT },
+    word! { Page, "page", "Shows a desk as one page of HTML: objects by status, what waits, what ends soon, the last orders", PAGE, PAGE },
+    word! { Status, "status", "Lists the orders: number, account, status, end; last how many these are", STATUS, STATUS },
+    word! { Accounts, "accounts", "Lists the accounts: number, status, thumbprint of the key, contacts; last how many these are", ACCOUNTS, ACCOUNTS },
+    word! {
+        Authorizations, "authorizations", "Lists the authorizations: number, account, status, end, name; last how many these are",
+        AUTHORIZATIONS, AUTHORIZATIONS
     },
-    Word {
-        task: Task::Page,
-        name: "page",
-        about: "Shows a desk as one page of HTML: objects by status, what waits, what ends soon, the last orders",
-        after: help::PAGE,
-        arguments: PAGE,
-    },
-    Word {
-        task: Task::Status,
-        name: "status",
-        about: "Lists the orders: number, account, status, end; last how many these are",
-        after: help::STATUS,
-        arguments: STATUS,
-    },
-    Word {
-        task: Task::Accounts,
-        name: "accounts",
-        about: "Lists the accounts: number, status, thumbprint of the key, contacts; last how many these are",
-        after: help::ACCOUNTS,
-        arguments: ACCOUNTS,
-    },
-    Word {
-        task: Task::Authorizations,
-        name: "authorizations",
-        about: "Lists the authorizations: number, account, status, end, name; last how many these are",
-        after: help::AUTHORIZATIONS,
-        arguments: AUTHORIZATIONS,
-    },
-    Word {
-        task: Task::Check,
-        name: "check",
-        about: "Lists the stored statuses that are wrong, and then ends with status 3",
-        after: help::CHECK,
-        arguments: CHECK,
-    },
-    Word {
-        task: Task::BackUp,
-        name: "backup",
-        about: "Checks a desk, and copies it into a new file",
-        after: help::BACKUP,
-        arguments: BACKUP,
-    },
-    Word {
-        task: Task::RevokeAuthorization,
-        name: "revoke-authz",
-        about: "Revokes an authorization",
-        after: help::REVOKE_AUTHZ,
-        arguments: REVOKE,
-    },
-    Word {
-        task: Task::RevokeAccount,
-        name: "revoke-account",
-        about: "Revokes an account",
-        after: help::REVOKE_ACCOUNT,
-        arguments: REVOKE,
-    },
+    word! { Check, "check", "Lists the stored statuses that are wrong, and then ends with status 3", CHECK, CHECK },
+    word! { BackUp, "backup", "Checks a desk, and copies it into a new file", BACKUP, BACKUP },
+    word! { RevokeAuthorization, "revoke-authz", "Revokes an authorization", REVOKE_AUTHZ, REVOKE },
+    word! { RevokeAccount, "revoke-account", "Revokes an account", REVOKE_ACCOUNT, REVOKE },
 ];
 
 /// The word of this name.
