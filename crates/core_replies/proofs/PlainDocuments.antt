@@ -8,15 +8,13 @@ use Rattle.desk_model.proofs.PlainData.{each_plain}
 use Rattle.desk_model.specs.Plain.{is_document, is_plain, items_are_plain, members_are_plain}
 use Rattle.desk_model.specs.Json.{members, when}
 use Rattle.desk_model.specs.{Terms.Terms, Moment.moment_text, Name.Name, Names.shown_name, Authorization.is_pending, Order.is_processing}
-use Rattle.desk_model.specs.{Legal.is_processing_challenge, Tables.Tables, Tokens.token_text}
-use Rattle.desk_model.specs.declared.{objects.Report.Report, entry.Outcome.Outcome, rows.OrderRow.OrderRow, rows.ChallengeRow.ChallengeRow}
-use Rattle.desk_model.specs.declared.{rows.AuthorizationRow.AuthorizationRow, rows.DatedBytes.DatedBytes, rows.DatedProblem.DatedProblem}
-use Rattle.desk_model.specs.declared.{rows.AccountRow.AccountRow, entry.Outcome.TheVariants.Good}
+use Rattle.desk_model.specs.{Legal.is_processing_challenge, Tables.Tables, Tokens.token_text, Document.order_with_names, declared.objects.Report.Report}
+use Rattle.desk_model.specs.declared.{entry.Outcome.Outcome, rows.OrderRow.OrderRow, rows.ChallengeRow.ChallengeRow, rows.AuthorizationRow.AuthorizationRow}
+use Rattle.desk_model.specs.declared.{rows.DatedBytes.DatedBytes, rows.DatedProblem.DatedProblem, rows.AccountRow.AccountRow, entry.Outcome.TheVariants.Good}
 use Rattle.desk_model.specs.Document.{account_document, identifier, order_error, order_status_text, authorization_url, finalize_url, certificate_url}
 use Rattle.desk_model.specs.Document.{challenge_url, kind_text, challenge_status_text, authorization_status_text, error_of, report_error, validated}
 use Rattle.desk_model.specs.Document.{validated_by, challenge_document, shown_challenges, authorization_document, order_url, is_listed, orders_document}
 use Rattle.desk_model.specs.Document.{work_document, work_of, challenge_work, listed_rows, order_work_document, order_work, key_members, key_document}
-use Rattle.desk_model.specs.Document.{order_with_names}
 
 -- the document of an account
 pub account_plain : (t : Terms) (row : AccountRow) → is_document (account_document t row) ≡ true

@@ -4,9 +4,8 @@ use Rattle.std.specs.Prelude.{is_some, codes, not, ◌||◌}
 use Rattle.std.specs.List.{flat_map, list_any}
 use Rattle.std.proofs.lemmas.Simd.{map-map}
 use Rattle.serde_json.specs.Data.{Data, string, boolean}
-use Rattle.desk_model.specs.{Json.when, Authorization.is_good, Terms.Terms, Moment.moment_text, Kept.EachOf}
-use Rattle.desk_model.specs.declared.{rows.ChallengeRow.ChallengeRow, rows.AuthorizationRow.AuthorizationRow, objects.Report.Report, entry.Outcome.Outcome}
-use Rattle.desk_model.specs.declared.{entry.Outcome.TheVariants.Good}
+use Rattle.desk_model.specs.{Json.when, Authorization.is_good, Terms.Terms, Moment.moment_text, Kept.EachOf, declared.rows.ChallengeRow.ChallengeRow}
+use Rattle.desk_model.specs.declared.{rows.AuthorizationRow.AuthorizationRow, objects.Report.Report, entry.Outcome.Outcome, entry.Outcome.TheVariants.Good}
 use Rattle.desk_model.specs.Document.{error_of, report_error, validated, validated_by, challenge_document, or_all, shown_challenges}
 use Rattle.core_replies.specs.Shown.{authorization_members, capped_report, capped_challenge, capped_authorization, challenge_members, HasDatedReport}
 use Rattle.core_replies.specs.Shown.{HasMoments, shown_challenge}

@@ -2,8 +2,7 @@
 use Rattle.std.proofs.Common.{◌≡◌, ℕ, List, [], ◌∷◌, sym, ap, ◌∙◌}
 use Rattle.std.specs.{Prelude.codes, List.flat_map}
 use Rattle.desk_model.specs.Document.{challenge_work, order_work, orders_document}
-use Rattle.desk_model.specs.{Effect.swept, Tables.Tables}
-use Rattle.desk_model.specs.declared.rows.{AuthorizationRow.AuthorizationRow, OrderRow.OrderRow}
+use Rattle.desk_model.specs.{Effect.swept, Tables.Tables, declared.rows.AuthorizationRow.AuthorizationRow, declared.rows.OrderRow.OrderRow}
 use Rattle.desk_model.specs.Json.{document, list}
 use Rattle.core_replies.specs.Shown.{listed_order, order_work_at, work_at}
 use Rattle.core_replies.proofs.ShownWork.{challenges-waiting, orders-listed, orders-waiting}

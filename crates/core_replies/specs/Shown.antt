@@ -3,16 +3,15 @@ use Rattle.std.specs.Prelude.{codes, ℕ, ◌≤◌, Bool, true, not, ◌||◌, 
 use Rattle.std.specs.List.{filter}
 use Rattle.serde_json.specs.Data.{Data, Members, boolean, number, put, string, unsigned}
 use Rattle.desk_model.specs.{Limits.last_end, Tables.Tables, Authorization.is_pending, Order.is_processing, Legal.is_processing_challenge, Kept.EachOf}
-use Rattle.desk_model.specs.{Derived.numbers_of, Moment.moment_text, Name.Name, Refusals.error_type, Terms.Terms}
+use Rattle.desk_model.specs.{Derived.numbers_of, Moment.moment_text, Name.Name, Refusals.error_type, Terms.Terms, Document.work_document}
 use Rattle.desk_model.specs.declared.{objects.Report.Report, rows.ChallengeRow.ChallengeRow, rows.AuthorizationRow.AuthorizationRow, rows.OrderRow.OrderRow}
-use Rattle.desk_model.specs.declared.{rows.AccountRow.AccountRow}
+use Rattle.desk_model.specs.declared.rows.AccountRow.{AccountRow}
 use Rattle.desk_model.specs.Effect.{swept_authorization, swept_order}
 use Rattle.desk_model.specs.Document.{account_status_text, authorization_status_text, authorization_url, bytes_of, certificate_url, challenge_document}
 use Rattle.desk_model.specs.Document.{challenge_status_text, challenge_url, error_of, expected, finalize_url, identifier, is_listed, kind_text, listed_rows}
 use Rattle.desk_model.specs.Document.{order_error, order_status_text, order_url, order_work_document, orders_url, shown_challenges, url, validated}
-use Rattle.desk_model.specs.Document.{work_document}
 use Rattle.desk_model.specs.Json.{list, when}
-use Rattle.desk_model.specs.Names.{dns_type, shown_name}
+use Rattle.desk_model.specs.Names.{shown_name}
 use Rattle.desk_model.specs.Tokens.{base64url, token_text}
 use Rattle.moments.specs.Capped.{capped}
 
@@ -68,9 +67,6 @@ account_members t a =
     ∷ (codes "orders", string (orders_url t a.number))
     ∷ (codes "status", string (account_status_text a.status))
     ∷ []
-
-abbrev pub identifier_members : List ℕ → List (List ℕ × Data)
-identifier_members value = (codes "type", string dns_type) ∷ (codes "value", string value) ∷ []
 
 abbrev pub error_members : (kind detail : List ℕ) (status : ℕ) → List (List ℕ × Data)
 error_members kind detail status =

@@ -15,59 +15,45 @@ use crate::urls::numbered_url;
 use desk_model::{AuthorizationRow, ChallengeRow, Outcome, Policy, Report};
 use keys::token_text;
 use moments::capped_moment_text;
-use std::alloc::{AllocError, Global};
+use std::alloc::AllocError;
 
 // Writes an error of the validator.
-fn write_outcome(text: &mut JsonText, alloc: Global, outcome: Outcome) -> Result<(), AllocError>
+fn write_outcome(text: &mut JsonText, outcome: Outcome) -> Result<(), AllocError>
     ensures { OnOk result (HasMembers text.old text.new (report_error outcome)) }
 {
     if outcome.is_good() {
         return Ok(());
     }
-    write_error(
-        text,
-        alloc,
-        outcome.as_str(),
-        outcome.detail(),
-        outcome.status(),
-    )
+    write_error(text, outcome.as_str(), outcome.detail(), outcome.status())
 }
 
 // Writes the error that the report on a challenge showed, if there is one.
-fn write_reported(
-    text: &mut JsonText,
-    alloc: Global,
-    reported: Option<Report>,
-) -> Result<(), AllocError>
+fn write_reported(text: &mut JsonText, reported: Option<Report>) -> Result<(), AllocError>
     ensures { OnOk result (HasMembers text.old text.new (error_of (capped_report reported))) }
 {
     match reported {
-        Some(report) => write_outcome(text, alloc, report.outcome),
+        Some(report) => write_outcome(text, report.outcome),
         None => Ok(()),
     }
 }
 
 // Writes when a good report was made.
-fn write_date(text: &mut JsonText, alloc: Global, report: Report) -> Result<(), AllocError>
+fn write_date(text: &mut JsonText, report: Report) -> Result<(), AllocError>
     ensures { OnOk result (HasMembers text.old text.new (validated_by report.outcome (capped report.date))) }
 {
     if !report.outcome.is_good() {
         return Ok(());
     }
-    let date = capped_moment_text(alloc, report.date);
+    let date = capped_moment_text(text.alloc(), report.date);
     text.made_member("validated", date)
 }
 
 // Writes when a challenge was validated, if it was.
-fn write_validated(
-    text: &mut JsonText,
-    alloc: Global,
-    reported: Option<Report>,
-) -> Result<(), AllocError>
+fn write_validated(text: &mut JsonText, reported: Option<Report>) -> Result<(), AllocError>
     ensures { OnOk result (HasMembers text.old text.new (validated (capped_report reported))) }
 {
     match reported {
-        Some(report) => write_date(text, alloc, report),
+        Some(report) => write_date(text, report),
         None => Ok(()),
     }
 }
@@ -76,18 +62,14 @@ fn write_validated(
 impl ShowsObject<Policy> for ChallengeRow {
     ghost members = { λ t c. challenge_members t (capped_challenge c) };
 
-    fn write_members(
-        &self,
-        text: &mut JsonText,
-        alloc: Global,
-        by: &Policy,
-    ) -> Result<(), AllocError> {
-        write_reported(text, alloc, self.reported)?;
+    fn write_members(&self, text: &mut JsonText, by: &Policy) -> Result<(), AllocError> {
+        let alloc = text.alloc();
+        write_reported(text, self.reported)?;
         text.member("status", self.status.as_str())?;
         text.made_member("token", token_text(alloc, self.token))?;
         text.member("type", self.kind.as_str())?;
         text.made_member("url", numbered_url(alloc, by, "/chall/", self.number))?;
-        write_validated(text, alloc, self.reported)
+        write_validated(text, self.reported)
     }
 }
 
@@ -107,17 +89,12 @@ fn is_reported(challenges: &[ChallengeRow]) -> bool
 impl<'a> ListItem<(&'a Policy, bool)> for ChallengeRow {
     ghost values = { λ by c. shown_challenge by.0.now by.1 c };
 
-    fn write_shown(
-        &self,
-        text: &mut JsonText,
-        alloc: Global,
-        by: &(&'a Policy, bool),
-    ) -> Result<(), AllocError> {
+    fn write_shown(&self, text: &mut JsonText, by: &(&'a Policy, bool)) -> Result<(), AllocError> {
         let (policy, reported) = *by;
         if reported && self.reported.is_none() {
             return Ok(());
         }
-        write_object(text, alloc, self, policy)
+        write_object(text, self, policy)
     }
 }
 
@@ -135,16 +112,12 @@ fn write_wildcard(text: &mut JsonText, wildcard: bool) -> Result<(), AllocError>
 impl ShowsObject<Policy> for AuthorizationRow {
     ghost members = { λ t a. authorization_members t (capped_authorization a) };
 
-    fn write_members(
-        &self,
-        text: &mut JsonText,
-        alloc: Global,
-        by: &Policy,
-    ) -> Result<(), AllocError> {
+    fn write_members(&self, text: &mut JsonText, by: &Policy) -> Result<(), AllocError> {
         let challenges = self.challenges.as_slice();
         let told = (by, is_reported(challenges));
-        write_list(text, alloc, "challenges", challenges, &told)?;
-        text.made_member("expires", capped_moment_text(alloc, self.expires))?;
+        write_list(text, "challenges", challenges, &told)?;
+        let expires = capped_moment_text(text.alloc(), self.expires);
+        text.made_member("expires", expires)?;
         text.name("identifier")?;
         write_identifier(text, self.name.base())?;
         text.member("status", self.status.as_str())?;

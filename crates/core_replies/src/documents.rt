@@ -8,18 +8,14 @@ use crate::lists::{ListItem, write_list};
 use crate::objects::ShowsObject;
 use crate::urls::{url, url_below};
 use desk_model::{AccountRow, Policy, Text};
-use std::alloc::{AllocError, Global};
+use std::alloc::AllocError;
 
 // The directory (RFC 8555, 7.1.1).
 impl ShowsObject<()> for Policy {
     ghost members = { λ u t. directory_members t };
 
-    fn write_members(
-        &self,
-        text: &mut JsonText,
-        alloc: Global,
-        _by: &(),
-    ) -> Result<(), AllocError> {
+    fn write_members(&self, text: &mut JsonText, _by: &()) -> Result<(), AllocError> {
+        let alloc = text.alloc();
         text.made_member("keyChange", url(alloc, self, "/key-change"))?;
         text.made_member("newAccount", url(alloc, self, "/new-account"))?;
         text.made_member("newNonce", url(alloc, self, "/new-nonce"))?;
@@ -31,7 +27,7 @@ impl ShowsObject<()> for Policy {
 impl ListItem<()> for Text {
     ghost values = { λ u contact. string contact ∷ [] };
 
-    fn write_shown(&self, text: &mut JsonText, _alloc: Global, _by: &()) -> Result<(), AllocError> {
+    fn write_shown(&self, text: &mut JsonText, _by: &()) -> Result<(), AllocError> {
         text.string(self.as_str())
     }
 }
@@ -40,13 +36,9 @@ impl ListItem<()> for Text {
 impl ShowsObject<Policy> for AccountRow {
     ghost members = { account_members };
 
-    fn write_members(
-        &self,
-        text: &mut JsonText,
-        alloc: Global,
-        by: &Policy,
-    ) -> Result<(), AllocError> {
-        write_list(text, alloc, "contact", self.contacts.as_slice(), &())?;
+    fn write_members(&self, text: &mut JsonText, by: &Policy) -> Result<(), AllocError> {
+        write_list(text, "contact", self.contacts.as_slice(), &())?;
+        let alloc = text.alloc();
         let orders = url_below(alloc, by, "/account/", self.number, "/orders");
         text.made_member("orders", orders)?;
         text.member("status", self.status.as_str())

@@ -15,6 +15,7 @@ const ROOM: usize = 512;
 /// The text of a JSON value as far as it is written, which contracts see as its tokens.
 #[derive(Drop)]
 pub(crate) struct JsonText {
+    alloc: Global,
     writer: Writer,
 }
 
@@ -39,7 +40,12 @@ impl JsonText {
         ensures { IfOk result (λ t. t ≡ []) }
     {
         let writer = Writer::new(Vec::with_capacity(alloc, ROOM)?);
-        Ok(JsonText { writer })
+        Ok(JsonText { alloc, writer })
+    }
+
+    /// What the text grows by.
+    pub(crate) fn alloc(&self) -> Global {
+        self.alloc
     }
 
     /// The text of all that was written.
@@ -47,7 +53,7 @@ impl JsonText {
         ensures text { string_bytes result ≡ print self }
         ensures reads_back { tokens (print self) ≡ self }
     {
-        let JsonText { writer } = self;
+        let JsonText { alloc: _, writer } = self;
         match String::from_utf8(writer.into_inner()) {
             Ok(text) => text,
             Err(_) => unreachable!(),

@@ -33,13 +33,8 @@ fn write_parts(text: &mut JsonText, parts: &[&str]) -> Result<(), AllocError>
 impl ShowsObject<()> for Jwk {
     ghost members = { λ u key. key_members (slice_split (λ c. c == 34) key) };
 
-    fn write_members(
-        &self,
-        text: &mut JsonText,
-        alloc: Global,
-        _by: &(),
-    ) -> Result<(), AllocError> {
-        let parts = parts_of(alloc, self.canonical())?;
+    fn write_members(&self, text: &mut JsonText, _by: &()) -> Result<(), AllocError> {
+        let parts = parts_of(text.alloc(), self.canonical())?;
         write_parts(text, parts.as_slice())
     }
 }

@@ -18,21 +18,20 @@ pub(crate) trait ListItem<C> {
     ghost values: { C → Self → List Data };
 
     /// Writes the values.
-    fn write_shown(&self, text: &mut JsonText, alloc: Global, by: &C) -> Result<(), AllocError>
+    fn write_shown(&self, text: &mut JsonText, by: &C) -> Result<(), AllocError>
         ensures { OnOk result (HasValues text.old text.new (values by.now self.now)) };
 }
 
 /// Writes what each item shows.
 pub(crate) fn write_each<C, T: ListItem<C>>(
     text: &mut JsonText,
-    alloc: Global,
     items: &[T],
     by: &C,
 ) -> Result<(), AllocError>
     ensures { OnOk result (HasValues text.old text.new (flat_map (T.values by.now) items.now)) }
 {
     for item in items {
-        item.write_shown(text, alloc, by)?;
+        item.write_shown(text, by)?;
     }
     Ok(())
 }
@@ -40,7 +39,6 @@ pub(crate) fn write_each<C, T: ListItem<C>>(
 /// Writes a member that is the list of what the items show.
 pub(crate) fn write_list<C, T: ListItem<C>>(
     text: &mut JsonText,
-    alloc: Global,
     name: &str,
     items: &[T],
     by: &C,
@@ -49,21 +47,20 @@ pub(crate) fn write_list<C, T: ListItem<C>>(
 {
     text.name(name)?;
     text.begin_list()?;
-    write_each(text, alloc, items, by)?;
+    write_each(text, items, by)?;
     text.end_list()
 }
 
 // Writes what the rows of a table show.
 fn write_rows<C, R: Row + Drop + ListItem<C>>(
     text: &mut JsonText,
-    alloc: Global,
     rows: &Table<R>,
     by: &C,
 ) -> Result<(), AllocError>
     ensures { OnOk result (HasValues text.old text.new (flat_map (R.values by.now) rows.now)) }
 {
     for row in rows.iter() {
-        row.write_shown(text, alloc, by)?;
+        row.write_shown(text, by)?;
     }
     Ok(())
 }
@@ -71,7 +68,6 @@ fn write_rows<C, R: Row + Drop + ListItem<C>>(
 // Writes an object whose one member is the list of what the rows of a table show.
 fn write_listing<C, R: Row + Drop + ListItem<C>>(
     text: &mut JsonText,
-    alloc: Global,
     name: &str,
     rows: &Table<R>,
     by: &C,
@@ -81,7 +77,7 @@ fn write_listing<C, R: Row + Drop + ListItem<C>>(
     text.begin_object()?;
     text.name(name)?;
     text.begin_list()?;
-    write_rows(text, alloc, rows, by)?;
+    write_rows(text, rows, by)?;
     text.end_list()?;
     text.end_object()
 }
@@ -97,6 +93,6 @@ pub(crate) fn listing_document<C, R: Row + Drop + ListItem<C>>(
     ensures { IfOk result (λ d. d ≡ document ((name.now, list (flat_map (R.values by.now) rows.now)) ∷ [])) }
 {
     let mut text = JsonText::new(alloc)?;
-    let written = write_listing(&mut text, alloc, name, rows, by);
+    let written = write_listing(&mut text, name, rows, by);
     document_of(text, written)
 }

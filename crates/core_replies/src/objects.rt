@@ -17,7 +17,7 @@ pub(crate) trait ShowsObject<C> {
     ghost members: { C → Self → List (List ℕ × Data) };
 
     /// Writes its members, in the order of their names.
-    fn write_members(&self, text: &mut JsonText, alloc: Global, by: &C) -> Result<(), AllocError>
+    fn write_members(&self, text: &mut JsonText, by: &C) -> Result<(), AllocError>
         ensures written { OnOk result (HasMembers text.old text.new (members by.now self.now)) }
         ensures in_order { OnOk result (AreInOrder (members by.now self.now)) };
 }
@@ -25,14 +25,13 @@ pub(crate) trait ShowsObject<C> {
 /// Writes the object that something shows.
 pub(crate) fn write_object<C, T: ShowsObject<C>>(
     text: &mut JsonText,
-    alloc: Global,
     shown: &T,
     by: &C,
 ) -> Result<(), AllocError>
     ensures { OnOk result (HasValues text.old text.new (document (T.members by.now shown.now) ∷ [])) }
 {
     text.begin_object()?;
-    shown.write_members(text, alloc, by)?;
+    shown.write_members(text, by)?;
     text.end_object()
 }
 
@@ -46,7 +45,7 @@ pub(crate) fn shown_document<C, T: ShowsObject<C>>(
     ensures { IfOk result (λ d. d ≡ document (T.members by.now shown.now)) }
 {
     let mut text = JsonText::new(alloc)?;
-    let written = write_object(&mut text, alloc, shown, by);
+    let written = write_object(&mut text, shown, by);
     document_of(text, written)
 }
 
@@ -75,7 +74,6 @@ pub(crate) fn write_identifier(text: &mut JsonText, value: &str) -> Result<(), A
 /// Writes a member `error`: its type without the prefix, a text for people, and a status (RFC 8555, 6.7).
 pub(crate) fn write_error(
     text: &mut JsonText,
-    alloc: Global,
     kind: &str,
     detail: &str,
     status: u16,
@@ -84,14 +82,13 @@ pub(crate) fn write_error(
 {
     text.name("error")?;
     text.begin_object()?;
-    write_error_members(text, alloc, kind, detail, status)?;
+    write_error_members(text, kind, detail, status)?;
     text.end_object()
 }
 
 // Writes the members of an error.
 fn write_error_members(
     text: &mut JsonText,
-    alloc: Global,
     kind: &str,
     detail: &str,
     status: u16,
@@ -100,5 +97,6 @@ fn write_error_members(
 {
     text.member("detail", detail)?;
     text.number_member("status", u64::from(status))?;
-    text.made_member("type", type_text(alloc, kind))
+    let kind = type_text(text.alloc(), kind);
+    text.made_member("type", kind)
 }

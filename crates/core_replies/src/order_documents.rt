@@ -20,13 +20,9 @@ use std::alloc::{AllocError, Global};
 impl ListItem<Policy> for Listed {
     ghost values = { λ t l. string (authorization_url t l.authorization) ∷ [] };
 
-    fn write_shown(
-        &self,
-        text: &mut JsonText,
-        alloc: Global,
-        by: &Policy,
-    ) -> Result<(), AllocError> {
-        text.made_string(numbered_url(alloc, by, "/authz/", self.authorization))
+    fn write_shown(&self, text: &mut JsonText, by: &Policy) -> Result<(), AllocError> {
+        let url = numbered_url(text.alloc(), by, "/authz/", self.authorization);
+        text.made_string(url)
     }
 }
 
@@ -34,37 +30,26 @@ impl ListItem<Policy> for Listed {
 impl ListItem<()> for DnsName {
     ghost values = { λ u n. identifier (shown_name n) ∷ [] };
 
-    fn write_shown(&self, text: &mut JsonText, alloc: Global, _by: &()) -> Result<(), AllocError> {
-        let name = self.shown(alloc)?;
+    fn write_shown(&self, text: &mut JsonText, _by: &()) -> Result<(), AllocError> {
+        let name = self.shown(text.alloc())?;
         write_identifier(text, name.as_str())
     }
 }
 
 // Writes the URL of the certificate, where there is one.
-fn write_certificate(
-    text: &mut JsonText,
-    alloc: Global,
-    policy: &Policy,
-    row: &OrderRow,
-) -> Result<(), AllocError>
+fn write_certificate(text: &mut JsonText, policy: &Policy, row: &OrderRow) -> Result<(), AllocError>
     ensures { OnOk result (HasMembers text.old text.new
         (when (is_some row.now.certified) (codes "certificate", string (certificate_url policy.now row.now.number)))) }
 {
     let Some(_certified) = &row.certified else {
         return Ok(());
     };
-    text.made_member(
-        "certificate",
-        numbered_url(alloc, policy, "/cert/", row.number),
-    )
+    let url = numbered_url(text.alloc(), policy, "/cert/", row.number);
+    text.made_member("certificate", url)
 }
 
 // Writes why the order failed, where the signing office failed it.
-fn write_problem(
-    text: &mut JsonText,
-    alloc: Global,
-    failed: &Option<DatedProblem>,
-) -> Result<(), AllocError>
+fn write_problem(text: &mut JsonText, failed: &Option<DatedProblem>) -> Result<(), AllocError>
     ensures { OnOk result (HasMembers text.old text.new (order_error failed.now)) }
 {
     let Some(failed) = failed else {
@@ -72,7 +57,7 @@ fn write_problem(
     };
     let problem = &failed.problem;
     let detail = problem.detail.as_str();
-    write_error(text, alloc, problem.kind.as_str(), detail, problem.status())
+    write_error(text, problem.kind.as_str(), detail, problem.status())
 }
 
 // An order (RFC 8555, 7.1.3), told the names of the authorizations that it lists, in their places.
@@ -82,23 +67,17 @@ impl<'a> ShowsObject<(&'a Policy, &'a [DnsName])> for OrderRow {
     fn write_members(
         &self,
         text: &mut JsonText,
-        alloc: Global,
         by: &(&'a Policy, &'a [DnsName]),
     ) -> Result<(), AllocError> {
         let (policy, names) = *by;
-        write_list(
-            text,
-            alloc,
-            "authorizations",
-            self.listed.as_slice(),
-            policy,
-        )?;
-        write_certificate(text, alloc, policy, self)?;
-        write_problem(text, alloc, &self.failed)?;
+        let alloc = text.alloc();
+        write_list(text, "authorizations", self.listed.as_slice(), policy)?;
+        write_certificate(text, policy, self)?;
+        write_problem(text, &self.failed)?;
         text.made_member("expires", capped_moment_text(alloc, self.expires))?;
         let finalize = url_below(alloc, policy, "/order/", self.number, "/finalize");
         text.made_member("finalize", finalize)?;
-        write_list(text, alloc, "identifiers", names, &())?;
+        write_list(text, "identifiers", names, &())?;
         text.member("status", self.status.as_str())
     }
 }
@@ -146,7 +125,6 @@ impl<'a> ListItem<(&'a Book, u64, u64)> for OrderRow {
     fn write_shown(
         &self,
         text: &mut JsonText,
-        alloc: Global,
         by: &(&'a Book, u64, u64),
     ) -> Result<(), AllocError> {
         let (book, moment, account) = *by;
@@ -154,6 +132,7 @@ impl<'a> ListItem<(&'a Book, u64, u64)> for OrderRow {
             return Ok(());
         }
         let policy = &book.meta().policy;
-        text.made_string(numbered_url(alloc, policy, "/order/", self.number))
+        let url = numbered_url(text.alloc(), policy, "/order/", self.number);
+        text.made_string(url)
     }
 }

@@ -1,8 +1,7 @@
 //! Replies (RFC 8555, 6.5, 6.7, 7).
 ghost use Rattle.std.specs.Prelude.{ℕ, List, ◌≡◌, ◌<◌, string_bytes, IfOk, OnOk};
-ghost use Rattle.desk_model.specs.Tokens.{nonce_text};
+ghost use Rattle.desk_model.specs.{Tokens.nonce_text, declared.reply.Body.TheVariants.Empty};
 ghost use Rattle.desk_model.specs.Shown.{refusal_reply, nonce_reply, with_nonce, plain};
-ghost use Rattle.desk_model.specs.declared.reply.Body.TheVariants.{Empty};
 
 use desk_model::{Allow, Body, Refusal, Reply, Sequence, Subproblem, Text};
 use std::alloc::{AllocError, Global};

@@ -16,12 +16,8 @@ use std::alloc::{AllocError, Global};
 impl ShowsObject<AuthorizationRow> for ChallengeRow {
     ghost members = { work_members };
 
-    fn write_members(
-        &self,
-        text: &mut JsonText,
-        alloc: Global,
-        by: &AuthorizationRow,
-    ) -> Result<(), AllocError> {
+    fn write_members(&self, text: &mut JsonText, by: &AuthorizationRow) -> Result<(), AllocError> {
+        let alloc = text.alloc();
         text.number_member("challenge", self.number)?;
         let expected = expected_text(alloc, self.kind, self.token, self.answer_thumb());
         text.made_member("expected", expected)?;
@@ -35,16 +31,11 @@ impl ShowsObject<AuthorizationRow> for ChallengeRow {
 impl ListItem<AuthorizationRow> for ChallengeRow {
     ghost values = { answered };
 
-    fn write_shown(
-        &self,
-        text: &mut JsonText,
-        alloc: Global,
-        by: &AuthorizationRow,
-    ) -> Result<(), AllocError> {
+    fn write_shown(&self, text: &mut JsonText, by: &AuthorizationRow) -> Result<(), AllocError> {
         if !self.status.is_processing() {
             return Ok(());
         }
-        write_object(text, alloc, self, by)
+        write_object(text, self, by)
     }
 }
 
@@ -52,11 +43,11 @@ impl ListItem<AuthorizationRow> for ChallengeRow {
 impl ListItem<u64> for AuthorizationRow {
     ghost values = { work_at };
 
-    fn write_shown(&self, text: &mut JsonText, alloc: Global, by: &u64) -> Result<(), AllocError> {
+    fn write_shown(&self, text: &mut JsonText, by: &u64) -> Result<(), AllocError> {
         if !authorization_status(*by, self).is_pending() {
             return Ok(());
         }
-        write_each(text, alloc, self.challenges.as_slice(), self)
+        write_each(text, self.challenges.as_slice(), self)
     }
 }
 
@@ -64,11 +55,12 @@ impl ListItem<u64> for AuthorizationRow {
 impl ListItem<Book> for Listed {
     ghost values = { λ T l. listed_name (authorization_numbered l.authorization T.authorizations) };
 
-    fn write_shown(&self, text: &mut JsonText, alloc: Global, by: &Book) -> Result<(), AllocError> {
+    fn write_shown(&self, text: &mut JsonText, by: &Book) -> Result<(), AllocError> {
         let Some(row) = by.authorizations().get(self.authorization) else {
             return Ok(());
         };
-        text.made_string(row.name.shown(alloc))
+        let name = row.name.shown(text.alloc());
+        text.made_string(name)
     }
 }
 
@@ -90,14 +82,10 @@ fn csr_text(alloc: Global, finalized: &Option<DatedBytes>) -> Result<String, All
 impl ShowsObject<Book> for OrderRow {
     ghost members = { order_work_members };
 
-    fn write_members(
-        &self,
-        text: &mut JsonText,
-        alloc: Global,
-        by: &Book,
-    ) -> Result<(), AllocError> {
-        text.made_member("csr", csr_text(alloc, &self.finalized))?;
-        write_list(text, alloc, "names", self.listed.as_slice(), by)?;
+    fn write_members(&self, text: &mut JsonText, by: &Book) -> Result<(), AllocError> {
+        let csr = csr_text(text.alloc(), &self.finalized);
+        text.made_member("csr", csr)?;
+        write_list(text, "names", self.listed.as_slice(), by)?;
         text.number_member("order", self.number)
     }
 }
@@ -106,16 +94,11 @@ impl ShowsObject<Book> for OrderRow {
 impl<'a> ListItem<(&'a Book, u64)> for OrderRow {
     ghost values = { λ by o. order_work_at by.1 by.0.now o };
 
-    fn write_shown(
-        &self,
-        text: &mut JsonText,
-        alloc: Global,
-        by: &(&'a Book, u64),
-    ) -> Result<(), AllocError> {
+    fn write_shown(&self, text: &mut JsonText, by: &(&'a Book, u64)) -> Result<(), AllocError> {
         let (book, moment) = *by;
         if !order_status(book, moment, self).is_processing() {
             return Ok(());
         }
-        write_object(text, alloc, self, book)
+        write_object(text, self, book)
     }
 }

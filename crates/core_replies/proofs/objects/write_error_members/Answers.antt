@@ -6,4 +6,4 @@ pub returns : goal.returns
 returns c =
     on_ok c.made_member.result
     (λ kind. members_then c.in_ok-member.ensures
-    (members_then (number_is c.from.ensures c.in_ok-number_member.ensures) (kind _ c.type_text.ensures))) c.made_member.ensures
+    (members_then (number_is c.from.ensures c.in_ok-number_member.ensures) (kind _ c.type_text-kind.ensures))) c.made_member.ensures

@@ -1,6 +1,5 @@
 use Rattle.std.proofs.Common.{◌≡◌, ◌++◌, ◌∙◌, sym, ap, map}
-use Rattle.desk_model.specs.Derived.{numbers_of}
-use Rattle.desk_model.specs.declared.rows.AuthorizationRow.{AuthorizationRow}
+use Rattle.desk_model.specs.{Derived.numbers_of, declared.rows.AuthorizationRow.AuthorizationRow}
 use Rattle.desk_model.specs.Document.{listed_rows, rows_of}
 use Rattle.core_replies.proofs.Results.{and_so, ok_so}
 use Rattle.core_replies.proofs.ShownWork.{swept-names}

@@ -10,4 +10,4 @@ pub returns : goal.returns
 returns c =
     on_ok c.made_member.result (λ made. subst (HasMembers c.args.text.now c.made_member.new.self)
     (sym (ap (λ o. when (is_some o) (codes "certificate", string (certificate_url c.args.policy.now c.args.row.now.number))) c.in-Some.is))
-    (made _ c.numbered_url.ensures)) c.made_member.ensures
+    (made _ c.numbered_url-url.ensures)) c.made_member.ensures

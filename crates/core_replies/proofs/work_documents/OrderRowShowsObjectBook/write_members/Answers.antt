@@ -7,7 +7,7 @@ use Rattle.core_replies.proofs.work_documents.OrderRowShowsObjectBook.write_memb
 
 pub returns-clause-written : goal.returns-clause-written
 returns-clause-written c =
-    on_ok c.number_member.result (λ number. members_then (c.in_ok-made_member.ensures _ c.csr_text.ensures)
+    on_ok c.number_member.result (λ number. members_then (c.in_ok-made_member.ensures _ c.csr_text-csr.ensures)
     (members_then (list_is (listed-names c.args.by.now.authorizations c.as_slice.result.now
     ∙ ap (λ places. map (λ a. string (shown_name a.name)) (rows_of c.args.by.now.authorizations (numbers_of places))) c.as_slice.ensures)
     c.in_ok-write_list.ensures) number)) c.number_member.ensures
