@@ -1,7 +1,9 @@
 -- Rows that were counted so far.
-use Rattle.std.proofs.Common.{◌≡◌, ◌∙◌, ◌++◌, ◌+◌, ◌-◌, ◌^◌, List, [], ◌∷◌, ℕ, Bool, true, false, ap, append_assoc, append-nil, arith, cond, filter, length}
-use Rattle.std.proofs.Common.{length-append, min, refl, replicate, zero, suc, subst, sym}
+use Rattle.std.proofs.Common.{◌≡◌, ◌∙◌, ◌++◌, ◌+◌, ◌-◌, ◌^◌, List, [], ◌∷◌, ℕ, Bool, true, false, ap, append-nil, arith, cond, filter, length, length-append, min}
+use Rattle.std.proofs.Common.{refl, replicate, zero, suc, sym}
+use Rattle.std.proofs.lemmas.List.Elements.{filter-append}
 use Rattle.std.specs.Prelude.{◌==◌, slice_index}
+use Rattle.app_reports.proofs.SoFar.{SoFar, all_so, more_so, none_so}
 use Rattle.app_reports.specs.Tallied.{IsTally, tally_of}
 
 -- of numbers that are all 0 each is
@@ -11,23 +13,11 @@ zeros (suc n) zero = refl
 zeros (suc n) (suc k) = zeros n k
 
 module _ {X : Type 0} (place : X → ℕ) where
-  -- the rows with a place, and one more
-  filter_more : (k : ℕ) (rows : List X) (row : X) →
-      filter (λ r. place r == k) (rows ++ row ∷ []) ≡ filter (λ r. place r == k) rows ++ filter (λ r. place r == k) (row ∷ [])
-  filter_more k [] row = refl
-  filter_more k (x ∷ rows) row = by (place x == k) (filter_more k rows row)
-    where
-      by : (b : Bool) → filter (λ r. place r == k) (rows ++ row ∷ []) ≡ filter (λ r. place r == k) rows ++ filter (λ r. place r == k) (row ∷ [])
-          → cond b (x ∷ filter (λ r. place r == k) (rows ++ row ∷ [])) (filter (λ r. place r == k) (rows ++ row ∷ []))
-          ≡ cond b (x ∷ filter (λ r. place r == k) rows) (filter (λ r. place r == k) rows) ++ filter (λ r. place r == k) (row ∷ [])
-      by true is = ap (λ l. x ∷ l) is
-      by false is = is
-
   -- how many there are of a place, with one more
   more_of : (k : ℕ) (rows : List X) (row : X) →
       tally_of place (rows ++ row ∷ []) k ≡ cond (place row == k) (min (tally_of place rows k + 1) (2 ^ 64 - 1)) (tally_of place rows k)
   more_of k rows row =
-      ap (λ l. min (length l) (2 ^ 64 - 1)) (filter_more k rows row) ∙ by (place row == k)
+      ap (λ l. min (length l) (2 ^ 64 - 1)) (filter-append (λ r. place r == k) rows (row ∷ [])) ∙ by (place row == k)
     where
       by : (b : Bool) → min (length (filter (λ r. place r == k) rows ++ cond b (row ∷ []) [])) (2 ^ 64 - 1)
           ≡ cond b (min (tally_of place rows k + 1) (2 ^ 64 - 1)) (tally_of place rows k)
@@ -36,23 +26,20 @@ module _ {X : Type 0} (place : X → ℕ) where
 
   -- the rows before those that are left were counted
   abbrev pub CountsSoFar : (rows left : List X) → List ℕ → Type 0
-  CountsSoFar rows left counts = (seen : List X) × (rows ≡ seen ++ left) × IsTally place seen counts
+  CountsSoFar rows left counts = SoFar (λ seen. IsTally place seen counts) rows left
 
   -- all are left
   pub counts_none : (rows left : List X) (counts : List ℕ) → left ≡ rows → ((k : ℕ) → slice_index counts k ≡ 0) → CountsSoFar rows left counts
-  counts_none rows left counts same zeros = ([], sym same, zeros)
+  counts_none rows left counts same zeros = none_so (λ seen. IsTally place seen counts) rows left same zeros
 
   -- one more
   pub counts_more : (rows left rest : List X) (row : X) (counts next : List ℕ) → CountsSoFar rows left counts → left ≡ row ∷ rest
       → ((k : ℕ) → slice_index next k ≡ cond (place row == k) (min (slice_index counts k + 1) (2 ^ 64 - 1)) (slice_index counts k))
       → CountsSoFar rows rest next
-  counts_more rows left rest row counts next so_far follows raised = (
-    so_far.0 ++ row ∷ [],
-    so_far.1 ∙ ap (λ l. so_far.0 ++ l) follows ∙ sym (append_assoc (so_far.0) (row ∷ []) rest),
-    λ k. raised k ∙ ap (λ n. cond (place row == k) (min (n + 1) (2 ^ 64 - 1)) n) (so_far.2 k) ∙ sym (more_of k (so_far.0) row),
-  )
+  counts_more rows left rest row counts next so_far follows raised =
+      more_so (λ seen. IsTally place seen counts) (λ seen. IsTally place seen next) rows left (row ∷ []) rest so_far follows
+      (λ seen tally k. raised k ∙ ap (λ n. cond (place row == k) (min (n + 1) (2 ^ 64 - 1)) n) (tally k) ∙ sym (more_of k seen row))
 
   -- all were
   pub counts_all : (rows left : List X) (counts : List ℕ) → CountsSoFar rows left counts → left ≡ [] → IsTally place rows counts
-  counts_all rows left counts so_far none =
-      subst (λ l. IsTally place l counts) (sym (so_far.1 ∙ ap (λ l. so_far.0 ++ l) none ∙ append-nil (so_far.0))) (so_far.2)
+  counts_all rows left counts = all_so (λ seen. IsTally place seen counts) rows left

@@ -3,4 +3,5 @@ pub mod Listing
 pub mod Printing
 pub mod Searching
 pub mod Showing
+pub mod SoFar
 pub mod Writing

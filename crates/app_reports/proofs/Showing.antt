@@ -3,10 +3,11 @@ use Rattle.std.proofs.KnownBytes.{Appends-nil, Appends-trans}
 use Rattle.std.proofs.lemmas.Bool.{le-ltb, lt-ltb, ltb-false, ltb-true}
 use Rattle.std.proofs.lemmas.List.{take-append-le, take_all}
 use Rattle.std.proofs.lemmas.List.{Concat.flat_map-append, Elements.filter-append}
-use Rattle.std.proofs.Common.{◌≡◌, ◌∙◌, ◌++◌, ◌-◌, ◌^◌, Bool, true, false, List, [], ◌∷◌, ℕ, ap, append_assoc, append-nil, arith, cond, filter, length}
+use Rattle.std.proofs.Common.{◌≡◌, ◌∙◌, ◌++◌, ◌-◌, ◌^◌, Bool, true, false, List, [], ◌∷◌, ℕ, ap, append-nil, arith, cond, filter, length}
 use Rattle.std.proofs.Common.{length-append, min, nat_lt, refl, subst, sym, take}
 use Rattle.std.specs.{Io.KnownBytes.Appends, List.flat_map, Prelude.Option}
 use Rattle.app_reports.specs.Page.{IsShown, ShowsFirst, if_room}
+use Rattle.app_reports.proofs.SoFar.{SoFar, all_so, more_so, none_so}
 
 -- of one more the first ones are one more, where there is room
 take_room : {X : Type 0} (n : ℕ) (xs : List X) (x : X) → take n (xs ++ x ∷ []) ≡ take n xs ++ cond (nat_lt (length xs) n) (x ∷ []) []
@@ -30,11 +31,11 @@ room_counted n count is = by (nat_lt n 50) refl
 module _ {X : Type 0} (wanted : X → Bool) (html : X → List ℕ) where
   -- the rows before those that are left were looked at
   abbrev pub ShowsSoFar : (was is : Option (List ℕ)) → (rows left : List X) → (count : ℕ) → Type 0
-  ShowsSoFar was is rows left count = (seen : List X) × (rows ≡ seen ++ left) × ShowsFirst html was is (filter wanted seen) count
+  ShowsSoFar was is rows left count = SoFar (λ seen. ShowsFirst html was is (filter wanted seen) count) rows left
 
   -- none yet
   pub shows_none : (was : Option (List ℕ)) (rows : List X) → ShowsSoFar was was rows rows 0
-  shows_none was rows = ([], refl, (Appends-nil was, refl))
+  shows_none was rows = none_so (λ seen. ShowsFirst html was was (filter wanted seen) 0) rows rows refl (Appends-nil was, refl)
 
   -- the first ones, with one more
   first_more : (kept : List X) (row : X) (count : ℕ) → count ≡ min (length kept) (2 ^ 64 - 1)
@@ -68,15 +69,13 @@ module _ {X : Type 0} (wanted : X → Bool) (html : X → List ℕ) where
   -- one more
   pub shows_turn : (was mid is : Option (List ℕ)) (rows left rest : List X) (row : X) (count next : ℕ) → ShowsSoFar was mid rows left count
       → left ≡ row ∷ rest → IsShown (wanted row) (html row) mid is count next → ShowsSoFar was is rows rest next
-  shows_turn was mid is rows left rest row count next so_far follows turn = (
-    so_far.0 ++ row ∷ [],
-    so_far.1 ∙ ap (λ l. so_far.0 ++ l) follows ∙ sym (append_assoc (so_far.0) (row ∷ []) rest),
-    subst (λ l. ShowsFirst html was is l next) (sym (filter-append wanted (so_far.0) (row ∷ [])))
-        (first_turn was mid is (filter wanted so_far.0) row (wanted row) count next so_far.2 turn),
-  )
+  shows_turn was mid is rows left rest row count next so_far follows turn =
+      more_so (λ seen. ShowsFirst html was mid (filter wanted seen) count) (λ seen. ShowsFirst html was is (filter wanted seen) next)
+      rows left (row ∷ []) rest so_far follows
+      (λ seen shown. subst (λ l. ShowsFirst html was is l next) (sym (filter-append wanted seen (row ∷ [])))
+      (first_turn was mid is (filter wanted seen) row (wanted row) count next shown turn))
 
   -- all
   pub shows_all : (was is : Option (List ℕ)) (rows left : List X) (count : ℕ) → ShowsSoFar was is rows left count → left ≡ []
       → ShowsFirst html was is (filter wanted rows) count
-  shows_all was is rows left count so_far none =
-      subst (λ l. ShowsFirst html was is (filter wanted l) count) (sym (so_far.1 ∙ ap (λ l. so_far.0 ++ l) none ∙ append-nil (so_far.0))) so_far.2
+  shows_all was is rows left count = all_so (λ seen. ShowsFirst html was is (filter wanted seen) count) rows left

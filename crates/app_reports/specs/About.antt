@@ -1,7 +1,6 @@
 -- What is told about a desk.
 use Rattle.std.specs.Prelude.{ℕ, ◌-◌, ◌++◌, List, Option, None, Some, codes, decimal, if◌then◌else◌, nat_lt}
-use Rattle.desk_model.specs.{Derived.sorted_challenges, Moment.moment_text, Tables.Tables, Terms.Terms}
-use Rattle.desk_model.specs.declared.rows.Meta.{Meta}
+use Rattle.desk_model.specs.{Derived.sorted_challenges, Moment.moment_text, Tables.Tables, Terms.Terms, declared.rows.Meta.Meta}
 use Rattle.moments.specs.Capped.{capped}
 use Rattle.std.specs.List.{flat_map}
 use Rattle.app_reports.specs.Tallied.{account_place, accounts_said, authorization_place, authorizations_said, challenge_place, challenges_said}

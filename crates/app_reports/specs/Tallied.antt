@@ -1,13 +1,10 @@
 -- How many rows have each status.
 use Rattle.std.specs.Prelude.{◌≡◌, ◌==◌, ℕ, ◌^◌, ◌-◌, ◌++◌, List, codes, decimal, length, min, slice_index}
 use Rattle.std.specs.List.{filter}
-use Rattle.desk_model.specs.declared.status.AccountStatus.{AccountStatus}
+use Rattle.desk_model.specs.declared.status.{AccountStatus.AccountStatus, AuthzStatus.AuthzStatus, ChallengeStatus.ChallengeStatus, OrderStatus.OrderStatus}
 use Rattle.desk_model.specs.declared.status.AccountStatus.TheVariants as account
-use Rattle.desk_model.specs.declared.status.AuthzStatus.{AuthzStatus}
 use Rattle.desk_model.specs.declared.status.AuthzStatus.TheVariants as authz
-use Rattle.desk_model.specs.declared.status.ChallengeStatus.{ChallengeStatus}
 use Rattle.desk_model.specs.declared.status.ChallengeStatus.TheVariants as chall
-use Rattle.desk_model.specs.declared.status.OrderStatus.{OrderStatus}
 use Rattle.desk_model.specs.declared.status.OrderStatus.TheVariants as order
 
 -- ---- statuses by their places

@@ -1,8 +1,6 @@
 //! The list of accounts.
-ghost use Rattle.std.specs.Prelude.{◌≡◌, IfOk, OnOk, string_bytes};
-ghost use Rattle.std.specs.Io.KnownBytes.{Appends};
+ghost use Rattle.std.specs.Prelude.{◌≡◌, IfOk, string_bytes};
 ghost use Rattle.desk_model.specs.{Keys.thumbprint, Tokens.base64url};
-ghost use Rattle.app_reports.specs.Printed.{account_line};
 
 use crate::form::Form;
 use crate::lists::RowList;
@@ -39,42 +37,31 @@ impl RowList for AllAccounts {
         Ok(true)
     }
 
+    // As text: its number, right in ten places, its stored status, left in eleven, the thumbprint of its key, and its contacts as
+    // JSON, whose texts are a client's.
     fn write_line<W: Write>(
         alloc: Global,
         out: &mut W,
         form: Form,
         row: &AccountRow,
     ) -> io::Result<()> {
-        write_account(alloc, out, form, row)
+        let AccountRow { number, .. } = row;
+        let status = row.status.as_str();
+        let thumb = thumbprint_text(alloc, &row.key)?;
+        let thumb = thumb.as_str();
+        let contacts = written_list(alloc, row.contacts.as_slice())?;
+        let contacts = contacts.as_str();
+        match form {
+            Form::Text => writeln!(out, "{number:>10} {status:<11} {thumb} {contacts}"),
+            Form::Json => writeln!(
+                out,
+                "{{\"number\":{number},\"status\":\"{status}\",\"contact\":{contacts},\"thumbprint\":\"{thumb}\"}}"
+            ),
+        }
     }
 
     fn noun() -> &'static str {
         "accounts"
-    }
-}
-
-// The line of an account. As text: its number, right in ten places, its stored status, left in eleven, the thumbprint of its key,
-// and its contacts as JSON, whose texts are a client's.
-fn write_account<W: Write>(
-    alloc: Global,
-    out: &mut W,
-    form: Form,
-    row: &AccountRow,
-) -> io::Result<()>
-    ensures { OnOk result (Appends (W.contents out.old) (W.contents out.new) (account_line form row.now)) }
-{
-    let AccountRow { number, .. } = row;
-    let status = row.status.as_str();
-    let thumb = thumbprint_text(alloc, &row.key)?;
-    let thumb = thumb.as_str();
-    let contacts = written_list(alloc, row.contacts.as_slice())?;
-    let contacts = contacts.as_str();
-    match form {
-        Form::Text => writeln!(out, "{number:>10} {status:<11} {thumb} {contacts}"),
-        Form::Json => writeln!(
-            out,
-            "{{\"number\":{number},\"status\":\"{status}\",\"contact\":{contacts},\"thumbprint\":\"{thumb}\"}}"
-        ),
     }
 }
 

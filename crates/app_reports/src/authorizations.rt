@@ -1,8 +1,4 @@
 //! The list of authorizations.
-ghost use Rattle.std.specs.Prelude.{◌≡◌, OnOk};
-ghost use Rattle.std.specs.Io.KnownBytes.{Appends};
-ghost use Rattle.app_reports.specs.Printed.{authorization_line};
-
 use crate::asked::{allows_account, allows_name};
 use crate::form::Form;
 use crate::lists::RowList;
@@ -42,48 +38,37 @@ impl RowList for AuthorizationFilter {
         Ok(allows_account(self.account, row.account) && allows_name(&self.name, &row.name))
     }
 
+    // With the moment at which it expires. As text: its number and its account's, right in ten places, its stored status, left in
+    // eleven, the moment, and the name. No member of the document needs an escape.
     fn write_line<W: Write>(
         alloc: Global,
         out: &mut W,
         form: Form,
         row: &AuthorizationRow,
     ) -> io::Result<()> {
-        write_authorization(alloc, out, form, row)
+        let AuthorizationRow {
+            number,
+            account,
+            ..
+        } = row;
+        let status = row.status.as_str();
+        let name = row.name.shown(alloc)?;
+        let name = name.as_str();
+        let expires = capped_moment_text(alloc, row.expires)?;
+        let expires = expires.as_str();
+        match form {
+            Form::Text => writeln!(
+                out,
+                "{number:>10} {account:>10} {status:<11} {expires} {name}"
+            ),
+            Form::Json => writeln!(
+                out,
+                "{{\"number\":{number},\"account\":{account},\"name\":\"{name}\",\"status\":\"{status}\",\"expires\":\"{expires}\"}}"
+            ),
+        }
     }
 
     fn noun() -> &'static str {
         "authorizations"
-    }
-}
-
-// The line of an authorization with the moment at which it expires. As text: its number and its account's, right in ten places,
-// its stored status, left in eleven, the moment, and the name. No member of the document needs an escape.
-fn write_authorization<W: Write>(
-    alloc: Global,
-    out: &mut W,
-    form: Form,
-    row: &AuthorizationRow,
-) -> io::Result<()>
-    ensures { OnOk result (Appends (W.contents out.old) (W.contents out.new) (authorization_line form row.now)) }
-{
-    let AuthorizationRow {
-        number,
-        account,
-        ..
-    } = row;
-    let status = row.status.as_str();
-    let name = row.name.shown(alloc)?;
-    let name = name.as_str();
-    let expires = capped_moment_text(alloc, row.expires)?;
-    let expires = expires.as_str();
-    match form {
-        Form::Text => writeln!(
-            out,
-            "{number:>10} {account:>10} {status:<11} {expires} {name}"
-        ),
-        Form::Json => writeln!(
-            out,
-            "{{\"number\":{number},\"account\":{account},\"name\":\"{name}\",\"status\":\"{status}\",\"expires\":\"{expires}\"}}"
-        ),
     }
 }

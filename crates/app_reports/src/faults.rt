@@ -5,8 +5,7 @@ ghost use Rattle.desk_model.specs.Derived.{status_faults};
 ghost use Rattle.store_passes.specs.Left.{faults_of};
 ghost use Rattle.store_api.specs.Sight.{ForTables};
 ghost use Rattle.app_reports.specs.Printed.{fault_line, faults_text, line_of, lines_of};
-ghost use Rattle.app_reports.specs.Reported.{Reports};
-ghost use Rattle.app_reports.specs.declared.form.{Form.Form as Manner, Form.TheVariants.Text};
+ghost use Rattle.app_reports.specs.{Reported.Reports, declared.form.Form.Form as Manner, declared.form.Form.TheVariants.Text};
 
 use crate::fault::ReportFault;
 use crate::form::Form;

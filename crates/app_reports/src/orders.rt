@@ -1,7 +1,6 @@
 //! The list of orders.
-ghost use Rattle.std.specs.Prelude.{◌≡◌, ◌↔◌, IsTrue, OnOk};
-ghost use Rattle.std.specs.Io.KnownBytes.{Appends};
-ghost use Rattle.app_reports.specs.{Filter.Allows, Printed.order_line};
+ghost use Rattle.std.specs.Prelude.{◌≡◌, ◌↔◌, IsTrue};
+ghost use Rattle.app_reports.specs.Filter.{Allows};
 
 use crate::asked::{allows_account, allows_listed};
 use crate::form::Form;
@@ -56,13 +55,29 @@ impl RowList for OrderFilter {
         allows_listed(alloc, source, &self.name, row.listed.as_slice())
     }
 
+    // With the moment at which it expires. As text: its number and its account's, right in ten places, its stored status, left in
+    // ten, and the moment. No member of the document needs an escape.
     fn write_line<W: Write>(
         alloc: Global,
         out: &mut W,
         form: Form,
         row: &OrderRow,
     ) -> io::Result<()> {
-        write_order(alloc, out, form, row)
+        let OrderRow {
+            number,
+            account,
+            ..
+        } = row;
+        let status = row.status.as_str();
+        let expires = capped_moment_text(alloc, row.expires)?;
+        let expires = expires.as_str();
+        match form {
+            Form::Text => writeln!(out, "{number:>10} {account:>10} {status:<10} {expires}"),
+            Form::Json => writeln!(
+                out,
+                "{{\"number\":{number},\"account\":{account},\"status\":\"{status}\",\"expires\":\"{expires}\"}}"
+            ),
+        }
     }
 
     fn noun() -> &'static str {
@@ -77,27 +92,5 @@ fn allows_status(asked: Option<OrderStatus>, status: OrderStatus) -> bool
     match asked {
         Some(asked) => asked == status,
         None => true,
-    }
-}
-
-// The line of an order with the moment at which it expires. As text: its number and its account's, right in ten places, its
-// stored status, left in ten, and the moment. No member of the document needs an escape.
-fn write_order<W: Write>(alloc: Global, out: &mut W, form: Form, row: &OrderRow) -> io::Result<()>
-    ensures { OnOk result (Appends (W.contents out.old) (W.contents out.new) (order_line form row.now)) }
-{
-    let OrderRow {
-        number,
-        account,
-        ..
-    } = row;
-    let status = row.status.as_str();
-    let expires = capped_moment_text(alloc, row.expires)?;
-    let expires = expires.as_str();
-    match form {
-        Form::Text => writeln!(out, "{number:>10} {account:>10} {status:<10} {expires}"),
-        Form::Json => writeln!(
-            out,
-            "{{\"number\":{number},\"account\":{account},\"status\":\"{status}\",\"expires\":\"{expires}\"}}"
-        ),
     }
 }

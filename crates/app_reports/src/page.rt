@@ -5,14 +5,14 @@ ghost use Rattle.desk_model.specs.Moment.{moment_text};
 ghost use Rattle.moments.specs.Capped.{capped};
 ghost use Rattle.store_api.specs.Sight.{ForTables};
 ghost use Rattle.app_reports.specs.Page.{ending_html, head_html, last_html, page_html, soon_after, tables_html, waiting_html};
-ghost use Rattle.app_reports.specs.{Html.escaped, Reported.Reports};
+ghost use Rattle.app_reports.specs.Reported.{Reports};
 
 use crate::about::write_statuses;
 use crate::fault::ReportFault;
 use crate::html::{write_escaped, write_text};
 use crate::page_queries::{EndingAuthorizations, EndingOrders, Unreported};
 use crate::page_tables::write_table;
-use desk_model::{AuthorizationRow, Clock, Counters, Meta, OrderRow, Policy};
+use desk_model::{Clock, Counters, Meta};
 use model_lives::OrdersWhere;
 use moments::capped_moment_text;
 use std::alloc::Global;
@@ -159,24 +159,10 @@ fn write_head<W: Write>(alloc: Global, out: &mut W, meta: &Meta) -> io::Result<(
     ensures { OnOk result (Appends (W.contents out.old) (W.contents out.new) (head_html meta.now)) }
 {
     write_text(out, HEAD)?;
-    write_base(alloc, out, &meta.policy)?;
+    write_escaped(alloc, out, meta.policy.base())?;
     write_text(out, CLOCK)?;
-    write_clock(alloc, out, meta.counters.clock)?;
+    write_moment(alloc, out, meta.counters.clock.moment())?;
     write_text(out, COUNTS)
-}
-
-// Writes what each URL of the desk begins with.
-fn write_base<W: Write>(alloc: Global, out: &mut W, policy: &Policy) -> io::Result<()>
-    ensures { OnOk result (Appends (W.contents out.old) (W.contents out.new) (escaped policy.now.base)) }
-{
-    write_escaped(alloc, out, policy.base())
-}
-
-// Writes the clock of the desk.
-fn write_clock<W: Write>(alloc: Global, out: &mut W, clock: Clock) -> io::Result<()>
-    ensures { OnOk result (Appends (W.contents out.old) (W.contents out.new) (moment_text (capped clock))) }
-{
-    write_moment(alloc, out, clock.moment())
 }
 
 // Writes a moment.
@@ -215,22 +201,8 @@ fn write_waiting<K: RowsAbove, W: Write>(
     ensures printed { ForTables K.sight source.old source.new (λ T. OnOk result
         (Appends (W.contents out.old) (W.contents out.new) (waiting_html T))) }
 {
-    write_table::<AuthorizationRow, Unreported, K, W>(
-        alloc,
-        source,
-        out,
-        UNREPORTED,
-        &Unreported,
-        0,
-    )?;
-    write_table::<OrderRow, OrdersWhere, K, W>(
-        alloc,
-        source,
-        out,
-        PROCESSING,
-        &OrdersWhere::Processing,
-        0,
-    )
+    write_table(alloc, source, out, UNREPORTED, &Unreported, 0)?;
+    write_table(alloc, source, out, PROCESSING, &OrdersWhere::Processing, 0)
 }
 
 // The moment a day after the desk's clock.
@@ -251,22 +223,9 @@ fn write_ending<K: RowsAbove, W: Write>(
     ensures printed { ForTables K.sight source.old source.new (λ T. OnOk result
         (Appends (W.contents out.old) (W.contents out.new) (ending_html moment T))) }
 {
-    write_table::<OrderRow, EndingOrders, K, W>(
-        alloc,
-        source,
-        out,
-        ENDING_ORDERS,
-        &EndingOrders(moment),
-        0,
-    )?;
-    write_table::<AuthorizationRow, EndingAuthorizations, K, W>(
-        alloc,
-        source,
-        out,
-        ENDING_AUTHORIZATIONS,
-        &EndingAuthorizations(moment),
-        0,
-    )
+    write_table(alloc, source, out, ENDING_ORDERS, &EndingOrders(moment), 0)?;
+    let ending = EndingAuthorizations(moment);
+    write_table(alloc, source, out, ENDING_AUTHORIZATIONS, &ending, 0)
 }
 
 // Writes the table of the last orders, by the last number that was given.
@@ -281,12 +240,5 @@ fn write_last<K: RowsAbove, W: Write>(
         (Appends (W.contents out.old) (W.contents out.new) (last_html last T))) }
 {
     let above = last.saturating_sub(LAST);
-    write_table::<OrderRow, OrdersWhere, K, W>(
-        alloc,
-        source,
-        out,
-        LAST_ORDERS,
-        &OrdersWhere::Any,
-        above,
-    )
+    write_table(alloc, source, out, LAST_ORDERS, &OrdersWhere::Any, above)
 }

@@ -37,6 +37,7 @@ pub(crate) trait PageRow: PassedRow + Drop {
             (Appends (W.contents out.old) (W.contents out.new) (html T self.now))) };
 }
 
+// An order, with the names that it asks for and the contacts of its account.
 impl PageRow for OrderRow {
     ghost html = { order_html };
 
@@ -46,7 +47,10 @@ impl PageRow for OrderRow {
         source: &mut K,
         out: &mut W,
     ) -> Result<(), ReportFault> {
-        write_order(alloc, source, out, self)
+        let names = listed_names(alloc, source, self.listed.as_slice())?;
+        let accounts = source.find_accounts(alloc, AccountsWhere::Number(self.account))?;
+        write_order_row(alloc, out, self, &names, &accounts)?;
+        Ok(())
     }
 }
 
@@ -62,23 +66,6 @@ impl PageRow for AuthorizationRow {
         write_authorization(alloc, out, self)?;
         Ok(())
     }
-}
-
-// Writes an order, with the names that it asks for and the contacts of its account.
-fn write_order<K: LookUps, W: Write>(
-    alloc: Global,
-    source: &mut K,
-    out: &mut W,
-    row: &OrderRow,
-) -> Result<(), ReportFault>
-    ensures reads { Reports K.sight source.old source.new result }
-    ensures written { ForTables K.sight source.old source.new (λ T. OnOk result
-        (Appends (W.contents out.old) (W.contents out.new) (order_html T row.now))) }
-{
-    let names = listed_names(alloc, source, row.listed.as_slice())?;
-    let accounts = source.find_accounts(alloc, AccountsWhere::Number(row.account))?;
-    write_order_row(alloc, out, row, &names, &accounts)?;
-    Ok(())
 }
 
 // Writes an order with these names, whose account is this one.

@@ -1,7 +1,6 @@
 use Rattle.std.proofs.Common.{◌∙◌, ◌↔◌, IsTrue, ap, map, subst, sym}
 use Rattle.std.specs.List.{list_any}
-use Rattle.desk_model.specs.{Derived.numbers_of, Document.rows_of, Name.same_name}
-use Rattle.desk_model.specs.declared.rows.AuthorizationRow.{AuthorizationRow}
+use Rattle.desk_model.specs.{Derived.numbers_of, Document.rows_of, Name.same_name, declared.rows.AuthorizationRow.AuthorizationRow}
 use Rattle.app_reports.specs.Filter.{AsksFor}
 use Rattle.app_reports.proofs.asked.allows_listed.Goals as goal
 

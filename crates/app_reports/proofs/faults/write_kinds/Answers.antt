@@ -2,8 +2,7 @@ use Rattle.std.proofs.Common.{rules, ◌≢◌, ◌↔◌, ◌+◌, List, [], �
 use Rattle.std.proofs.lemmas.List.{at_drop_more, drop_all}
 use Rattle.std.specs.{Io.KnownBytes.Appends, List.flat_map}
 use Rattle.store_passes.proofs.Alls.{kinds_make_all}
-use Rattle.store_passes.specs.Left.{faults_of}
-use Rattle.store_passes.specs.declared.fault_kind.FaultKind.{FaultKind}
+use Rattle.store_passes.specs.{Left.faults_of, declared.fault_kind.FaultKind.FaultKind}
 use Rattle.store_passes.specs.declared.fault_kind.FaultKind.TheVariants.{Account, Order, Authorization, Challenge}
 use Rattle.app_reports.proofs.Printing.{writes_all, writes_part}
 use Rattle.app_reports.proofs.Searching.{Searches, tells, turn_found, turn_passed}
