@@ -1,15 +1,14 @@
 -- Verdicts on signed requests, by the account of the request's key.
-use Rattle.std.proofs.Common.{◌≡◌, ℕ, List, [], true, false, Option, Some, Result, Ok, MatchResult, sym, ap, subst, ◌∙◌}
-use Rattle.desk_model.specs.{Payload.new_account, Questions.account_with_key, Tables.Tables, Account.is_valid}
+use Rattle.std.proofs.Common.{◌≡◌, ℕ, List, [], true, false, Option, Some, Ok, sym, ap, subst, ◌∙◌}
+use Rattle.desk_model.specs.{Payload.new_account, Questions.account_with_key, Tables.Tables, Account.is_valid, declared.call.Signed.Signed}
+use Rattle.desk_model.specs.declared.{call.Target.Target, payload.NewAccount.NewAccount, refusal.Refusal.Refusal, rows.AccountRow.AccountRow}
+use Rattle.desk_model.specs.declared.{rows.Counters.Counters, verdict.Verdict.Verdict, verdict.Verdict.TheVariants.Refused as refused}
 use Rattle.desk_model.specs.Rules.{holder_verdict, key_verdict, open_account, signed_verdict, target_verdict, unknown_key_verdict}
 use Rattle.desk_model.specs.Verdict.{check, given}
-use Rattle.desk_model.specs.declared.{call.Signed.Signed, call.Target.Target, payload.NewAccount.NewAccount, refusal.Refusal.Refusal}
-use Rattle.desk_model.specs.declared.{rows.AccountRow.AccountRow, rows.Counters.Counters, verdict.Verdict.Verdict}
-use Rattle.desk_model.specs.declared.{verdict.Verdict.TheVariants.Refused as refused}
 use Rattle.desk_model.specs.declared.call.Target.TheVariants as to
 use Rattle.desk_model.specs.declared.refusal.Refusal.TheVariants as refusal
-use Rattle.core_rules.specs.Needs.{NumbersLeft, BytesLeft, IsNeedFault}
-use Rattle.core_rules.specs.declared.fault.CoreFault.{CoreFault}
+use Rattle.core_rules.specs.Needs.{NumbersLeft, BytesLeft}
+pub use Rattle.core_rules.specs.Needs.{IsJudged}
 
 -- a request with an accepted key
 pub signed-by : (T : Tables) (r : List ℕ) (s : Signed) (key p : List ℕ) (o : Option AccountRow) → s.key ≡ Ok key → p ≡ s.payload → account_with_key T key ≡ o →
@@ -36,10 +35,6 @@ pub holder-ended : (T : Tables) (r p : List ℕ) (t : Target) (a : AccountRow) �
     holder_verdict T r p t a ≡ refused refusal.Unauthorized []
 unfolding check
 holder-ended T r p t a is = ap (λ b. check b refusal.Unauthorized (target_verdict T r a.number p t)) is
-
--- what is said of the judgement of a request
-abbrev pub IsJudged : Counters → List ℕ → Result Verdict CoreFault → Verdict → Type 0
-IsJudged C random r asked = MatchResult r (λ v. (v ≡ asked) × NumbersLeft C v × BytesLeft random v) (λ e. IsNeedFault C random asked e)
 
 -- a refusal needs neither numbers nor random bytes
 pub refused-judged : (C : Counters) (random : List ℕ) (why : Refusal) (v asked : Verdict) → v ≡ refused why [] → asked ≡ refused why [] →

@@ -2,8 +2,7 @@
 use Rattle.std.proofs.Common.{◌≡◌, ℕ, Bool, true, false, cond, ◌&&◌, List, Option, Some, None, refl, sym, ap, ◌∙◌}
 use Rattle.std.specs.Prelude.{bytes_eq}
 use Rattle.desk_model.specs.Effect.{swept, lasts}
-use Rattle.desk_model.specs.declared.objects.Nonce.{Nonce}
-use Rattle.desk_model.specs.{Questions.nonce_on, Tables.Tables}
+use Rattle.desk_model.specs.{Questions.nonce_on, Tables.Tables, declared.objects.Nonce.Nonce}
 use Rattle.desk_model.specs.Tokens.{NonceText, nonce_in}
 use Rattle.desk_model.specs.Rules.{if_spelled, open_nonce_in}
 use Rattle.model_laws.specs.Ordered.{IsOrdered}

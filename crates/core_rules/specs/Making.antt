@@ -1,7 +1,6 @@
 -- What a new order makes for a name.
 use Rattle.std.specs.Prelude.{ℕ, Option, Some, None, length}
-use Rattle.desk_model.specs.{Authorization.kinds_of, Name.Name, Questions.serving_on, Tables.Tables}
-use Rattle.desk_model.specs.declared.rows.AuthorizationRow.{AuthorizationRow}
+use Rattle.desk_model.specs.{Authorization.kinds_of, Name.Name, Questions.serving_on, Tables.Tables, declared.rows.AuthorizationRow.AuthorizationRow}
 
 -- an authorization, where none serves
 abbrev pub made_by : Option AuthorizationRow → ℕ

@@ -1,5 +1,5 @@
 -- What a verdict needs: an account, numbers that can be given, and random bytes for tokens.
-use Rattle.std.specs.Prelude.{ℕ, ◌+◌, ◌*◌, ◌≡◌, ◌<◌, ◌≤◌, ◌⊎◌, List, length}
+use Rattle.std.specs.Prelude.{ℕ, ◌+◌, ◌*◌, ◌≡◌, ◌<◌, ◌≤◌, ◌⊎◌, List, MatchResult, Result, length}
 use Rattle.desk_model.specs.{Authorization.kinds_of, Limits.last_number, Kept.EachOf, Decide.entries_of}
 use Rattle.desk_model.specs.Run.{count_new, count_tokens, count_pieces}
 use Rattle.desk_model.specs.declared.{rows.Counters.Counters, verdict.Verdict.Verdict, entry.Wanted.Wanted}
@@ -33,6 +33,10 @@ IsNeedFault C random v fault.Memory = Unit {0}
 IsNeedFault C random v fault.Full = NumbersSpent C v
 IsNeedFault C random v fault.ShortRandom = NumbersLeft C v × (length random < 16 * (1 + count_pieces (entries_of v)))
 IsNeedFault C random v fault.Moment = ⊥
+
+-- what is said of the judgement of a request
+abbrev pub IsJudged : Counters → List ℕ → Result Verdict CoreFault → Verdict → Type 0
+IsJudged C random r asked = MatchResult r (λ v. (v ≡ asked) × NumbersLeft C v × BytesLeft random v) (λ e. IsNeedFault C random asked e)
 
 -- a name that gets a new authorization has a token for each of its challenges
 abbrev pub HasTokens : Wanted → Type 0

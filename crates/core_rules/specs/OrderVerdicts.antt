@@ -1,8 +1,7 @@
 -- The verdict on what a new order asks for, as its payload was read.
 use Rattle.std.specs.Prelude.{ℕ, List, []}
-use Rattle.desk_model.specs.{Rules.wanted, Tables.Tables}
+use Rattle.desk_model.specs.{Rules.wanted, Tables.Tables, declared.verdict.Verdict.Verdict}
 use Rattle.desk_model.specs.declared.refusal.Refusal.TheVariants as refusal
-use Rattle.desk_model.specs.declared.verdict.Verdict.{Verdict}
 use Rattle.desk_model.specs.declared.verdict.Verdict.TheVariants.{Orders as orders, Refused as refused}
 use Rattle.identifiers.specs.declared.asked.AskedOrder.{AskedOrder}
 use Rattle.identifiers.specs.declared.asked.AskedOrder.TheVariants as order

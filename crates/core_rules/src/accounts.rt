@@ -1,8 +1,8 @@
 //! The rules on accounts (RFC 8555, 7.3).
-ghost use Rattle.std.specs.Prelude.{◌≡◌, ℕ, List, MatchResult, option_map};
+ghost use Rattle.std.specs.Prelude.{◌≡◌, ℕ, List, option_map};
 ghost use Rattle.serde_json.specs.View.{view};
 ghost use Rattle.desk_model.specs.Payload.{object_in};
-ghost use Rattle.core_rules.specs.Needs.{NumbersLeft, BytesLeft, IsNeedFault};
+ghost use Rattle.core_rules.specs.Needs.{IsJudged};
 ghost use Rattle.desk_model.specs.Rules.{account_verdict, open_account, unknown_key_verdict};
 
 use crate::contacts::contacts_refusal;
@@ -24,9 +24,7 @@ pub(crate) fn unknown_key_verdict(
     target: Target,
 ) -> Result<Verdict, CoreFault>
     requires { option_map (λ v. view v.now) payload.object ≡ object_in payload.text.now }
-    ensures { (random : List ℕ) → (let asked = unknown_key_verdict key.now payload.entry.text.now target in
-        MatchResult result (λ v. (v ≡ asked) × NumbersLeft at.now.meta.counters v × BytesLeft random v)
-        (λ e. IsNeedFault at.now.meta.counters random asked e)) }
+    ensures { (random : List ℕ) → IsJudged at.now.meta.counters random result (unknown_key_verdict key.now payload.entry.text.now target) }
 {
     match target {
         Target::NewAccount => match new_account(alloc, payload)? {
@@ -40,9 +38,7 @@ pub(crate) fn unknown_key_verdict(
 // An account is opened, or refused.
 #[tactic(auto, unfolding(desk_model::specs::Verdict::check, desk_model::specs::Verdict::unless_fault))]
 fn open_account(alloc: Global, at: &At, key: &Jwk, asked: NewAccount) -> Result<Verdict, CoreFault>
-    ensures { (random : List ℕ) → MatchResult result
-        (λ v. (v ≡ open_account key.now asked) × NumbersLeft at.now.meta.counters v × BytesLeft random v)
-        (λ e. IsNeedFault at.now.meta.counters random (open_account key.now asked) e) }
+    ensures { (random : List ℕ) → IsJudged at.now.meta.counters random result (open_account key.now asked) }
 {
     if asked.only_existing {
         return Ok(refused(alloc, Refusal::AccountDoesNotExist));

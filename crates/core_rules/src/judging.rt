@@ -1,7 +1,7 @@
 //! Verdicts on signed requests (RFC 8555, 6).
-ghost use Rattle.std.specs.Prelude.{◌≡◌, drop, MatchResult, option_map};
+ghost use Rattle.std.specs.Prelude.{◌≡◌, drop, option_map};
 ghost use Rattle.serde_json.specs.View.{view};
-ghost use Rattle.core_rules.specs.Needs.{NumbersLeft, BytesLeft, IsNeedFault};
+ghost use Rattle.core_rules.specs.Needs.{IsJudged};
 ghost use Rattle.desk_model.specs.{Payload.object_in, Questions.account_with_key};
 ghost use Rattle.desk_model.specs.Rules.{key_verdict, signed_verdict, target_verdict};
 ghost use Rattle.identifiers.specs.AskedOrders.{target_order};
@@ -32,9 +32,7 @@ fn target_verdict(
 ) -> Result<Verdict, CoreFault>
     requires object { option_map (λ v. view v.now) payload.object ≡ object_in payload.text.now }
     requires order { order.now ≡ target_order target payload.text.now }
-    ensures { let asked = target_verdict at.now (drop 16 random.now) sender payload.entry.text.now target in
-        MatchResult result (λ v. (v ≡ asked) × NumbersLeft at.now.meta.counters v × BytesLeft random.now v)
-        (λ e. IsNeedFault at.now.meta.counters random.now asked e) }
+    ensures { IsJudged at.now.meta.counters random.now result (target_verdict at.now (drop 16 random.now) sender payload.entry.text.now target) }
 {
     match target {
         Target::NewAccount => new_account_target(alloc, sender, payload),
@@ -62,9 +60,7 @@ fn key_verdict(
 ) -> Result<Verdict, CoreFault>
     requires object { option_map (λ v. view v.now) payload.object ≡ object_in payload.text.now }
     requires order { order.now ≡ target_order target payload.text.now }
-    ensures { let asked = key_verdict at.now (drop 16 random.now) key.now payload.entry.text.now target (account_with_key at.now key.now) in
-        MatchResult result (λ v. (v ≡ asked) × NumbersLeft at.now.meta.counters v × BytesLeft random.now v)
-        (λ e. IsNeedFault at.now.meta.counters random.now asked e) }
+    ensures { IsJudged at.now.meta.counters random.now result (key_verdict at.now (drop 16 random.now) key.now payload.entry.text.now target (account_with_key at.now key.now)) }
 {
     let Some(row) = at.account_with_key(key.canonical()) else {
         return unknown_key_verdict(alloc, at, key, payload, target);
@@ -88,9 +84,7 @@ pub fn judge_signed(
     random: &[u8],
     signed: &ParsedSigned,
 ) -> Result<Verdict, CoreFault>
-    ensures { let asked = signed_verdict at.now (drop 16 random.now) signed.now in
-        MatchResult result (λ v. (v ≡ asked) × NumbersLeft at.now.meta.counters v × BytesLeft random.now v)
-        (λ e. IsNeedFault at.now.meta.counters random.now asked e) }
+    ensures { IsJudged at.now.meta.counters random.now result (signed_verdict at.now (drop 16 random.now) signed.now) }
 {
     let request = signed.request();
     let Ok(key) = &request.key else {

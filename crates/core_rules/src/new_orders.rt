@@ -1,11 +1,10 @@
 //! The rules on new orders (RFC 8555, 7.4).
 ghost use Rattle.std.specs.Prelude.{◌≡◌, ◌+◌, ◌*◌, ◌<◌, ◌≤◌, ◌⊎◌, length, drop, sum_by, IfOk, MatchResult};
-ghost use Rattle.core_rules.specs.Needs.{NumbersLeft, BytesLeft, IsNeedFault};
-ghost use Rattle.desk_model.specs.{Authorization.kinds_of, Limits.last_number, Run.count_tokens};
+ghost use Rattle.core_rules.specs.Needs.{IsJudged};
+ghost use Rattle.desk_model.specs.{Authorization.kinds_of, Limits.last_number, Run.count_tokens, declared.verdict.Verdict.TheVariants.Orders as orders};
 ghost use Rattle.core_rules.specs.Making.{drawn_for, made_for};
 ghost use Rattle.core_rules.specs.OrderVerdicts.{order_verdict};
 ghost use Rattle.desk_model.specs.Rules.{pieces, wanted};
-ghost use Rattle.desk_model.specs.declared.verdict.Verdict.TheVariants.{Orders as orders};
 
 use crate::fault::CoreFault;
 use crate::limits::{first_piece, has_room, has_room_for, has_tokens, later_random};
@@ -15,46 +14,30 @@ use desk_model::{Counters, DnsName, Refusal, Sequence, Verdict, Wanted};
 use identifiers::AskedOrder;
 use std::alloc::{AllocError, Global};
 
-// How many authorizations an order of the account makes for a name.
-fn made_for(at: &At, account: u64, name: &DnsName) -> usize
-    ensures { result ≡ made_for at.now account name.now }
+// How many authorizations an order of the account makes for a name, and how many challenges they have, each with a token.
+fn made_for(at: &At, account: u64, name: &DnsName) -> (usize, usize)
+    ensures made { result.0 ≡ made_for at.now account name.now }
+    ensures drawn { result.1 ≡ drawn_for at.now account name.now }
 {
     match at.serving(account, name) {
-        Some(_) => 0,
-        None => 1,
+        Some(_) => (0, 0),
+        None => (1, name.kinds().len()),
     }
 }
 
-// How many challenges they have, each with a token.
-fn drawn_for(at: &At, account: u64, name: &DnsName) -> usize
-    ensures { result ≡ drawn_for at.now account name.now }
+// How many authorizations an order of the account makes for some names, and how many tokens it takes for them.
+fn count_made(at: &At, account: u64, names: &[DnsName]) -> (usize, usize)
+    ensures made { result.0 ≡ sum_by (made_for at.now account) names.now }
+    ensures drawn { result.1 ≡ sum_by (drawn_for at.now account) names.now }
 {
-    match at.serving(account, name) {
-        Some(_) => 0,
-        None => name.kinds().len(),
-    }
-}
-
-// How many authorizations an order of the account makes for some names.
-fn count_new(at: &At, account: u64, names: &[DnsName]) -> usize
-    ensures { result ≡ sum_by (made_for at.now account) names.now }
-{
-    let mut count = 0;
+    let mut made = 0;
+    let mut drawn = 0;
     for name in names {
-        count += made_for(at, account, name);
+        let (authorizations, challenges) = made_for(at, account, name);
+        made += authorizations;
+        drawn += challenges;
     }
-    count
-}
-
-// How many tokens it takes for them.
-fn count_tokens(at: &At, account: u64, names: &[DnsName]) -> usize
-    ensures { result ≡ sum_by (drawn_for at.now account) names.now }
-{
-    let mut count = 0;
-    for name in names {
-        count += drawn_for(at, account, name);
-    }
-    count
+    (made, drawn)
 }
 
 // The tokens of a name, one for each of its challenges, taken from the front of the random bytes.
@@ -122,13 +105,10 @@ fn order_for(
     account: u64,
     names: Vec<DnsName>,
 ) -> Result<Verdict, CoreFault>
-    ensures { let asked = orders account (wanted at.now account names.items (drop 16 random.now)) in
-        MatchResult result (λ v. (v ≡ asked) × NumbersLeft at.now.meta.counters v × BytesLeft random.now v)
-        (λ e. IsNeedFault at.now.meta.counters random.now asked e) }
+    ensures { IsJudged at.now.meta.counters random.now result (orders account (wanted at.now account names.items (drop 16 random.now))) }
 {
     let counters = at.counters();
-    let made = count_new(at, account, names.as_slice());
-    let drawn = count_tokens(at, account, names.as_slice());
+    let (made, drawn) = count_made(at, account, names.as_slice());
     has_numbers(counters, made, drawn)?;
     has_tokens(random, drawn)?;
     let wanted = wanted(alloc, at, account, names, later_random(random, 1))?;
@@ -143,9 +123,7 @@ fn order_of_names(
     account: u64,
     names: &Sequence<DnsName>,
 ) -> Result<Verdict, CoreFault>
-    ensures { let asked = orders account (wanted at.now account names.now (drop 16 random.now)) in
-        MatchResult result (λ v. (v ≡ asked) × NumbersLeft at.now.meta.counters v × BytesLeft random.now v)
-        (λ e. IsNeedFault at.now.meta.counters random.now asked e) }
+    ensures { IsJudged at.now.meta.counters random.now result (orders account (wanted at.now account names.now (drop 16 random.now))) }
 {
     order_for(alloc, at, random, account, names.clone()?.into_vec())
 }
@@ -159,9 +137,7 @@ pub(crate) fn order_verdict(
     account: u64,
     order: &AskedOrder,
 ) -> Result<Verdict, CoreFault>
-    ensures { let asked = order_verdict at.now (drop 16 random.now) account order.now in
-        MatchResult result (λ v. (v ≡ asked) × NumbersLeft at.now.meta.counters v × BytesLeft random.now v)
-        (λ e. IsNeedFault at.now.meta.counters random.now asked e) }
+    ensures { IsJudged at.now.meta.counters random.now result (order_verdict at.now (drop 16 random.now) account order.now) }
 {
     match order {
         AskedOrder::Malformed => Ok(refused(alloc, Refusal::Malformed)),

@@ -1,8 +1,7 @@
 //! The rules on orders (RFC 8555, 7.4).
 ghost use Rattle.std.specs.Prelude.{◌≡◌, IfOk, MatchResult};
-ghost use Rattle.desk_model.specs.{Order.is_ready, Rules.csr_in};
+ghost use Rattle.desk_model.specs.{Order.is_ready, Rules.csr_in, declared.verdict.Verdict.TheVariants.Moves as moves};
 ghost use Rattle.desk_model.specs.Verdict.{check, given};
-ghost use Rattle.desk_model.specs.declared.verdict.Verdict.TheVariants.{Moves as moves};
 ghost use Rattle.desk_model.specs.declared.moves.Move.TheVariants as move;
 ghost use Rattle.core_rules.specs.declared.fault.CoreFault.TheVariants.{Memory};
 

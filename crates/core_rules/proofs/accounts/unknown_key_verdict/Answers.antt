@@ -1,5 +1,6 @@
 use Rattle.std.proofs.Common.{sym, subst, ◌∙◌}
-use Rattle.core_rules.proofs.KeyVerdicts.{IsJudged, unknown-opens}
+use Rattle.core_rules.specs.Needs.{IsJudged}
+use Rattle.core_rules.proofs.KeyVerdicts.{unknown-opens}
 use Rattle.core_rules.proofs.accounts.unknown_key_verdict.Goals as goal
 
 pub returns-in-Some : goal.returns-in-Some

@@ -1,9 +1,9 @@
 use Rattle.std.proofs.Common.{drop, refl, sym, ap, subst, ◌∙◌}
 use Rattle.serde_json.specs.Read.{read}
-use Rattle.desk_model.specs.Rules.{signed_verdict}
-use Rattle.desk_model.specs.declared.call.Signed.{Signed}
+use Rattle.desk_model.specs.{Rules.signed_verdict, declared.call.Signed.Signed}
 use Rattle.identifiers.specs.AskedOrders.{target_order}
-use Rattle.core_rules.proofs.KeyVerdicts.{IsJudged, signed-by}
+use Rattle.core_rules.specs.Needs.{IsJudged}
+use Rattle.core_rules.proofs.KeyVerdicts.{signed-by}
 use Rattle.core_rules.proofs.judging.judge_signed.Goals as goal
 
 pub new-payload-requires : goal.new-payload-requires

@@ -2,7 +2,8 @@ use Rattle.std.proofs.Common.{drop, sym, ap, subst, ◌∙◌}
 use Rattle.std.specs.Prelude.{option_copied}
 use Rattle.desk_model.specs.{Questions.account_with_key, Rules.key_verdict}
 use Rattle.desk_model.specs.declared.refusal.Refusal.TheVariants as refusal
-use Rattle.core_rules.proofs.KeyVerdicts.{IsJudged, holder-ended, holder-valid, refused-judged}
+use Rattle.core_rules.specs.Needs.{IsJudged}
+use Rattle.core_rules.proofs.KeyVerdicts.{holder-ended, holder-valid, refused-judged}
 use Rattle.core_rules.proofs.judging.key_verdict.Goals as goal
 
 pub returns-in_default : goal.returns-in_default

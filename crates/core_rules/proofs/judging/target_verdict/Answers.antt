@@ -1,6 +1,7 @@
 use Rattle.std.proofs.Common.{drop, subst}
 use Rattle.desk_model.specs.declared.call.Target.TheVariants as to
-use Rattle.core_rules.proofs.{AskedOrders.order_judged, KeyVerdicts.IsJudged}
+use Rattle.core_rules.specs.Needs.{IsJudged}
+use Rattle.core_rules.proofs.AskedOrders.{order_judged}
 use Rattle.core_rules.proofs.Sparing.{target-made, target-spared}
 use Rattle.core_rules.proofs.judging.target_verdict.Goals as goal
 

@@ -15,9 +15,9 @@ returns-in_err-has_numbers c =
     rw p.1
     (subst (λ (m : Counters). IsNeedFault m c.args.random.now (order_for T c.args.account c.args.names.items c.args.random.now) p.0) c.counters-counters.ensures
     (order_full T (record c.counters-counters.result { clock = T.meta.counters.clock }) c.args.random.now c.args.account
-    c.args.names.items c.count_new-made.result c.count_tokens-drawn.result p.0
-    (c.count_new-made.ensures ∙ ap (sum_by (made_for T c.args.account)) c.as_slice.ensures.value)
-    (c.count_tokens-drawn.ensures ∙ ap (sum_by (drawn_for T c.args.account)) c.as_slice-2.ensures.value)
+    c.args.names.items c.count_made-made.result.0 c.count_made-made.result.1 p.0
+    (c.count_made-made.ensures.made ∙ ap (sum_by (made_for T c.args.account)) c.as_slice.ensures.value)
+    (c.count_made-made.ensures.drawn ∙ ap (sum_by (drawn_for T c.args.account)) c.as_slice.ensures.value)
     (p.2 ∙ fails.0) fails.1))
 
 pub returns-in_err-has_tokens : goal.returns-in_err-has_tokens
@@ -25,20 +25,20 @@ returns-in_err-has_tokens c =
     let p = err_from_is_err_and c.from_residual-in_err-has_tokens.result c.from_residual-in_err-has_tokens.ensures.1 in
     let fails = c.in_err-has_tokens.ensures in
     let T = c.args.at.now in
-    let made = c.count_new-made.ensures ∙ ap (sum_by (made_for T c.args.account)) c.as_slice.ensures.value in
-    let drawn = c.count_tokens-drawn.ensures ∙ ap (sum_by (drawn_for T c.args.account)) c.as_slice-2.ensures.value in
+    let made = c.count_made-made.ensures.made ∙ ap (sum_by (made_for T c.args.account)) c.as_slice.ensures.value in
+    let drawn = c.count_made-made.ensures.drawn ∙ ap (sum_by (drawn_for T c.args.account)) c.as_slice.ensures.value in
     rw p.1
     (subst (λ (m : Counters). IsNeedFault m c.args.random.now (order_for T c.args.account c.args.names.items c.args.random.now) p.0) c.counters-counters.ensures
     (order_short T (record c.counters-counters.result { clock = T.meta.counters.clock }) c.args.random.now c.args.account
-    c.args.names.items c.count_tokens-drawn.result p.0
+    c.args.names.items c.count_made-made.result.1 p.0
     drawn (p.2 ∙ fails.0) fails.1
     (order_numbered T (record c.counters-counters.result { clock = T.meta.counters.clock }) c.args.random.now c.args.account
-    c.args.names.items c.count_new-made.result c.count_tokens-drawn.result made drawn c.in_ok-has_numbers.ensures)))
+    c.args.names.items c.count_made-made.result.0 c.count_made-made.result.1 made drawn c.in_ok-has_numbers.ensures)))
 
 pub wanted-requires : goal.wanted-requires
 wanted-requires c =
-    order_fits c.args.at.now c.args.account c.args.random.now c.later_random.result.now c.args.names.items c.count_tokens-drawn.result
-    (c.count_tokens-drawn.ensures ∙ ap (sum_by (drawn_for c.args.at.now c.args.account)) c.as_slice-2.ensures.value)
+    order_fits c.args.at.now c.args.account c.args.random.now c.later_random.result.now c.args.names.items c.count_made-made.result.1
+    (c.count_made-made.ensures.drawn ∙ ap (sum_by (drawn_for c.args.at.now c.args.account)) c.as_slice.ensures.value)
     c.in_ok-has_tokens.ensures c.later_random.ensures
 
 pub returns : goal.returns
@@ -46,7 +46,7 @@ returns c =
     let T = c.args.at.now in
     order_made T T.meta.counters (record c.counters-counters.result { clock = T.meta.counters.clock })
     c.args.random.now c.later_random.result.now c.args.account c.args.names.items c.new.result
-    c.count_new-made.result c.count_tokens-drawn.result (c.new.ensures ∙ c.in_ok-wanted.ensures) c.later_random.ensures c.counters-counters.ensures
-    (c.count_new-made.ensures ∙ ap (sum_by (made_for T c.args.account)) c.as_slice.ensures.value)
-    (c.count_tokens-drawn.ensures ∙ ap (sum_by (drawn_for T c.args.account)) c.as_slice-2.ensures.value)
+    c.count_made-made.result.0 c.count_made-made.result.1 (c.new.ensures ∙ c.in_ok-wanted.ensures) c.later_random.ensures c.counters-counters.ensures
+    (c.count_made-made.ensures.made ∙ ap (sum_by (made_for T c.args.account)) c.as_slice.ensures.value)
+    (c.count_made-made.ensures.drawn ∙ ap (sum_by (drawn_for T c.args.account)) c.as_slice.ensures.value)
     c.in_ok-has_numbers.ensures c.in_ok-has_tokens.ensures

@@ -1,7 +1,6 @@
 use Rattle.std.proofs.Common.{drop, List, ap, subst, ◌∙◌}
-use Rattle.desk_model.specs.{Name.Name, Rules.wanted}
-use Rattle.desk_model.specs.declared.verdict.Verdict.TheVariants.{Orders as orders}
-use Rattle.core_rules.proofs.KeyVerdicts.{IsJudged}
+use Rattle.desk_model.specs.{Name.Name, Rules.wanted, declared.verdict.Verdict.TheVariants.Orders as orders}
+use Rattle.core_rules.specs.Needs.{IsJudged}
 use Rattle.core_rules.proofs.new_orders.order_of_names.Goals as goal
 
 pub returns : goal.returns
