@@ -1,7 +1,6 @@
 -- Loops over a slice: what is left of it, by one more row, and nothing at the end.
 use Rattle.std.proofs.Common.{◌≡◌, ◌≤◌, ◌<◌, ◌+◌, ℕ, List, [], ◌∷◌, ◌++◌, length, drop, get_or, refl, sym, ap, ◌∙◌, append_assoc, append-nil}
-use Rattle.std.specs.Prelude.{Option, Some, None, Bool, true, false, ◌&&◌}
-use Rattle.std.specs.List.{list_all}
+use Rattle.std.specs.Prelude.{Option, Some, None}
 use Rattle.std.proofs.lemmas.List.{at_drop_all, at_drop_more}
 use Rattle.desk_model.specs.Derived.{and_status, authorization_numbered, numbers_of, stored_statuses}
 use Rattle.desk_model.specs.declared.{rows.AuthorizationRow.AuthorizationRow, rows.Listed.Listed, status.AuthzStatus.AuthzStatus}
@@ -21,20 +20,6 @@ slice-step all_of one_of by_row xs index d before now whole more pushed kept =
 pub slice-end : {X Y : Type 0} (all_of : List X → List Y) → all_of [] ≡ [] → (xs : List X) (index : ℕ) (done whole : List Y) →
     length xs ≤ index → done ++ all_of (drop index xs) ≡ whole → done ≡ whole
 slice-end all_of none xs index done whole all kept = sym (ap (λ l. done ++ l) (at_drop_all all_of xs index all ∙ none) ∙ append-nil done) ∙ kept
-
--- a test of all rows, by one row that passes
-pub passed-step : {X : Type 0} (p : X → Bool) (x : X) (before rest : List X) (whole : Bool) → p x ≡ true → before ≡ x ∷ rest →
-    list_all p before ≡ whole → list_all p rest ≡ whole
-passed-step p x before rest whole passes next kept = ap (λ b. b && list_all p rest) (sym passes) ∙ ap (list_all p) (sym next) ∙ kept
-
--- by one that does not
-pub failed-step : {X : Type 0} (p : X → Bool) (x : X) (before rest : List X) (whole : Bool) → p x ≡ false → before ≡ x ∷ rest →
-    list_all p before ≡ whole → false ≡ whole
-failed-step p x before rest whole fails next kept = ap (λ b. b && list_all p rest) (sym fails) ∙ ap (list_all p) (sym next) ∙ kept
-
--- and behind the last one
-pub passed-end : {X : Type 0} (p : X → Bool) (rest : List X) (whole : Bool) → rest ≡ [] → list_all p rest ≡ whole → true ≡ whole
-passed-end p rest whole none kept = ap (list_all p) (sym none) ∙ kept
 
 -- what is left of a slice is one more and the rest
 pub one-more : {X : Type 0} (xs : List X) (index : ℕ) (d : X) → index < length xs → drop index xs ≡ get_or xs index d ∷ drop (index + 1) xs

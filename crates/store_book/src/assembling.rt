@@ -33,12 +33,7 @@ fn is_ascending<R: Row>(rows: &[R]) -> bool
 fn have_ascending_children<T: Row, P: Parent<T>>(rows: &[P]) -> bool
     ensures { result ≡ list_all (λ row. ascends (λ child. T.number child) 1 (P.children row)) rows.now }
 {
-    for row in rows {
-        if !is_ascending(row.children()) {
-            return false;
-        }
-    }
-    true
+    rows.iter().all(|row| is_ascending(row.children()))
 }
 
 // The table of rows whose numbers ascend.

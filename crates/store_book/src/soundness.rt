@@ -1,5 +1,5 @@
 //! Whether a book's rows keep its counters, find what they refer to, and repeat nothing.
-ghost use Rattle.std.specs.Prelude.{Bool, ◌≡◌, ◌==◌, ◌↔◌, nat_le, find, is_some, map, ◌++◌, IsTrue, IfOk, OnOk};
+ghost use Rattle.std.specs.Prelude.{◌≡◌, ◌==◌, ◌↔◌, nat_le, find, is_some, map, ◌++◌, IsTrue, IfOk, OnOk};
 ghost use Rattle.std.specs.List.{IsDistinct, list_all};
 ghost use Rattle.std.specs.Ordering.{eq_by_cmp, is_lt};
 ghost use Rattle.model_laws.specs.Distinct.{Distinct};
@@ -11,72 +11,34 @@ use desk_book::{Book, Row, Table};
 use desk_model::{AccountRow, AuthorizationRow, ChallengeRow, Listed, OrderRow};
 use std::alloc::{AllocError, Global};
 
-/// What rows are tested by.
-trait Test<R> {
-    // Whether a row passes.
-    ghost passed: { Self → R → Bool };
-
-    /// Whether a row passes.
-    fn passes(&self, row: &R) -> bool
-        ensures { result ≡ passed self.now row.now };
-}
-
-// Whether all rows of a table pass.
-fn all_pass<R: Row + Drop, Q: Test<R>>(rows: &Table<R>, test: &Q) -> bool
-    ensures { result ≡ list_all (Q.passed test.now) rows.now }
-{
-    for row in rows.iter() {
-        if !test.passes(row) {
-            return false;
-        }
-    }
-    true
-}
-
-// Whether all of these rows do.
-fn all_rows_pass<R, Q: Test<R>>(rows: &[R], test: &Q) -> bool
-    ensures { result ≡ list_all (Q.passed test.now) rows.now }
-{
-    for row in rows {
-        if !test.passes(row) {
-            return false;
-        }
-    }
-    true
-}
-
 fn all_hold(tests: &[bool]) -> bool
     ensures { result ≡ list_all (λ test. test) tests.now }
 {
-    for test in tests {
-        if !*test {
-            return false;
-        }
-    }
-    true
+    tests.iter().all(|test| *test)
 }
 
 // ---- counters
 
-// The number of a row is not above this one.
-impl<R: Row> Test<R> for u64 {
-    ghost passed = { λ last row. nat_le (R.number row) last };
-
-    fn passes(&self, row: &R) -> bool {
-        row.number() <= *self
-    }
+// Whether no number of these rows is above the last one given.
+fn all_given<R: Row + Drop>(rows: &Table<R>, last: u64) -> bool
+    ensures { result ≡ list_all (λ row. nat_le (R.number row) last) rows.now }
+{
+    rows.iter().all(|row| row.number() <= last)
 }
 
-// Nor are those of the challenges of an authorization.
-#[derive(Drop)]
-struct LastChallenge(u64);
+// Nor that of a challenge.
+fn are_given(challenges: &[ChallengeRow], last: u64) -> bool
+    ensures { result ≡ list_all (λ challenge. nat_le challenge.number last) challenges.now }
+{
+    challenges.iter().all(|challenge| challenge.number <= last)
+}
 
-impl Test<AuthorizationRow> for LastChallenge {
-    ghost passed = { λ last row. list_all (λ challenge. nat_le challenge.number last.0) row.challenges };
-
-    fn passes(&self, row: &AuthorizationRow) -> bool {
-        all_rows_pass(row.challenges.as_slice(), &self.0)
-    }
+// Nor that of a challenge of these authorizations.
+fn challenges_given(rows: &Table<AuthorizationRow>, last: u64) -> bool
+    ensures { result ≡ list_all (λ row. list_all (λ challenge. nat_le challenge.number last) row.challenges) rows.now }
+{
+    rows.iter()
+        .all(|row| are_given(row.challenges.as_slice(), last))
 }
 
 // Whether no number is above the last one given.
@@ -84,14 +46,13 @@ fn keeps_counters(book: &Book) -> bool
     ensures { result ≡ keep_counters book.now }
 {
     let last = book.meta().counters;
-    let given = [
-        all_pass(book.nonces(), &last.nonces),
-        all_pass(book.accounts(), &last.accounts),
-        all_pass(book.authorizations(), &last.authorizations),
-        all_pass(book.authorizations(), &LastChallenge(last.challenges)),
-        all_pass(book.orders(), &last.orders),
-    ];
-    all_hold(&given)
+    all_hold(&[
+        all_given(book.nonces(), last.nonces),
+        all_given(book.accounts(), last.accounts),
+        all_given(book.authorizations(), last.authorizations),
+        challenges_given(book.authorizations(), last.challenges),
+        all_given(book.orders(), last.orders),
+    ])
 }
 
 // ---- references
@@ -102,50 +63,48 @@ fn has_row<R: Row + Drop>(rows: &Table<R>, number: u64) -> bool
     rows.get(number).is_some()
 }
 
-// The account of a row is one of these.
-impl Test<AuthorizationRow> for Table<AccountRow> {
-    ghost passed = { λ accounts row. is_some (find (λ account. account.number == row.account) accounts) };
-
-    fn passes(&self, row: &AuthorizationRow) -> bool {
-        has_row(self, row.account)
-    }
+// Whether the account of each authorization is there.
+fn have_accounts(rows: &Table<AuthorizationRow>, accounts: &Table<AccountRow>) -> bool
+    ensures { result ≡ list_all (λ row. is_some (find (λ account. account.number == row.account) accounts.now)) rows.now }
+{
+    rows.iter().all(|row| has_row(accounts, row.account))
 }
 
-impl Test<OrderRow> for Table<AccountRow> {
-    ghost passed = { λ accounts row. is_some (find (λ account. account.number == row.account) accounts) };
-
-    fn passes(&self, row: &OrderRow) -> bool {
-        has_row(self, row.account)
-    }
+// Whether that of each order is.
+fn have_clients(orders: &Table<OrderRow>, accounts: &Table<AccountRow>) -> bool
+    ensures { result ≡ list_all (λ order. is_some (find (λ account. account.number == order.account) accounts.now)) orders.now }
+{
+    orders.iter().all(|order| has_row(accounts, order.account))
 }
 
-// What is listed is one of these.
-impl Test<Listed> for Table<AuthorizationRow> {
-    ghost passed = { λ authorizations place. is_some (find (λ a. a.number == place.authorization) authorizations) };
-
-    fn passes(&self, place: &Listed) -> bool {
-        has_row(self, place.authorization)
-    }
+// Whether each authorization that is listed is there.
+fn are_there(listed: &[Listed], rows: &Table<AuthorizationRow>) -> bool
+    ensures { result ≡ list_all (λ place. is_some (find (λ row. row.number == place.authorization) rows.now)) listed.now }
+{
+    listed
+        .iter()
+        .all(|place| has_row(rows, place.authorization))
 }
 
-impl Test<OrderRow> for Table<AuthorizationRow> {
-    ghost passed = { λ authorizations order. list_all (λ place. is_some (find (λ a. a.number == place.authorization) authorizations)) order.listed };
-
-    fn passes(&self, order: &OrderRow) -> bool {
-        all_rows_pass(order.listed.as_slice(), self)
-    }
+// Whether each that an order lists is.
+fn have_listed(orders: &Table<OrderRow>, rows: &Table<AuthorizationRow>) -> bool
+    ensures { result
+        ≡ list_all (λ order. list_all (λ place. is_some (find (λ row. row.number == place.authorization) rows.now)) order.listed) orders.now }
+{
+    orders
+        .iter()
+        .all(|order| are_there(order.listed.as_slice(), rows))
 }
 
 // Whether each reference is found.
 fn has_references(book: &Book) -> bool
     ensures { result ≡ have_references book.now }
 {
-    let found = [
-        all_pass(book.authorizations(), book.accounts()),
-        all_pass(book.orders(), book.accounts()),
-        all_pass(book.orders(), book.authorizations()),
-    ];
-    all_hold(&found)
+    all_hold(&[
+        have_accounts(book.authorizations(), book.accounts()),
+        have_clients(book.orders(), book.accounts()),
+        have_listed(book.orders(), book.authorizations()),
+    ])
 }
 
 // ---- repetitions
