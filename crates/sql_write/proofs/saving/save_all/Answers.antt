@@ -11,43 +11,38 @@ use Rattle.sql_write.proofs.saving.save_all.Goals as goal
 
 pub returns-clause-ok : goal.returns-clause-ok
 returns-clause-ok g c =
-    let old = c.args.conn.now in
-    let last = c.make_changes-made.new.tx.conn.now in
+    let known = option_copied c.args.known in
     let changes = c.args.changes.now in
-    let means = saves_by (option_copied c.args.known) changes (state g.S.Store old).now (state g.S.Store last).now in
-    let whole = committed_by g.S.Store old c.transaction-tx.result.conn.now last c.end.new.tx.0 c.transaction-tx.ensures.begun
-    c.make_changes-made.result c.end.result
-    (MakesAll (option_copied c.args.known) changes) (Saves (option_copied c.args.known) changes) means c.make_changes-made.ensures.writes.does
-    c.end.ensures.left c.end.ensures.done
-    c.end.ensures.ok in
+    let means = saves_by known changes (state g.S.Store c.args.conn.now).now (state g.S.Store c.make_changes-made.new.tx.conn.now).now in
+    let whole = committed_by g.S.Store c.args.conn.now _ c.make_changes-made.new.tx.conn.now c.end.new.tx.0 c.transaction-tx.ensures.begun
+    _ c.end.result (MakesAll known changes) (Saves known changes) means
+    c.make_changes-made.ensures.writes.does c.end.ensures.left c.end.ensures.done c.end.ensures.ok in
     search (rules, whole)
 
 pub returns-clause-err : goal.returns-clause-err
 returns-clause-err g c =
-    let whole = undone_by g.S.Store c.args.conn.now c.transaction-tx.result.conn.now c.make_changes-made.new.tx.conn.now c.end.new.tx.0
-    c.transaction-tx.ensures.begun
-    c.make_changes-made.result c.end.result (MakesAll (option_copied c.args.known) c.args.changes.now) c.make_changes-made.ensures.writes.does
-    c.make_changes-made.ensures.writes.kept
-    c.end.ensures.left c.end.ensures.err in
+    let made = c.make_changes-made.ensures.writes in
+    let whole = undone_by g.S.Store c.args.conn.now _ c.make_changes-made.new.tx.conn.now c.end.new.tx.0 c.transaction-tx.ensures.begun
+    _ c.end.result (MakesAll (option_copied c.args.known) c.args.changes.now)
+    made.does made.kept c.end.ensures.left c.end.ensures.err in
     search (rules, whole)
 
 pub returns-clause-before : goal.returns-clause-before
 returns-clause-before g c =
-    let whole = spared_by g.S.Store c.args.conn.now c.transaction-tx.result.conn.now c.make_changes-made.new.tx.conn.now c.end.new.tx.0
-    c.transaction-tx.ensures.begun
-    c.make_changes-made.result c.end.result c.make_changes-made.ensures.writes.survives c.end.ensures.before in
+    let whole = spared_by g.S.Store c.args.conn.now _ c.make_changes-made.new.tx.conn.now c.end.new.tx.0 c.transaction-tx.ensures.begun
+    c.make_changes-made.result c.end.result
+    c.make_changes-made.ensures.writes.survives c.end.ensures.before in
     search (rules, whole)
 
 pub returns-clause-left : goal.returns-clause-left
 returns-clause-left g c =
-    let old = c.args.conn.now in
-    let last = c.make_changes-made.new.tx.conn.now in
+    let known = option_copied c.args.known in
     let changes = c.args.changes.now in
-    let means = saves_by (option_copied c.args.known) changes (state g.S.Store old).now (state g.S.Store last).now in
-    let whole = left_by g.S.Store old c.transaction-tx.result.conn.now last c.end.new.tx.0 c.transaction-tx.ensures.begun c.make_changes-made.result
-    (MakesAll (option_copied c.args.known) changes) (Saves (option_copied c.args.known) changes) means c.make_changes-made.ensures.writes.survives
-    c.make_changes-made.ensures.writes.does
-    c.end.ensures.left in
+    let made = c.make_changes-made.ensures.writes in
+    let means = saves_by known changes (state g.S.Store c.args.conn.now).now (state g.S.Store c.make_changes-made.new.tx.conn.now).now in
+    let whole = left_by g.S.Store c.args.conn.now _ c.make_changes-made.new.tx.conn.now c.end.new.tx.0 c.transaction-tx.ensures.begun
+    _ (MakesAll known changes) (Saves known changes) means
+    made.survives made.does c.end.ensures.left in
     search (rules, whole)
 
 pub returns-clause-cause : goal.returns-clause-cause

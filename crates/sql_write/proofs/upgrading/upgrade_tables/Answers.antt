@@ -6,43 +6,35 @@ use Rattle.sql_write.proofs.upgrading.upgrade_tables.Goals as goal
 
 pub returns-clause-ok : goal.returns-clause-ok
 returns-clause-ok g c =
-    let old = c.args.conn.now in
-    let last = c.widen-widened.new.tx.conn.now in
     let Does = Upgrades c.args.meta.now c.args.keys.now in
-    let whole = committed_by g.S.Store old c.transaction-tx.result.conn.now last c.end.new.tx.0 c.transaction-tx.ensures.begun
-    c.widen-widened.result c.end.result
+    let whole = committed_by g.S.Store c.args.conn.now _ c.widen-widened.new.tx.conn.now c.end.new.tx.0 c.transaction-tx.ensures.begun _ c.end.result
     Does Does (λ did. did) c.widen-widened.ensures.writes.does c.end.ensures.left c.end.ensures.done c.end.ensures.ok in
     search (rules, whole)
 
 pub returns-clause-err : goal.returns-clause-err
 returns-clause-err g c =
-    let whole = undone_by g.S.Store c.args.conn.now c.transaction-tx.result.conn.now c.widen-widened.new.tx.conn.now c.end.new.tx.0
-    c.transaction-tx.ensures.begun
-    c.widen-widened.result c.end.result (Upgrades c.args.meta.now c.args.keys.now) c.widen-widened.ensures.writes.does
-    c.widen-widened.ensures.writes.kept c.end.ensures.left c.end.ensures.err in
+    let whole = undone_by g.S.Store c.args.conn.now _ c.widen-widened.new.tx.conn.now c.end.new.tx.0 c.transaction-tx.ensures.begun _ c.end.result
+    (Upgrades c.args.meta.now c.args.keys.now) c.widen-widened.ensures.writes.does c.widen-widened.ensures.writes.kept c.end.ensures.left c.end.ensures.err in
     search (rules, whole)
 
 pub returns-clause-before : goal.returns-clause-before
 returns-clause-before g c =
-    let whole = spared_by g.S.Store c.args.conn.now c.transaction-tx.result.conn.now c.widen-widened.new.tx.conn.now c.end.new.tx.0
-    c.transaction-tx.ensures.begun
-    c.widen-widened.result c.end.result c.widen-widened.ensures.writes.survives c.end.ensures.before in
+    let whole = spared_by g.S.Store c.args.conn.now _ c.widen-widened.new.tx.conn.now c.end.new.tx.0 c.transaction-tx.ensures.begun
+    c.widen-widened.result c.end.result
+    c.widen-widened.ensures.writes.survives c.end.ensures.before in
     search (rules, whole)
 
 pub returns-clause-left : goal.returns-clause-left
 returns-clause-left g c =
-    let old = c.args.conn.now in
-    let last = c.widen-widened.new.tx.conn.now in
     let Does = Upgrades c.args.meta.now c.args.keys.now in
-    let whole = left_by g.S.Store old c.transaction-tx.result.conn.now last c.end.new.tx.0 c.transaction-tx.ensures.begun c.widen-widened.result
-    Does Does (λ did. did) c.widen-widened.ensures.writes.survives c.widen-widened.ensures.writes.does c.end.ensures.left in
+    let whole = left_by g.S.Store c.args.conn.now _ c.widen-widened.new.tx.conn.now c.end.new.tx.0 c.transaction-tx.ensures.begun _ Does Does (λ did. did)
+    c.widen-widened.ensures.writes.survives c.widen-widened.ensures.writes.does c.end.ensures.left in
     search (rules, whole)
 
 pub returns-clause-cause : goal.returns-clause-cause
 returns-clause-cause g c =
-    let whole = caused g.S.Store (FitsUpgrade c.args.meta.now c.args.keys.now) (upgrade_statements c.args.meta.now c.args.keys.now) c.args.conn.now
-    c.transaction-tx.result.conn.now
-    c.widen-widened.new.tx.conn.now c.end.new.tx.0 c.transaction-tx.ensures.begun c.widen-widened.result c.end.result
-    c.widen-widened.ensures.writes.told c.end.ensures.cause c.end.ensures.before
+    let whole = caused g.S.Store (FitsUpgrade c.args.meta.now c.args.keys.now) (upgrade_statements c.args.meta.now c.args.keys.now) c.args.conn.now _
+    c.widen-widened.new.tx.conn.now c.end.new.tx.0 c.transaction-tx.ensures.begun
+    _ c.end.result c.widen-widened.ensures.writes.told c.end.ensures.cause c.end.ensures.before
     (λ all. c.end.ensures.fits (c.widen-widened.ensures.fits all.meta_row all.each)) in
     search (rules, whole)
