@@ -8,15 +8,8 @@ use Rattle.sql_write.specs.declared.{challenges.ChallengeNumbers.ChallengeNumber
 abbrev pub meta_numbers : MetaColumns → MetaNumbers
 meta_numbers c =
     record {
-      nonce_life = c.nonce_life;
-      order_life = c.order_life;
-      authz_life = c.authz_life;
-      clock = c.clock;
-      nonces = c.nonces;
-      accounts = c.accounts;
-      orders = c.orders;
-      authzs = c.authzs;
-      challs = c.challs;
+      nonce_life = c.nonce_life; order_life = c.order_life; authz_life = c.authz_life;
+      clock = c.clock; nonces = c.nonces; accounts = c.accounts; orders = c.orders; authzs = c.authzs; challs = c.challs;
     }
 
 -- the numbers and dates of an account
@@ -26,15 +19,7 @@ account_numbers c = record { number = c.num; opened = c.opened; ended = c.ended 
 -- of an order
 abbrev pub order_numbers : OrderColumns → OrderNumbers
 order_numbers c =
-    record {
-      number = c.num;
-      account = c.account;
-      made = c.made;
-      expires = c.expires;
-      finalized = c.finalized;
-      certified = c.certified;
-      failed = c.failed;
-    }
+    record { number = c.num; account = c.account; made = c.made; expires = c.expires; finalized = c.finalized; certified = c.certified; failed = c.failed }
 
 -- of an authorization
 abbrev pub authorization_numbers : AuthzColumns → AuthorizationNumbers
