@@ -4,13 +4,12 @@ use Rattle.std.specs.Prelude.{◌==◌, IsTrue, find}
 use Rattle.std.specs.{Option.option_map, List.list_all}
 use Rattle.std.proofs.lemmas.Bool.{and_parts, eq-eqb}
 use Rattle.desk_model.specs.{Tables.Tables, Derived.authorization_numbered, Legal.wanted_name, Allowed.may_want_on, Lookup.holds, Order.listed_by, Kept.EachOf}
-use Rattle.desk_model.specs.{Limits.last_end}
+use Rattle.desk_model.specs.{Limits.last_end, declared.objects.Authorization.Authorization, declared.entry.Entry.Entry, declared.entry.Wanted.Wanted}
+use Rattle.desk_model.specs.declared.rows.{AccountRow.AccountRow, AuthorizationRow.AuthorizationRow, Change.Change, Counters.Counters, OrderRow.OrderRow}
 use Rattle.desk_model.specs.Document.{and_row, listed_rows, rows_of}
 use Rattle.desk_model.specs.Effect.{authorizations_after, effect, moved_account, moved_order, new_authorizations, swept, swept_authorization, swept_order}
 use Rattle.desk_model.specs.Authorization.{is_valid, made_for}
 use Rattle.desk_model.specs.Name.{Name, same_name}
-use Rattle.desk_model.specs.declared.{objects.Authorization.Authorization, entry.Entry.Entry, entry.Wanted.Wanted, rows.AccountRow.AccountRow}
-use Rattle.desk_model.specs.declared.{rows.AuthorizationRow.AuthorizationRow, rows.Change.Change, rows.Counters.Counters, rows.OrderRow.OrderRow}
 use Rattle.desk_model.specs.Questions.{account_on, order_end, order_on, serves}
 use Rattle.desk_model.specs.declared.entry.Entry.TheVariants.{Opened as opened, Ordered as ordered}
 use Rattle.desk_model.specs.declared.entry.Wanted.TheVariants.{New as new, Reused as reused}

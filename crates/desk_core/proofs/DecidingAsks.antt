@@ -2,7 +2,9 @@
 use Rattle.std.proofs.Common.{◌≡◌, ℕ, ◌+◌, ◌*◌, ◌≤◌, max, true, false, List, [], ◌∷◌, ◌++◌, length, take, drop, Option, Some, None, refl, sym, ap, subst, ◌∙◌}
 use Rattle.std.proofs.Common.{arith, Result, Ok, Err, IfOk, IfErr, MatchResult}
 use Rattle.std.specs.Prelude.{IsTrue}
-use Rattle.desk_model.specs.{Change.recorded_changes, Entry.History, Limits.last_moment}
+use Rattle.desk_model.specs.{Change.recorded_changes, Entry.History, Limits.last_moment, Decide.signed_decision}
+use Rattle.desk_model.specs.declared.{call.Call.Call, call.Ask.Ask, call.OfficeAsk.OfficeAsk, call.Signed.Signed, reply.Reply.Reply, verdict.Verdict.Verdict}
+use Rattle.desk_model.specs.declared.{rows.Change.Change, entry.Entry.Entry}
 use Rattle.desk_model.specs.declared.refusal.Refusal.TheVariants as refusal
 use Rattle.desk_model.specs.History.{clock, moment_of, record_all}
 use Rattle.desk_model.specs.Legal.{Legal, EachFollows, numbers_fit}
@@ -11,10 +13,7 @@ use Rattle.desk_model.specs.Effect.{effects, swept}
 use Rattle.desk_model.specs.Rules.{office_verdict, signed_verdict, open_nonce}
 use Rattle.desk_model.specs.Shown.{with_nonce, fresh_nonce, refusal_reply, nonce_reply}
 use Rattle.desk_model.specs.Decide.{Decision, decide, decide_at, entries_of, nonce_entries, office_decision, passed_decision, verdict_reply, tables_after}
-use Rattle.desk_model.specs.Decide.{signed_decision}
 use Rattle.desk_model.specs.Run.{count_pieces, IsFormedCall}
-use Rattle.desk_model.specs.declared.{call.Call.Call, call.Ask.Ask, call.OfficeAsk.OfficeAsk, call.Signed.Signed, reply.Reply.Reply, verdict.Verdict.Verdict}
-use Rattle.desk_model.specs.declared.{rows.Change.Change, entry.Entry.Entry}
 use Rattle.desk_model.specs.declared.call.Ask.TheVariants as ask
 use Rattle.desk_model.specs.declared.entry.Entry.TheVariants.{Issued as issued, Spent as spent}
 use Rattle.model_laws.proofs.{Recorded.tables_ordered, Keeps.numbers_fit_counters}

@@ -20,8 +20,7 @@ use Rattle.desk_model.specs.declared.verdict.Verdict.TheVariants.{Answers as ans
 use Rattle.model_laws.proofs.Recorded.{tables_ordered}
 use Rattle.model_laws.specs.Ordered.{IsOrdered}
 use Rattle.desk_core.specs.{Decided.IsFaultOf, Room.IsIssueFault}
-use Rattle.core_rules.specs.Needs.{NumbersSpent}
-use Rattle.core_rules.specs.declared.fault.CoreFault.{CoreFault}
+use Rattle.core_rules.specs.{Needs.NumbersSpent, declared.fault.CoreFault.CoreFault}
 use Rattle.desk_core.specs.Outcomes.{IsPassedFault, IsSignedFault, IsAskFault}
 use Rattle.core_rules.specs.declared.fault.CoreFault.TheVariants as core
 use Rattle.desk_core.proofs.Deciding.{counters, fits_issued, fits_nonces, fitting, spent_same}

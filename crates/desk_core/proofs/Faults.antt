@@ -2,11 +2,9 @@
 use Rattle.std.proofs.Common.{◌≡◌, ℕ, ◌<◌, ◌≤◌, List, arith, subst, Result, Ok, Err, IfOk}
 use Rattle.std.specs.Prelude.{IfErr, MatchResult, ◌↔◌}
 use Rattle.desk_model.specs.Limits.{last_moment, last_number}
-use Rattle.desk_model.specs.Tables.{Tables}
-use Rattle.desk_model.specs.declared.verdict.Verdict.{Verdict}
+use Rattle.desk_model.specs.{Tables.Tables, declared.verdict.Verdict.Verdict}
 use Rattle.desk_core.specs.Outcomes.{IsLater, IsPassedFault, IsShort}
-use Rattle.core_rules.specs.Needs.{NumbersLeft}
-use Rattle.core_rules.specs.declared.fault.CoreFault.{CoreFault}
+use Rattle.core_rules.specs.{Needs.NumbersLeft, declared.fault.CoreFault.CoreFault}
 use Rattle.core_rules.specs.declared.fault.CoreFault.TheVariants as fault
 
 -- where no other call gives it, it comes exactly past the last one

@@ -2,6 +2,11 @@
 use Rattle.std.proofs.Common.{◌≡◌, ℕ, List, [], ◌∷◌, Bool, true, false, cond, Option, Some, None, Result, Ok, Err, refl, ap, sym, subst}
 use Rattle.std.specs.Prelude.{◌==◌, ◌&&◌, find, is_some, IfOk, IsSome, IsSomeAnd}
 use Rattle.desk_model.specs.{Account.is_valid as is_valid_account, Contact.contacts_fault, Limits.most_names, Tables.Tables}
+use Rattle.desk_model.specs.declared.call.{BadKey.BadKey, Finding.Finding, OfficeAsk.OfficeAsk, OrderProblem.OrderProblem, Signed.Signed, Target.Target}
+use Rattle.desk_model.specs.declared.payload.{AccountChange.AccountChange, AuthorizationChange.AuthorizationChange, KeyChange.KeyChange}
+use Rattle.desk_model.specs.declared.payload.{ChallengeChange.ChallengeChange, Identifier.Identifier, NewAccount.NewAccount}
+use Rattle.desk_model.specs.declared.{refusal.Refusal.Refusal, reply.Subproblem.Subproblem, rows.AccountRow.AccountRow, rows.AuthorizationRow.AuthorizationRow}
+use Rattle.desk_model.specs.declared.{rows.Counters.Counters, rows.OrderRow.OrderRow, verdict.Verdict.Verdict, verdict.Verdict.TheVariants.Refused as refused}
 use Rattle.desk_model.specs.Authorization.{is_live, is_pending}
 use Rattle.desk_model.specs.Legal.{has_length, is_pending_challenge, is_problem, is_processing_challenge}
 use Rattle.desk_model.specs.Order.{is_processing, is_ready}
@@ -12,12 +17,6 @@ use Rattle.desk_model.specs.Rules.{report_verdict, revoke_account, revoke_author
 use Rattle.desk_model.specs.Rules.{key_change_verdict, rekey_verdict}
 use Rattle.model_laws.proofs.Serving.{all_may_be_wanted}
 use Rattle.desk_model.specs.Verdict.{check, choose, given}
-use Rattle.desk_model.specs.declared.{call.BadKey.BadKey, call.Finding.Finding, call.OfficeAsk.OfficeAsk, call.OrderProblem.OrderProblem, call.Signed.Signed}
-use Rattle.desk_model.specs.declared.{call.Target.Target, payload.AccountChange.AccountChange, payload.AuthorizationChange.AuthorizationChange}
-use Rattle.desk_model.specs.declared.{payload.KeyChange.KeyChange, payload.ChallengeChange.ChallengeChange, payload.Identifier.Identifier}
-use Rattle.desk_model.specs.declared.{payload.NewAccount.NewAccount, refusal.Refusal.Refusal, reply.Subproblem.Subproblem, rows.AccountRow.AccountRow}
-use Rattle.desk_model.specs.declared.{rows.AuthorizationRow.AuthorizationRow, rows.Counters.Counters, rows.OrderRow.OrderRow, verdict.Verdict.Verdict}
-use Rattle.desk_model.specs.declared.{verdict.Verdict.TheVariants.Refused as refused}
 use Rattle.desk_model.specs.declared.call.OfficeAsk.TheVariants as office
 use Rattle.desk_model.specs.declared.call.Target.TheVariants as to
 use Rattle.desk_model.specs.declared.payload.AccountChange.TheVariants as change
@@ -27,7 +26,7 @@ use Rattle.desk_model.specs.declared.refusal.Refusal.TheVariants as refusal
 use Rattle.model_lives.proofs.{Sound.own_found, Lists.same_number}
 use Rattle.model_lives.proofs.Steps as step
 use Rattle.core_rules.specs.declared.fault.CoreFault.{CoreFault}
-use Rattle.core_rules.proofs.KeyVerdicts.{IsJudged}
+use Rattle.core_rules.specs.Needs.{IsJudged}
 use Rattle.desk_core.specs.There.{NamesRows}
 
 -- ---- steps of verdicts

@@ -1,7 +1,6 @@
 -- The rows of a history after a nonce was spent and one issued: what they were.
 use Rattle.std.proofs.Common.{◌≡◌, ℕ, ◌+◌, List, [], ◌∷◌, ◌++◌, length, map, unwrap_or, refl, ap, ◌∙◌, append-nil, length-append}
-use Rattle.desk_model.specs.{Entry.History, Nonce.nonces}
-use Rattle.desk_model.specs.declared.objects.Order.{Order}
+use Rattle.desk_model.specs.{Entry.History, Nonce.nonces, declared.objects.Order.Order}
 use Rattle.desk_model.specs.History.{latest, record_all}
 use Rattle.desk_model.specs.Account.{accounts, changing, rekeying}
 use Rattle.desk_model.specs.Authorization.{authorizations, count_challenges, authorization_status, is_over, is_valid}

@@ -1,7 +1,6 @@
 -- What an entry does to the rows, and what is shown then, depends on no nonce.
 use Rattle.std.proofs.Common.{◌≡◌, ℕ, ◌+◌, List, [], ◌∷◌, ◌++◌, Bool, refl, ap, ◌∙◌}
-use Rattle.desk_model.specs.{Tables.Tables, Entry.entry_of}
-use Rattle.desk_model.specs.declared.{entry.Entry.Entry, rows.Counters.Counters, verdict.Verdict.Verdict}
+use Rattle.desk_model.specs.{Tables.Tables, Entry.entry_of, declared.entry.Entry.Entry, declared.rows.Counters.Counters, declared.verdict.Verdict.Verdict}
 use Rattle.desk_model.specs.Effect.{effect, effects}
 use Rattle.desk_model.specs.Shown.{made_account, made_order, moved_reply, reply_of, taken_reply}
 use Rattle.desk_model.specs.Decide.{entries_of, verdict_reply}

@@ -1,7 +1,6 @@
 -- The verdict on a signed request looks at no nonce.
 use Rattle.std.proofs.Common.{◌≡◌, ℕ, List, ap}
-use Rattle.desk_model.specs.{Tables.Tables, Rules.signed_verdict}
-use Rattle.desk_model.specs.declared.call.Signed.{Signed}
+use Rattle.desk_model.specs.{Tables.Tables, Rules.signed_verdict, declared.call.Signed.Signed}
 use Rattle.desk_core.specs.SameRows.{SameRows}
 
 -- the tables with the nonces of others

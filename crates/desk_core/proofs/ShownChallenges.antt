@@ -2,8 +2,7 @@
 use Rattle.std.proofs.Common.{◌≡◌, ℕ, Some, sym}
 use Rattle.std.specs.Prelude.{◌==◌}
 use Rattle.model_laws.proofs.Finds.{each_found}
-use Rattle.desk_model.specs.Questions.{challenge_of}
-use Rattle.desk_model.specs.declared.rows.{AuthorizationRow.AuthorizationRow, ChallengeRow.ChallengeRow}
+use Rattle.desk_model.specs.{Questions.challenge_of, declared.rows.AuthorizationRow.AuthorizationRow, declared.rows.ChallengeRow.ChallengeRow}
 use Rattle.core_replies.specs.Shown.{HasDatedReport, HasMoments}
 
 -- a challenge of an authorization whose moments have texts

@@ -3,8 +3,7 @@ use Rattle.std.proofs.Common.{◌≡◌, ℕ, ◌≤◌, List, Option, Some, Non
 use Rattle.std.specs.Prelude.{◌==◌, find, is_some, Bool}
 use Rattle.std.specs.{Option.option_map, Result.result_and}
 use Rattle.model_laws.proofs.Finds.{each_found}
-use Rattle.desk_model.specs.{Kept.EachOf, Limits.last_end, Effect.has_row, Shown.shown, Tables.Tables}
-use Rattle.desk_model.specs.declared.reply.Reply.{Reply}
+use Rattle.desk_model.specs.{Kept.EachOf, Limits.last_end, Effect.has_row, Shown.shown, Tables.Tables, declared.reply.Reply.Reply}
 use Rattle.desk_model.specs.Questions.{authorization_on, order_on, owner_on}
 use Rattle.core_replies.specs.Shown.{HasMoments}
 use Rattle.desk_core.specs.HasTexts.{HasTexts}

@@ -1,15 +1,14 @@
 -- The tokens that verdicts take: one for each challenge of a new order, and none else.
 use Rattle.std.proofs.Common.{◌≡◌, ◌≤◌, ◌+◌, ◌*◌, ℕ, length, List, [], ◌∷◌, Bool, not, Option, Some, None, Result, Ok, Err, refl, arith}
 use Rattle.std.specs.Prelude.{◌&&◌, nat_le}
-use Rattle.desk_model.specs.declared.{refusal.Refusal.Refusal, call.OfficeAsk.OfficeAsk, call.BadKey.BadKey, call.Finding.Finding}
-use Rattle.desk_model.specs.declared.{call.OrderProblem.OrderProblem, call.Signed.Signed, call.Target.Target, moves.Move.Move, entry.Outcome.Outcome}
-use Rattle.desk_model.specs.declared.{payload.AccountChange.AccountChange, payload.AuthorizationChange.AuthorizationChange, payload.KeyChange.KeyChange}
-use Rattle.desk_model.specs.declared.{payload.ChallengeChange.ChallengeChange, payload.Identifier.Identifier, payload.NewAccount.NewAccount}
+use Rattle.desk_model.specs.{Account.is_valid as is_valid_account, Contact.contacts_fault, Decide.entries_of, Name.Name, Run.count_pieces, Tables.Tables}
+use Rattle.desk_model.specs.{Kept.EachOf, Entry.entry_of, declared.refusal.Refusal.Refusal, declared.call.OfficeAsk.OfficeAsk, declared.call.BadKey.BadKey}
+use Rattle.desk_model.specs.declared.{call.Finding.Finding, call.OrderProblem.OrderProblem, call.Signed.Signed, call.Target.Target, moves.Move.Move}
+use Rattle.desk_model.specs.declared.{entry.Outcome.Outcome, payload.AccountChange.AccountChange, payload.AuthorizationChange.AuthorizationChange}
+use Rattle.desk_model.specs.declared.payload.{KeyChange.KeyChange, ChallengeChange.ChallengeChange, Identifier.Identifier, NewAccount.NewAccount}
 use Rattle.desk_model.specs.declared.{reply.Subproblem.Subproblem, rows.AccountRow.AccountRow, rows.AuthorizationRow.AuthorizationRow}
 use Rattle.desk_model.specs.declared.{rows.ChallengeRow.ChallengeRow, rows.Counters.Counters, rows.OrderRow.OrderRow, verdict.Verdict.Verdict}
 use Rattle.desk_model.specs.declared.refusal.Refusal.TheVariants as refusal
-use Rattle.desk_model.specs.{Account.is_valid as is_valid_account, Contact.contacts_fault, Decide.entries_of, Name.Name, Run.count_pieces, Tables.Tables}
-use Rattle.desk_model.specs.{Kept.EachOf, Entry.entry_of}
 use Rattle.desk_model.specs.Authorization.{kinds_of, is_live, is_pending}
 use Rattle.desk_model.specs.Legal.{has_length, is_pending_challenge, is_problem, is_processing_challenge}
 use Rattle.desk_model.specs.Limits.{longest_certificate, most_names}

@@ -1,7 +1,6 @@
 -- What replies take from the book, whatever is recorded.
 use Rattle.std.specs.Prelude.{◌≡◌, map}
-use Rattle.desk_model.specs.{Document.listed_rows, Tables.Tables}
-use Rattle.desk_model.specs.declared.rows.OrderRow.{OrderRow}
+use Rattle.desk_model.specs.{Document.listed_rows, Tables.Tables, declared.rows.OrderRow.OrderRow}
 
 -- the tables have the policy of the book's, and in them each order lists the same names
 pub record IsNamedAs (T B : Tables) : Type 0 where

@@ -3,11 +3,10 @@ ghost use Rattle.std.specs.Prelude.{◌≡◌, ◌++◌, ◌∷◌, [], ◌<◌,
 ghost use Rattle.desk_model.specs.Limits.{last_end, last_number};
 ghost use Rattle.model_laws.specs.Ordered.{IsOrdered};
 ghost use Rattle.desk_model.specs.Decide.{entries_of, verdict_reply};
-ghost use Rattle.desk_model.specs.{Document.listed_rows, Entry.entry_of, Legal.wanted_name, Tables.Tables};
+ghost use Rattle.desk_model.specs.{Document.listed_rows, Entry.entry_of, Legal.wanted_name, Tables.Tables, declared.entry.Entry.Entry as EntryOf};
 ghost use Rattle.desk_model.specs.Effect.{effects, swept};
 ghost use Rattle.desk_model.specs.Run.{count_new, count_tokens};
 ghost use Rattle.desk_model.specs.Shown.{located_order, made_account, made_order, moved_reply};
-ghost use Rattle.desk_model.specs.declared.entry.Entry.{Entry as EntryOf};
 ghost use Rattle.desk_model.specs.declared.entry.Entry.TheVariants.{Opened as opened, Ordered as ordered};
 ghost use Rattle.desk_model.specs.declared.verdict.Verdict.TheVariants.{Moves as moves, Orders as orders};
 ghost use Rattle.desk_core.specs.{HasTexts.HasTexts, There.NamesRows};

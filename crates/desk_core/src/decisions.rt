@@ -14,7 +14,7 @@ ghost use Rattle.desk_core.specs.{HasTexts.HasTexts, Room.IsIssueFault, There.Na
 ghost use Rattle.desk_core.specs.Decided.{IsDecision, IsFaultOf};
 ghost use Rattle.identifiers.specs.Parsed.{ask_of};
 ghost use Rattle.model_lives.specs.IsEnough.{IsEnoughFor};
-ghost use Rattle.core_rules.specs.Needs.{BytesLeft, IsNeedFault, NumbersLeft};
+ghost use Rattle.core_rules.specs.Needs.{IsJudged, NumbersLeft};
 ghost use Rattle.desk_core.specs.Outcomes.{IsAskFault, IsLater, IsPassedFault, IsShort, IsSignedFault, MeetsAsk, MeetsSigned, Passes, Settles};
 ghost use Rattle.core_changes.specs.Recorded.{IsAt, IsRecorded, IsUntouched};
 
@@ -180,9 +180,7 @@ fn signed_verdict(
     random: &[u8],
     signed: &ParsedSigned,
 ) -> Result<Verdict, CoreFault>
-    ensures judged { MatchResult result
-        (λ v. (v ≡ verdict_of (swept moment book.now) (drop 16 random.now) signed.now) × NumbersLeft book.now.meta.counters v × BytesLeft random.now v)
-        (λ e. IsNeedFault book.now.meta.counters random.now (verdict_of (swept moment book.now) (drop 16 random.now) signed.now) e) }
+    ensures judged { IsJudged book.now.meta.counters random.now result (verdict_of (swept moment book.now) (drop 16 random.now) signed.now) }
     ensures there { IfOk result (λ v. NamesRows (swept moment book.now) v) }
 {
     let at = At::new(book, moment);

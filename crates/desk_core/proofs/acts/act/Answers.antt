@@ -1,6 +1,5 @@
 use Rattle.std.proofs.Common.{◌≡◌, ◌∙◌, IfOk, OnOk, ap, append-nil, subst, sym}
-use Rattle.desk_model.specs.{Effect.swept, Shown.reply_of}
-use Rattle.desk_model.specs.declared.rows.Meta.{Meta}
+use Rattle.desk_model.specs.{Effect.swept, Shown.reply_of, declared.rows.Meta.Meta}
 use Rattle.desk_model.specs.declared.verdict.Verdict.TheVariants.{Answers as answers, KeyTaken as key_taken, Orders as orders, Refused as refused}
 use Rattle.desk_core.specs.HasTexts.{HasTexts}
 use Rattle.desk_core.proofs.Acting.{Records, Replies, clock_at, records_nothing, replies_move, where_answered}

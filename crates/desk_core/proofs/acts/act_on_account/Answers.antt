@@ -1,8 +1,7 @@
 use Rattle.std.proofs.Common.{◌∙◌, ap, sym, Some}
 use Rattle.desk_model.specs.Effect.{effect, swept}
 use Rattle.desk_model.specs.Shown.{located_account, shown}
-use Rattle.desk_model.specs.Tables.{Tables}
-use Rattle.desk_model.specs.declared.{entry.Entry.TheVariants.Opened as opened, rows.Meta.Meta}
+use Rattle.desk_model.specs.{Tables.Tables, declared.entry.Entry.TheVariants.Opened as opened, declared.rows.Meta.Meta}
 use Rattle.desk_core.proofs.ActingRows.{opened_found}
 use Rattle.core_replies.proofs.Results.{ok_so}
 use Rattle.desk_core.proofs.acts.act_on_account.Goals as goal

@@ -1,13 +1,11 @@
 use Rattle.std.proofs.Common.{◌≡◌, ◌∙◌, ap, max, subst, arith}
-use Rattle.desk_model.specs.Run.{IsFormedCall}
-use Rattle.desk_model.specs.declared.{call.Call.Call, rows.Meta.Meta}
+use Rattle.desk_model.specs.{Run.IsFormedCall, declared.call.Call.Call, declared.rows.Meta.Meta}
 use Rattle.desk_core.proofs.DecidingAsks.{code_decides, ok_part, err_part}
-use Rattle.desk_core.proofs.Faults.{late_only}
+use Rattle.desk_core.proofs.{Faults.late_only, decisions.decide.Goals.After-decide_at}
 use Rattle.desk_core.specs.Outcomes.{MeetsAsk, IsAskFault}
 use Rattle.desk_core.proofs.DecidingFaults.{code_fails, is_late}
 use Rattle.identifiers.specs.Parsed.{ask_of}
 use Rattle.desk_core.proofs.decisions.decide.Goals as goal
-use Rattle.desk_core.proofs.decisions.decide.Goals.{After-decide_at}
 
 pub returns-then-whole-gt-LAST_MOMENT-clause-faulty : goal.returns-then-whole-gt-LAST_MOMENT-clause-faulty
 returns-then-whole-gt-LAST_MOMENT-clause-faulty c = λ F legal part.

@@ -1,6 +1,5 @@
 use Rattle.std.proofs.Common.{◌+◌, ◌∷◌, [], ap, subst, sym, ◌∙◌}
-use Rattle.desk_model.specs.{Change.recorded_changes, Shown.with_nonce, Tokens.nonce_text}
-use Rattle.desk_model.specs.declared.entry.Entry.TheVariants.{Issued as issued}
+use Rattle.desk_model.specs.{Change.recorded_changes, Shown.with_nonce, Tokens.nonce_text, declared.entry.Entry.TheVariants.Issued as issued}
 use Rattle.core_replies.proofs.Results.{ok_so}
 use Rattle.desk_core.specs.Room.{IsIssueFault}
 use Rattle.desk_core.proofs.{Faults.fault_so, ShownTexts.ok_if}

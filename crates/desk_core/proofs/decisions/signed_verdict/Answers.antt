@@ -1,6 +1,6 @@
 use Rattle.std.proofs.Common.{drop, subst}
 use Rattle.desk_model.specs.{Effect.swept, Rules.signed_verdict, Tables.Tables}
-use Rattle.core_rules.proofs.KeyVerdicts.{IsJudged}
+use Rattle.core_rules.specs.Needs.{IsJudged}
 use Rattle.desk_core.proofs.NamedRows.{judged_there, signed_there}
 use Rattle.desk_core.proofs.decisions.signed_verdict.Goals as goal
 

@@ -1,7 +1,6 @@
 use Rattle.std.proofs.Common.{◌<◌, subst}
 use Rattle.std.specs.Prelude.{MatchResult}
-use Rattle.desk_model.specs.Limits.{last_number}
-use Rattle.desk_model.specs.declared.rows.Meta.{Meta}
+use Rattle.desk_model.specs.{Limits.last_number, declared.rows.Meta.Meta}
 use Rattle.desk_core.specs.Outcomes.{IsPassedFault, Passes}
 use Rattle.desk_core.proofs.Faults.{passed_fault, passed_or_fault}
 use Rattle.desk_core.proofs.decisions.spend_and_act.Goals as goal

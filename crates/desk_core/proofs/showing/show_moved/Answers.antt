@@ -2,8 +2,7 @@ use Rattle.std.proofs.Common.{◌≤◌, ◌∙◌, ap, sym}
 use Rattle.std.specs.Prelude.{option_copied}
 use Rattle.model_laws.proofs.Finds.{found_passes}
 use Rattle.desk_model.specs.Effect.{effect, has_row, names_order, swept, touches_account, touches_authorization}
-use Rattle.desk_model.specs.{Entry.entry_of, Limits.last_end, Tables.Tables}
-use Rattle.desk_model.specs.declared.rows.Meta.{Meta}
+use Rattle.desk_model.specs.{Entry.entry_of, Limits.last_end, Tables.Tables, declared.rows.Meta.Meta}
 use Rattle.desk_model.specs.Shown.{account_reply, authorization_reply, challenge_in, client_challenge_in, located_order, moved_reply, order_reply, shown}
 use Rattle.core_replies.specs.Shown.{HasMoments}
 use Rattle.core_changes.proofs.ShownAfter.{policy_moved}
