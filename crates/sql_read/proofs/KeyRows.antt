@@ -1,5 +1,5 @@
 -- Under the number of each challenge that was answered stands the key of its answer, and no other.
-use Rattle.std.proofs.Common.{◌≡◌, ◌≢◌, ℕ, List, [], ◌∷◌, map, filter, cond, Option, Some, None, IfOk, Result, refl, sym, ap, subst, ◌∙◌}
+use Rattle.std.proofs.Common.{◌≡◌, ◌≢◌, ℕ, List, [], ◌∷◌, map, filter, cond, Option, Some, None, IfOk, Result, refl, sym, ap, ◌∙◌}
 use Rattle.std.specs.List.{cons_option}
 use Rattle.std.specs.Prelude.{◌==◌, nat_lt, option_map}
 use Rattle.std.proofs.lemmas.Bool.{eq-eqb, ne_eqb}

@@ -103,8 +103,8 @@ module _ {S : Type 0} (g : Ghosts S) (old : Held S) (T : Tables) (has : Holds (s
   pub accounts_find : (which : AccountsWhere) → FindsIn account_facts g (account_query which) old (accounts_where T which)
   accounts_find which =
       subst (FindsIn account_facts g (account_query which) old) (map-id (accounts_where T which))
-      (finds account_facts g all_rows (account_query which) (account_tests which) (accounts_asked which) (wants_account which) (account_agrees which) old T book T.accounts
-      (accounts_kept _ T Second has))
+      (finds account_facts g all_rows (account_query which) (account_tests which) (accounts_asked which) (wants_account which) (account_agrees which)
+      old T book T.accounts (accounts_kept _ T Second has))
 
   -- of orders, without what they list
   pub orders_find : (which : OrdersWhere) → FindsIn order_facts g (order_query which) old (map without_listed (orders_where T which))

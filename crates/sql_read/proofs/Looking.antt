@@ -5,7 +5,7 @@ use Rattle.std.proofs.lemmas.Result.{IfOk-from_err}
 use Rattle.sqlite.proofs.StateLemmas.{unchanged}
 use Rattle.sqlite.specs.{Order.Row, Store.Ghosts}
 use Rattle.sqlite.specs.Held.{Held, state}
-use Rattle.sqlite.specs.State.{HasCleanDisk, IsUnchanged}
+use Rattle.sqlite.specs.State.{HasCleanDisk}
 use Rattle.sqlite.specs.declared.error.Error.{Error}
 use Rattle.desk_model.specs.{Kept.EachOf, Tables.Tables}
 use Rattle.store_book.specs.IsBook.{IsStoredBook}

@@ -1,12 +1,11 @@
 -- Tables that are read one after the other.
-use Rattle.std.proofs.Common.{◌≡◌, ◌⊎◌, inl, inr, ℕ, List, [], map, Result, Ok, Err, refl, subst, arith, ◌∙◌}
+use Rattle.std.proofs.Common.{◌≡◌, ◌⊎◌, inl, inr, ℕ, List, [], Result, Ok, Err, refl, subst, arith, ◌∙◌}
 use Rattle.std.specs.Prelude.{IfErr, IfOk, IsOk, OnOk}
 use Rattle.sqlite.specs.Held.{Held, state}
 use Rattle.sqlite.specs.{Order.Row, Store.Ghosts}
 use Rattle.sqlite.specs.State.{HasCleanDisk, IsUnchanged}
 use Rattle.sqlite.specs.declared.error.Error.{Error}
 use Rattle.sqlite.proofs.Callers.{unchanged_then}
-use Rattle.sql_schema.specs.{Failing.IsFailure, Stays.Asks}
 use Rattle.sql_schema.proofs.StaysLemmas.{asks_then}
 use Rattle.sql_read.specs.Failures.{FailsHere, IsMet, IsReadable, MayRead}
 use Rattle.sql_read.specs.{Reads.Reads, Reads.ReadsColumns, Reads.ThenReads, Shown.IsShown}

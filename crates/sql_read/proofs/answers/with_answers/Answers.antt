@@ -1,11 +1,10 @@
 use Rattle.std.proofs.Common.{◌∙◌}
-use Rattle.std.proofs.lemmas.{List.take_all, Result.IfOk-from_err}
+use Rattle.std.proofs.lemmas.{List.take_all}
 use Rattle.sqlite.specs.Held.{state}
 use Rattle.store_columns.specs.Flat.{bare_row}
 use Rattle.sql_schema.proofs.StaysLemmas.{asks_then}
 use Rattle.sql_read.specs.Keys.{answered_as}
-use Rattle.sql_read.specs.LookUpFaults.{IsOfMemory}
-use Rattle.sql_read.proofs.{LookUpFaults.all_of_memory, Looking.stopped}
+use Rattle.sql_read.proofs.{Looking.stopped}
 use Rattle.sql_read.proofs.NestLemmas.{HasOwnKey, filled_failed, filled_first, filled_on, filled_slice}
 use Rattle.sql_read.proofs.answers.with_answers.Goals as goal
 
