@@ -3,13 +3,11 @@ use Rattle.std.proofs.Common.{ℕ, List, Result, Ok, Err, inl, inr}
 use Rattle.std.specs.Prelude.{MatchResult}
 use Rattle.desk_model.specs.declared.reply.Reply.{Reply}
 use Rattle.store_api.specs.Sight.{Sight}
-use Rattle.desk.specs.{Meets.ActsOnce, State.DeskState}
-use Rattle.desk.specs.declared.fault.DeskFault.{DeskFault}
+use Rattle.desk.specs.{Meets.ActsOnce, State.DeskState, declared.fault.DeskFault.DeskFault}
 use Rattle.http_routes.specs.declared.{lines.Line.Line, request.Request.Request}
 use Rattle.http_routes.specs.declared.request.Request.TheVariants as request
-use Rattle.app_batch.specs.LineRequests.{call_of}
+use Rattle.app_batch.specs.{LineRequests.call_of, declared.lines.AnswerFault.AnswerFault}
 use Rattle.app_batch.specs.Said.{DeclinesTo, LacksMemory, RepliesTo, Says, SaysNothing}
-use Rattle.app_batch.specs.declared.lines.AnswerFault.{AnswerFault}
 use Rattle.app_batch.specs.declared.lines.AnswerFault.TheVariants as answerfault
 
 module _ {S C : Type 0} (v : Sight S C) where

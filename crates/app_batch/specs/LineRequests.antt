@@ -3,8 +3,7 @@ use Rattle.std.specs.Prelude.{◌≡◌, ◌++◌, ℕ, Bool, true, false, ◌&&
 use Rattle.desk_model.specs.declared.call.{Ask.Ask, Call.Call}
 use Rattle.desk_model.specs.declared.refusal.Refusal.TheVariants as refusal
 use Rattle.desk_model.specs.declared.reply.Allow.TheVariants as allow
-use Rattle.http_routes.specs.{Request.refused_request, Routes.is_visible}
-use Rattle.http_routes.specs.declared.{lines.Line.Line, request.Request.Request}
+use Rattle.http_routes.specs.{Request.refused_request, Routes.is_visible, declared.lines.Line.Line, declared.request.Request.Request}
 use Rattle.http_routes.specs.declared.request.Request.TheVariants as request
 use Rattle.http_wire.specs.Spelled.{Spells}
 

@@ -2,14 +2,12 @@
 use Rattle.std.specs.Prelude.{◌≡◌, ◌⊎◌, ℕ, List, Ok, Err}
 use Rattle.desk_model.specs.declared.reply.Reply.{Reply}
 use Rattle.http_routes.specs.Lines.{Spells, line_text}
-use Rattle.http_routes.specs.Request.{refused_reply}
-use Rattle.http_routes.specs.declared.{lines.Line.Line, request.Request.Request}
+use Rattle.http_routes.specs.{Request.refused_reply, declared.lines.Line.Line, declared.request.Request.Request}
 use Rattle.http_routes.specs.declared.request.Request.TheVariants as request
 use Rattle.app_batch.specs.LineRequests.{IsRequestOf, call_of}
 use Rattle.app_batch.specs.declared.lines.AnswerFault.{AnswerFault}
 use Rattle.app_batch.specs.declared.lines.AnswerFault.TheVariants as answerfault
-use Rattle.desk.specs.{Meets.Meets, State.DeskState}
-use Rattle.desk.specs.declared.fault.DeskFault.{DeskFault}
+use Rattle.desk.specs.{Meets.Meets, State.DeskState, declared.fault.DeskFault.DeskFault}
 use Rattle.store_api.specs.Sight.{Sight}
 
 module _ {S C : Type 0} (v : Sight S C) where

@@ -5,11 +5,9 @@ use Rattle.app_words.specs.declared.command.Target.{Target}
 use Rattle.app_commands.specs.Deeds.{AnswersLines, Revokes, Serves, ask_of, served, unserved}
 use Rattle.app_commands.specs.declared.fault.Fault.{Fault}
 use Rattle.app_commands.specs.declared.fault.Fault.TheVariants as fault
-use Rattle.desk_http.specs.InTurn.{ServesAll}
-use Rattle.desk_http.specs.declared.serve_fault.ServeFault.{ServeFault}
+use Rattle.desk_http.specs.{InTurn.ServesAll, declared.serve_fault.ServeFault.ServeFault}
 use Rattle.desk_http.specs.declared.serve_fault.ServeFault.TheVariants as servefault
-use Rattle.desk.specs.{Faults.closes, Office.AnswersOffice, SeenDesks.IsSeenOn, State.DeskState}
-use Rattle.desk.specs.declared.fault.DeskFault.{DeskFault}
+use Rattle.desk.specs.{Faults.closes, Office.AnswersOffice, SeenDesks.IsSeenOn, State.DeskState, declared.fault.DeskFault.DeskFault}
 use Rattle.store_api.specs.{Sight.Sight, Storing.Causes}
 
 -- the end of what was done is this fault

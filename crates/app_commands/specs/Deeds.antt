@@ -4,21 +4,16 @@ use Rattle.std.specs.Io.KnownBytes.{Appends}
 use Rattle.app_batch.specs.InTurn.{AnswersFirst, StopsBehind}
 use Rattle.app_words.specs.declared.command.Target.{Target}
 use Rattle.app_words.specs.declared.command.Target.TheVariants as target
-use Rattle.app_commands.specs.Faults.{report_fault}
-use Rattle.app_commands.specs.declared.fault.Fault.{Fault}
+use Rattle.app_commands.specs.{Faults.report_fault, declared.fault.Fault.Fault}
 use Rattle.app_commands.specs.declared.fault.Fault.TheVariants as fault
-use Rattle.desk_http.specs.InTurn.{ServesAll}
-use Rattle.desk_http.specs.declared.serve_fault.ServeFault.{ServeFault}
+use Rattle.desk_http.specs.{InTurn.ServesAll, declared.serve_fault.ServeFault.ServeFault}
 use Rattle.desk_http.specs.declared.serve_fault.ServeFault.TheVariants as servefault
 use Rattle.desk.specs.{Answers.is_closed_after, Faults.storage_fault, Office.AnswersOffice, SeenDesks.IsSeenOn, State.DeskState}
 use Rattle.desk.specs.declared.fault.DeskFault.{DeskFault}
-use Rattle.desk_model.specs.{Derived.status_faults, Tables.Tables}
-use Rattle.desk_model.specs.declared.call.OfficeAsk.{OfficeAsk}
+use Rattle.desk_model.specs.{Derived.status_faults, Tables.Tables, declared.call.OfficeAsk.OfficeAsk, declared.refusal.Refusal.Refusal}
 use Rattle.desk_model.specs.declared.call.OfficeAsk.TheVariants as ask
-use Rattle.desk_model.specs.declared.refusal.Refusal.{Refusal}
 use Rattle.store_api.specs.Sight.{FailsToRead, ForTables, Sight, Stands}
-use Rattle.store_api.specs.Storing.{Causes}
-use Rattle.store_api.specs.declared.fault.StorageFault.{StorageFault}
+use Rattle.store_api.specs.{Storing.Causes, declared.fault.StorageFault.StorageFault}
 use Rattle.app_files.specs.Doing.{Deed}
 use Rattle.app_reports.specs.{About.about_text, Page.page_html, Printed.faults_text, Reported.Reports}
 use Rattle.app_reports.specs.Listed.{PrintsAll, Roster}

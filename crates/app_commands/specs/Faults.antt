@@ -2,8 +2,7 @@
 use Rattle.std.specs.Prelude.{◌≡◌}
 use Rattle.app_commands.specs.declared.fault.Fault.{Fault}
 use Rattle.app_commands.specs.declared.fault.Fault.TheVariants as fault
-use Rattle.desk.specs.Faults.{storage_fault}
-use Rattle.desk.specs.declared.fault.DeskFault.{DeskFault}
+use Rattle.desk.specs.{Faults.storage_fault, declared.fault.DeskFault.DeskFault}
 use Rattle.desk.specs.declared.fault.DeskFault.TheVariants as deskfault
 use Rattle.desk_store.specs.declared.open_fault.OpenFault.{OpenFault}
 use Rattle.desk_store.specs.declared.open_fault.OpenFault.TheVariants as openfault

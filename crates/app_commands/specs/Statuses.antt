@@ -2,30 +2,23 @@
 use Rattle.std.specs.Prelude.{◌≡◌, ◌≢◌, ◌⊎◌, ℕ, Bool, List, codes, Option, Some, None, Result, Ok, Err, true, false}
 use Rattle.sqlite.specs.Recovery.{Image}
 use Rattle.sqlite_disk.specs.declared.Disk as disk
-use Rattle.app_words.specs.declared.command.{AuthorizationListing.AuthorizationListing, Listing.Listing, Command.Command}
+use Rattle.app_words.specs.declared.command.{AuthorizationListing.AuthorizationListing, Listing.Listing, Command.Command, Syncs.Syncs, Terms.Terms as Words}
 use Rattle.app_words.specs.declared.command.Command.TheVariants as command
-use Rattle.app_words.specs.declared.command.Syncs.{Syncs}
 use Rattle.app_words.specs.declared.command.Syncs.TheVariants as syncs
-use Rattle.app_words.specs.declared.command.Terms.{Terms as Words}
-use Rattle.app_commands.specs.Asked.{RevokesServed}
+use Rattle.app_commands.specs.{Asked.RevokesServed, declared.filters.Unasked.Unasked, declared.fault.Fault.Fault, declared.limits.Limit.Limit}
 use Rattle.app_commands.specs.Filters.{AreRight, AsksForAuthorizations, AsksForOrders, StandsForName}
 use Rattle.app_commands.specs.Deeds.{AnswersReader, ChecksStatuses, ListsRows, RevokesTarget, ServesCount, TellsAbout, TellsPage}
 use Rattle.app_commands.specs.Faults.{IsOfOpening, open_fault}
-use Rattle.app_commands.specs.declared.filters.Unasked.{Unasked}
 use Rattle.app_commands.specs.declared.filters.Unasked.TheVariants as unasked
-use Rattle.app_commands.specs.declared.fault.Fault.{Fault}
 use Rattle.app_commands.specs.declared.fault.Fault.TheVariants as fault
-use Rattle.app_commands.specs.declared.limits.Limit.{Limit}
 use Rattle.app_commands.specs.declared.limits.Limit.TheVariants as limit
 use Rattle.desk_model.specs.Terms.{Terms, are_terms, is_base, is_life}
 use Rattle.desk_store.specs.declared.open_fault.OpenFault.{OpenFault}
 use Rattle.desk.specs.declared.fault.DeskFault.{DeskFault}
 use Rattle.desk.specs.declared.fault.DeskFault.TheVariants as deskfault
-use Rattle.app_files.specs.Doing.{Deed}
+use Rattle.app_files.specs.{Doing.Deed, declared.copies.CopyFault.CopyFault, declared.left.Left.Left}
 use Rattle.app_files.specs.Endings.{EndsInMemory, EndsMaking, EndsOver}
-use Rattle.app_files.specs.declared.copies.CopyFault.{CopyFault}
 use Rattle.app_files.specs.declared.copies.CopyFault.TheVariants as copyfault
-use Rattle.app_files.specs.declared.left.Left.{Left}
 use Rattle.app_files.specs.declared.left.Left.TheVariants as rest
 use Rattle.app_reports.specs.Listed.{accounts_roster, authorizations_roster, orders_roster}
 use Rattle.app_reports.specs.declared.{authorizations.AuthorizationFilter.AuthorizationFilter, about.Beside.Beside, form.Form.Form}

@@ -7,8 +7,7 @@ use Rattle.sqlite_store.specs.declared.store.FileStore.{FileStore}
 use Rattle.desk_files.specs.Opening.{FailsToMake, FoundNoName, MakesFiles, RefusesName, RefusesNoDatabase}
 use Rattle.desk_files.specs.declared.opening.NotOpened.{NotOpened}
 use Rattle.desk_model.specs.Terms.{Terms}
-use Rattle.desk_store.specs.Making.{IsOfStorage}
-use Rattle.desk_store.specs.declared.{open_fault.OpenFault.OpenFault, store.Store.Store}
+use Rattle.desk_store.specs.{Making.IsOfStorage, declared.open_fault.OpenFault.OpenFault, declared.store.Store.Store}
 use Rattle.app_files.specs.Endings.{EndsMaking, IsLeft, made, unmade}
 use Rattle.app_files.specs.declared.left.Left.{Left}
 use Rattle.app_files.specs.declared.left.Left.TheVariants as rest

@@ -2,8 +2,7 @@
 use Rattle.std.specs.Prelude.{ℕ, List, Option, Result}
 use Rattle.sqlite.specs.Store.{Ghosts}
 use Rattle.store_api.specs.{Sight.Sight, Storing.Causes}
-use Rattle.desk_store.specs.{Causes.Failed, Desks.store_sight}
-use Rattle.desk_store.specs.declared.store.Store.{Store}
+use Rattle.desk_store.specs.{Causes.Failed, Desks.store_sight, declared.store.Store.Store}
 
 -- what is so of a store before and after, where a task ends by this exit status or this fault: by what may be said of the store as one
 -- that answers calls, and what its failures come from, and by what may be said of it as one whose rows are read

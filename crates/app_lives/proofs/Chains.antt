@@ -1,15 +1,13 @@
 -- Calls to a desk, one after the other.
 use Rattle.std.proofs.Common.{◌≡◌, ◌⊎◌, List, [], ◌∷◌, Bool, true, false, Result, Ok, Err, IsTrue, ap, inl, inr, refl, subst, sym}
 use Rattle.desk.specs.Answers.{Exits, IsEither}
-use Rattle.desk.specs.{Faults.closes, State.DeskState}
+use Rattle.desk.specs.{Faults.closes, State.DeskState, declared.fault.DeskFault.DeskFault}
 use Rattle.desk.specs.Meets.{ActsOnce, Meets}
 use Rattle.desk.specs.Seen.{Told, replied}
-use Rattle.desk.specs.declared.fault.DeskFault.{DeskFault}
 use Rattle.desk.specs.declared.fault.DeskFault.TheVariants as deskfault
 use Rattle.model_lives.proofs.Extends.{histories_are_legal}
-use Rattle.desk_model.specs.{Entry.History, Legal.Legal, Run.IsFormedCall, Tables.picture}
+use Rattle.desk_model.specs.{Entry.History, Legal.Legal, Run.IsFormedCall, Tables.picture, declared.call.Call.Call, declared.reply.Reply.Reply}
 use Rattle.desk_model.specs.Life.{Event, IsLife, Replied, Stopped, history, is_running, kept_calls}
-use Rattle.desk_model.specs.declared.{call.Call.Call, reply.Reply.Reply}
 use Rattle.store_api.specs.Sight.{Keeps, Sight}
 use Rattle.app_lives.specs.Kept.{Answered, HasLife, calls_of, not_one, one_declined, one_more}
 

@@ -1,8 +1,7 @@
 -- The words of the program as calls to a desk, and what they leave of its files.
-use Rattle.std.proofs.KnownBytes.{Appends-nil}
+use Rattle.std.proofs.{KnownBytes.Appends-nil, Common.unwrap_or}
 use Rattle.std.specs.Prelude.{IfSome}
 use Rattle.std.proofs.Common.{◌≡◌, ◌∙◌, ◌⊎◌, ℕ, zero, suc, List, [], ◌∷◌, ◌++◌, false, Option, None, Some, Result, Ok, Err, inl, inr, refl, subst, sym}
-use Rattle.std.proofs.Common.{unwrap_or}
 use Rattle.sqlite.specs.{Files.over_files, Recovery.Image, Tree.Trees}
 use Rattle.sqlite_disk.specs.declared.Disk as disk
 use Rattle.sqlite_store.specs.declared.store.FileStore.{FileStore}
@@ -17,25 +16,20 @@ use Rattle.app_commands.specs.Deeds.{ServesCount, adopted, ask_of, clocked, cloc
 use Rattle.app_commands.specs.declared.fault.Fault.{Fault}
 use Rattle.desk_http.specs.InTurn.{ServesAll, ServesClient, ServesMany}
 use Rattle.desk_http.specs.InTurn as turn
-use Rattle.desk_http.specs.declared.serve_fault.ServeFault.{ServeFault}
+use Rattle.desk_http.specs.declared.{serve_fault.ServeFault.ServeFault, sending.IoFault.IoFault, serving.Served.Served}
 use Rattle.desk_http.specs.declared.serve_fault.ServeFault.TheVariants as servefault
-use Rattle.desk.specs.{Answers.is_closed_after, Meets.ActsOnce, Seen.Told, State.DeskState}
+use Rattle.desk.specs.{Answers.is_closed_after, Meets.ActsOnce, Seen.Told, State.DeskState, declared.fault.DeskFault.DeskFault}
 use Rattle.desk.specs.Office.{AnswersOffice, office_call}
-use Rattle.desk.specs.declared.fault.DeskFault.{DeskFault}
 use Rattle.desk_http.proofs.Acting.{once_acts}
-use Rattle.desk_http.specs.declared.{sending.IoFault.IoFault, serving.Served.Served}
-use Rattle.desk_model.specs.{Entry.History, History.terms, Legal.Legal, Tables.picture}
-use Rattle.desk_model.specs.declared.{refusal.Refusal.Refusal, reply.Reply.Reply}
+use Rattle.desk_model.specs.{Entry.History, History.terms, Legal.Legal, Tables.picture, declared.refusal.Refusal.Refusal, declared.reply.Reply.Reply}
 use Rattle.store_api.proofs.Readings.{reads_then, stands_both}
 use Rattle.store_api.specs.Sight.{Keeps, Sight, Stands}
 use Rattle.store_api.specs.Storing.{Causes}
-use Rattle.desk_store.specs.Desks.{store_sight}
-use Rattle.desk_store.specs.declared.store.Store.{Store}
+use Rattle.desk_store.specs.{Desks.store_sight, declared.store.Store.Store}
 use Rattle.app_files.specs.{Doing.Doing, Endings.IsDoneOver}
 use Rattle.app_lives.specs.Kept.{Answered, HasLife}
 use Rattle.app_lives.specs.Kept as kept
-use Rattle.app_reports.specs.Reported.{Reports}
-use Rattle.app_reports.specs.declared.fault.ReportFault.{ReportFault}
+use Rattle.app_reports.specs.{Reported.Reports, declared.fault.ReportFault.ReportFault}
 use Rattle.http_routes.specs.Lines.{Spells, line_text}
 use Rattle.http_routes.specs.declared.{lines.Line.Line, request.Request.Request}
 use Rattle.http_routes.specs.declared.request.Request.TheVariants as request

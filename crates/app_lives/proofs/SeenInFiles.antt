@@ -4,12 +4,10 @@ use Rattle.std.proofs.Math.Logic.{∥∥₁_elim, ∥∥₁_map}
 use Rattle.sqlite_disk.specs.declared.Disk as disk
 use Rattle.sqlite_store.specs.declared.store.FileStore.{FileStore}
 use Rattle.sqlite.specs.{Recovery.Image, Tree.Trees}
-use Rattle.desk_model.specs.{Decide.after, Entry.History, Legal.Legal}
+use Rattle.desk_model.specs.{Decide.after, Entry.History, Legal.Legal, declared.call.Call.Call, declared.reply.Reply.Reply}
 use Rattle.desk_model.specs.Tables.{Tables, picture}
-use Rattle.desk_model.specs.declared.{call.Call.Call, reply.Reply.Reply}
 use Rattle.store_api.specs.Sight.{Keeps}
-use Rattle.desk_store.specs.Desks.{AreOfDesk}
-use Rattle.desk_store.specs.declared.store.Store.{Store}
+use Rattle.desk_store.specs.{Desks.AreOfDesk, declared.store.Store.Store}
 use Rattle.desk.specs.Answers.{Exits, ExitsBy}
 use Rattle.desk.specs.Seen.{Place, runs, rests, Seen, seen_reply, seen_fault, seen_stop, seen_end, seen_open, seen_failure, place_after, IsAt, IsSeen, MaySee}
 use Rattle.desk.specs.declared.fault.DeskFault.{DeskFault}

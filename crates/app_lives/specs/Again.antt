@@ -5,9 +5,8 @@ use Rattle.app_words.specs.declared.command.Target.{Target}
 use Rattle.app_commands.specs.Deeds.{AnswersReader, ChecksStatuses, ListsRows, RevokesTarget, ServesCount, TellsAbout, TellsPage}
 use Rattle.app_commands.specs.declared.fault.Fault.{Fault}
 use Rattle.desk.specs.Seen.{Told, replied}
-use Rattle.desk_model.specs.{Entry.History, Tables.picture}
+use Rattle.desk_model.specs.{Entry.History, Tables.picture, declared.call.Call.Call}
 use Rattle.desk_model.specs.Life.{Event, IsLife, history, kept_calls}
-use Rattle.desk_model.specs.declared.call.Call.{Call}
 use Rattle.desk_files.specs.LeftFiles.{LeftFiles, file_sight}
 use Rattle.desk_store.specs.Desks.{AreOfDesk}
 use Rattle.app_files.specs.{Doing.Doing, Endings.IsDoneOver}

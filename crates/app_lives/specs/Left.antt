@@ -7,17 +7,14 @@ use Rattle.sqlite_disk.specs.declared.Files.{Files}
 use Rattle.sqlite_store.specs.declared.store.FileStore.{FileStore}
 use Rattle.app_words.specs.declared.command.Target.{Target}
 use Rattle.app_commands.specs.Deeds.{Adopts, AnswersReader, ChecksStatuses, FailsToAdopt, ListsRows, RevokesTarget, ServesCount, TellsAbout, TellsPage}
-use Rattle.app_commands.specs.Statuses.{EndsBackUp}
-use Rattle.app_commands.specs.declared.fault.Fault.{Fault}
+use Rattle.app_commands.specs.{Statuses.EndsBackUp, declared.fault.Fault.Fault}
 use Rattle.desk.specs.{Seen.Told, State.DeskState}
 use Rattle.desk_model.specs.{Entry.History, Legal.Legal, Tables.picture}
 use Rattle.desk_files.specs.LeftFiles.{HoldDesk, LeftFiles, file_sight}
-use Rattle.desk_store.specs.Desks.{store_sight}
-use Rattle.desk_store.specs.declared.store.Store.{Store}
-use Rattle.app_files.specs.{Doing.Doing, Endings.IsDoneOver}
+use Rattle.desk_store.specs.{Desks.store_sight, declared.store.Store.Store}
+use Rattle.app_files.specs.{Doing.Doing, Endings.IsDoneOver, declared.left.Left.Left}
 use Rattle.app_reports.specs.Listed.{accounts_roster, authorizations_roster, orders_roster}
 use Rattle.app_reports.specs.declared.{authorizations.AuthorizationFilter.AuthorizationFilter, about.Beside.Beside}
-use Rattle.app_files.specs.declared.left.Left.{Left}
 use Rattle.app_files.specs.declared.left.Left.TheVariants as rest
 use Rattle.app_reports.specs.declared.{form.Form.Form, orders.OrderFilter.OrderFilter}
 use Rattle.app_lives.specs.Kept.{Answered, HasLife}

@@ -10,8 +10,7 @@ use Rattle.desk.specs.Seen.{Place, runs, rests, Seen, seen_reply, seen_fault, se
 use Rattle.desk.specs.Seen.{place_after, IsAt, IsExit, IsExitInPlace, IsSeen}
 use Rattle.desk_files.specs.LeftFiles.{AreOfOpening, LeftFiles, IsNumbered, LeavesFound, MayLeave, file_sight}
 use Rattle.store_api.specs.Sight.{Sight, FailsToOpen, Keeps, Opens}
-use Rattle.desk_store.specs.Desks.{store_sight}
-use Rattle.desk_store.specs.declared.store.Store.{Store}
+use Rattle.desk_store.specs.{Desks.store_sight, declared.store.Store.Store}
 
 -- what was seen, by the bytes of what was left
 abbrev pub with_bytes : {S : Type 0} → Seen S LeftFiles → Seen S Image

@@ -4,14 +4,12 @@ use Rattle.std.specs.Io.KnownBytes.{Appends}
 use Rattle.app_batch.specs.InTurn.{AreLines}
 use Rattle.app_batch.specs.LineRequests.{IsRequestOf, call_of}
 use Rattle.app_words.specs.declared.command.Target.{Target}
-use Rattle.app_commands.specs.Deeds.{ask_of}
-use Rattle.app_commands.specs.declared.fault.Fault.{Fault}
+use Rattle.app_commands.specs.{Deeds.ask_of, declared.fault.Fault.Fault}
 use Rattle.desk.specs.Office.{office_call, refusal_in}
 use Rattle.desk.specs.Seen.{Told}
 use Rattle.desk_model.specs.declared.{call.Ask.Ask, reply.Reply.Reply}
 use Rattle.http_routes.specs.Lines.{Spells, line_text}
-use Rattle.http_routes.specs.declared.{lines.Line.Line, request.RequestRefusal.RequestRefusal}
-use Rattle.http_routes.specs.Request.{refused_reply}
+use Rattle.http_routes.specs.{Request.refused_reply, declared.lines.Line.Line, declared.request.RequestRefusal.RequestRefusal}
 use Rattle.http_routes.specs.declared.request.Request.TheVariants as request
 
 -- these texts were said to these lines, each with its end, and tell these replies, the latest first: to a line that asks something the

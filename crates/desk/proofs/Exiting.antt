@@ -17,10 +17,9 @@ use Rattle.store_api.specs.Storing.{Causes, Fit, IsCutFrom, Loads, Saving, Saves
 use Rattle.store_api.specs.declared.fault.StorageFault.{StorageFault}
 use Rattle.store_api.specs.declared.fault.StorageFault.TheVariants as storagefault
 use Rattle.desk.proofs.Running.{declines}
-use Rattle.desk.specs.Causes.{IsCaused}
+use Rattle.desk.specs.{Causes.IsCaused, declared.fault.DeskFault.DeskFault}
 use Rattle.desk.specs.Faults.{closes, core_fault, storage_fault}
 use Rattle.desk.specs.Answers.{Answers, ExitsBy, IsAnswered, IsBroken}
-use Rattle.desk.specs.declared.fault.DeskFault.{DeskFault}
 use Rattle.desk.specs.declared.fault.DeskFault.TheVariants as deskfault
 
 -- ---- faults

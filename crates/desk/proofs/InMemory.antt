@@ -1,9 +1,7 @@
 -- A store in memory is never out of reach.
 use Rattle.std.proofs.Common.{refl, sym, ◌∙◌, Err, inl}
-use Rattle.desk_model.specs.Tables.{Tables}
-use Rattle.desk_model.specs.declared.call.Call.{Call}
-use Rattle.store_api.specs.{InMemory.in_memory, Storing.Loads}
-use Rattle.store_api.specs.declared.fault.StorageFault.{StorageFault}
+use Rattle.desk_model.specs.{Tables.Tables, declared.call.Call.Call}
+use Rattle.store_api.specs.{InMemory.in_memory, Storing.Loads, declared.fault.StorageFault.StorageFault}
 use Rattle.store_api.specs.declared.fault.StorageFault.TheVariants as storagefault
 
 -- what is left of it tells that its tables stand, whatever the fault

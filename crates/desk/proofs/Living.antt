@@ -1,8 +1,7 @@
 -- What is seen of a desk is a life.
 use Rattle.std.proofs.Common.{◌≡◌, List, [], ◌∷◌, ◌++◌, Bool, true, false, refl, sym, ap, subst, ◌∙◌, append_assoc, Result, Ok, Err, inl, inr}
-use Rattle.desk_model.specs.{Entry.History, Legal.Legal, Tables.picture, Decide.decide, Run.IsFormedCall}
+use Rattle.desk_model.specs.{Entry.History, Legal.Legal, Tables.picture, Decide.decide, Run.IsFormedCall, declared.call.Call.Call, declared.reply.Reply.Reply}
 use Rattle.desk_model.specs.Life.{Event, Replied, Faulted, Stopped, Reopened, IsLife, history, kept_calls, made_by, EndedRowsStay}
-use Rattle.desk_model.specs.declared.{call.Call.Call, reply.Reply.Reply}
 use Rattle.model_lives.proofs.{Ended.ended_stays, Nonces.nonces_serve_once}
 use Rattle.model_lives.proofs.Extends.{acknowledged_stays, histories_are_legal, histories_are_of_calls, life_before, replies_are_decided}
 use Rattle.store_api.specs.Sight.{Sight, Keeps, Opens}

@@ -4,16 +4,14 @@ use Rattle.std.proofs.Common.{◌⊎◌, inl, inr, None, Some, Option, Result, O
 use Rattle.std.specs.Prelude.{◌↔◌}
 use Rattle.std.proofs.Math.Seq.{drop-cons, take-suc}
 use Rattle.std.proofs.lemmas.List.{drop_all}
-use Rattle.desk_model.specs.{Entry.History, Legal.Legal, Limits.last_moment, Tables.picture}
+use Rattle.desk_model.specs.{Entry.History, Legal.Legal, Limits.last_moment, Tables.picture, declared.call.Call.Call, declared.reply.Reply.Reply}
 use Rattle.desk_model.specs.Decide.{decide, after}
 use Rattle.desk_model.specs.Run.{IsFormedCall, fault, run, and_reply}
-use Rattle.desk_model.specs.declared.{call.Call.Call, reply.Reply.Reply}
 use Rattle.store_api.specs.Sight.{Sight, Keeps}
 use Rattle.store_api.specs.Storing.{Causes}
 use Rattle.desk.specs.Answers.{Answers, ExitsBy}
-use Rattle.desk.specs.Causes.{IsCaused}
+use Rattle.desk.specs.{Causes.IsCaused, declared.fault.DeskFault.DeskFault}
 use Rattle.desk.specs.Runs.{AnswersAll, EndsBy, EndsCaused, RunsAs, ExitsRun, IsOfModel, IsRun, Runs, TellsLate}
-use Rattle.desk.specs.declared.fault.DeskFault.{DeskFault}
 use Rattle.desk.specs.declared.fault.DeskFault.TheVariants as deskfault
 
 -- the first items and one more

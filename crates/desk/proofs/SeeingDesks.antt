@@ -2,11 +2,10 @@
 use Rattle.std.proofs.Common.{◌≡◌, ◌∙◌, List, [], ◌∷◌, ◌++◌, Bool, true, false, Result, Ok, Err, refl, ap, subst, sym, inl, inr}
 use Rattle.desk_model.specs.declared.{call.Call.Call, reply.Reply.Reply}
 use Rattle.store_api.specs.Sight.{Sight}
-use Rattle.desk.specs.{Faults.closes, State.DeskState}
+use Rattle.desk.specs.{Faults.closes, State.DeskState, declared.fault.DeskFault.DeskFault}
 use Rattle.desk.specs.Meets.{ActsOnce, Meets}
 use Rattle.desk.specs.Seen.{Place, runs, Seen, seen_reply, seen_fault, seen_stop, place_after, IsSeen}
 use Rattle.desk.specs.SeenDesks.{AreSeen, IsSeenOn, IsSeenTo, runs_on, stops}
-use Rattle.desk.specs.declared.fault.DeskFault.{DeskFault}
 use Rattle.desk.proofs.Seeing.{seen_next}
 
 module _ {S C : Type 0} (v : Sight S C) where

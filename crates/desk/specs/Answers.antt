@@ -1,9 +1,8 @@
 -- The exits of a call to a desk, by every legal history whose picture the store has, a stop leaving that alone.
 use Rattle.std.specs.Prelude.{◌≡◌, ◌⊎◌, Bool, false, None, Result, Ok, Err, IfErr}
-use Rattle.desk_model.specs.{Entry.History, Legal.Legal, Tables.picture}
+use Rattle.desk_model.specs.{Entry.History, Legal.Legal, Tables.picture, declared.call.Call.Call, declared.reply.Reply.Reply}
 use Rattle.desk_model.specs.Decide.{decide, after}
 use Rattle.desk_model.specs.Run.{fault, IsFormedCall}
-use Rattle.desk_model.specs.declared.{call.Call.Call, reply.Reply.Reply}
 use Rattle.store_api.specs.Sight.{Sight, Keeps, Stands}
 use Rattle.desk.specs.Faults.{IsFault, closes}
 use Rattle.desk.specs.declared.fault.DeskFault.{DeskFault}

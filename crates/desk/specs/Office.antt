@@ -1,12 +1,10 @@
 -- What an office asks, answered by a desk.
 use Rattle.std.specs.Prelude.{◌≡◌, ℕ, [], Option, Some, None, Result, Ok, Err}
 use Rattle.desk_model.specs.declared.call.Ask.TheVariants as ask
-use Rattle.desk_model.specs.declared.{call.Call.Call, call.OfficeAsk.OfficeAsk, refusal.Refusal.Refusal, reply.Body.Body}
+use Rattle.desk_model.specs.declared.{call.Call.Call, call.OfficeAsk.OfficeAsk, refusal.Refusal.Refusal, reply.Body.Body, reply.Reply.Reply}
 use Rattle.desk_model.specs.declared.reply.Body.TheVariants as body
-use Rattle.desk_model.specs.declared.reply.Reply.{Reply}
 use Rattle.store_api.specs.Sight.{Sight}
-use Rattle.desk.specs.Answers.{Answers}
-use Rattle.desk.specs.declared.fault.DeskFault.{DeskFault}
+use Rattle.desk.specs.{Answers.Answers, declared.fault.DeskFault.DeskFault}
 
 -- the call by which an office asks something, with no random bytes
 abbrev pub office_call : ℕ → OfficeAsk → Call

@@ -1,8 +1,7 @@
 -- What may be seen of a desk over time, and that it is a life.
 use Rattle.std.specs.Prelude.{ℕ, ◌≡◌, ◌⊎◌, List, [], ◌∷◌, ◌++◌, Bool, false, Result, Ok, Err, IsTrue}
-use Rattle.desk_model.specs.{Entry.History, History.terms, Legal.Legal, Tables.picture, Decide.decide}
+use Rattle.desk_model.specs.{Entry.History, History.terms, Legal.Legal, Tables.picture, Decide.decide, declared.call.Call.Call, declared.reply.Reply.Reply}
 use Rattle.desk_model.specs.Life.{Event, Replied, Faulted, Stopped, Reopened, IsLife, history, is_running, made_by, Passed, EndedRowsStay}
-use Rattle.desk_model.specs.declared.{call.Call.Call, reply.Reply.Reply}
 use Rattle.store_api.specs.Sight.{Sight, Keeps, Opens, FailsToOpen}
 use Rattle.desk.specs.Answers.{Answers, is_closed_after}
 use Rattle.desk.specs.declared.fault.DeskFault.{DeskFault}

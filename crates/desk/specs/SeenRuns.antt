@@ -2,9 +2,8 @@
 use Rattle.std.specs.Prelude.{◌≡◌, List, [], ◌∷◌, ◌++◌, length, take, drop, false, Option, Some, None, Err}
 use Rattle.desk_model.specs.declared.{call.Call.Call, reply.Reply.Reply}
 use Rattle.store_api.specs.Sight.{Sight}
-use Rattle.desk.specs.{Faults.closes, Runs.RunsAs}
+use Rattle.desk.specs.{Faults.closes, Runs.RunsAs, declared.fault.DeskFault.DeskFault}
 use Rattle.desk.specs.Seen.{Place, runs, Seen, seen_fault, seen_stop, place_after, Told, told_by, IsSeen}
-use Rattle.desk.specs.declared.fault.DeskFault.{DeskFault}
 
 -- these replies to these calls, the latest first
 abbrev pub told_in_turn : List Call → List Reply → List Told

@@ -51,8 +51,7 @@ impl Memory {
 impl Storage for Memory {
     ghost use Rattle.std.specs.Prelude.{◌≡◌};
     ghost use Rattle.desk_model.specs.Tables.{Tables};
-    ghost use Rattle.store_api.specs.InMemory.{in_memory};
-    ghost use Rattle.store_api.specs.declared.fault.StorageFault.TheVariants.{Memory as memory_fault};
+    ghost use Rattle.store_api.specs.{InMemory.in_memory, declared.fault.StorageFault.TheVariants.Memory as memory_fault};
 
     ghost Content = { Tables };
 

@@ -3,8 +3,7 @@ use Rattle.std.proofs.Common.{◌≡◌, [], refl, subst, IsTrue}
 use Rattle.std.proofs.Math.Logic.{∥∥₁_map}
 use Rattle.sqlite_disk.specs.declared.Disk as disk
 use Rattle.sqlite_disk.specs.declared.Files.{Files}
-use Rattle.sqlite_store.specs.declared.store.FileStore.{FileStore}
-use Rattle.sqlite_store.specs.Laws.{stays_at}
+use Rattle.sqlite_store.specs.{Laws.stays_at, declared.store.FileStore.FileStore}
 use Rattle.sqlite.specs.Closing.{HoldsAlone, IsCopied}
 use Rattle.sqlite.specs.{Effect.Database, Files.file_state, Recovery.Image, Tree.Trees, WalFiles.outcomes}
 use Rattle.sqlite.proofs.Theorems.{opens_again}

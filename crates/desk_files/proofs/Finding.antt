@@ -19,10 +19,9 @@ use Rattle.desk_store.specs.declared.store.Store.{Store}
 use Rattle.desk_store.proofs.EitherFormat.{not_both, uses_keys}
 use Rattle.sql_tables.proofs.Holding.{same_database}
 use Rattle.sql_upgrade.specs.FirstDesks.{IsFirstDesk}
-use Rattle.desk_files.specs.Formats.{AreOfEither}
+use Rattle.desk_files.specs.{Formats.AreOfEither, Openings.UpgradedFilesAreFound}
 use Rattle.desk_files.specs.LeftFiles.{AreOfOpening, LeavesDesks, LeftFiles, schema_in, sight_within}
 use Rattle.desk_files.specs.Openings.{EmptyFilesAreOpened, FirstFilesAreOpened, FoundFilesAreOpened, KeptFilesAreFound, LeftFilesAreFound}
-use Rattle.desk_files.specs.Openings.{UpgradedFilesAreFound}
 
 -- what keeps tables keeps them in all that a stop leaves
 pub keeps_within : {S C B : Type 0} (part : B → C) (has_in : B → Tables → Type 0) (v : Sight S C)

@@ -11,8 +11,7 @@ use Rattle.desk_model.specs.{Tables.Tables, Terms.Terms}
 use Rattle.sql_schema.specs.Names.{uses_key_table, uses_names}
 use Rattle.sql_schema.specs.{Schema.no_schema, Stays.Asks}
 use Rattle.store_api.specs.declared.fault.StorageFault.TheVariants as fault
-use Rattle.desk_store.specs.Opening.{IsUpgraded}
-use Rattle.desk_store.specs.declared.open_fault.OpenFault.{OpenFault}
+use Rattle.desk_store.specs.{Opening.IsUpgraded, declared.open_fault.OpenFault.OpenFault}
 use Rattle.desk_store.specs.declared.open_fault.OpenFault.TheVariants.{NewerFormat, NotADesk, Storage}
 use Rattle.sql_upgrade.specs.FirstDesks.{HasFirst}
 use Rattle.desk_files.specs.Formats.{AreOfFirst, HasEither}

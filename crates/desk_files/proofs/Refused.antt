@@ -1,11 +1,9 @@
 -- Files that the engine refuses.
 use Rattle.std.proofs.Common.{ℕ, ◌≡◌, IfSome, None, Option, Some, ap, inl, inr, sym, subst, ◌∙◌, arith}
 use Rattle.sqlite_disk.specs.declared.Disk as disk
-use Rattle.sqlite_disk.specs.declared.Files.{Files}
-use Rattle.sqlite_disk.specs.Disk.{MoreFaults}
+use Rattle.sqlite_disk.specs.{Disk.MoreFaults, declared.Files.Files}
 use Rattle.sqlite.specs.Files.{FailsToOpenFiles, HoldsDatabase, faults_left, faults_of, image_of}
-use Rattle.sqlite.specs.Recovery.{Image}
-use Rattle.sqlite.specs.declared.{error.Error.Error, file.Leftover.Leftover}
+use Rattle.sqlite.specs.{Recovery.Image, declared.error.Error.Error, declared.file.Leftover.Leftover}
 use Rattle.store_api.specs.declared.fault.StorageFault.TheVariants as fault
 use Rattle.desk_store.specs.Making.{IsOfStorage}
 use Rattle.desk_files.specs.{LeftFiles.LeftFiles, Opening.fault_of_refusal}

@@ -1,16 +1,13 @@
 -- What closing the two files of a desk leaves.
 use Rattle.std.specs.Prelude.{◌≡◌, []}
 use Rattle.sqlite.specs.FileStore as engine
-use Rattle.sqlite.specs.View.{IsClean}
+use Rattle.sqlite.specs.{View.IsClean, Recovery.Image, State.HasCleanDisk, WalFiles.outcomes, WalReads.AreClean, declared.error.Error.Error}
 use Rattle.sqlite_disk.specs.declared.Disk as disk
 use Rattle.sqlite_disk.specs.declared.Files.{Files}
 use Rattle.sqlite_store.specs.declared.store.FileStore.{FileStore}
 use Rattle.sqlite.specs.Files.{FailsToClose, file_state, image_of}
-use Rattle.sqlite.specs.{Recovery.Image, State.HasCleanDisk, WalFiles.outcomes, WalReads.AreClean}
 use Rattle.desk_model.specs.Tables.{Tables}
-use Rattle.sqlite.specs.declared.error.Error.{Error}
-use Rattle.desk_store.specs.Desks.{HasDesk}
-use Rattle.desk_store.specs.declared.{open_fault.OpenFault.OpenFault, store.Store.Store}
+use Rattle.desk_store.specs.{Desks.HasDesk, declared.open_fault.OpenFault.OpenFault, declared.store.Store.Store}
 use Rattle.desk_files.specs.LeftFiles.{HoldDesk, LeavesFound}
 use Rattle.desk_files.specs.Opening.{fault_of_close}
 

@@ -5,24 +5,20 @@ use Rattle.sqlite_disk.specs.declared.Files.{Files}
 use Rattle.sqlite_store.specs.declared.store.FileStore.{FileStore}
 use Rattle.sqlite.specs.Files.{FailsToOpenFiles, IsCleanLeft, IsEmpty, IsOpened, faults_left, faults_of, file_state, image_of, over_files}
 use Rattle.sqlite.specs.Held.{Held, IsNew}
-use Rattle.sqlite.specs.{Start.FindsIn, Recovery.Image}
+use Rattle.sqlite.specs.{Start.FindsIn, Recovery.Image, Tree.Trees}
+use Rattle.sqlite.specs.declared.{error.Error.Error, error.Error.TheVariants.SqliteFailure, file.Leftover.Leftover}
 use Rattle.sqlite.specs.State.{State, HasCleanDisk}
-use Rattle.sqlite.specs.declared.error.{Error.Error, Error.TheVariants.SqliteFailure}
 use Rattle.sqlite.specs.declared.error.ErrorCode.TheVariants as code
-use Rattle.sqlite.specs.declared.file.Leftover.{Leftover}
-use Rattle.sqlite.specs.Tree.{Trees}
 use Rattle.desk_model.specs.Tables.{Tables, picture}
 use Rattle.desk_model.specs.{History.first_history, Terms.Terms}
 use Rattle.sql_schema.specs.Names.{uses_names}
 use Rattle.store_api.specs.Sight.{Keeps, Opens}
-use Rattle.desk_store.specs.{Causes.cause_of, Desks.AreOfDesk}
+use Rattle.desk_store.specs.{Causes.cause_of, Desks.AreOfDesk, declared.faults.Cause.Cause, declared.open_fault.OpenFault.OpenFault, declared.store.Store.Store}
 use Rattle.desk_store.specs.Making.{FailedToMake, IsOfStorage}
 use Rattle.desk_store.specs.Opening.{FailedToOpen, ShowsNewerFormat}
 use Rattle.store_api.specs.declared.fault.StorageFault.{StorageFault}
 use Rattle.store_api.specs.declared.fault.StorageFault.TheVariants as fault
-use Rattle.desk_store.specs.declared.faults.Cause.{Cause}
 use Rattle.desk_store.specs.declared.faults.Cause.TheVariants as cause
-use Rattle.desk_store.specs.declared.{open_fault.OpenFault.OpenFault, store.Store.Store}
 use Rattle.desk_store.specs.declared.open_fault.OpenFault.TheVariants.{NewerFormat, NotADesk, Storage}
 use Rattle.desk_files.specs.LeftFiles.{AreOfOpening, LeftFiles, file_sight, schema_in}
 

@@ -7,8 +7,7 @@ use Rattle.desk.specs.State.{DeskState}
 use Rattle.desk_model.specs.{Tables.Tables, Terms.Terms}
 use Rattle.sql_write.specs.Committing.{GoesBack}
 use Rattle.sql_schema.specs.Schema.{no_schema}
-use Rattle.store_api.specs.Sight.{Keeps}
-use Rattle.store_api.specs.declared.fault.StorageFault.{StorageFault}
+use Rattle.store_api.specs.{Sight.Keeps, declared.fault.StorageFault.StorageFault}
 use Rattle.desk_store.specs.{Causes.LeavesNothing, Desks.store_sight}
 use Rattle.desk_store.specs.Making.{FailedToMake, IsMade, IsNewDesk}
 use Rattle.desk_store.specs.Opening.{FailedToOpen, IsUpgraded}

@@ -5,10 +5,9 @@ ghost use Rattle.desk_model.specs.History.{first_history};
 ghost use Rattle.desk_model.specs.Tables.{Tables, picture};
 ghost use Rattle.sql_schema.specs.{Names.uses_names, Schema.no_schema};
 ghost use Rattle.store_api.specs.Sight.{Keeps};
-ghost use Rattle.desk_store.specs.Desks.{store_sight};
+ghost use Rattle.desk_store.specs.{Desks.store_sight, declared.open_fault.OpenFault.TheVariants.NewerFormat as newer_format};
 ghost use Rattle.desk_store.specs.Making.{FailedToMake, IsOfStorage};
 ghost use Rattle.desk_store.specs.Opening.{FailedToOpen, IsUpgraded, ShowsNewerFormat};
-ghost use Rattle.desk_store.specs.declared.open_fault.OpenFault.TheVariants.{NewerFormat as newer_format};
 ghost use Rattle.desk_files.specs.Formats.{HasEither};
 ghost use Rattle.desk_files.specs.Opening.{IsEarly, IsTaken, LeavesNewDesk};
 

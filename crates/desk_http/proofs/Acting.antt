@@ -4,17 +4,14 @@ use Rattle.std.specs.Prelude.{MatchResult}
 use Rattle.desk_model.specs.declared.{call.Call.Call, reply.Reply.Reply}
 use Rattle.store_api.specs.{Sight.Sight, Storing.Causes}
 use Rattle.desk.specs.Meets.{ActsOnce, Meets}
-use Rattle.desk.specs.State.{DeskState}
-use Rattle.desk.specs.declared.fault.DeskFault.{DeskFault}
+use Rattle.desk.specs.{State.DeskState, declared.fault.DeskFault.DeskFault}
 use Rattle.http_routes.specs.declared.request.Request.{Request}
 use Rattle.http_routes.specs.declared.request.Request.TheVariants as request
 use Rattle.http_wire.specs.declared.call.ReplyForm.{ReplyForm}
 use Rattle.desk_http.specs.Serving.{Breaks, Fails, HasAnswer, IsAnswer, IsLeft, Responds, Serves, ServesBy, call_of}
-use Rattle.desk_http.specs.declared.saying.Cause.{Cause}
+use Rattle.desk_http.specs.declared.{saying.Cause.Cause, sending.IoFault.IoFault, serving.Served.Served, telling.Told.Told}
 use Rattle.desk_http.specs.declared.saying.Cause.TheVariants as cause
-use Rattle.desk_http.specs.declared.sending.IoFault.{IoFault}
 use Rattle.desk_http.specs.declared.sending.IoFault.TheVariants as iofault
-use Rattle.desk_http.specs.declared.{serving.Served.Served, telling.Told.Told}
 
 module _ {S C : Type 0} (v : Sight S C) (causes : Causes S) where
   -- as a desk answers a call

@@ -3,16 +3,14 @@ use Rattle.std.proofs.Common.{◌≡◌, ℕ, Bool, true, false, List, Option, N
 use Rattle.std.specs.Prelude.{IfErr, IfOk, MatchResult}
 use Rattle.desk_model.specs.declared.reply.Reply.{Reply}
 use Rattle.store_api.specs.{Sight.Sight, Storing.Causes}
-use Rattle.desk.specs.{Answers.is_closed_after, Faults.closes, State.DeskState}
-use Rattle.desk.specs.declared.fault.DeskFault.{DeskFault}
+use Rattle.desk.specs.{Answers.is_closed_after, Faults.closes, State.DeskState, declared.fault.DeskFault.DeskFault}
 use Rattle.desk.specs.declared.fault.DeskFault.TheVariants as deskfault
 use Rattle.http_routes.specs.declared.request.Request.{Request}
 use Rattle.http_routes.specs.declared.request.Request.TheVariants as request
 use Rattle.http_wire.specs.declared.call.ReplyForm.{ReplyForm}
 use Rattle.desk_http.specs.Serving.{HasAnswer, Responds, ServesBy}
-use Rattle.desk_http.specs.declared.saying.Cause.{Cause}
+use Rattle.desk_http.specs.declared.{saying.Cause.Cause, sending.IoFault.IoFault, serving.Served.Served, telling.Told.Told}
 use Rattle.desk_http.specs.declared.saying.Cause.TheVariants as cause
-use Rattle.desk_http.specs.declared.{sending.IoFault.IoFault, serving.Served.Served, telling.Told.Told}
 use Rattle.desk_http.specs.InTurn.{Ends, IsClosedBy, ServesClient, ended_by, fault_after, fault_of, parsed, if_closes, unread}
 
 -- the desk is closed by this fault, or, where there is none, it is open

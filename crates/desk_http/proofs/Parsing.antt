@@ -1,11 +1,9 @@
 -- From what was read to what is served.
 use Rattle.std.proofs.Common.{◌≡◌, ℕ, List, Option, Some, None, Result, Ok, Err, inl, inr}
-use Rattle.std.specs.Prelude.{IfSome}
-use Rattle.std.specs.declared.alloc.AllocError.{AllocError}
+use Rattle.std.specs.{Prelude.IfSome, declared.alloc.AllocError.AllocError}
 use Rattle.desk_model.specs.declared.reply.Reply.{Reply}
 use Rattle.store_api.specs.{Sight.Sight, Storing.Causes}
-use Rattle.desk.specs.State.{DeskState}
-use Rattle.desk.specs.declared.fault.DeskFault.{DeskFault}
+use Rattle.desk.specs.{State.DeskState, declared.fault.DeskFault.DeskFault}
 use Rattle.http_routes.specs.declared.request.Request.{Request}
 use Rattle.http_wire.specs.Spelled.{IsReplyForm, Spells}
 use Rattle.http_wire.specs.declared.call.ParsedRequest.{ParsedRequest}

@@ -1,8 +1,7 @@
 -- What serving connections one after the other does may be seen.
 use Rattle.std.proofs.Common.{ℕ, zero, suc, Err, subst, sym, inl, Option, Some, None, Result}
 use Rattle.store_api.specs.{Sight.Sight, Storing.Causes}
-use Rattle.desk.specs.{SeenDesks.IsSeenOn, State.DeskState, Meets.ActsOnce}
-use Rattle.desk.specs.declared.fault.DeskFault.{DeskFault}
+use Rattle.desk.specs.{SeenDesks.IsSeenOn, State.DeskState, Meets.ActsOnce, declared.fault.DeskFault.DeskFault}
 use Rattle.desk.proofs.SeeingDesks.{seen_once_more, seen_untouched}
 use Rattle.desk_http.proofs.Acting.{once_acts}
 use Rattle.desk_http.specs.declared.{sending.IoFault.IoFault, serving.Served.Served, serve_fault.ServeFault.ServeFault}

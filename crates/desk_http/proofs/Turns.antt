@@ -1,8 +1,7 @@
 -- Connections that are served one after the other.
 use Rattle.std.proofs.Common.{◌≡◌, ◌<◌, Err, ℕ, ◌+◌, Bool, true, Option, None, Some, add-one, arith, false, inl, inr}
 use Rattle.store_api.specs.{Sight.Sight, Storing.Causes}
-use Rattle.desk.specs.State.{DeskState}
-use Rattle.desk.specs.declared.fault.DeskFault.{DeskFault}
+use Rattle.desk.specs.{State.DeskState, declared.fault.DeskFault.DeskFault}
 use Rattle.desk_http.specs.InTurn.{Ends, IsOfMachine, ServesAll, ServesMany, ServesNext, ServesOne, ended_by}
 use Rattle.desk_http.specs.declared.serve_fault.ServeFault.{ServeFault}
 use Rattle.desk_http.specs.declared.serve_fault.ServeFault.TheVariants as servefault

@@ -3,22 +3,16 @@ use Rattle.std.specs.Prelude.{◌≡◌, ◌⊎◌, ℕ, Bool, true, false, List
 use Rattle.std.specs.Prelude.{nat_le, if◌then◌else◌}
 use Rattle.desk.specs.Faults.{number_of}
 use Rattle.desk_model.specs.Refusals.{refusal_of}
-use Rattle.desk_model.specs.declared.call.Ask.{Ask}
+use Rattle.desk_model.specs.declared.{call.Ask.Ask, call.OfficeAsk.OfficeAsk, call.Target.Target, reply.Body.Body, reply.Reply.Reply}
 use Rattle.desk_model.specs.declared.call.Ask.TheVariants as ask
-use Rattle.desk_model.specs.declared.call.OfficeAsk.{OfficeAsk}
 use Rattle.desk_model.specs.declared.call.OfficeAsk.TheVariants as asks
-use Rattle.desk_model.specs.declared.call.Target.{Target}
 use Rattle.desk_model.specs.declared.call.Target.TheVariants as to
-use Rattle.desk_model.specs.declared.reply.Body.{Body}
 use Rattle.desk_model.specs.declared.reply.Body.TheVariants as body
-use Rattle.desk_model.specs.declared.reply.Reply.{Reply}
-use Rattle.http_routes.specs.Routes.{HasNumber}
-use Rattle.http_routes.specs.declared.request.Request.{Request}
+use Rattle.http_routes.specs.{Routes.HasNumber, declared.request.Request.Request}
 use Rattle.http_routes.specs.declared.request.Request.TheVariants as request
 use Rattle.std.specs.declared.alloc.AllocError.{AllocError}
-use Rattle.desk_http.specs.declared.saying.Cause.{Cause}
+use Rattle.desk_http.specs.declared.{saying.Cause.Cause, sending.IoFault.IoFault, serving.Served.Served, telling.Told.Told}
 use Rattle.desk_http.specs.declared.saying.Cause.TheVariants as cause
-use Rattle.desk_http.specs.declared.{sending.IoFault.IoFault, serving.Served.Served, telling.Told.Told}
 
 -- ---- what a reply tells
 

@@ -2,28 +2,22 @@
 use Rattle.std.specs.Prelude.{◌≡◌, ◌⊎◌, ◌<◌, ◌↔◌, ℕ, Bool, true, false, List, Option, Some, None, Result, Ok, Err, IfErr, IfSome, IsTrue}
 use Rattle.std.specs.Io.KnownBytes.{Appends, Keeps}
 use Rattle.std.specs.declared.alloc.AllocError.{AllocError}
-use Rattle.desk_model.specs.declared.call.{Ask.Ask, Call.Call}
+use Rattle.desk_model.specs.{Limits.last_moment, declared.call.Ask.Ask, declared.call.Call.Call, declared.reply.Reply.Reply}
 use Rattle.desk_model.specs.declared.refusal.Refusal.TheVariants as refusal
 use Rattle.desk_model.specs.declared.reply.Allow.TheVariants as allow
-use Rattle.desk_model.specs.declared.reply.Reply.{Reply}
 use Rattle.store_api.specs.{Sight.Sight, Storing.Causes}
 use Rattle.desk.specs.Answers.{Answers, is_closed_after}
-use Rattle.desk.specs.{Causes.IsCaused, State.DeskState}
-use Rattle.desk.specs.declared.fault.DeskFault.{DeskFault}
+use Rattle.desk.specs.{Causes.IsCaused, State.DeskState, declared.fault.DeskFault.DeskFault}
 use Rattle.desk.specs.declared.fault.DeskFault.TheVariants as deskfault
 use Rattle.http_routes.specs.Request.{refused_reply, refused_request}
 use Rattle.http_routes.specs.declared.request.Request.{Request}
 use Rattle.http_routes.specs.declared.request.Request.TheVariants as request
-use Rattle.http_wire.specs.{Replies.reply_bytes, ParsedRequest.Parses}
+use Rattle.http_wire.specs.{Replies.reply_bytes, ParsedRequest.Parses, declared.call.ParsedRequest.ParsedRequest, declared.call.ReplyForm.ReplyForm}
 use Rattle.http_wire.specs.Spelled.{IsReplyForm, Spells}
-use Rattle.http_wire.specs.declared.call.{ParsedRequest.ParsedRequest, ReplyForm.ReplyForm}
 use Rattle.desk_http.specs.Noted.{IsToldOf}
-use Rattle.desk_http.specs.declared.saying.Cause.{Cause}
+use Rattle.desk_http.specs.declared.{saying.Cause.Cause, sending.IoFault.IoFault, serving.Served.Served, telling.Told.Told}
 use Rattle.desk_http.specs.declared.saying.Cause.TheVariants as cause
-use Rattle.desk_http.specs.declared.sending.IoFault.{IoFault}
 use Rattle.desk_http.specs.declared.sending.IoFault.TheVariants as iofault
-use Rattle.desk_http.specs.declared.{serving.Served.Served, telling.Told.Told}
-use Rattle.desk_model.specs.Limits.{last_moment}
 
 -- the call of a request that asks this
 abbrev pub call_of : ℕ → List ℕ → Ask → Call

@@ -3,8 +3,7 @@ use Rattle.std.specs.Prelude.{◌≡◌, ℕ, ◌++◌, List, Option, Some, None
 use Rattle.hex.specs.Hex.{decode_of, encode_lower}
 use Rattle.serde_json.specs.{Data.Data, Read.read, Written.compact_text}
 use Rattle.serde_json.specs.Find.{get, as_number, as_u64}
-use Rattle.desk_model.specs.{Keys.text_member, Refusals.problem_document}
-use Rattle.desk_model.specs.declared.reply.{Reply.Reply, Body.Body}
+use Rattle.desk_model.specs.{Keys.text_member, Refusals.problem_document, declared.reply.Reply.Reply, declared.reply.Body.Body}
 use Rattle.desk_model.specs.declared.reply.Body.TheVariants as body
 use Rattle.http_routes.specs.declared.lines.{Line.Line, LineFault.LineFault}
 use Rattle.http_routes.specs.declared.lines.LineFault.TheVariants as linefault

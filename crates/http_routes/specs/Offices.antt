@@ -2,10 +2,8 @@
 use Rattle.std.specs.Prelude.{ℕ, List, codes, bytes_eq, Option, Some, None, option_map, option_and_then, if◌then◌else◌}
 use Rattle.serde_json.specs.{Data.Data, Read.read}
 use Rattle.serde_json.specs.Find.{get, as_str}
-use Rattle.desk_model.specs.{Payload.texts_in, Tokens.from_base64url}
-use Rattle.desk_model.specs.declared.call.FetchError.{FetchError}
+use Rattle.desk_model.specs.{Payload.texts_in, Tokens.from_base64url, declared.call.FetchError.FetchError, declared.call.Finding.Finding}
 use Rattle.desk_model.specs.declared.call.FetchError.TheVariants as error
-use Rattle.desk_model.specs.declared.call.Finding.{Finding}
 use Rattle.desk_model.specs.declared.call.Finding.TheVariants as found
 
 -- the body of the HTTP resource, in base64url (RFC 8555, 8.3)

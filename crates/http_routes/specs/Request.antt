@@ -1,22 +1,17 @@
 -- What a request asks, by its method, its path and its body.
 use Rattle.std.specs.Prelude.{◌≡◌, ℕ, Bool, true, List, [], codes, bytes_eq, Option, Some, None, option_map, IsUtf8, ◌⊎◌}
-use Rattle.desk_model.specs.declared.refusal.Refusal.{Refusal}
+use Rattle.desk_model.specs.declared.{refusal.Refusal.Refusal, call.Ask.Ask, call.Signed.Signed, call.Target.Target, reply.Allow.Allow, reply.Reply.Reply}
 use Rattle.desk_model.specs.declared.refusal.Refusal.TheVariants as refusal
-use Rattle.desk_model.specs.declared.call.Ask.{Ask}
 use Rattle.desk_model.specs.declared.call.Ask.TheVariants as ask
 use Rattle.desk_model.specs.declared.call.OfficeAsk.TheVariants as asks
-use Rattle.desk_model.specs.declared.{call.Signed.Signed, call.Target.Target, reply.Allow.Allow}
 use Rattle.desk_model.specs.declared.reply.Allow.TheVariants as allow
-use Rattle.desk_model.specs.declared.reply.Reply.{Reply}
 use Rattle.json_texts.specs.{Problems.order_problem, RefusalReplies.refusal_reply}
 use Rattle.http_routes.specs.Envelopes.{Envelope, IsEnvelopeText, IsSigned}
-use Rattle.http_routes.specs.Offices.{finding}
+use Rattle.http_routes.specs.{Offices.finding, declared.request.Place.Place, declared.request.RequestRefusal.RequestRefusal}
+use Rattle.http_routes.specs.declared.routes.{OfficeResource.OfficeResource, Resource.Resource}
 use Rattle.http_routes.specs.Routes.{IsResourceAt, has_index, methods_of, serves}
-use Rattle.http_routes.specs.declared.request.Place.{Place}
 use Rattle.http_routes.specs.declared.request.Place.TheVariants as place
-use Rattle.http_routes.specs.declared.{request.RequestRefusal.RequestRefusal, routes.OfficeResource.OfficeResource}
 use Rattle.http_routes.specs.declared.routes.OfficeResource.TheVariants as office
-use Rattle.http_routes.specs.declared.routes.Resource.{Resource}
 use Rattle.http_routes.specs.declared.routes.Resource.TheVariants as resource
 
 -- ---- what is asked of a resource

@@ -2,15 +2,12 @@
 use Rattle.std.specs.Prelude.{◌≡◌, ℕ, ◌≤◌, ◌++◌, Bool, true, false, not, ◌&&◌, ◌||◌, nat_eq, nat_le, List, [], codes, bytes_eq, decimal}
 use Rattle.std.specs.List.{list_all, starts_with}
 use Rattle.desk_model.specs.declared.call.Target.TheVariants as target
-use Rattle.desk_model.specs.declared.reply.Allow.{Allow}
+use Rattle.desk_model.specs.{Limits.last_number, declared.reply.Allow.Allow}
 use Rattle.desk_model.specs.declared.reply.Allow.TheVariants as allow
-use Rattle.http_routes.specs.declared.routes.OfficeResource.{OfficeResource}
+use Rattle.http_routes.specs.declared.routes.{OfficeResource.OfficeResource, Resource.Resource, Route.Route}
 use Rattle.http_routes.specs.declared.routes.OfficeResource.TheVariants as office
-use Rattle.http_routes.specs.declared.routes.Resource.{Resource}
 use Rattle.http_routes.specs.declared.routes.Resource.TheVariants as resource
-use Rattle.http_routes.specs.declared.routes.Route.{Route}
 use Rattle.http_routes.specs.declared.routes.Route.TheVariants as route
-use Rattle.desk_model.specs.Limits.{last_number}
 
 -- ---- paths
 

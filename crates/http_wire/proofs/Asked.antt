@@ -2,14 +2,11 @@
 use Rattle.std.proofs.Common.{◌≡◌, ℕ, List, ◌++◌, Option, Some, None, Result, Ok, Err, sym, subst}
 use Rattle.std.specs.Prelude.{IfOk, IfSome, MatchResult, option_map}
 use Rattle.http_routes.specs.Request.{IsAskIn, IsServed}
-use Rattle.http_routes.specs.Routes.{has_index}
-use Rattle.http_routes.specs.declared.request.Request.{Request}
+use Rattle.http_routes.specs.{Routes.has_index, declared.request.Request.Request, declared.routes.Resource.Resource}
 use Rattle.http_routes.specs.declared.request.Request.TheVariants as request
-use Rattle.http_routes.specs.declared.routes.Resource.{Resource}
-use Rattle.http_wire.specs.Framing.{framing_for}
+use Rattle.http_wire.specs.{Framing.framing_for, declared.call.ParsedRequest.ParsedRequest}
 use Rattle.http_wire.specs.ParsedRequest.{IsAnswerTo, IsBody}
 use Rattle.http_wire.specs.Spelled.{IsRequestWith, cut_short, unread, asked}
-use Rattle.http_wire.specs.declared.call.ParsedRequest.{ParsedRequest}
 use Rattle.http_wire.specs.declared.framing.Framing.TheVariants as frame
 
 -- what a served request asks by its body

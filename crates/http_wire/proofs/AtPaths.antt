@@ -1,8 +1,7 @@
 -- Each shown URL is served.
 use Rattle.std.proofs.Common.{◌≡◌, ℕ, List, ◌++◌, codes, decimal, refl, ap, ◌∙◌, append_assoc}
 use Rattle.desk_model.specs.Terms.{Terms}
-use Rattle.http_routes.specs.Routes.{IsResourceAt}
-use Rattle.http_routes.specs.declared.routes.Resource.{Resource}
+use Rattle.http_routes.specs.{Routes.IsResourceAt, declared.routes.Resource.Resource}
 use Rattle.http_routes.proofs.Leads.{to_account, to_authorization, to_certificate, to_challenge, to_directory, to_finalize}
 use Rattle.http_routes.proofs.Leads.{to_key_change, to_new_account, to_new_nonce, to_new_order, to_order, to_orders}
 use Rattle.http_routes.proofs.Resources.{one_resource}

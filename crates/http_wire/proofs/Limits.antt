@@ -2,10 +2,8 @@
 use Rattle.std.proofs.Common.{◌≡◌, ◌≤◌, ℕ, Bool, true, false, List, [], ◌∷◌, Option, Some, None, refl, arith, ap, sym}
 use Rattle.std.specs.Prelude.{nat_le, codes, if◌then◌else◌}
 use Rattle.std.proofs.lemmas.Bool.{leb-true}
-use Rattle.http_routes.specs.Routes.{methods_of}
-use Rattle.http_routes.specs.declared.routes.OfficeResource.{OfficeResource}
+use Rattle.http_routes.specs.{Routes.methods_of, declared.routes.OfficeResource.OfficeResource, declared.routes.Resource.Resource}
 use Rattle.http_routes.specs.declared.routes.OfficeResource.TheVariants as office
-use Rattle.http_routes.specs.declared.routes.Resource.{Resource}
 use Rattle.http_routes.specs.declared.routes.Resource.TheVariants as resource
 use Rattle.http_wire.specs.Framing.{framing, framing_by, framing_for, is_posted, length_in, limit_of, values_of}
 use Rattle.http_wire.specs.declared.framing.Framing.{Framing}

@@ -1,9 +1,8 @@
 -- The URLs of documents and replies.
 use Rattle.std.proofs.Common.{◌≡◌, Option, Some, None, codes, refl}
 use Rattle.desk_model.specs.Document.{challenge_document, challenge_url}
-use Rattle.desk_model.specs.{Keys.text_member, Tables.Tables, Terms.Terms}
-use Rattle.desk_model.specs.declared.{entry.Outcome.Outcome, objects.Report.Report, rows.ChallengeRow.ChallengeRow, rows.DatedBytes.DatedBytes}
-use Rattle.desk_model.specs.declared.{rows.DatedProblem.DatedProblem, rows.OrderRow.OrderRow}
+use Rattle.desk_model.specs.{Keys.text_member, Tables.Tables, Terms.Terms, declared.entry.Outcome.Outcome, declared.objects.Report.Report}
+use Rattle.desk_model.specs.declared.rows.{ChallengeRow.ChallengeRow, DatedBytes.DatedBytes, DatedProblem.DatedProblem, OrderRow.OrderRow}
 use Rattle.desk_model.specs.declared.entry.Outcome.TheVariants.{Good, IncorrectResponse, Connection, Dns}
 use Rattle.http_wire.specs.UrlLaws.{DocumentsHaveUrls, RepliesNameUrls}
 use Rattle.http_wire.specs.ShownUrls.{HasDirectoryUrls, HasOrderUrls}

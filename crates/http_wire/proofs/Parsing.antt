@@ -8,20 +8,17 @@ use Rattle.std.specs.Io.KnownBytes.{Consumes}
 use Rattle.httparse.specs.Grammar.{RequestHead, print_request, HasNoRequest, Field}
 use Rattle.httparse.specs.Spans.{RequestOverflows, IsRequestAt, IsRequestWithin, header_bytes, name_and_value, span_bytes}
 use Rattle.httparse.specs.declared.spans.{HeaderSpan.HeaderSpan, RequestSpans.RequestSpans}
-use Rattle.desk_model.specs.declared.refusal.Refusal.{Refusal}
+use Rattle.desk_model.specs.{Limits.longest_head, declared.refusal.Refusal.Refusal}
 use Rattle.desk_model.specs.declared.refusal.Refusal.TheVariants as refusal
 use Rattle.desk_model.specs.declared.reply.Allow.TheVariants as allow
-use Rattle.http_routes.specs.Request.{refused_request}
-use Rattle.http_routes.specs.declared.request.Request.{Request}
+use Rattle.http_routes.specs.{Request.refused_request, declared.request.Request.Request}
 use Rattle.http_routes.specs.declared.request.Request.TheVariants as request
 use Rattle.http_wire.specs.Head.{BeginsWith, HasNoHead, HeadSays, IsTooLarge, front, most_fields}
-use Rattle.http_wire.specs.ParsedRequest.{Parses}
+use Rattle.http_wire.specs.{ParsedRequest.Parses, declared.call.ParsedRequest.ParsedRequest, declared.call.ReplyForm.ReplyForm}
 use Rattle.http_wire.specs.ParsedRequest as parsed
 use Rattle.http_wire.specs.Spelled.{IsReplyForm, IsRequestWith, Spells, form_by}
 use Rattle.http_wire.specs.Spelled as spelled
-use Rattle.http_wire.specs.declared.call.{ParsedRequest.ParsedRequest, ReplyForm.ReplyForm}
 use Rattle.http_wire.specs.declared.head.HeadRead.TheVariants as read
-use Rattle.desk_model.specs.Limits.{longest_head}
 
 -- ---- the front of the input
 

@@ -6,13 +6,11 @@ use Rattle.std.specs.List.{filter, list_all}
 use Rattle.std.specs.Str.Parse.{digits_value}
 use Rattle.desk_model.specs.declared.reply.Allow.{Allow}
 use Rattle.desk_model.specs.declared.reply.Allow.TheVariants as allow
-use Rattle.http_routes.specs.Routes.{methods_of}
+use Rattle.http_routes.specs.{Routes.methods_of, declared.routes.Resource.Resource}
 use Rattle.http_routes.specs.declared.routes.OfficeResource.TheVariants as office
-use Rattle.http_routes.specs.declared.routes.Resource.{Resource}
 use Rattle.http_routes.specs.declared.routes.Resource.TheVariants as resource
-use Rattle.http_wire.specs.declared.framing.Found.{Found}
+use Rattle.http_wire.specs.declared.framing.{Found.Found, Framing.Framing}
 use Rattle.http_wire.specs.declared.framing.Found.TheVariants as found
-use Rattle.http_wire.specs.declared.framing.Framing.{Framing}
 use Rattle.http_wire.specs.declared.framing.Framing.TheVariants as frame
 use Rattle.desk_model.specs.Limits.{longest_body, longest_certificate}
 

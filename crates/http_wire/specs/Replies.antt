@@ -3,10 +3,8 @@ use Rattle.std.specs.Prelude.{ℕ, List, [], ◌∷◌, ◌++◌, length, Bool, 
 use Rattle.std.specs.Prelude.{is_some, unwrap_or}
 use Rattle.http.specs.StatusCode.{reason_phrase}
 use Rattle.serde_json.specs.Written.{compact_text}
-use Rattle.desk_model.specs.Refusals.{problem_document}
-use Rattle.desk_model.specs.declared.reply.{Reply.Reply, Body.Body}
+use Rattle.desk_model.specs.{Refusals.problem_document, declared.reply.Reply.Reply, declared.reply.Body.Body, declared.reply.Allow.Allow}
 use Rattle.desk_model.specs.declared.reply.Body.TheVariants as body
-use Rattle.desk_model.specs.declared.reply.Allow.{Allow}
 use Rattle.desk_model.specs.declared.reply.Allow.TheVariants as allow
 
 -- the end of a line (RFC 9112, 2.2)

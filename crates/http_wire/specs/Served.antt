@@ -3,8 +3,7 @@ use Rattle.std.specs.Prelude.{◌≡◌, ℕ, List, ◌++◌, codes}
 use Rattle.desk_model.specs.Document.{account_url, authorization_url, certificate_url, challenge_url, finalize_url, order_url, orders_url, url}
 use Rattle.desk_model.specs.Terms.{Terms}
 use Rattle.desk_model.specs.declared.call.Target.TheVariants as target
-use Rattle.http_routes.specs.Routes.{IsResourceAt}
-use Rattle.http_routes.specs.declared.routes.Resource.{Resource}
+use Rattle.http_routes.specs.{Routes.IsResourceAt, declared.routes.Resource.Resource}
 use Rattle.http_routes.specs.declared.routes.Resource.TheVariants as resource
 
 -- the URL is the base and a path, which leads to the resource and to no other

@@ -6,13 +6,11 @@ use Rattle.desk_model.specs.declared.refusal.Refusal.TheVariants as refusal
 use Rattle.desk_model.specs.declared.reply.Allow.TheVariants as allow
 use Rattle.http_routes.specs.Request.{IsAskIn, IsServed, IsUnserved, refused_request}
 use Rattle.http_routes.specs.Routes.{has_index}
-use Rattle.http_routes.specs.declared.request.{Request.Request, RequestRefusal.RequestRefusal}
+use Rattle.http_routes.specs.declared.{request.Request.Request, request.RequestRefusal.RequestRefusal, routes.Resource.Resource}
 use Rattle.http_routes.specs.declared.request.Request.TheVariants as request
-use Rattle.http_routes.specs.declared.routes.Resource.{Resource}
-use Rattle.http_wire.specs.Framing.{framing_for}
+use Rattle.http_wire.specs.{Framing.framing_for, declared.call.ReplyForm.ReplyForm}
 use Rattle.http_wire.specs.Head.{BeginsWith, HasNoHead, IsMalformed, IsTooLarge}
 use Rattle.http_wire.specs.declared.framing.Framing.TheVariants as frame
-use Rattle.http_wire.specs.declared.call.ReplyForm.{ReplyForm}
 
 -- what a request asks by its method, its path, its fields and what follows them, or how it is refused:
 -- the path is looked at first, then the method, the fields, the length of the body and the body

@@ -1,6 +1,5 @@
 use Rattle.std.proofs.Common.{rules, ◌≡◌, Some}
-use Rattle.http_routes.specs.Request.{IsServed}
-use Rattle.http_routes.specs.declared.routes.Resource.{Resource}
+use Rattle.http_routes.specs.{Request.IsServed, declared.routes.Resource.Resource}
 use Rattle.http_routes.proofs.request.place_of.Goals.{in_default-via-in-Some+else-serves, in_default-via-in_default}
 use Rattle.http_routes.proofs.request.place_of.Goals as goal
 

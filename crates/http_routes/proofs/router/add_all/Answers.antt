@@ -1,7 +1,6 @@
 use Rattle.std.proofs.Common.{◌+◌, ◌∙◌, List, [], ◌∷◌, ap, sym, drop}
 use Rattle.std.proofs.lemmas.List.{at_drop_more, at_drop_all}
-use Rattle.http_routes.specs.Router.{with_routes}
-use Rattle.http_routes.specs.declared.routes.Route.{Route}
+use Rattle.http_routes.specs.{Router.with_routes, declared.routes.Route.Route}
 use Rattle.http_routes.specs.declared.routes.Route.TheVariants as route
 use Rattle.http_routes.proofs.router.add_all.Goals as goal
 
