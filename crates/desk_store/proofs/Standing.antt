@@ -6,15 +6,15 @@ use Rattle.sqlite.specs.Held.{Held, state}
 use Rattle.sqlite.specs.State.{State, HasCleanDisk, IsUnchanged, Survives}
 use Rattle.sqlite.specs.{Store.Ghosts, Tree.Trees}
 use Rattle.desk_model.specs.Tables.{Tables}
-use Rattle.sql_read.specs.Held.{ForHeld}
+use Rattle.sql_read.specs.{Held.ForHeld, Looking.LooksUp, declared.fault.ReadFault.ReadFault}
 use Rattle.store_book.specs.IsBook.{IsStoredBook}
 use Rattle.sql_write.specs.Committing.{GoesBack}
 use Rattle.sql_schema.specs.Stays.{Asks, Stays}
-use Rattle.store_api.specs.Sight.{Reads, Stands}
+use Rattle.store_api.specs.Sight.{Gives, Reads, Stands}
 use Rattle.store_api.specs.declared.fault.StorageFault.{StorageFault}
 use Rattle.store_api.specs.declared.fault.StorageFault.TheVariants as fault
 use Rattle.sql_schema.proofs.StaysLemmas.{asks_then}
-use Rattle.store_api.proofs.Readings.{stands_here}
+use Rattle.store_api.proofs.Readings.{reads_then, stands_here, stands_read}
 use Rattle.desk_store.specs.Causes.{FailsToLookUp, IsSilent}
 use Rattle.desk_store.specs.Desks.{HasDesk, HasTables, IsDesk, store_sight}
 use Rattle.desk_store.specs.Known.{IsKnownOf}
@@ -143,7 +143,24 @@ module _ {S : Type 0} (g : Ghosts S) where
       subst (λ r. IfOk r (P T)) same (of (honest clean) T has.desk.desk.holds has.desk.desk.book)
   hands_on P old mid new read (Err why) of same honest clean T has = tt
 
-  -- so what a store notes of it is so of its tables
+  -- so a look-up of the store gives what the database gave
+  pub handed : {R : Type 0} {P : Tables → R → Type 0} {old new : Store S} {mid : Held S} {read : Result R ReadFault} {result : Result R StorageFault}
+      → LooksUp g old.conn mid P read → Reads (store_sight g) old new result → IfOk result (λ found. read ≡ Ok found)
+      → (HasCleanDisk (state g new.conn) → HasCleanDisk (state g mid)) → Gives (store_sight g) old new P result
+  handed {R} {P} {old} {new} {mid} {read} {result} look reads same honest = record {
+    reads = reads;
+    found = hands_on P old mid new read result look.found same honest;
+  }
+
+  -- so it does behind what the store knew
+  pub handed_on : {A R : Type 0} {P : Tables → R → Type 0} {old between new : Store S} {a : A} (result : Result R StorageFault)
+      → Reads (store_sight g) old between (Ok a) → Gives (store_sight g) between new P result → Gives (store_sight g) old new P result
+  handed_on result known gives = record {
+    reads = reads_then result (stands_read known) gives.reads;
+    found = λ clean T has. gives.found clean T (known.tables (gives.reads.honest clean) T has);
+  }
+
+  -- what a store notes of it is so of its tables
   pub notes_on : {R E : Type 0} (P : Tables → R → Type 0) (old : Store S) (mid : Held S) (new : Store S) (known : Known) (read : Result R E) (found : R)
       → ForHeld (state g old.conn) (state g mid) (λ T. IsStoredBook T → IfOk read (P T)) → read ≡ Ok found
       → (HasCleanDisk (state g new.conn) → HasCleanDisk (state g mid)) → ((T : Tables) → P T found → IsKnownOf new.known T → IsKnownOf known T)

@@ -7,7 +7,7 @@ use Rattle.store_api.specs.Finding.{Finds, LacksMemory}
 use Rattle.store_api.proofs.Gathered.{into_if_found}
 use Rattle.store_api.proofs.Readings.{reads_failing, reads_found, reads_then, stands_read}
 use Rattle.desk_model.specs.Tables.{Tables}
-use Rattle.store_api.specs.Sight.{ForTables, Reads, Sight}
+use Rattle.store_api.specs.Sight.{Gives, Sight}
 use Rattle.store_api.specs.declared.fault.StorageFault.{StorageFault}
 
 module _ {S C : Type 0} {v : Sight S C} where
@@ -64,24 +64,23 @@ module _ {S C : Type 0} {v : Sight S C} where
   finds_as {A} {old} {new} {P} same finds = subst (λ r. Finds v old new r P) same finds
 
   -- what was found is put into a table in some way
-  pub finds_into : {V X B : Type 0} {old new : S} (into : List X → List X → List X) (items : V → List X) (rows_of : Tables → List X) (rows later : List X)
-      (looked : Result V StorageFault) (r : Result B StorageFault) →
-      Reads v old new looked → ForTables v old new (λ T. IfOk looked (λ vs. items vs ≡ rows_of T)) →
+  pub finds_into : {V X B : Type 0} {old new : S} {looked : Result V StorageFault} {r : Result B StorageFault}
+      (into : List X → List X → List X) (items : V → List X) (rows_of : Tables → List X) (rows later : List X) →
+      Gives v old new (λ T vs. items vs ≡ rows_of T) looked →
       IfOk looked (λ vs. OnOk r (later ≡ into (items vs) rows)) → IfOk looked (λ _. IfErr r LacksMemory) → IfErr looked (λ why. r ≡ Err why) →
       Finds v old new r (λ T. later ≡ into (rows_of T) rows)
-  finds_into into items rows_of rows later looked r read are put_now lacks passed = record {
-    reads = reads_found looked r read lacks passed;
-    found = λ honest T held. into_if_found into items looked r (rows_of T) rows later put_now passed (are honest T held);
+  finds_into {looked = looked} {r = r} into items rows_of rows later gives put_now lacks passed = record {
+    reads = reads_found looked r gives.reads lacks passed;
+    found = λ honest T held. into_if_found into items looked r (rows_of T) rows later put_now passed (gives.found honest T held);
   }
 
   -- and by number
-  pub finds_put : {V X B : Type 0} {old new : S} (number : X → ℕ) (items : V → List X) (rows_of : Tables → List X) (rows later : List X)
-      (looked : Result V StorageFault) (r : Result B StorageFault) →
-      Reads v old new looked → ForTables v old new (λ T. IfOk looked (λ vs. items vs ≡ rows_of T)) →
+  pub finds_put : {V X B : Type 0} {old new : S} {looked : Result V StorageFault} {r : Result B StorageFault}
+      (number : X → ℕ) (items : V → List X) (rows_of : Tables → List X) (rows later : List X) →
+      Gives v old new (λ T vs. items vs ≡ rows_of T) looked →
       IfOk looked (λ vs. OnOk r (later ≡ puts number (items vs) rows)) → IfOk looked (λ _. IfErr r LacksMemory) → IfErr looked (λ why. r ≡ Err why) →
       Finds v old new r (λ T. later ≡ puts number (rows_of T) rows)
-  finds_put number items rows_of rows later looked r read are put_now lacks passed =
-      finds_into (puts number) items rows_of rows later looked r read are put_now lacks passed
+  finds_put number items rows_of rows later gives put_now lacks passed = finds_into (puts number) items rows_of rows later gives put_now lacks passed
 
 -- an option as a slice
 pub listed_as : {X : Type 0} (o : Option X) (xs ys : List X) → MatchOption o (xs ≡ []) (λ x. xs ≡ x ∷ []) → option_to_list o ≡ ys → xs ≡ ys

@@ -1,7 +1,9 @@
 -- Look-ups one after the other.
 use Rattle.std.proofs.Common.{◌≡◌, ◌⊎◌, Result, Ok, Err, IfErr, IfOk, IsErrAnd, inl, inr, subst, sym}
 use Rattle.std.specs.Result.{result_and}
+use Rattle.store_api.specs.{InMemory.in_memory, Sight.Gives}
 use Rattle.store_api.specs.Sight.{FailsBy, ForTables, Reads, Sight, Stands}
+use Rattle.desk_model.specs.Tables.{Tables}
 use Rattle.store_api.specs.declared.fault.StorageFault.{StorageFault}
 use Rattle.store_api.specs.declared.fault.StorageFault.TheVariants as fault
 use Rattle.store_api.specs.Finding.{LacksMemory}
@@ -103,3 +105,11 @@ module _ {S C : Type 0} {v : Sight S C} where
       Reads v old new q
   reads_and x (Ok a) q is read = read_as (reads_standing (Ok x) tt (stands_read read)) (sym is)
   reads_and x (Err why) q is read = read_as (reads_failed_as read) (sym is)
+
+-- a book in memory gives what was made of it, unless a growth was refused
+pub book_gives : {A : Type 0} (book : Tables) (r : Result A StorageFault) {P : Tables → A → Type 0} → IfErr r LacksMemory → IfOk r (P book) →
+    Gives in_memory book book P r
+book_gives book r {P} lacks is = record {
+  reads = reads_standing r lacks stands_here;
+  found = λ honest T held. subst (λ T. IfOk r (P T)) held is;
+}

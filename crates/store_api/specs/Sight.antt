@@ -1,5 +1,5 @@
 -- What may be said of what keeps the tables of a desk: rows in memory, or a file behind a disk.
-use Rattle.std.specs.Prelude.{◌≡◌, ◌⊎◌, Result, Err, OnOk, IfErr}
+use Rattle.std.specs.Prelude.{◌≡◌, ◌⊎◌, Result, Err, OnOk, IfErr, IfOk}
 use Rattle.desk_model.specs.Tables.{Tables}
 use Rattle.store_api.specs.declared.fault.StorageFault.{StorageFault}
 use Rattle.store_api.specs.declared.fault.StorageFault.TheVariants as fault
@@ -61,6 +61,11 @@ module _ {S C : Type 0} (v : Sight S C) where
     pub tables : OnOk result (HasStill old new)
     pub without_memory : IfErr result (λ why. why ≡ fault.Memory → HasStill old new)
     pub failed : IsCaused old new result
+
+  -- so did a look-up, and this is so of what it gave
+  pub record Gives {R : Type 0} (old new : S) (P : Tables → R → Type 0) (result : Result R StorageFault) : Type 0 where
+    pub reads : Reads old new result
+    pub found : ForTables old new (λ T. IfOk result (P T))
 
   -- a call that looks things up failed so, and changed nothing
   abbrev pub FailsToRead : S → S → StorageFault → Type 0

@@ -7,7 +7,7 @@ ghost use Rattle.desk_model.specs.Name.{same_name};
 ghost use Rattle.model_lives.specs.Loaded.{authorizations_asked_of, authorizations_for};
 
 use crate::fault::StorageFault;
-use crate::look_ups::LookUps;
+use crate::look_ups::{Found, LookUps};
 use desk_book::Table;
 use desk_model::{AccountRow, AuthorizationRow, DnsName};
 use model_lives::AuthorizationsWhere;
@@ -31,7 +31,7 @@ fn add_one(
 // Puts those of the rows that were found into a table that have the name.
 fn add_same(
     table: &mut Table<AuthorizationRow>,
-    found: Result<Vec<AuthorizationRow>, StorageFault>,
+    found: Found<AuthorizationRow>,
     name: &DnsName,
 ) -> Result<(), StorageFault>
     ensures put { IfOk found (λ rows. OnOk result (table.new ≡ puts (λ r. r.number) (filter (λ r. same_name r.name name.now) rows.items) table.old)) }

@@ -8,7 +8,7 @@ ghost use Rattle.store_columns.specs.Flat.{owned_by};
 ghost use Rattle.model_lives.specs.Thinned.{without_challenges, without_listed};
 
 use crate::fault::StorageFault;
-use crate::look_ups::LookUps;
+use crate::look_ups::{Found, LookUps};
 use desk_book::{Book, Row, Table};
 use desk_model::{
     AccountRow, AuthorizationRow, ChallengeRow, ChallengeStatus, Meta, Nonce, OrderRow, Sequence,
@@ -28,11 +28,7 @@ fn push_copy<R: Row + Drop>(rows: &mut Vec<R>, row: &R) -> Result<(), AllocError
 }
 
 // Copies of the rows of a query.
-fn rows_where<R: Row + Drop, Q: Query<R>>(
-    alloc: Global,
-    table: &Table<R>,
-    which: &Q,
-) -> Result<Vec<R>, StorageFault>
+fn rows_where<R: Row + Drop, Q: Query<R>>(alloc: Global, table: &Table<R>, which: &Q) -> Found<R>
     ensures found { IfOk result (λ rows. rows.items ≡ filter (Q.wanted which.now) table.now) }
     ensures lacks { IfErr result LacksMemory }
 {
@@ -88,7 +84,7 @@ fn bare_rows_where<R: Owner + Drop, Q: Query<R>>(
     alloc: Global,
     table: &Table<R>,
     which: &Q,
-) -> Result<Vec<R>, StorageFault>
+) -> Found<R>
     ensures found { IfOk result (λ rows. rows.items ≡ map R.bare (filter (Q.wanted which.now) table.now)) }
     ensures lacks { IfErr result LacksMemory }
 {
@@ -142,11 +138,7 @@ impl Holder for AuthorizationRow {
 }
 
 // The numbers of the rows with a part of this number.
-fn holders<R: Holder + Drop>(
-    alloc: Global,
-    table: &Table<R>,
-    part: u64,
-) -> Result<Vec<u64>, StorageFault>
+fn holders<R: Holder + Drop>(alloc: Global, table: &Table<R>, part: u64) -> Found<u64>
     ensures found { IfOk result (λ numbers. numbers.items ≡ flat_map (λ row. R.held row part) table.now) }
     ensures lacks { IfErr result LacksMemory }
 {
@@ -198,10 +190,7 @@ fn push_waiting(
 }
 
 // Those of all authorizations.
-fn all_waiting(
-    alloc: Global,
-    table: &Table<AuthorizationRow>,
-) -> Result<Vec<Owned<ChallengeRow>>, StorageFault>
+fn all_waiting(alloc: Global, table: &Table<AuthorizationRow>) -> Found<Owned<ChallengeRow>>
     ensures found { IfOk result (λ rows. rows.items ≡ flat_map (λ r. owned_by r.number (waiting_of r)) table.now) }
     ensures lacks { IfErr result LacksMemory }
 {
@@ -226,27 +215,15 @@ impl LookUps for Book {
         Ok(self.meta().clone()?)
     }
 
-    fn find_nonces(
-        &mut self,
-        alloc: Global,
-        which: NoncesWhere,
-    ) -> Result<Vec<Nonce>, StorageFault> {
+    fn find_nonces(&mut self, alloc: Global, which: NoncesWhere) -> Found<Nonce> {
         rows_where(alloc, self.nonces(), &which)
     }
 
-    fn find_accounts(
-        &mut self,
-        alloc: Global,
-        which: AccountsWhere<'_>,
-    ) -> Result<Vec<AccountRow>, StorageFault> {
+    fn find_accounts(&mut self, alloc: Global, which: AccountsWhere<'_>) -> Found<AccountRow> {
         rows_where(alloc, self.accounts(), &which)
     }
 
-    fn find_orders(
-        &mut self,
-        alloc: Global,
-        which: OrdersWhere,
-    ) -> Result<Vec<OrderRow>, StorageFault> {
+    fn find_orders(&mut self, alloc: Global, which: OrdersWhere) -> Found<OrderRow> {
         rows_where(alloc, self.orders(), &which)
     }
 
@@ -254,23 +231,15 @@ impl LookUps for Book {
         &mut self,
         alloc: Global,
         which: AuthorizationsWhere<'_>,
-    ) -> Result<Vec<AuthorizationRow>, StorageFault> {
+    ) -> Found<AuthorizationRow> {
         rows_where(alloc, self.authorizations(), &which)
     }
 
-    fn bare_orders_of(
-        &mut self,
-        alloc: Global,
-        account: u64,
-    ) -> Result<Vec<OrderRow>, StorageFault> {
+    fn bare_orders_of(&mut self, alloc: Global, account: u64) -> Found<OrderRow> {
         bare_rows_where(alloc, self.orders(), &OrdersWhere::Account(account))
     }
 
-    fn bare_authorizations(
-        &mut self,
-        alloc: Global,
-        number: u64,
-    ) -> Result<Vec<AuthorizationRow>, StorageFault> {
+    fn bare_authorizations(&mut self, alloc: Global, number: u64) -> Found<AuthorizationRow> {
         bare_rows_where(
             alloc,
             self.authorizations(),
@@ -278,22 +247,15 @@ impl LookUps for Book {
         )
     }
 
-    fn orders_listing(
-        &mut self,
-        alloc: Global,
-        authorization: u64,
-    ) -> Result<Vec<u64>, StorageFault> {
+    fn orders_listing(&mut self, alloc: Global, authorization: u64) -> Found<u64> {
         holders(alloc, self.orders(), authorization)
     }
 
-    fn owners_of(&mut self, alloc: Global, challenge: u64) -> Result<Vec<u64>, StorageFault> {
+    fn owners_of(&mut self, alloc: Global, challenge: u64) -> Found<u64> {
         holders(alloc, self.authorizations(), challenge)
     }
 
-    fn waiting_challenges(
-        &mut self,
-        alloc: Global,
-    ) -> Result<Vec<Owned<ChallengeRow>>, StorageFault> {
+    fn waiting_challenges(&mut self, alloc: Global) -> Found<Owned<ChallengeRow>> {
         all_waiting(alloc, self.authorizations())
     }
 }

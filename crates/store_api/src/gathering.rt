@@ -7,7 +7,7 @@ ghost use Rattle.store_api.specs.Finding.{Finds, LacksMemory};
 ghost use Rattle.store_api.specs.Needing.{lacking, missing};
 
 use crate::fault::StorageFault;
-use crate::look_ups::LookUps;
+use crate::look_ups::{Found, LookUps};
 use desk_book::{Row, Table};
 use std::alloc::{AllocError, Global};
 
@@ -36,7 +36,7 @@ pub(crate) fn add_copy<R: Row + Drop>(table: &mut Table<R>, row: &R) -> Result<(
 /// Puts the rows that were found into a table, each in its place.
 pub(crate) fn add_found<R: Row + Drop>(
     table: &mut Table<R>,
-    found: Result<Vec<R>, StorageFault>,
+    found: Found<R>,
 ) -> Result<(), StorageFault>
     ensures put { IfOk found (λ rows. OnOk result (table.new ≡ puts R.number rows.items table.old)) }
     ensures lacks { IfOk found (λ rows. IfErr result LacksMemory) }
@@ -59,7 +59,7 @@ fn put_lacking<R: Row + Drop>(table: &mut Table<R>, row: R) -> Result<(), AllocE
 /// Puts the rows that were found into a table, those alone whose numbers it lacks.
 pub(crate) fn add_lacking<R: Row + Drop>(
     table: &mut Table<R>,
-    found: Result<Vec<R>, StorageFault>,
+    found: Found<R>,
 ) -> Result<(), StorageFault>
     ensures put { IfOk found (λ rows. OnOk result (table.new ≡ lacking R.number rows.items table.old)) }
     ensures lacks { IfOk found (λ rows. IfErr result LacksMemory) }

@@ -23,7 +23,7 @@ pub use enough::load_enough;
 pub use fault::StorageFault;
 pub use identifiers::ParsedCall;
 pub use laws::touched_rows_are_a_book;
-pub use look_ups::LookUps;
+pub use look_ups::{Found, LookUps};
 pub use rows_above::RowsAbove;
 pub use storage::Storage;
 pub use touched::{load_part, touched_book};

@@ -1,15 +1,18 @@
 //! Look-ups in the tables of a desk.
-ghost use Rattle.std.specs.Prelude.{◌≡◌, List, IfOk, map};
+ghost use Rattle.std.specs.Prelude.{◌≡◌, map};
 ghost use Rattle.model_lives.specs.LookUps.{accounts_where, authorizations_where, nonces_where, orders_where};
 ghost use Rattle.model_lives.specs.LookUps.{AreWaiting, bare_authorizations, bare_orders_of, orders_listing, owners_of};
 ghost use Rattle.model_laws.specs.Ordered.{IsOrdered};
-ghost use Rattle.store_api.specs.Sight.{ForTables, Reads, Sight};
+ghost use Rattle.store_api.specs.Sight.{Gives, Sight};
 
 use crate::fault::StorageFault;
 use desk_model::{AccountRow, AuthorizationRow, ChallengeRow, Meta, Nonce, OrderRow};
 use model_lives::{AccountsWhere, AuthorizationsWhere, NoncesWhere, OrdersWhere};
 use std::alloc::Global;
 use store_columns::Owned;
+
+/// What a look-up of rows gives.
+pub type Found<R> = Result<Vec<R>, StorageFault>;
 
 /// The tables of a desk, in which rows are looked up by queries, and numbers by those of others.
 ///
@@ -24,76 +27,46 @@ pub trait LookUps {
 
     /// The row of the desk.
     fn meta_row(&mut self, alloc: Global) -> Result<Meta, StorageFault>
-        ensures reads { Reads sight self.old self.new result }
-        ensures found { ForTables sight self.old self.new (λ T. IfOk result (λ meta. meta ≡ T.meta)) };
+        ensures { Gives sight self.old self.new (λ T meta. meta ≡ T.meta) result };
 
     /// The nonces of a query, by serial.
-    fn find_nonces(&mut self, alloc: Global, which: NoncesWhere) -> Result<Vec<Nonce>, StorageFault>
-        ensures reads { Reads sight self.old self.new result }
-        ensures found { ForTables sight self.old self.new (λ T. IfOk result (λ rows. rows.items ≡ nonces_where T which)) };
+    fn find_nonces(&mut self, alloc: Global, which: NoncesWhere) -> Found<Nonce>
+        ensures { Gives sight self.old self.new (λ T rows. rows.items ≡ nonces_where T which) result };
 
     /// The accounts of a query, by number.
-    fn find_accounts(
-        &mut self,
-        alloc: Global,
-        which: AccountsWhere<'_>,
-    ) -> Result<Vec<AccountRow>, StorageFault>
-        ensures reads { Reads sight self.old self.new result }
-        ensures found { ForTables sight self.old self.new (λ T. IfOk result (λ rows. rows.items ≡ accounts_where T which.entry)) };
+    fn find_accounts(&mut self, alloc: Global, which: AccountsWhere<'_>) -> Found<AccountRow>
+        ensures { Gives sight self.old self.new (λ T rows. rows.items ≡ accounts_where T which.entry) result };
 
     /// The orders of a query, by number.
-    fn find_orders(
-        &mut self,
-        alloc: Global,
-        which: OrdersWhere,
-    ) -> Result<Vec<OrderRow>, StorageFault>
-        ensures reads { Reads sight self.old self.new result }
-        ensures found { ForTables sight self.old self.new (λ T. IfOk result (λ rows. rows.items ≡ orders_where T which)) };
+    fn find_orders(&mut self, alloc: Global, which: OrdersWhere) -> Found<OrderRow>
+        ensures { Gives sight self.old self.new (λ T rows. rows.items ≡ orders_where T which) result };
 
     /// The authorizations of a query, by number.
     fn find_authorizations(
         &mut self,
         alloc: Global,
         which: AuthorizationsWhere<'_>,
-    ) -> Result<Vec<AuthorizationRow>, StorageFault>
-        ensures reads { Reads sight self.old self.new result }
-        ensures found { ForTables sight self.old self.new (λ T. IfOk result (λ rows. rows.items ≡ authorizations_where T which.entry)) };
+    ) -> Found<AuthorizationRow>
+        ensures { Gives sight self.old self.new (λ T rows. rows.items ≡ authorizations_where T which.entry) result };
 
     /// The orders of an account, by number, without what they list.
-    fn bare_orders_of(&mut self, alloc: Global, account: u64) -> Result<Vec<OrderRow>, StorageFault>
-        ensures reads { Reads sight self.old self.new result }
-        ensures found { ForTables sight self.old self.new (λ T. IfOk result (λ rows. rows.items ≡ bare_orders_of T account)) };
+    fn bare_orders_of(&mut self, alloc: Global, account: u64) -> Found<OrderRow>
+        ensures { Gives sight self.old self.new (λ T rows. rows.items ≡ bare_orders_of T account) result };
 
     /// The authorization of a number, without its challenges.
-    fn bare_authorizations(
-        &mut self,
-        alloc: Global,
-        number: u64,
-    ) -> Result<Vec<AuthorizationRow>, StorageFault>
-        ensures reads { Reads sight self.old self.new result }
-        ensures found { ForTables sight self.old self.new (λ T. IfOk result (λ rows. rows.items ≡ bare_authorizations T number)) };
+    fn bare_authorizations(&mut self, alloc: Global, number: u64) -> Found<AuthorizationRow>
+        ensures { Gives sight self.old self.new (λ T rows. rows.items ≡ bare_authorizations T number) result };
 
     /// The numbers of the orders that list an authorization.
-    fn orders_listing(
-        &mut self,
-        alloc: Global,
-        authorization: u64,
-    ) -> Result<Vec<u64>, StorageFault>
-        ensures reads { Reads sight self.old self.new result }
-        ensures found { ForTables sight self.old self.new (λ T. IfOk result (λ numbers. numbers.items ≡ orders_listing T authorization)) };
+    fn orders_listing(&mut self, alloc: Global, authorization: u64) -> Found<u64>
+        ensures { Gives sight self.old self.new (λ T numbers. numbers.items ≡ orders_listing T authorization) result };
 
     /// The number of the authorization of a challenge.
-    fn owners_of(&mut self, alloc: Global, challenge: u64) -> Result<Vec<u64>, StorageFault>
-        ensures reads { Reads sight self.old self.new result }
-        ensures found { ForTables sight self.old self.new (λ T. IfOk result (λ numbers. numbers.items ≡ owners_of T challenge)) };
+    fn owners_of(&mut self, alloc: Global, challenge: u64) -> Found<u64>
+        ensures { Gives sight self.old self.new (λ T numbers. numbers.items ≡ owners_of T challenge) result };
 
     /// The challenges that are stored as waiting for the validator, each with the number of its authorization; those of one
     /// authorization by number.
-    fn waiting_challenges(
-        &mut self,
-        alloc: Global,
-    ) -> Result<Vec<Owned<ChallengeRow>>, StorageFault>
-        ensures reads { Reads sight self.old self.new result }
-        ensures found { ForTables sight self.old self.new (λ T. IsOrdered T
-            → IfOk result (λ rows. AreWaiting T (map (λ c. (c.owner, c.row)) rows.items))) };
+    fn waiting_challenges(&mut self, alloc: Global) -> Found<Owned<ChallengeRow>>
+        ensures { Gives sight self.old self.new (λ T rows. IsOrdered T → AreWaiting T (map (λ c. (c.owner, c.row)) rows.items)) result };
 }

@@ -1,12 +1,11 @@
 //! The rows of a desk one by one, by number.
-ghost use Rattle.std.specs.Prelude.{◌≡◌, IfOk};
+ghost use Rattle.std.specs.Prelude.{◌≡◌};
 ghost use Rattle.model_lives.specs.Above.{accounts_above, authorizations_above, challenges_above, first_of, orders_above};
 ghost use Rattle.desk_model.specs.Tables.{Tables};
-ghost use Rattle.store_api.specs.Sight.{ForTables, Reads};
+ghost use Rattle.store_api.specs.Sight.{Gives};
 ghost use Rattle.store_book.specs.IsBook.{IsBook};
 
-use crate::fault::StorageFault;
-use crate::look_ups::LookUps;
+use crate::look_ups::{Found, LookUps};
 use desk_model::{AccountRow, AuthorizationRow, ChallengeRow, OrderRow};
 use std::alloc::Global;
 
@@ -16,36 +15,20 @@ use std::alloc::Global;
 /// or `Reopen`, where the tables could not be read.
 pub trait RowsAbove: LookUps {
     /// The account of the least number above this one, if there is one.
-    fn account_above(&mut self, alloc: Global, number: u64) -> Result<Vec<AccountRow>, StorageFault>
-        ensures reads { Reads Self.sight self.old self.new result }
-        ensures found { ForTables Self.sight self.old self.new (λ T.
-            IfOk result (λ rows. rows.items ≡ first_of (accounts_above T number))) };
+    fn account_above(&mut self, alloc: Global, number: u64) -> Found<AccountRow>
+        ensures { Gives Self.sight self.old self.new (λ T rows. rows.items ≡ first_of (accounts_above T number)) result };
 
     /// The order of the least number above this one, if there is one.
-    fn order_above(&mut self, alloc: Global, number: u64) -> Result<Vec<OrderRow>, StorageFault>
-        ensures reads { Reads Self.sight self.old self.new result }
-        ensures found { ForTables Self.sight self.old self.new (λ T.
-            IfOk result (λ rows. rows.items ≡ first_of (orders_above T number))) };
+    fn order_above(&mut self, alloc: Global, number: u64) -> Found<OrderRow>
+        ensures { Gives Self.sight self.old self.new (λ T rows. rows.items ≡ first_of (orders_above T number)) result };
 
     /// The authorization of the least number above this one, if there is one.
-    fn authorization_above(
-        &mut self,
-        alloc: Global,
-        number: u64,
-    ) -> Result<Vec<AuthorizationRow>, StorageFault>
-        ensures reads { Reads Self.sight self.old self.new result }
-        ensures found { ForTables Self.sight self.old self.new (λ T.
-            IfOk result (λ rows. rows.items ≡ first_of (authorizations_above T number))) };
+    fn authorization_above(&mut self, alloc: Global, number: u64) -> Found<AuthorizationRow>
+        ensures { Gives Self.sight self.old self.new (λ T rows. rows.items ≡ first_of (authorizations_above T number)) result };
 
     /// The challenge of the least number above this one, through all authorizations, if there is one.
-    fn challenge_above(
-        &mut self,
-        alloc: Global,
-        number: u64,
-    ) -> Result<Vec<ChallengeRow>, StorageFault>
-        ensures reads { Reads Self.sight self.old self.new result }
-        ensures found { ForTables Self.sight self.old self.new (λ T.
-            IfOk result (λ rows. rows.items ≡ first_of (challenges_above T number))) };
+    fn challenge_above(&mut self, alloc: Global, number: u64) -> Found<ChallengeRow>
+        ensures { Gives Self.sight self.old self.new (λ T rows. rows.items ≡ first_of (challenges_above T number)) result };
 
     // Whatever tables the source has are a book.
     ghost books: { (source : Self) (T : Tables) → Self.sight.holds source T → IsBook T };

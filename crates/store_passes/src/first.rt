@@ -4,7 +4,7 @@ ghost use Rattle.model_lives.specs.Above.{above as rows_above, first_of};
 ghost use Rattle.store_passes.specs.Stepping.{IsFirst};
 
 use desk_book::Row;
-use store_api::StorageFault;
+use store_api::{Found, StorageFault};
 
 /// The row that was found above a number, if one was.
 ///
@@ -12,7 +12,7 @@ use store_api::StorageFault;
 ///
 /// As the look-up, or `Reopen` where the row is not above the number.
 pub(crate) fn first_above<R: Row + Drop>(
-    found: Result<Vec<R>, StorageFault>,
+    found: Found<R>,
     above: u64,
 ) -> Result<Option<R>, StorageFault>
     ensures first { IfOk found (λ rows. IfOk result (λ row. (all : List R) → rows.items ≡ first_of all → IsFirst row all)) }

@@ -9,7 +9,7 @@ ghost use Rattle.store_api.specs.Sight.{ForTables, Reads};
 use desk_model::{AuthorizationRow, AuthzStatus, DnsName, Listed};
 use model_lives::AuthorizationsWhere;
 use std::alloc::{AllocError, Global};
-use store_api::{LookUps, StorageFault};
+use store_api::{Found, LookUps, StorageFault};
 
 // A column of an authorization.
 trait Column: Drop {
@@ -87,7 +87,7 @@ pub(crate) fn listed_statuses<S: LookUps>(
     alloc: Global,
     source: &mut S,
     listed: &[Listed],
-) -> Result<Vec<AuthzStatus>, StorageFault>
+) -> Found<AuthzStatus>
     ensures reads { Reads S.sight source.old source.new result }
     ensures found { ForTables S.sight source.old source.new (λ T.
         IfOk result (λ v. v.items ≡ stored_statuses T.authorizations (numbers_of listed.now))) }
@@ -102,11 +102,7 @@ pub(crate) fn listed_statuses<S: LookUps>(
 /// # Errors
 ///
 /// As a look-up of the source.
-pub fn listed_names<S: LookUps>(
-    alloc: Global,
-    source: &mut S,
-    listed: &[Listed],
-) -> Result<Vec<DnsName>, StorageFault>
+pub fn listed_names<S: LookUps>(alloc: Global, source: &mut S, listed: &[Listed]) -> Found<DnsName>
     ensures reads { Reads S.sight source.old source.new result }
     ensures found { ForTables S.sight source.old source.new (λ T.
         IfOk result (λ names. names.items ≡ map (λ a. a.name) (rows_of T.authorizations (numbers_of listed.now)))) }

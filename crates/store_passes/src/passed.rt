@@ -8,15 +8,15 @@ use crate::first::first_above;
 use desk_book::Row;
 use desk_model::{AccountRow, AuthorizationRow, ChallengeRow, OrderRow};
 use std::alloc::Global;
-use store_api::{RowsAbove, StorageFault};
+use store_api::{Found, RowsAbove, StorageFault};
 
 /// A row of a table that is gone through by number.
 pub trait PassedRow: Row {
-    ghost use Rattle.std.specs.Prelude.{◌≡◌, List, IfOk};
+    ghost use Rattle.std.specs.Prelude.{◌≡◌, List};
     ghost use Rattle.desk_model.specs.Tables.{Tables};
     ghost use Rattle.model_laws.specs.Ordered.{Ascends};
     ghost use Rattle.model_lives.specs.Above.{above as rows_above, first_of};
-    ghost use Rattle.store_api.specs.Sight.{ForTables, Reads};
+    ghost use Rattle.store_api.specs.Sight.{Gives};
     ghost use Rattle.store_passes.specs.InOrder.{IsInOrder};
 
     // The rows of its table.
@@ -27,14 +27,8 @@ pub trait PassedRow: Row {
     /// # Errors
     ///
     /// As a look-up of the source.
-    fn found_above<S: RowsAbove>(
-        alloc: Global,
-        source: &mut S,
-        above: u64,
-    ) -> Result<Vec<Self>, StorageFault>
-        ensures reads { Reads S.sight source.old source.new result }
-        ensures found { ForTables S.sight source.old source.new (λ T.
-            IfOk result (λ found. found.items ≡ first_of (rows_above Self.number above (rows T)))) };
+    fn found_above<S: RowsAbove>(alloc: Global, source: &mut S, above: u64) -> Found<Self>
+        ensures { Gives S.sight source.old source.new (λ T found. found.items ≡ first_of (rows_above Self.number above (rows T))) result };
 
     // In tables in order they stand by number.
     ghost ascends: { (T : Tables) → IsInOrder T → Ascends Self.number 1 (rows T) };
@@ -43,11 +37,7 @@ pub trait PassedRow: Row {
 impl PassedRow for AccountRow {
     ghost rows = { λ T. T.accounts };
 
-    fn found_above<S: RowsAbove>(
-        alloc: Global,
-        source: &mut S,
-        above: u64,
-    ) -> Result<Vec<AccountRow>, StorageFault> {
+    fn found_above<S: RowsAbove>(alloc: Global, source: &mut S, above: u64) -> Found<AccountRow> {
         source.account_above(alloc, above)
     }
 
@@ -61,7 +51,7 @@ impl PassedRow for AuthorizationRow {
         alloc: Global,
         source: &mut S,
         above: u64,
-    ) -> Result<Vec<AuthorizationRow>, StorageFault> {
+    ) -> Found<AuthorizationRow> {
         source.authorization_above(alloc, above)
     }
 
@@ -71,11 +61,7 @@ impl PassedRow for AuthorizationRow {
 impl PassedRow for OrderRow {
     ghost rows = { λ T. T.orders };
 
-    fn found_above<S: RowsAbove>(
-        alloc: Global,
-        source: &mut S,
-        above: u64,
-    ) -> Result<Vec<OrderRow>, StorageFault> {
+    fn found_above<S: RowsAbove>(alloc: Global, source: &mut S, above: u64) -> Found<OrderRow> {
         source.order_above(alloc, above)
     }
 
@@ -88,11 +74,7 @@ impl PassedRow for ChallengeRow {
 
     ghost rows = { λ T. sorted_challenges (flat_map (λ r. r.challenges) T.authorizations) };
 
-    fn found_above<S: RowsAbove>(
-        alloc: Global,
-        source: &mut S,
-        above: u64,
-    ) -> Result<Vec<ChallengeRow>, StorageFault> {
+    fn found_above<S: RowsAbove>(alloc: Global, source: &mut S, above: u64) -> Found<ChallengeRow> {
         source.challenge_above(alloc, above)
     }
 

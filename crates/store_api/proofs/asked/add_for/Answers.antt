@@ -10,8 +10,10 @@ pub returns : goal.returns
 returns g c =
     let asked = λ (r : AuthorizationRow). same_name r.name c.args.name.now in
     finds_put (λ (a : AuthorizationRow). a.number) (λ rows. filter asked rows.items) (λ T. authorizations_for T c.args.account c.args.name.now) _ _
-    c.find_authorizations.result _ c.find_authorizations.ensures.reads
-    (λ honest T held. IfOk-weaker c.find_authorizations.result _ _
-    (λ rows same. ap (filter asked) (same ∙ ap (authorizations_named T c.args.account) c.base.ensures.base))
-    (c.find_authorizations.ensures.found honest T held))
+    (record {
+      reads = c.find_authorizations.ensures.reads;
+      found = λ honest T held. IfOk-weaker c.find_authorizations.result _ _
+          (λ rows same. ap (filter asked) (same ∙ ap (authorizations_named T c.args.account) c.base.ensures.base))
+          (c.find_authorizations.ensures.found honest T held);
+    })
     c.add_same.ensures.put c.add_same.ensures.lacks c.add_same.ensures.fails

@@ -16,8 +16,8 @@ returns g c =
     let listed = λ (o : OrderRow). numbers_of o.listed in
     finds_then c.add_bare_listed.result
     (finds_as c.in_ok-add_found.was
-    (finds_put order (λ rows. rows.items) (λ T. orders_processing T) _ _ c.find_orders.result _ c.find_orders.ensures.reads
-    c.find_orders.ensures.found c.add_found.ensures.put c.add_found.ensures.lacks c.add_found.ensures.fails))
+    (finds_put order (λ rows. rows.items) (λ T. orders_processing T) _ _
+    c.find_orders.ensures c.add_found.ensures.put c.add_found.ensures.lacks c.add_found.ensures.fails))
     c.add_bare_listed.ensures
     (λ T first second ordered none no_orders.
     let all : c.add_found.new.table ≡ orders_processing T =

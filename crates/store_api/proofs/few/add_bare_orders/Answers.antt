@@ -13,8 +13,8 @@ loop-account-preserved g c =
     let account = c.in-Some.account.now.number in
     finds_then _ c.loop-account.invariant
     (finds_as c.in_ok-add_lacking.was
-    (finds_into (lacking number) (λ rows. rows.items) (λ T. bare_orders_of T account) _ _ c.bare_orders_of.result _ c.bare_orders_of.ensures.reads
-    c.bare_orders_of.ensures.found c.add_lacking.ensures.put c.add_lacking.ensures.lacks c.add_lacking.ensures.fails))
+    (finds_into (lacking number) (λ rows. rows.items) (λ T. bare_orders_of T account) _ _
+    c.bare_orders_of.ensures c.add_lacking.ensures.put c.add_lacking.ensures.lacks c.add_lacking.ensures.fails))
     (λ T so_far put_now.
     let own = flat_map (λ (x : AccountRow). bare_orders_of T x.number) in
     ap (lacking number (own c.next.new.self)) put_now
@@ -27,6 +27,6 @@ returns-in_err-add_lacking g c =
     let number = λ (o : OrderRow). o.number in
     fails_behind _ c.loop-account.invariant
     (finds_as c.in_err-add_lacking.was
-    (finds_into (lacking number) (λ rows. rows.items) (λ T. bare_orders_of T c.in-Some.account.now.number) _ _ c.bare_orders_of.result _
-    c.bare_orders_of.ensures.reads c.bare_orders_of.ensures.found c.add_lacking.ensures.put c.add_lacking.ensures.lacks c.add_lacking.ensures.fails))
+    (finds_into (lacking number) (λ rows. rows.items) (λ T. bare_orders_of T c.in-Some.account.now.number) _ _
+    c.bare_orders_of.ensures c.add_lacking.ensures.put c.add_lacking.ensures.lacks c.add_lacking.ensures.fails))
     c.from_residual.ensures.1

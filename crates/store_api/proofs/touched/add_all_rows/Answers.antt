@@ -19,21 +19,16 @@ all_put number xs rows later ascends put_now none =
 
 pub returns : goal.returns
 returns g c =
-    finds_fourth c.add_found-4.result
-    (finds_as c.in_ok-add_found.was
-    (finds_put (λ (n : Nonce). n.serial) (λ rows. rows.items) (λ T. nonces_where T nonces.Any) _ _ c.find_nonces.result _
-    c.find_nonces.ensures.reads c.find_nonces.ensures.found
-    c.add_found.ensures.put c.add_found.ensures.lacks c.add_found.ensures.fails))
-    (finds_as c.in_ok-add_found-2.was
-    (finds_put (λ (x : AccountRow). x.number) (λ rows. rows.items) (λ T. accounts_where T accounts.Any) _ _ c.find_accounts.result _
-    c.find_accounts.ensures.reads c.find_accounts.ensures.found c.add_found-2.ensures.put c.add_found-2.ensures.lacks c.add_found-2.ensures.fails))
-    (finds_as c.in_ok-add_found-3.was
-    (finds_put (λ (a : AuthorizationRow). a.number) (λ rows. rows.items) (λ T. authorizations_where T authorizations.Any) _ _ c.find_authorizations.result _
-    c.find_authorizations.ensures.reads c.find_authorizations.ensures.found c.add_found-3.ensures.put c.add_found-3.ensures.lacks c.add_found-3.ensures.fails))
-    (finds_put (λ (o : OrderRow). o.number) (λ rows. rows.items) (λ T. orders_where T orders.Any) _ _ c.find_orders.result _
-    c.find_orders.ensures.reads c.find_orders.ensures.found
-    c.add_found-4.ensures.put c.add_found-4.ensures.lacks c.add_found-4.ensures.fails)
-    (λ T nonces accounts authorizations orders ordered none. record {
+    let nonces = finds_as c.in_ok-add_found.was (finds_put (λ (n : Nonce). n.serial) (λ rows. rows.items) (λ T. nonces_where T nonces.Any) _ _
+    c.find_nonces.ensures c.add_found.ensures.put c.add_found.ensures.lacks c.add_found.ensures.fails) in
+    let accounts = finds_as c.in_ok-add_found-2.was (finds_put (λ (x : AccountRow). x.number) (λ rows. rows.items) (λ T. accounts_where T accounts.Any) _ _
+    c.find_accounts.ensures c.add_found-2.ensures.put c.add_found-2.ensures.lacks c.add_found-2.ensures.fails) in
+    let authorizations = finds_as c.in_ok-add_found-3.was (finds_put (λ (a : AuthorizationRow). a.number) (λ rows. rows.items)
+    (λ T. authorizations_where T authorizations.Any) _ _
+    c.find_authorizations.ensures c.add_found-3.ensures.put c.add_found-3.ensures.lacks c.add_found-3.ensures.fails) in
+    let orders = finds_put (λ (o : OrderRow). o.number) (λ rows. rows.items) (λ T. orders_where T orders.Any) _ _ c.find_orders.ensures
+    c.add_found-4.ensures.put c.add_found-4.ensures.lacks c.add_found-4.ensures.fails in
+    finds_fourth c.add_found-4.result nonces accounts authorizations orders (λ T nonces accounts authorizations orders ordered none. record {
       nonces = all_put (λ (n : Nonce). n.serial) _ _ _ ordered.nonces.0 nonces none.nonces;
       accounts = all_put (λ (x : AccountRow). x.number) _ _ _ ordered.accounts.0 accounts none.accounts;
       authorizations = all_put (λ (a : AuthorizationRow). a.number) _ _ _ ordered.authorizations.0 authorizations none.authorizations;
@@ -42,27 +37,24 @@ returns g c =
 
 pub returns-in_err-add_found : goal.returns-in_err-add_found
 returns-in_err-add_found g c = finds_failing _ (finds_as c.in_err-add_found.was
-    (finds_put (λ (n : Nonce). n.serial) (λ rows. rows.items) (λ T. nonces_where T nonces.Any) _ _ c.find_nonces.result _
-    c.find_nonces.ensures.reads c.find_nonces.ensures.found
-    c.add_found.ensures.put c.add_found.ensures.lacks c.add_found.ensures.fails)) c.from_residual.ensures.1
+    (finds_put (λ (n : Nonce). n.serial) (λ rows. rows.items) (λ T. nonces_where T nonces.Any) _ _ c.find_nonces.ensures c.add_found.ensures.put
+    c.add_found.ensures.lacks c.add_found.ensures.fails)) c.from_residual.ensures.1
 
 pub returns-in_err-add_found-2 : goal.returns-in_err-add_found-2
 returns-in_err-add_found-2 g c = fails_behind _ (finds_as c.in_ok-add_found.was
-    (finds_put (λ (n : Nonce). n.serial) (λ rows. rows.items) (λ T. nonces_where T nonces.Any) _ _ c.find_nonces.result _
-    c.find_nonces.ensures.reads c.find_nonces.ensures.found
-    c.add_found.ensures.put c.add_found.ensures.lacks c.add_found.ensures.fails)) (finds_as c.in_err-add_found-2.was
-    (finds_put (λ (x : AccountRow). x.number) (λ rows. rows.items) (λ T. accounts_where T accounts.Any) _ _ c.find_accounts.result _
-    c.find_accounts.ensures.reads c.find_accounts.ensures.found c.add_found-2.ensures.put c.add_found-2.ensures.lacks c.add_found-2.ensures.fails))
+    (finds_put (λ (n : Nonce). n.serial) (λ rows. rows.items) (λ T. nonces_where T nonces.Any) _ _ c.find_nonces.ensures c.add_found.ensures.put
+    c.add_found.ensures.lacks c.add_found.ensures.fails)) (finds_as c.in_err-add_found-2.was
+    (finds_put (λ (x : AccountRow). x.number) (λ rows. rows.items) (λ T. accounts_where T accounts.Any) _ _ c.find_accounts.ensures c.add_found-2.ensures.put
+    c.add_found-2.ensures.lacks c.add_found-2.ensures.fails))
     c.from_residual-in_err-add_found-2.ensures.1
 
 pub returns-in_err-add_found-3 : goal.returns-in_err-add_found-3
 returns-in_err-add_found-3 g c = fails_behind _ (finds_then _ (finds_as c.in_ok-add_found.was
-    (finds_put (λ (n : Nonce). n.serial) (λ rows. rows.items) (λ T. nonces_where T nonces.Any) _ _ c.find_nonces.result _
-    c.find_nonces.ensures.reads c.find_nonces.ensures.found
-    c.add_found.ensures.put c.add_found.ensures.lacks c.add_found.ensures.fails)) (finds_as c.in_ok-add_found-2.was
-    (finds_put (λ (x : AccountRow). x.number) (λ rows. rows.items) (λ T. accounts_where T accounts.Any) _ _ c.find_accounts.result _
-    c.find_accounts.ensures.reads c.find_accounts.ensures.found c.add_found-2.ensures.put c.add_found-2.ensures.lacks c.add_found-2.ensures.fails))
+    (finds_put (λ (n : Nonce). n.serial) (λ rows. rows.items) (λ T. nonces_where T nonces.Any) _ _ c.find_nonces.ensures c.add_found.ensures.put
+    c.add_found.ensures.lacks c.add_found.ensures.fails)) (finds_as c.in_ok-add_found-2.was
+    (finds_put (λ (x : AccountRow). x.number) (λ rows. rows.items) (λ T. accounts_where T accounts.Any) _ _ c.find_accounts.ensures c.add_found-2.ensures.put
+    c.add_found-2.ensures.lacks c.add_found-2.ensures.fails))
     (λ T first second. second)) (finds_as c.in_err-add_found-3.was
-    (finds_put (λ (a : AuthorizationRow). a.number) (λ rows. rows.items) (λ T. authorizations_where T authorizations.Any) _ _ c.find_authorizations.result _
-    c.find_authorizations.ensures.reads c.find_authorizations.ensures.found c.add_found-3.ensures.put c.add_found-3.ensures.lacks c.add_found-3.ensures.fails))
+    (finds_put (λ (a : AuthorizationRow). a.number) (λ rows. rows.items) (λ T. authorizations_where T authorizations.Any) _ _ c.find_authorizations.ensures
+    c.add_found-3.ensures.put c.add_found-3.ensures.lacks c.add_found-3.ensures.fails))
     c.from_residual-in_err-add_found-3.ensures.1

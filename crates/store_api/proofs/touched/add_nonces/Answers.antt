@@ -11,8 +11,8 @@ pub returns : goal.returns
 returns g c =
     let number = λ (n : Nonce). n.serial in
     finds_then c.add_found.result c.in_ok-add_each.ensures
-    (finds_put number (λ rows. rows.items) (λ T. nonces_before T c.first_lasting.result) _ _ c.find_nonces.result _
-    c.find_nonces.ensures.reads c.find_nonces.ensures.found c.add_found.ensures.put c.add_found.ensures.lacks c.add_found.ensures.fails)
+    (finds_put number (λ rows. rows.items) (λ T. nonces_before T c.first_lasting.result) _ _
+    c.find_nonces.ensures c.add_found.ensures.put c.add_found.ensures.lacks c.add_found.ensures.fails)
     (λ T carried past same.
     put_then number (flat_map (nonces_numbered T) (serials c.args.ask.now)) (nonces_before T (c.args.moment - T.meta.policy.nonce_life)) _ _ _
     (put_by number (flat_map (nonces_numbered T)) _ _ _ _ carried (listed_as _ _ _ c.as_slice.ensures c.serial.ensures))

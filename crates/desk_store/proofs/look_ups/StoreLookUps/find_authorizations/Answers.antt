@@ -1,17 +1,10 @@
 use Rattle.std.proofs.Common.{refl}
-use Rattle.store_api.proofs.Readings.{reads_then, stands_read}
-use Rattle.desk_store.proofs.Standing.{hands_on}
+use Rattle.desk_store.proofs.Standing.{handed, handed_on}
 use Rattle.desk_store.proofs.look_ups.StoreLookUps.find_authorizations.Goals as goal
 
 pub returns : goal.returns
 returns g c =
-    let mid = c.has_no_authorizations.new.self in
-    let known = c.in_ok-has_no_authorizations.ensures.reads in
     let read = c.find_authorizations-read.ensures in
-    let reads = c.told.ensures.reads mid refl read.asks read.unchanged read.caused in
-    record {
-      reads = reads_then c.told.result (stands_read known) reads;
-      found = λ clean T has.
-          hands_on g.S.Store _ mid c.find_authorizations-read.new.conn c.told.new.self _ c.told.result read.found c.told.ensures.found c.told.ensures.honest
-          clean T (known.tables (reads.honest clean) T has);
-    }
+    handed_on g.S.Store c.told.result c.in_ok-has_no_authorizations.ensures.reads
+    (handed g.S.Store read (c.told.ensures.reads c.has_no_authorizations.new.self refl read.asks read.unchanged read.caused) c.told.ensures.found
+    c.told.ensures.honest)

@@ -1,11 +1,8 @@
 use Rattle.std.proofs.Common.{refl}
-use Rattle.desk_store.proofs.Standing.{hands_on}
+use Rattle.desk_store.proofs.Standing.{handed}
 use Rattle.desk_store.proofs.rows_above.StoreRowsAbove.order_above.Goals as goal
 
-pub returns-clause-reads : goal.returns-clause-reads
-returns-clause-reads g c = let read = c.order_above-read.ensures in c.told.ensures.reads c.args.self.now refl read.asks read.unchanged read.caused
-
-pub returns-clause-found : goal.returns-clause-found
-returns-clause-found g c =
-    hands_on g.S.Store _ c.args.self.now c.order_above-read.new.conn c.told.new.self _ c.told.result c.order_above-read.ensures.found
-    c.told.ensures.found c.told.ensures.honest
+pub returns : goal.returns
+returns g c =
+    let read = c.order_above-read.ensures in
+    handed g.S.Store read (c.told.ensures.reads c.args.self.now refl read.asks read.unchanged read.caused) c.told.ensures.found c.told.ensures.honest

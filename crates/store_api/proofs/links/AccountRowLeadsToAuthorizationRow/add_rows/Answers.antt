@@ -5,5 +5,5 @@ use Rattle.model_lives.specs.LookUps.{authorizations_of}
 
 pub returns : goal.returns
 returns g c =
-    finds_put (λ (a : AuthorizationRow). a.number) (λ rows. rows.items) (λ T. authorizations_of T c.args.self.now.number) _ _ c.find_authorizations.result _
-    c.find_authorizations.ensures.reads c.find_authorizations.ensures.found c.add_found.ensures.put c.add_found.ensures.lacks c.add_found.ensures.fails
+    finds_put (λ (a : AuthorizationRow). a.number) (λ rows. rows.items) (λ T. authorizations_of T c.args.self.now.number) _ _
+    c.find_authorizations.ensures c.add_found.ensures.put c.add_found.ensures.lacks c.add_found.ensures.fails

@@ -5,5 +5,5 @@ use Rattle.model_lives.specs.LookUps.{accounts_numbered}
 
 pub returns : goal.returns
 returns g c =
-    finds_put (λ (x : AccountRow). x.number) (λ rows. rows.items) (λ T. accounts_numbered T c.args.self.now.account) _ _ c.find_accounts.result _
-    c.find_accounts.ensures.reads c.find_accounts.ensures.found c.add_found.ensures.put c.add_found.ensures.lacks c.add_found.ensures.fails
+    finds_put (λ (x : AccountRow). x.number) (λ rows. rows.items) (λ T. accounts_numbered T c.args.self.now.account) _ _
+    c.find_accounts.ensures c.add_found.ensures.put c.add_found.ensures.lacks c.add_found.ensures.fails

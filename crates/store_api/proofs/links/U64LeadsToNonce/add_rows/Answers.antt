@@ -5,5 +5,5 @@ use Rattle.model_lives.specs.LookUps.{nonces_numbered}
 
 pub returns : goal.returns
 returns g c =
-    finds_put (λ (n : Nonce). n.serial) (λ rows. rows.items) (λ T. nonces_numbered T c.args.self.now) _ _ c.find_nonces.result _
-    c.find_nonces.ensures.reads c.find_nonces.ensures.found c.add_found.ensures.put c.add_found.ensures.lacks c.add_found.ensures.fails
+    finds_put (λ (n : Nonce). n.serial) (λ rows. rows.items) (λ T. nonces_numbered T c.args.self.now) _ _
+    c.find_nonces.ensures c.add_found.ensures.put c.add_found.ensures.lacks c.add_found.ensures.fails

@@ -5,5 +5,5 @@ use Rattle.model_lives.specs.LookUps.{orders_numbered}
 
 pub returns : goal.returns
 returns g c =
-    finds_put (λ (o : OrderRow). o.number) (λ rows. rows.items) (λ T. orders_numbered T c.args.self.now) _ _ c.find_orders.result _
-    c.find_orders.ensures.reads c.find_orders.ensures.found c.add_found.ensures.put c.add_found.ensures.lacks c.add_found.ensures.fails
+    finds_put (λ (o : OrderRow). o.number) (λ rows. rows.items) (λ T. orders_numbered T c.args.self.now) _ _
+    c.find_orders.ensures c.add_found.ensures.put c.add_found.ensures.lacks c.add_found.ensures.fails

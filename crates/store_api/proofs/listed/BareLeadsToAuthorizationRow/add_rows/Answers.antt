@@ -6,5 +6,4 @@ use Rattle.model_lives.specs.LookUps.{bare_authorizations}
 pub returns : goal.returns
 returns g c =
     finds_put (λ (a : AuthorizationRow). a.number) (λ rows. rows.items) (λ T. bare_authorizations T c.args.self.now.authorization) _ _
-    c.bare_authorizations.result _
-    c.bare_authorizations.ensures.reads c.bare_authorizations.ensures.found c.add_found.ensures.put c.add_found.ensures.lacks c.add_found.ensures.fails
+    c.bare_authorizations.ensures c.add_found.ensures.put c.add_found.ensures.lacks c.add_found.ensures.fails
