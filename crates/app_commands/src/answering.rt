@@ -1,6 +1,6 @@
 //! Lines and connections, answered by a desk.
 ghost use Rattle.std.specs.Prelude.{unwrap_or};
-ghost use Rattle.app_commands.specs.Deeds.{Serves};
+ghost use Rattle.app_commands.specs.Deeds.{Serves, AnswersReader, ServesCount};
 
 use crate::desks::{adopt, clock_of};
 use crate::fault::Fault;
@@ -23,8 +23,6 @@ pub(crate) struct AnswerLines<'r, 'e, R: Read, E: Write> {
 }
 
 impl<'r, 'e, R: Read, E: Write> Task for AnswerLines<'r, 'e, R, E> {
-    ghost use Rattle.app_commands.specs.Deeds.{AnswersReader};
-
     type Fault = Fault;
 
     ghost does = { λ task. AnswersReader (R.remaining task.reader.now) };
@@ -93,8 +91,6 @@ impl<'a, E: Write> ServeConnections<'a, E> {
 }
 
 impl<'a, E: Write> Task for ServeConnections<'a, E> {
-    ghost use Rattle.app_commands.specs.Deeds.{ServesCount};
-
     type Fault = Fault;
 
     ghost does = { λ task. ServesCount task.serving.count };

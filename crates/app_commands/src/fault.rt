@@ -1,5 +1,7 @@
 //! Why a command ends, and how that is said.
 ghost use Rattle.std.specs.Prelude.{◌≡◌};
+ghost use Rattle.app_commands.specs.declared.fault.Fault.TheVariants.{Desk, Serve};
+ghost use Rattle.app_commands.specs.Faults.{IsOfOpening, report_fault};
 
 use app_files::CopyFault;
 use app_reports::ReportFault;
@@ -48,9 +50,6 @@ pub(crate) enum Wrong {
 }
 
 impl From<DeskFault> for Fault {
-    ghost use Rattle.std.specs.Prelude.{◌≡◌};
-    ghost use Rattle.app_commands.specs.declared.fault.Fault.TheVariants.{Desk};
-
     ghost from_gives = { λ fault e. e ≡ Desk fault };
 
     fn from(fault: DeskFault) -> Fault {
@@ -59,9 +58,6 @@ impl From<DeskFault> for Fault {
 }
 
 impl From<ServeFault> for Fault {
-    ghost use Rattle.std.specs.Prelude.{◌≡◌};
-    ghost use Rattle.app_commands.specs.declared.fault.Fault.TheVariants.{Serve};
-
     ghost from_gives = { λ fault e. e ≡ Serve fault };
 
     fn from(fault: ServeFault) -> Fault {
@@ -70,8 +66,6 @@ impl From<ServeFault> for Fault {
 }
 
 impl From<OpenFault> for Fault {
-    ghost use Rattle.app_commands.specs.Faults.{IsOfOpening};
-
     ghost from_gives = { IsOfOpening };
 
     fn from(fault: OpenFault) -> Fault {
@@ -84,9 +78,6 @@ impl From<OpenFault> for Fault {
 }
 
 impl From<ReportFault> for Fault {
-    ghost use Rattle.std.specs.Prelude.{◌≡◌};
-    ghost use Rattle.app_commands.specs.Faults.{report_fault};
-
     ghost from_gives = { λ fault e. e ≡ report_fault fault };
 
     fn from(fault: ReportFault) -> Fault {

@@ -1,7 +1,8 @@
 //! Reports on the rows of a store.
 ghost use Rattle.std.specs.Prelude.{◌≡◌};
-ghost use Rattle.app_commands.specs.Deeds.{how_checked, how_listed};
+ghost use Rattle.app_commands.specs.Deeds.{how_checked, how_listed, ListsRows, TellsAbout, TellsPage, ChecksStatuses};
 ghost use Rattle.app_commands.specs.Statuses.{form_of};
+ghost use Rattle.app_reports.specs.Listed.{roster};
 
 use crate::fault::Fault;
 use app_files::Task;
@@ -32,9 +33,6 @@ pub(crate) struct ListRows<L: RowList> {
 }
 
 impl<L: RowList> Task for ListRows<L> {
-    ghost use Rattle.app_reports.specs.Listed.{roster};
-    ghost use Rattle.app_commands.specs.Deeds.{ListsRows};
-
     type Fault = Fault;
 
     ghost does = { λ task. ListsRows (roster L.Item.rows (L.keeps task.list) L.line L.noun task.form) };
@@ -58,8 +56,6 @@ pub(crate) struct TellAbout {
 }
 
 impl Task for TellAbout {
-    ghost use Rattle.app_commands.specs.Deeds.{TellsAbout};
-
     type Fault = Fault;
 
     ghost does = { λ task. TellsAbout task.beside };
@@ -82,8 +78,6 @@ pub(crate) struct ShowPage {
 }
 
 impl Task for ShowPage {
-    ghost use Rattle.app_commands.specs.Deeds.{TellsPage};
-
     type Fault = Fault;
 
     ghost does = { λ task. TellsPage };
@@ -109,8 +103,6 @@ pub(crate) struct CheckStatuses<'a, E: Write> {
 }
 
 impl<'a, E: Write> Task for CheckStatuses<'a, E> {
-    ghost use Rattle.app_commands.specs.Deeds.{ChecksStatuses};
-
     type Fault = Fault;
 
     ghost does = { λ task. ChecksStatuses task.form };

@@ -2,7 +2,7 @@
 ghost use Rattle.std.specs.Prelude.{◌≡◌, OnOk, false};
 ghost use Rattle.std.specs.Io.KnownBytes.{Appends};
 ghost use Rattle.app_commands.specs.Asked.{IsSaid, revoked_line};
-ghost use Rattle.app_commands.specs.Deeds.{Revokes, ask_of};
+ghost use Rattle.app_commands.specs.Deeds.{Revokes, ask_of, RevokesTarget};
 
 use crate::desks::adopt;
 use crate::fault::Fault;
@@ -40,8 +40,6 @@ impl<'a> Revoke<'a> {
 }
 
 impl<'a> Task for Revoke<'a> {
-    ghost use Rattle.app_commands.specs.Deeds.{RevokesTarget};
-
     type Fault = Fault;
 
     ghost does = { λ task. RevokesTarget task.target };

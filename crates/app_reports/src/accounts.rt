@@ -1,6 +1,7 @@
 //! The list of accounts.
-ghost use Rattle.std.specs.Prelude.{◌≡◌, IfOk, string_bytes};
+ghost use Rattle.std.specs.Prelude.{◌≡◌, ⊤, IfOk, string_bytes, codes};
 ghost use Rattle.desk_model.specs.{Keys.thumbprint, Tokens.base64url};
+ghost use Rattle.app_reports.specs.Printed.{account_line};
 
 use crate::form::Form;
 use crate::lists::RowList;
@@ -17,9 +18,6 @@ use store_api::{LookUps, StorageFault};
 pub struct AllAccounts;
 
 impl RowList for AllAccounts {
-    ghost use Rattle.std.specs.Prelude.{codes, ⊤};
-    ghost use Rattle.app_reports.specs.Printed.{account_line};
-
     type Item = AccountRow;
 
     ghost keeps = { λ all T row. ⊤ };

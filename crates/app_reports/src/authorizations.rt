@@ -1,4 +1,7 @@
 //! The list of authorizations.
+ghost use Rattle.std.specs.Prelude.{codes};
+ghost use Rattle.app_reports.specs.{Listed.KeepsAuthorization, Printed.authorization_line};
+
 use crate::asked::{allows_account, allows_name};
 use crate::form::Form;
 use crate::lists::RowList;
@@ -18,9 +21,6 @@ pub struct AuthorizationFilter {
 }
 
 impl RowList for AuthorizationFilter {
-    ghost use Rattle.std.specs.Prelude.{codes};
-    ghost use Rattle.app_reports.specs.{Listed.KeepsAuthorization, Printed.authorization_line};
-
     type Item = AuthorizationRow;
 
     ghost keeps = { λ filter T. KeepsAuthorization filter };

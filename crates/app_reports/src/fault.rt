@@ -1,4 +1,7 @@
 //! Why a report ends early.
+ghost use Rattle.std.specs.Prelude.{◌≡◌};
+ghost use Rattle.app_reports.specs.{declared.fault.ReportFault.TheVariants.Storage, Reported.LeavesRows};
+
 use std::io::{self, ErrorKind};
 use store_api::StorageFault;
 use thiserror::Error;
@@ -15,9 +18,6 @@ pub enum ReportFault {
 }
 
 impl From<StorageFault> for ReportFault {
-    ghost use Rattle.std.specs.Prelude.{◌≡◌};
-    ghost use Rattle.app_reports.specs.declared.fault.ReportFault.TheVariants.{Storage};
-
     ghost from_gives = { λ fault e. e ≡ Storage fault };
 
     fn from(fault: StorageFault) -> ReportFault {
@@ -26,8 +26,6 @@ impl From<StorageFault> for ReportFault {
 }
 
 impl From<io::Error> for ReportFault {
-    ghost use Rattle.app_reports.specs.Reported.{LeavesRows};
-
     ghost from_gives = { λ _ e. LeavesRows e };
 
     fn from(error: io::Error) -> ReportFault {

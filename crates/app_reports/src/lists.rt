@@ -1,9 +1,10 @@
 //! Lists of the rows of a table.
-ghost use Rattle.std.specs.Prelude.{IfOk, OnOk};
+ghost use Rattle.std.specs.Prelude.{◌≡◌, ◌↔◌, IfOk, OnOk, ℕ, List, IsTrue};
 ghost use Rattle.std.specs.Io.KnownBytes.{Appends};
-ghost use Rattle.store_api.specs.Sight.{ForTables};
+ghost use Rattle.store_api.specs.Sight.{ForTables, Reads};
 ghost use Rattle.app_reports.specs.Listed.{Prints, PrintsAll, Turns, roster};
-ghost use Rattle.app_reports.specs.{Printed.count_line, Reported.Reports};
+ghost use Rattle.app_reports.specs.{Printed.count_line, Reported.Reports, declared.form.Form.Form as Manner};
+ghost use Rattle.desk_model.specs.Tables.{Tables};
 
 use crate::fault::ReportFault;
 use crate::form::Form;
@@ -15,12 +16,6 @@ use store_passes::{PassedRow, row_after};
 
 /// Which rows of a table are listed, and the line of each.
 pub trait RowList {
-    ghost use Rattle.std.specs.Prelude.{◌≡◌, ◌↔◌, ℕ, List, IfOk, IsTrue, OnOk};
-    ghost use Rattle.std.specs.Io.KnownBytes.{Appends};
-    ghost use Rattle.desk_model.specs.Tables.{Tables};
-    ghost use Rattle.store_api.specs.Sight.{ForTables, Reads};
-    ghost use Rattle.app_reports.specs.declared.form.Form.{Form as Manner};
-
     /// The rows of the table.
     type Item: PassedRow + Drop;
 

@@ -1,6 +1,6 @@
 //! The list of orders.
-ghost use Rattle.std.specs.Prelude.{◌≡◌, ◌↔◌, IsTrue};
-ghost use Rattle.app_reports.specs.Filter.{Allows};
+ghost use Rattle.std.specs.Prelude.{◌≡◌, ◌↔◌, IsTrue, codes};
+ghost use Rattle.app_reports.specs.{Filter.Allows, Listed.KeepsOrder, Printed.order_line};
 
 use crate::asked::{allows_account, allows_listed};
 use crate::form::Form;
@@ -32,9 +32,6 @@ impl OrderFilter {
 }
 
 impl RowList for OrderFilter {
-    ghost use Rattle.std.specs.Prelude.{codes};
-    ghost use Rattle.app_reports.specs.{Listed.KeepsOrder, Printed.order_line};
-
     type Item = OrderRow;
 
     ghost keeps = { KeepsOrder };

@@ -1,8 +1,10 @@
 //! Rows of the page's tables.
-ghost use Rattle.std.specs.{Prelude.OnOk, Io.KnownBytes.Appends};
+ghost use Rattle.std.specs.Prelude.{OnOk, ℕ, List};
+ghost use Rattle.std.specs.Io.KnownBytes.{Appends};
 ghost use Rattle.store_api.specs.Sight.{ForTables};
 ghost use Rattle.app_reports.specs.Page.{authorization_html, begin_html, cells_html, order_html, order_row_html};
 ghost use Rattle.app_reports.specs.Reported.{Reports};
+ghost use Rattle.desk_model.specs.Tables.{Tables};
 
 use crate::fault::ReportFault;
 use crate::pieces::{Piece, write_pieces};
@@ -16,12 +18,6 @@ use store_passes::{PassedRow, listed_names};
 
 /// A row that the page shows.
 pub(crate) trait PageRow: PassedRow + Drop {
-    ghost use Rattle.std.specs.Prelude.{ℕ, List, OnOk};
-    ghost use Rattle.std.specs.Io.KnownBytes.{Appends};
-    ghost use Rattle.desk_model.specs.Tables.{Tables};
-    ghost use Rattle.store_api.specs.Sight.{ForTables};
-    ghost use Rattle.app_reports.specs.Reported.{Reports};
-
     // Its HTML, among these tables.
     ghost html: { Tables → Self → List ℕ };
 

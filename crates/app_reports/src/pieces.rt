@@ -1,5 +1,6 @@
 //! What a cell of the page lists: names, contacts, challenges.
-ghost use Rattle.std.specs.{Prelude.OnOk, Io.KnownBytes.Appends, List.flat_map};
+ghost use Rattle.std.specs.Prelude.{OnOk, ℕ, List};
+ghost use Rattle.std.specs.{Io.KnownBytes.Appends, List.flat_map};
 ghost use Rattle.app_reports.specs.Page.{challenge_html, code_html, contacts_html, name_html};
 
 use crate::html::write_escaped;
@@ -9,9 +10,6 @@ use std::io::{self, Write};
 
 /// What a cell lists.
 pub(crate) trait Piece {
-    ghost use Rattle.std.specs.Prelude.{ℕ, List, OnOk};
-    ghost use Rattle.std.specs.Io.KnownBytes.{Appends};
-
     // Its HTML.
     ghost html: { Self → List ℕ };
 

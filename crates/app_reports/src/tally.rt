@@ -1,9 +1,10 @@
 //! How many rows of a table have each status.
-ghost use Rattle.std.specs.Prelude.{◌≡◌, ◌==◌, ◌<◌, ◌+◌, ◌-◌, ◌^◌, ℕ, IfOk, OnOk, cond, min, slice_index};
+ghost use Rattle.std.specs.Prelude.{◌≡◌, ◌==◌, ◌<◌, ◌+◌, ◌-◌, ◌^◌, ℕ, IfOk, OnOk, cond, min, slice_index, List};
 ghost use Rattle.std.specs.Io.KnownBytes.{Appends};
 ghost use Rattle.store_api.specs.Sight.{ForTables, Reads};
 ghost use Rattle.app_reports.specs.Reported.{Reports};
-ghost use Rattle.app_reports.specs.Tallied.{IsTally, ended_said, tally_of, unended_said};
+ghost use Rattle.app_reports.specs.Tallied.{IsTally, ended_said, tally_of, unended_said, account_place, accounts_said, authorization_place};
+ghost use Rattle.app_reports.specs.Tallied.{authorizations_said, challenge_place, challenges_said, order_place, orders_said};
 
 use crate::fault::ReportFault;
 use desk_book::Row;
@@ -21,9 +22,6 @@ const MOST: usize = 6;
 
 /// A row with a status, of which there are six at most.
 pub(crate) trait Stated: PassedRow + Drop {
-    ghost use Rattle.std.specs.Prelude.{◌≡◌, ◌<◌, ℕ, List, OnOk, slice_index};
-    ghost use Rattle.std.specs.Io.KnownBytes.{Appends};
-
     // The place of its stored status among those of its kind.
     ghost place: { Self → ℕ };
 
@@ -41,8 +39,6 @@ pub(crate) trait Stated: PassedRow + Drop {
 }
 
 impl Stated for AccountRow {
-    ghost use Rattle.app_reports.specs.Tallied.{account_place, accounts_said};
-
     ghost place = { λ row. account_place row.status };
 
     ghost said = { accounts_said };
@@ -65,8 +61,6 @@ impl Stated for AccountRow {
 }
 
 impl Stated for AuthorizationRow {
-    ghost use Rattle.app_reports.specs.Tallied.{authorization_place, authorizations_said};
-
     ghost place = { λ row. authorization_place row.status };
 
     ghost said = { authorizations_said };
@@ -111,8 +105,6 @@ fn write_ended<W: Write>(out: &mut W, counts: &[u64; MOST]) -> io::Result<()>
 }
 
 impl Stated for ChallengeRow {
-    ghost use Rattle.app_reports.specs.Tallied.{challenge_place, challenges_said};
-
     ghost place = { λ row. challenge_place row.status };
 
     ghost said = { challenges_said };
@@ -136,8 +128,6 @@ impl Stated for ChallengeRow {
 }
 
 impl Stated for OrderRow {
-    ghost use Rattle.app_reports.specs.Tallied.{order_place, orders_said};
-
     ghost place = { λ row. order_place row.status };
 
     ghost said = { orders_said };

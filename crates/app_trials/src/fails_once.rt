@@ -1,5 +1,5 @@
 //! A disk that fails once and goes on.
-ghost use Rattle.std.specs.Prelude.{◌≡◌, false};
+ghost use Rattle.std.specs.Prelude.{◌≡◌, ◌+◌, ◌&&◌, false, not};
 ghost use Rattle.sqlite_disk.specs.{Disk.CountsFault, Refusal.finds_no_room};
 
 use sqlite_disk::{Disk, Tally};
@@ -53,8 +53,6 @@ fn count(passed: &mut u64, fails_at: u64, refused: &mut u64) -> io::Result<()>
 }
 
 impl<D: Disk> Disk for FailsOnce<D> {
-    ghost use Rattle.std.specs.Prelude.{◌+◌, ◌&&◌, not};
-
     ghost seen = { λ d. D.Disk.seen d.inner };
 
     ghost may_leave = { λ d. D.Disk.may_leave d.inner };

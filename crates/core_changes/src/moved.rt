@@ -424,6 +424,18 @@ pub(crate) fn record_rows<'a>(
     };
     record_moved(changes, &mut rows.accounts, book.accounts(), &step, &[])?;
     let authorizations = book.authorizations();
-    record_moved(changes, &mut rows.authorizations, authorizations, &step, &[])?;
-    record_moved(changes, &mut rows.orders, book.orders(), &step, &rows.authorizations)
+    record_moved(
+        changes,
+        &mut rows.authorizations,
+        authorizations,
+        &step,
+        &[],
+    )?;
+    record_moved(
+        changes,
+        &mut rows.orders,
+        book.orders(),
+        &step,
+        &rows.authorizations,
+    )
 }

@@ -1,4 +1,7 @@
 //! The faults of a call.
+ghost use Rattle.core_rules.specs.declared.fault.CoreFault.TheVariants.{Memory};
+ghost use Rattle.std.specs.Prelude.{◌≡◌};
+
 use std::alloc::AllocError;
 
 /// Why a call is not made; the book stays as it was.
@@ -15,9 +18,6 @@ pub enum CoreFault {
 }
 
 impl From<AllocError> for CoreFault {
-    ghost use Rattle.core_rules.specs.declared.fault.CoreFault.TheVariants.{Memory};
-    ghost use Rattle.std.specs.Prelude.{◌≡◌};
-
     ghost from_gives = { λ _ e. e ≡ Memory };
 
     fn from(_refused: AllocError) -> CoreFault {

@@ -1,6 +1,7 @@
 //! Why a call is not answered, or a desk not opened.
 ghost use Rattle.std.specs.Prelude.{◌≡◌};
-ghost use Rattle.desk.specs.Faults.{closes, number_of};
+ghost use Rattle.desk.specs.Faults.{closes, number_of, core_fault, storage_fault};
+ghost use Rattle.desk.specs.declared.fault.DeskFault.TheVariants.{Memory};
 
 use desk_core::CoreFault;
 use std::alloc::AllocError;
@@ -73,9 +74,6 @@ impl fmt::Display for DeskFault {
 impl Error for DeskFault {}
 
 impl From<CoreFault> for DeskFault {
-    ghost use Rattle.std.specs.Prelude.{◌≡◌};
-    ghost use Rattle.desk.specs.Faults.{core_fault};
-
     ghost from_gives = { λ fault e. e ≡ core_fault fault };
 
     fn from(fault: CoreFault) -> DeskFault {
@@ -89,9 +87,6 @@ impl From<CoreFault> for DeskFault {
 }
 
 impl From<AllocError> for DeskFault {
-    ghost use Rattle.std.specs.Prelude.{◌≡◌};
-    ghost use Rattle.desk.specs.declared.fault.DeskFault.TheVariants.{Memory};
-
     ghost from_gives = { λ _ e. e ≡ Memory };
 
     fn from(_refused: AllocError) -> DeskFault {
@@ -100,9 +95,6 @@ impl From<AllocError> for DeskFault {
 }
 
 impl From<StorageFault> for DeskFault {
-    ghost use Rattle.std.specs.Prelude.{◌≡◌};
-    ghost use Rattle.desk.specs.Faults.{storage_fault};
-
     ghost from_gives = { λ fault e. e ≡ storage_fault fault };
 
     fn from(fault: StorageFault) -> DeskFault {

@@ -28,8 +28,14 @@ account_status_text status = elim status [ account.Valid ↦ codes "valid" | acc
 
 abbrev pub authorization_status_text : AuthzStatus → List ℕ
 authorization_status_text status =
-    elim status [ authz.Pending ↦ codes "pending" | authz.Valid ↦ codes "valid" | authz.Invalid ↦ codes "invalid"
-        | authz.Deactivated ↦ codes "deactivated" | authz.Expired ↦ codes "expired" | authz.Revoked ↦ codes "revoked" ]
+    elim status [
+      | authz.Pending ↦ codes "pending"
+      | authz.Valid ↦ codes "valid"
+      | authz.Invalid ↦ codes "invalid"
+      | authz.Deactivated ↦ codes "deactivated"
+      | authz.Expired ↦ codes "expired"
+      | authz.Revoked ↦ codes "revoked"
+    ]
 
 abbrev pub challenge_status_text : ChallengeStatus → List ℕ
 challenge_status_text status =
@@ -37,8 +43,13 @@ challenge_status_text status =
 
 abbrev pub order_status_text : OrderStatus → List ℕ
 order_status_text status =
-    elim status [ order.Pending ↦ codes "pending" | order.Ready ↦ codes "ready" | order.Processing ↦ codes "processing"
-        | order.Valid ↦ codes "valid" | order.Invalid ↦ codes "invalid" ]
+    elim status [
+      | order.Pending ↦ codes "pending"
+      | order.Ready ↦ codes "ready"
+      | order.Processing ↦ codes "processing"
+      | order.Valid ↦ codes "valid"
+      | order.Invalid ↦ codes "invalid"
+    ]
 
 abbrev pub kind_text : Kind → List ℕ
 kind_text http_01 = codes "http-01"

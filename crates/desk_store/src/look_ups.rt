@@ -1,4 +1,7 @@
 //! The store as a source of rows: one statement a look-up, and one more for the children of each row; none for what it knows.
+ghost use Rattle.sqlite.specs.Tree.{Trees};
+ghost use Rattle.desk_store.specs.Desks.{store_sight};
+
 use crate::store::Store;
 use desk_model::{AccountRow, AuthorizationRow, ChallengeRow, Meta, Nonce, OrderRow};
 use model_lives::{AccountsWhere, AuthorizationsWhere, NoncesWhere, OrdersWhere};
@@ -9,9 +12,6 @@ use store_api::{Found, LookUps, StorageFault};
 use store_columns::Owned;
 
 impl<S: Alter> LookUps for Store<S> {
-    ghost use Rattle.sqlite.specs.Tree.{Trees};
-    ghost use Rattle.desk_store.specs.Desks.{store_sight};
-
     ghost Content = { Trees };
 
     ghost sight = { store_sight S.Store };

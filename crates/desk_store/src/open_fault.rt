@@ -1,4 +1,7 @@
 //! Why a desk is not made or opened.
+ghost use Rattle.std.specs.Prelude.{◌≡◌};
+ghost use Rattle.desk_store.specs.declared.open_fault.OpenFault.TheVariants.{Storage};
+
 use std::error::Error;
 use std::fmt;
 use store_api::StorageFault;
@@ -27,9 +30,6 @@ impl fmt::Display for OpenFault {
 impl Error for OpenFault {}
 
 impl From<StorageFault> for OpenFault {
-    ghost use Rattle.std.specs.Prelude.{◌≡◌};
-    ghost use Rattle.desk_store.specs.declared.open_fault.OpenFault.TheVariants.{Storage};
-
     ghost from_gives = { λ fault e. e ≡ Storage fault };
 
     fn from(fault: StorageFault) -> OpenFault {

@@ -1,4 +1,7 @@
 //! The store, as a desk asks for it.
+ghost use Rattle.sqlite.specs.Tree.{Trees};
+ghost use Rattle.desk_store.specs.{Causes.Failed, Desks.store_sight};
+
 use crate::store::Store;
 use desk_book::Book;
 use desk_model::{Change, Policy};
@@ -7,9 +10,6 @@ use std::alloc::Global;
 use store_api::{ParsedCall, Storage, StorageFault, load_enough};
 
 impl<S: Alter> Storage for Store<S> {
-    ghost use Rattle.sqlite.specs.Tree.{Trees};
-    ghost use Rattle.desk_store.specs.{Causes.Failed, Desks.store_sight};
-
     ghost Content = { Trees };
 
     ghost sight = { store_sight S.Store };

@@ -4,6 +4,7 @@ ghost use Rattle.std.specs.{Int.is_in_range, List.list_all};
 ghost use Rattle.serde_json.specs.View.{view};
 ghost use Rattle.desk_model.specs.Payload.{key_text_in};
 ghost use Rattle.desk_model.specs.Keys.{Key, IsKeyOf, IsEc, IsRsa, IsOkp, IsCurve, number_member, canonical_text, ec, rsa, okp};
+ghost use Rattle.keys.specs.declared.jwk.KeyFault.TheVariants.{Memory};
 
 use desk_model::{Jwk, is_number, is_same_text};
 use json_texts::{JsonValue, text_member};
@@ -23,9 +24,6 @@ pub enum KeyFault {
 }
 
 impl From<AllocError> for KeyFault {
-    ghost use Rattle.keys.specs.declared.jwk.KeyFault.TheVariants.{Memory};
-    ghost use Rattle.std.specs.Prelude.{◌≡◌};
-
     ghost from_gives = { λ _ fault. fault ≡ Memory };
 
     fn from(_refused: AllocError) -> KeyFault {

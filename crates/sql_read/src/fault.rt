@@ -1,4 +1,8 @@
 //! Why rows are not read.
+ghost use Rattle.std.specs.Prelude.{◌≡◌};
+ghost use Rattle.sql_read.specs.declared.fault.ReadFault.TheVariants.{Engine};
+ghost use Rattle.sqlite.specs.{declared.error.ErrorCode.TheVariants.OutOfMemory, declared.error.Error.TheVariants.SqliteFailure};
+
 use sqlite::ErrorCode;
 use std::alloc::{AllocError, AllocFailed};
 use thiserror::Error;
@@ -15,9 +19,6 @@ pub enum ReadFault {
 }
 
 impl From<sqlite::Error> for ReadFault {
-    ghost use Rattle.std.specs.Prelude.{◌≡◌};
-    ghost use Rattle.sql_read.specs.declared.fault.ReadFault.TheVariants.{Engine};
-
     ghost from_gives = { λ error fault. fault ≡ Engine error };
 
     fn from(error: sqlite::Error) -> ReadFault {
@@ -26,10 +27,6 @@ impl From<sqlite::Error> for ReadFault {
 }
 
 impl From<AllocError> for ReadFault {
-    ghost use Rattle.std.specs.Prelude.{◌≡◌};
-    ghost use Rattle.sqlite.specs.declared.error.{ErrorCode.TheVariants.OutOfMemory, Error.TheVariants.SqliteFailure};
-    ghost use Rattle.sql_read.specs.declared.fault.ReadFault.TheVariants.{Engine};
-
     ghost from_gives = { λ _ fault. fault ≡ Engine (SqliteFailure OutOfMemory) };
 
     fn from(_refused: AllocError) -> ReadFault {
@@ -38,10 +35,6 @@ impl From<AllocError> for ReadFault {
 }
 
 impl<T: Drop> From<AllocFailed<T>> for ReadFault {
-    ghost use Rattle.std.specs.Prelude.{◌≡◌};
-    ghost use Rattle.sqlite.specs.declared.error.{ErrorCode.TheVariants.OutOfMemory, Error.TheVariants.SqliteFailure};
-    ghost use Rattle.sql_read.specs.declared.fault.ReadFault.TheVariants.{Engine};
-
     ghost from_gives = { λ _ fault. fault ≡ Engine (SqliteFailure OutOfMemory) };
 
     fn from(_refused: AllocFailed<T>) -> ReadFault {

@@ -33,9 +33,40 @@ pub meta_upsert : IsUpsert formatted_layout (λ row. meta_params (formatted_colu
 unfolding understood everything
 meta_upsert =
     upsert_as formatted_layout _ _ 0 11 refl (refl, refl) refl refl (λ _. refl) (λ _. refl)
-    (λ _. row_kept meta_table _ _
-    (cast_null, (cast_int _, (refl, (cast_int _, (cast_int _, (cast_int _, (cast_int _, (cast_int _, (cast_int _, (cast_int _, (cast_int _,
-    (cast_int _, tt)))))))))))))
+    (λ _. row_kept meta_table _ _ (
+      cast_null,
+      (
+        cast_int _,
+        (
+          refl,
+          (
+            cast_int _,
+            (
+              cast_int _,
+              (
+                cast_int _,
+                (
+                  cast_int _,
+                  (
+                    cast_int _,
+                    (
+                      cast_int _,
+                      (
+                        cast_int _,
+                        (
+                          cast_int _,
+                          (cast_int _, tt),
+                        ),
+                      ),
+                    ),
+                  ),
+                ),
+              ),
+            ),
+          ),
+        ),
+      ),
+    ))
     (clash_by_key formatted_layout (λ _. refl)) (λ _. refl) (sets_key formatted_layout) (λ _. refl)
 
 -- that renews one, in the columns that calls move
@@ -113,9 +144,34 @@ pub order_upsert : IsUpsert order_layout (λ row. order_params (order_columns ro
 unfolding understood everything
 order_upsert =
     upsert_as order_layout _ _ 3 10 refl (refl, refl) refl refl (λ _. refl) (λ _. refl)
-    (λ _. row_kept ord_table _ _
-    (cast_null, (cast_int _, (cast_int _, (cast_int _, (cast_int_or_null _, (refl, (cast_int_or_null _, (refl, (cast_int_or_null _,
-    (cast_text_or_null _, (refl, tt))))))))))))
+    (λ _. row_kept ord_table _ _ (
+      cast_null,
+      (
+        cast_int _,
+        (
+          cast_int _,
+          (
+            cast_int _,
+            (
+              cast_int_or_null _,
+              (
+                refl,
+                (
+                  cast_int_or_null _,
+                  (
+                    refl,
+                    (
+                      cast_int_or_null _,
+                      (cast_text_or_null _, (refl, tt)),
+                    ),
+                  ),
+                ),
+              ),
+            ),
+          ),
+        ),
+      ),
+    ))
     (clash_by_key order_layout (λ _. refl)) (λ _. refl) (sets_key order_layout) (λ _. refl)
 
 -- that renews one, in the columns that calls move

@@ -8,8 +8,15 @@ use Rattle.sql_write.specs.declared.{challenges.ChallengeNumbers.ChallengeNumber
 abbrev pub meta_numbers : MetaColumns → MetaNumbers
 meta_numbers c =
     record {
-      nonce_life = c.nonce_life; order_life = c.order_life; authz_life = c.authz_life;
-      clock = c.clock; nonces = c.nonces; accounts = c.accounts; orders = c.orders; authzs = c.authzs; challs = c.challs;
+      nonce_life = c.nonce_life;
+      order_life = c.order_life;
+      authz_life = c.authz_life;
+      clock = c.clock;
+      nonces = c.nonces;
+      accounts = c.accounts;
+      orders = c.orders;
+      authzs = c.authzs;
+      challs = c.challs;
     }
 
 -- the numbers and dates of an account

@@ -1,4 +1,8 @@
 //! Why rows are not saved.
+ghost use Rattle.sql_write.specs.declared.fault.WriteFault.TheVariants.{Memory};
+ghost use Rattle.std.specs.Prelude.{◌≡◌};
+ghost use Rattle.sql_write.specs.declared.fault.SaveFault.TheVariants.{Row, Statement};
+
 use std::alloc::AllocError;
 use thiserror::Error;
 
@@ -14,9 +18,6 @@ pub enum WriteFault {
 }
 
 impl From<AllocError> for WriteFault {
-    ghost use Rattle.sql_write.specs.declared.fault.WriteFault.TheVariants.{Memory};
-    ghost use Rattle.std.specs.Prelude.{◌≡◌};
-
     ghost from_gives = { λ _ why. why ≡ Memory };
 
     fn from(_refused: AllocError) -> WriteFault {
@@ -39,9 +40,6 @@ pub enum SaveFault {
 }
 
 impl From<WriteFault> for SaveFault {
-    ghost use Rattle.sql_write.specs.declared.fault.SaveFault.TheVariants.{Row};
-    ghost use Rattle.std.specs.Prelude.{◌≡◌};
-
     ghost from_gives = { λ fault why. why ≡ Row fault };
 
     fn from(fault: WriteFault) -> SaveFault {
@@ -50,9 +48,6 @@ impl From<WriteFault> for SaveFault {
 }
 
 impl From<sqlite::Error> for SaveFault {
-    ghost use Rattle.sql_write.specs.declared.fault.SaveFault.TheVariants.{Statement};
-    ghost use Rattle.std.specs.Prelude.{◌≡◌};
-
     ghost from_gives = { λ error why. why ≡ Statement error };
 
     fn from(error: sqlite::Error) -> SaveFault {

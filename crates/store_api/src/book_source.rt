@@ -1,8 +1,8 @@
 //! A book in memory as a source of rows.
 ghost use Rattle.std.specs.Prelude.{◌≡◌, ◌==◌, ◌++◌, [], ◌∷◌, ℕ, List, map, filter, IfErr, IfOk, OnOk};
 ghost use Rattle.std.specs.List.{flat_map};
-ghost use Rattle.store_api.specs.Finding.{LacksMemory};
-ghost use Rattle.desk_model.specs.Legal.{is_processing_challenge};
+ghost use Rattle.store_api.specs.{Finding.LacksMemory, InMemory.in_memory};
+ghost use Rattle.desk_model.specs.{Legal.is_processing_challenge, Tables.Tables};
 ghost use Rattle.model_lives.specs.LookUps.{waiting_of};
 ghost use Rattle.store_columns.specs.Flat.{owned_by};
 ghost use Rattle.model_lives.specs.Thinned.{without_challenges, without_listed};
@@ -204,9 +204,6 @@ fn all_waiting(alloc: Global, table: &Table<AuthorizationRow>) -> Found<Owned<Ch
 // ---- the source
 
 impl LookUps for Book {
-    ghost use Rattle.desk_model.specs.Tables.{Tables};
-    ghost use Rattle.store_api.specs.InMemory.{in_memory};
-
     ghost Content = { Tables };
 
     ghost sight = { in_memory };

@@ -1,4 +1,7 @@
 //! Why the tables of a desk are not read or changed.
+ghost use Rattle.store_api.specs.declared.fault.StorageFault.TheVariants.{Memory};
+ghost use Rattle.std.specs.Prelude.{◌≡◌};
+
 use std::alloc::AllocError;
 use std::error::Error;
 use std::fmt;
@@ -28,9 +31,6 @@ impl fmt::Display for StorageFault {
 impl Error for StorageFault {}
 
 impl From<AllocError> for StorageFault {
-    ghost use Rattle.store_api.specs.declared.fault.StorageFault.TheVariants.{Memory};
-    ghost use Rattle.std.specs.Prelude.{◌≡◌};
-
     ghost from_gives = { λ _ e. e ≡ Memory };
 
     fn from(_refused: AllocError) -> StorageFault {

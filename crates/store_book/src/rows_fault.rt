@@ -1,4 +1,7 @@
 //! Why rows do not become a book.
+ghost use Rattle.std.specs.Prelude.{◌≡◌};
+ghost use Rattle.store_book.specs.declared.rows_fault.RowsFault.TheVariants.{Memory};
+
 use std::alloc::{AllocError, AllocFailed};
 use thiserror::Error;
 
@@ -14,9 +17,6 @@ pub enum RowsFault {
 }
 
 impl From<AllocError> for RowsFault {
-    ghost use Rattle.std.specs.Prelude.{◌≡◌};
-    ghost use Rattle.store_book.specs.declared.rows_fault.RowsFault.TheVariants.{Memory};
-
     ghost from_gives = { λ _ fault. fault ≡ Memory };
 
     fn from(_refused: AllocError) -> RowsFault {
@@ -25,9 +25,6 @@ impl From<AllocError> for RowsFault {
 }
 
 impl<T: Drop> From<AllocFailed<T>> for RowsFault {
-    ghost use Rattle.std.specs.Prelude.{◌≡◌};
-    ghost use Rattle.store_book.specs.declared.rows_fault.RowsFault.TheVariants.{Memory};
-
     ghost from_gives = { λ _ fault. fault ≡ Memory };
 
     fn from(_refused: AllocFailed<T>) -> RowsFault {

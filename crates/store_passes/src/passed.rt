@@ -1,8 +1,11 @@
 //! The rows of a table, one after the other.
-ghost use Rattle.std.specs.Prelude.{◌<◌, IfOk, IfSome};
-ghost use Rattle.model_lives.specs.Above.{above as rows_above};
-ghost use Rattle.store_api.specs.Sight.{ForTables, Reads};
-ghost use Rattle.store_passes.specs.Left.{IsRowAfter};
+ghost use Rattle.std.specs.Prelude.{◌<◌, ◌≡◌, IfOk, IfSome, List};
+ghost use Rattle.model_lives.specs.Above.{above as rows_above, first_of};
+ghost use Rattle.store_api.specs.Sight.{ForTables, Reads, Gives};
+ghost use Rattle.store_passes.specs.{Left.IsRowAfter, InOrder.IsInOrder};
+ghost use Rattle.desk_model.specs.{Tables.Tables, Derived.sorted_challenges};
+ghost use Rattle.model_laws.specs.Ordered.{Ascends};
+ghost use Rattle.std.specs.List.{flat_map};
 
 use crate::first::first_above;
 use desk_book::Row;
@@ -12,13 +15,6 @@ use store_api::{Found, RowsAbove, StorageFault};
 
 /// A row of a table that is gone through by number.
 pub trait PassedRow: Row {
-    ghost use Rattle.std.specs.Prelude.{◌≡◌, List};
-    ghost use Rattle.desk_model.specs.Tables.{Tables};
-    ghost use Rattle.model_laws.specs.Ordered.{Ascends};
-    ghost use Rattle.model_lives.specs.Above.{above as rows_above, first_of};
-    ghost use Rattle.store_api.specs.Sight.{Gives};
-    ghost use Rattle.store_passes.specs.InOrder.{IsInOrder};
-
     // The rows of its table.
     ghost rows: { Tables → List Self };
 
@@ -69,9 +65,6 @@ impl PassedRow for OrderRow {
 }
 
 impl PassedRow for ChallengeRow {
-    ghost use Rattle.std.specs.List.{flat_map};
-    ghost use Rattle.desk_model.specs.Derived.{sorted_challenges};
-
     ghost rows = { λ T. sorted_challenges (flat_map (λ r. r.challenges) T.authorizations) };
 
     fn found_above<S: RowsAbove>(alloc: Global, source: &mut S, above: u64) -> Found<ChallengeRow> {

@@ -35,7 +35,6 @@ pub returns-in_err-rows-clause-fails : goal.returns-in_err-rows-clause-fails
 returns-in_err-rows-clause-fails g c clean T has may =
     failed_as c.from_residual.result c.in_err-rows.field-0.0 IsFailure
     (desk_fails Second (state g.S.Store c.args.conn.now) (state g.S.Store c.all_rows.new.conn) T c.in_err-rows.field-0.0 has may
-   
     ((rows_as (λ rows. rows.items) c.all.ensures c.in_err-rows.ensures).fails clean))
     c.from_residual.ensures.1
 
@@ -50,7 +49,6 @@ pub returns-in_err-rows-clause-first_fails : goal.returns-in_err-rows-clause-fir
 returns-in_err-rows-clause-first_fails g c clean T has may =
     failed_as c.from_residual.result c.in_err-rows.field-0.0 IsFailure
     (desk_fails First (state g.S.Store c.args.conn.now) (state g.S.Store c.all_rows.new.conn) T c.in_err-rows.field-0.0 has may
-   
     ((rows_as (λ rows. rows.items) c.all.ensures c.in_err-rows.ensures).fails clean))
     c.from_residual.ensures.1
 
