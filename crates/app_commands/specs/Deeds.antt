@@ -17,7 +17,7 @@ use Rattle.store_api.specs.{Storing.Causes, declared.fault.StorageFault.StorageF
 use Rattle.app_files.specs.Doing.{Deed}
 use Rattle.app_reports.specs.{About.about_text, Page.page_html, Printed.faults_text, Reported.Reports}
 use Rattle.app_reports.specs.Listed.{PrintsAll, Roster}
-use Rattle.app_reports.specs.declared.{about.Beside.Beside, faults.Checked.Checked, form.Form.Form, fault.ReportFault.ReportFault}
+use Rattle.app_reports.specs.declared.{tally.Beside.Beside, faults.Checked.Checked, form.Form.Form, fault.ReportFault.ReportFault}
 
 -- ---- reports
 

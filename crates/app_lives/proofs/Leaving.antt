@@ -16,7 +16,7 @@ use Rattle.app_commands.specs.Deeds.{ServesCount, adopted, ask_of, clocked, cloc
 use Rattle.app_commands.specs.declared.fault.Fault.{Fault}
 use Rattle.desk_http.specs.InTurn.{ServesAll, ServesClient, ServesMany}
 use Rattle.desk_http.specs.InTurn as turn
-use Rattle.desk_http.specs.declared.{serve_fault.ServeFault.ServeFault, sending.IoFault.IoFault, serving.Served.Served}
+use Rattle.desk_http.specs.declared.{serve_fault.ServeFault.ServeFault, serving.IoFault.IoFault, serving.Served.Served}
 use Rattle.desk_http.specs.declared.serve_fault.ServeFault.TheVariants as servefault
 use Rattle.desk.specs.{Answers.is_closed_after, Meets.ActsOnce, Seen.Told, State.DeskState, declared.fault.DeskFault.DeskFault}
 use Rattle.desk.specs.Office.{AnswersOffice, office_call}

@@ -5,7 +5,7 @@ use Rattle.moments.specs.Capped.{capped}
 use Rattle.std.specs.List.{flat_map}
 use Rattle.app_reports.specs.Tallied.{account_place, accounts_said, authorization_place, authorizations_said, challenge_place, challenges_said}
 use Rattle.app_reports.specs.Tallied.{order_place, orders_said, tally_of}
-use Rattle.app_reports.specs.declared.about.Beside.{Beside}
+use Rattle.app_reports.specs.declared.tally.Beside.{Beside}
 
 -- by how many seconds a desk's clock is ahead of the machine's, if it is
 abbrev pub ahead : (clock : ℕ) → (now : Option ℕ) → Option ℕ

@@ -1,15 +1,22 @@
-//! Lists of the rows of a table.
-ghost use Rattle.std.specs.Prelude.{◌≡◌, ◌↔◌, IfOk, OnOk, ℕ, List, IsTrue};
+//! The lists of accounts, orders and authorizations: which rows they have, and a line each.
+ghost use Rattle.std.specs.Prelude.{◌≡◌, ◌↔◌, ⊤, IfOk, OnOk, ℕ, List, IsTrue, string_bytes, codes};
 ghost use Rattle.std.specs.Io.KnownBytes.{Appends};
 ghost use Rattle.store_api.specs.Sight.{ForTables, Reads};
-ghost use Rattle.app_reports.specs.Listed.{Prints, PrintsAll, Turns, roster};
-ghost use Rattle.app_reports.specs.{Printed.count_line, Reported.Reports, declared.form.Form.Form as Manner};
-ghost use Rattle.desk_model.specs.Tables.{Tables};
+ghost use Rattle.app_reports.specs.Listed.{Prints, PrintsAll, Turns, roster, KeepsOrder, KeepsAuthorization};
+ghost use Rattle.app_reports.specs.Printed.{count_line, account_line, order_line, authorization_line};
+ghost use Rattle.app_reports.specs.{Reported.Reports, declared.form.Form.Form as Manner, Filter.Allows};
+ghost use Rattle.desk_model.specs.{Tables.Tables, Keys.thumbprint, Tokens.base64url};
 
+use crate::asked::{allows_account, allows_listed, allows_name};
 use crate::fault::ReportFault;
 use crate::form::Form;
+use base64::engine::general_purpose::URL_SAFE_NO_PAD;
 use desk_book::Row;
-use std::alloc::Global;
+use desk_model::{AccountRow, AuthorizationRow, DnsName, Jwk, OrderRow, OrderStatus};
+use json_texts::written_list;
+use keys::thumbprint;
+use moments::capped_moment_text;
+use std::alloc::{AllocError, Global};
 use std::io::{self, Write};
 use store_api::{LookUps, RowsAbove, StorageFault};
 use store_passes::{PassedRow, row_after};
@@ -131,5 +138,218 @@ fn write_count<W: Write>(out: &mut W, form: Form, noun: &str, count: u64) -> io:
     match form {
         Form::Text => writeln!(out, "{noun} {count}"),
         Form::Json => Ok(()),
+    }
+}
+
+// ---- accounts
+
+/// All accounts, listed.
+#[derive(Clone, Copy)]
+pub struct AllAccounts;
+
+impl RowList for AllAccounts {
+    type Item = AccountRow;
+
+    ghost keeps = { λ all T row. ⊤ };
+
+    ghost line = { account_line };
+
+    ghost noun = { codes "accounts" };
+
+    fn keeps<K: LookUps>(
+        &self,
+        _alloc: Global,
+        _source: &mut K,
+        _row: &AccountRow,
+    ) -> Result<bool, StorageFault> {
+        Ok(true)
+    }
+
+    // As text: its number, right in ten places, its stored status, left in eleven, the thumbprint of its key, and its contacts as
+    // JSON, whose texts are a client's.
+    fn write_line<W: Write>(
+        alloc: Global,
+        out: &mut W,
+        form: Form,
+        row: &AccountRow,
+    ) -> io::Result<()> {
+        let AccountRow { number, .. } = row;
+        let status = row.status.as_str();
+        let thumb = thumbprint_text(alloc, &row.key)?;
+        let thumb = thumb.as_str();
+        let contacts = written_list(alloc, row.contacts.as_slice())?;
+        let contacts = contacts.as_str();
+        match form {
+            Form::Text => writeln!(out, "{number:>10} {status:<11} {thumb} {contacts}"),
+            Form::Json => writeln!(
+                out,
+                "{{\"number\":{number},\"status\":\"{status}\",\"contact\":{contacts},\"thumbprint\":\"{thumb}\"}}"
+            ),
+        }
+    }
+
+    fn noun() -> &'static str {
+        "accounts"
+    }
+}
+
+// The thumbprint of a key in base64url (RFC 7638, 3).
+fn thumbprint_text(alloc: Global, key: &Jwk) -> Result<String, AllocError>
+    ensures { IfOk result (λ text. string_bytes text ≡ base64url (thumbprint key.now)) }
+{
+    url_safe(alloc, &thumbprint(key))
+}
+
+// The text of bytes in base64, in the URL-safe alphabet without padding (RFC 4648, 5).
+fn url_safe(alloc: Global, bytes: &[u8]) -> Result<String, AllocError>
+    ensures { IfOk result (λ text. string_bytes text ≡ base64url bytes.now) }
+{
+    URL_SAFE_NO_PAD.encode(alloc, bytes)
+}
+
+// ---- orders
+
+/// Which orders are listed.
+#[derive(Drop)]
+pub struct OrderFilter {
+    /// The account whose orders they are, or `None` for all accounts.
+    pub account: Option<u64>,
+    /// The status that they have (RFC 8555, 7.1.6), or `None` for every status.
+    pub status: Option<OrderStatus>,
+    /// The name that they ask for (RFC 8555, 7.1.3), or `None` for every name.
+    pub name: Option<DnsName>,
+}
+
+impl OrderFilter {
+    // Whether an order has the account and the status that are asked for.
+    fn allows(&self, row: &OrderRow) -> bool
+        ensures { IsTrue result ↔ (Allows self.now.account row.now.account × Allows self.now.status row.now.status) }
+    {
+        allows_account(self.account, row.account) && allows_status(self.status, row.status)
+    }
+}
+
+impl RowList for OrderFilter {
+    type Item = OrderRow;
+
+    ghost keeps = { KeepsOrder };
+
+    ghost line = { order_line };
+
+    ghost noun = { codes "orders" };
+
+    fn keeps<K: LookUps>(
+        &self,
+        alloc: Global,
+        source: &mut K,
+        row: &OrderRow,
+    ) -> Result<bool, StorageFault> {
+        if !self.allows(row) {
+            return Ok(false);
+        }
+        allows_listed(alloc, source, &self.name, row.listed.as_slice())
+    }
+
+    // With the moment at which it expires. As text: its number and its account's, right in ten places, its stored status, left in
+    // ten, and the moment. No member of the document needs an escape.
+    fn write_line<W: Write>(
+        alloc: Global,
+        out: &mut W,
+        form: Form,
+        row: &OrderRow,
+    ) -> io::Result<()> {
+        let OrderRow {
+            number,
+            account,
+            ..
+        } = row;
+        let status = row.status.as_str();
+        let expires = capped_moment_text(alloc, row.expires)?;
+        let expires = expires.as_str();
+        match form {
+            Form::Text => writeln!(out, "{number:>10} {account:>10} {status:<10} {expires}"),
+            Form::Json => writeln!(
+                out,
+                "{{\"number\":{number},\"account\":{account},\"status\":\"{status}\",\"expires\":\"{expires}\"}}"
+            ),
+        }
+    }
+
+    fn noun() -> &'static str {
+        "orders"
+    }
+}
+
+// Whether a status is one that is asked for.
+fn allows_status(asked: Option<OrderStatus>, status: OrderStatus) -> bool
+    ensures { IsTrue result ↔ Allows asked status }
+{
+    match asked {
+        Some(asked) => asked == status,
+        None => true,
+    }
+}
+
+// ---- authorizations
+
+/// Which authorizations are listed.
+#[derive(Drop)]
+pub struct AuthorizationFilter {
+    /// The account whose authorizations they are, or `None` for all accounts.
+    pub account: Option<u64>,
+    /// Their name, or `None` for every name.
+    pub name: Option<DnsName>,
+}
+
+impl RowList for AuthorizationFilter {
+    type Item = AuthorizationRow;
+
+    ghost keeps = { λ filter T. KeepsAuthorization filter };
+
+    ghost line = { authorization_line };
+
+    ghost noun = { codes "authorizations" };
+
+    fn keeps<K: LookUps>(
+        &self,
+        _alloc: Global,
+        _source: &mut K,
+        row: &AuthorizationRow,
+    ) -> Result<bool, StorageFault> {
+        Ok(allows_account(self.account, row.account) && allows_name(&self.name, &row.name))
+    }
+
+    // With the moment at which it expires. As text: its number and its account's, right in ten places, its stored status, left in
+    // eleven, the moment, and the name. No member of the document needs an escape.
+    fn write_line<W: Write>(
+        alloc: Global,
+        out: &mut W,
+        form: Form,
+        row: &AuthorizationRow,
+    ) -> io::Result<()> {
+        let AuthorizationRow {
+            number,
+            account,
+            ..
+        } = row;
+        let status = row.status.as_str();
+        let name = row.name.shown(alloc)?;
+        let name = name.as_str();
+        let expires = capped_moment_text(alloc, row.expires)?;
+        let expires = expires.as_str();
+        match form {
+            Form::Text => writeln!(
+                out,
+                "{number:>10} {account:>10} {status:<11} {expires} {name}"
+            ),
+            Form::Json => writeln!(
+                out,
+                "{{\"number\":{number},\"account\":{account},\"name\":\"{name}\",\"status\":\"{status}\",\"expires\":\"{expires}\"}}"
+            ),
+        }
+    }
+
+    fn noun() -> &'static str {
+        "authorizations"
     }
 }

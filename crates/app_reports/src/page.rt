@@ -7,11 +7,11 @@ ghost use Rattle.store_api.specs.Sight.{ForTables};
 ghost use Rattle.app_reports.specs.Page.{ending_html, head_html, last_html, page_html, soon_after, tables_html, waiting_html};
 ghost use Rattle.app_reports.specs.Reported.{Reports};
 
-use crate::about::write_statuses;
 use crate::fault::ReportFault;
 use crate::html::{write_escaped, write_text};
-use crate::page_queries::{EndingAuthorizations, EndingOrders, Unreported};
+use crate::page_rows::{EndingAuthorizations, EndingOrders, Unreported};
 use crate::page_tables::write_table;
+use crate::tally::write_statuses;
 use desk_model::{Clock, Counters, Meta};
 use model_lives::OrdersWhere;
 use moments::capped_moment_text;

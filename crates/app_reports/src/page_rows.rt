@@ -1,15 +1,15 @@
-//! Rows of the page's tables.
-ghost use Rattle.std.specs.Prelude.{OnOk, ℕ, List};
-ghost use Rattle.std.specs.Io.KnownBytes.{Appends};
+//! The rows of the page's tables, and which these are.
+ghost use Rattle.std.specs.Prelude.{◌≡◌, OnOk, ℕ, List};
+ghost use Rattle.std.specs.{Io.KnownBytes.Appends, List.list_any};
 ghost use Rattle.store_api.specs.Sight.{ForTables};
-ghost use Rattle.app_reports.specs.Page.{authorization_html, begin_html, cells_html, order_html, order_row_html};
+ghost use Rattle.app_reports.specs.Page.{authorization_html, begin_html, cells_html, order_html, order_row_html, waits_for_report};
 ghost use Rattle.app_reports.specs.Reported.{Reports};
-ghost use Rattle.desk_model.specs.Tables.{Tables};
+ghost use Rattle.desk_model.specs.{Tables.Tables, Effect.is_overdue, Legal.is_processing_challenge, Touched.is_past_order};
 
 use crate::fault::ReportFault;
 use crate::pieces::{Piece, write_pieces};
-use desk_model::{AccountRow, AuthorizationRow, DnsName, OrderRow};
-use model_lives::AccountsWhere;
+use desk_model::{AccountRow, AuthorizationRow, AuthzStatus, ChallengeRow, DnsName, OrderRow};
+use model_lives::{AccountsWhere, Query};
 use moments::capped_moment_text;
 use std::alloc::Global;
 use std::io::{self, Write};
@@ -135,4 +135,49 @@ fn write_begin<W: Write>(out: &mut W, number: u64, account: u64, status: &str) -
         out,
         "\n<tr><td>{number}</td><td>{account}</td><td class=\"{status}\">"
     )
+}
+
+// ---- which rows these are
+
+/// Authorizations that wait for the validator: pending, with a challenge that is processing.
+#[derive(Clone, Copy)]
+pub(crate) struct Unreported;
+
+impl Query<AuthorizationRow> for Unreported {
+    ghost wanted = { λ which. waits_for_report };
+
+    fn wants(&self, row: &AuthorizationRow) -> bool {
+        row.status == AuthzStatus::Pending && has_processing(row.challenges.as_slice())
+    }
+}
+
+// Whether a challenge is processing.
+fn has_processing(challenges: &[ChallengeRow]) -> bool
+    ensures { result ≡ list_any (λ c. is_processing_challenge c.status) challenges.now }
+{
+    challenges.iter().any(|row| row.status.is_processing())
+}
+
+/// Orders that are not final, and end before a moment.
+#[derive(Clone, Copy)]
+pub(crate) struct EndingOrders(pub(crate) u64);
+
+impl Query<OrderRow> for EndingOrders {
+    ghost wanted = { λ which. is_past_order which.0 };
+
+    fn wants(&self, order: &OrderRow) -> bool {
+        order.status.is_live() && order.expires < self.0
+    }
+}
+
+/// Authorizations that are not final, and end before a moment.
+#[derive(Clone, Copy)]
+pub(crate) struct EndingAuthorizations(pub(crate) u64);
+
+impl Query<AuthorizationRow> for EndingAuthorizations {
+    ghost wanted = { λ which. is_overdue which.0 };
+
+    fn wants(&self, authorization: &AuthorizationRow) -> bool {
+        authorization.status.is_live() && authorization.expires < self.0
+    }
 }

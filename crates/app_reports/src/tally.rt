@@ -1,17 +1,19 @@
-//! How many rows of a table have each status.
+//! What a desk is, and how many rows of each table have each status.
 ghost use Rattle.std.specs.Prelude.{◌≡◌, ◌==◌, ◌<◌, ◌+◌, ◌-◌, ◌^◌, ℕ, IfOk, OnOk, cond, min, slice_index, List};
 ghost use Rattle.std.specs.Io.KnownBytes.{Appends};
 ghost use Rattle.store_api.specs.Sight.{ForTables, Reads};
 ghost use Rattle.app_reports.specs.Reported.{Reports};
 ghost use Rattle.app_reports.specs.Tallied.{IsTally, ended_said, tally_of, unended_said, account_place, accounts_said, authorization_place};
 ghost use Rattle.app_reports.specs.Tallied.{authorizations_said, challenge_place, challenges_said, order_place, orders_said};
+ghost use Rattle.app_reports.specs.About.{about_text, ahead, base_said, clock_said, lives_said, meta_said, statuses_said};
 
 use crate::fault::ReportFault;
 use desk_book::Row;
 use desk_model::{
-    AccountRow, AccountStatus, AuthorizationRow, AuthzStatus, ChallengeRow, ChallengeStatus,
-    OrderRow, OrderStatus,
+    AccountRow, AccountStatus, AuthorizationRow, AuthzStatus, ChallengeRow, ChallengeStatus, Meta,
+    OrderRow, OrderStatus, Policy,
 };
+use moments::capped_moment_text;
 use std::alloc::Global;
 use std::io::{self, Write};
 use store_api::{RowsAbove, StorageFault};
@@ -20,8 +22,8 @@ use store_passes::{PassedRow, row_after};
 // The most statuses that an object may have.
 const MOST: usize = 6;
 
-/// A row with a status, of which there are six at most.
-pub(crate) trait Stated: PassedRow + Drop {
+// A row with a status, of which there are six at most.
+trait Stated: PassedRow + Drop {
     // The place of its stored status among those of its kind.
     ghost place: { Self → ℕ };
 
@@ -159,8 +161,8 @@ fn raise(counts: &mut [u64; MOST], place: usize)
     counts[place] = counts[place].saturating_add(1);
 }
 
-/// How many rows of a table have each status, by its place.
-pub(crate) fn tally<R: Stated, K: RowsAbove>(
+// How many rows of a table have each status, by its place.
+fn tally<R: Stated, K: RowsAbove>(
     alloc: Global,
     source: &mut K,
 ) -> Result<[u64; MOST], StorageFault>
@@ -176,8 +178,8 @@ pub(crate) fn tally<R: Stated, K: RowsAbove>(
     Ok(counts)
 }
 
-/// Writes how many rows of a table have each status.
-pub(crate) fn write_tally<R: Stated, K: RowsAbove, W: Write>(
+// Writes how many rows of a table have each status.
+fn write_tally<R: Stated, K: RowsAbove, W: Write>(
     alloc: Global,
     source: &mut K,
     out: &mut W,
@@ -189,4 +191,137 @@ pub(crate) fn write_tally<R: Stated, K: RowsAbove, W: Write>(
     let counts = tally::<R, K>(alloc, source)?;
     R::write_counts(out, &counts)?;
     Ok(())
+}
+
+// ---- about a desk
+
+/// What is known beside the rows of a desk.
+#[derive(Clone, Copy)]
+pub struct Beside {
+    /// The machine's moment, in seconds since 1970-01-01T00:00:00Z, or `None` where its clock tells none.
+    pub now: Option<u64>,
+    /// How many bytes the log had that stood beside the file.
+    pub log: u64,
+}
+
+/// By how many seconds the clock of a desk is ahead of the machine's, if it is.
+pub fn seconds_ahead(clock: u64, now: Option<u64>) -> Option<u64>
+    ensures { result ≡ ahead clock now }
+{
+    match now {
+        Some(now) if now < clock => Some(clock - now),
+        _ => None,
+    }
+}
+
+/// Writes what a desk was made with, its clock, how many of its objects have each stored status, and the size of its log. It
+/// keeps one object's rows at most.
+///
+/// # Errors
+///
+/// `Storage` where a growth was refused or the rows could not be read, `Output` where the writer failed.
+pub fn tell_about<K: RowsAbove, W: Write>(
+    alloc: Global,
+    source: &mut K,
+    out: &mut W,
+    beside: Beside,
+) -> Result<(), ReportFault>
+    ensures reads { Reports K.sight source.old source.new result }
+    ensures printed { ForTables K.sight source.old source.new (λ T. OnOk result
+        (Appends (W.contents out.old) (W.contents out.new) (about_text beside T))) }
+{
+    write_meta(alloc, source, out, beside.now)?;
+    write_statuses(alloc, source, out)?;
+    writeln!(out, "log: {}", beside.log)?;
+    Ok(())
+}
+
+// Writes what the desk was made with, and its clock.
+fn write_meta<K: RowsAbove, W: Write>(
+    alloc: Global,
+    source: &mut K,
+    out: &mut W,
+    now: Option<u64>,
+) -> Result<(), ReportFault>
+    ensures reads { Reports K.sight source.old source.new result }
+    ensures printed { ForTables K.sight source.old source.new (λ T. OnOk result (Appends (W.contents out.old) (W.contents out.new)
+        (meta_said now T.meta))) }
+{
+    let meta = source.meta_row(alloc)?;
+    write_known(alloc, out, &meta, now)?;
+    Ok(())
+}
+
+// Writes what the desk's own row tells.
+fn write_known<W: Write>(
+    alloc: Global,
+    out: &mut W,
+    meta: &Meta,
+    now: Option<u64>,
+) -> io::Result<()>
+    ensures { OnOk result (Appends (W.contents out.old) (W.contents out.new) (meta_said now meta.now)) }
+{
+    let clock = meta.counters.clock.moment();
+    write_base(out, &meta.policy)?;
+    write_lives(out, &meta.policy)?;
+    write_clock(alloc, out, clock, seconds_ahead(clock, now))
+}
+
+// Writes the format, which is today's in each file that was opened, and what each URL begins with.
+fn write_base<W: Write>(out: &mut W, policy: &Policy) -> io::Result<()>
+    ensures { OnOk result (Appends (W.contents out.old) (W.contents out.new) (base_said policy.now)) }
+{
+    let base = policy.base();
+    writeln!(out, "format: 2\nbase: {base}")
+}
+
+// Writes the lives that the desk was made with.
+fn write_lives<W: Write>(out: &mut W, policy: &Policy) -> io::Result<()>
+    ensures { OnOk result (Appends (W.contents out.old) (W.contents out.new) (lives_said policy.now)) }
+{
+    let nonce = policy.nonce_life();
+    let order = policy.order_life();
+    let authz = policy.authz_life();
+    writeln!(
+        out,
+        "nonce life: {nonce}\norder life: {order}\nauthorization life: {authz}"
+    )
+}
+
+// Writes the clock of the desk, and by how many seconds it is ahead of the machine's, if it is.
+fn write_clock<W: Write>(
+    alloc: Global,
+    out: &mut W,
+    clock: u64,
+    ahead: Option<u64>,
+) -> io::Result<()>
+    ensures { OnOk result (Appends (W.contents out.old) (W.contents out.new) (clock_said clock ahead)) }
+{
+    let text = capped_moment_text(alloc, clock)?;
+    let text = text.as_str();
+    match ahead {
+        Some(seconds) => {
+            writeln!(
+                out,
+                "clock: {text}, {seconds} seconds ahead of the machine's"
+            )
+        }
+        None => writeln!(out, "clock: {text}"),
+    }
+}
+
+/// Writes how many objects of each kind have each stored status.
+pub(crate) fn write_statuses<K: RowsAbove, W: Write>(
+    alloc: Global,
+    source: &mut K,
+    out: &mut W,
+) -> Result<(), ReportFault>
+    ensures reads { Reports K.sight source.old source.new result }
+    ensures printed { ForTables K.sight source.old source.new (λ T. OnOk result
+        (Appends (W.contents out.old) (W.contents out.new) (statuses_said T))) }
+{
+    write_tally::<AccountRow, K, W>(alloc, source, out)?;
+    write_tally::<AuthorizationRow, K, W>(alloc, source, out)?;
+    write_tally::<ChallengeRow, K, W>(alloc, source, out)?;
+    write_tally::<OrderRow, K, W>(alloc, source, out)
 }

@@ -1,7 +1,7 @@
 -- What is recorded of moves, and of a new order.
 use Rattle.std.proofs.Common.{◌≡◌, ℕ, ◌+◌, List, [], ◌∷◌, ◌++◌, map, length, refl, sym, ap, subst, ◌∙◌, append-nil, add-zero, ◌<◌}
 use Rattle.desk_model.specs.{Tables.Tables, History.terms_after, Nonce.issued_by, Account.opened_by, Authorization.count_challenges, Entry.entry_of}
-use Rattle.desk_model.specs.{Terms.Terms, declared.entry.Entry.Entry, declared.moves.Move.Move, declared.objects.Account.Account}
+use Rattle.desk_model.specs.{Terms.Terms, declared.entry.Entry.Entry, declared.entry.Move.Move, declared.objects.Account.Account}
 use Rattle.desk_model.specs.declared.{objects.Authorization.Authorization, objects.Nonce.Nonce, objects.Order.Order, rows.Counters.Counters}
 use Rattle.desk_model.specs.declared.{rows.AuthorizationRow.AuthorizationRow, rows.Change.Change, entry.Wanted.Wanted}
 use Rattle.desk_model.specs.Order.{listed_by, ordered_by}
@@ -10,7 +10,7 @@ use Rattle.desk_model.specs.Effect.{effect, effects, swept, swept_authorization,
 use Rattle.desk_model.specs.Effect.{new_authorizations, authorizations_after, noted_account, noted_order, touches_account, touches_authorization, touches_order}
 use Rattle.desk_model.specs.Change.{changes, moved_rows, account_differs, authorization_differs, order_differs, spent_by}
 use Rattle.desk_model.specs.declared.entry.Entry.TheVariants.{Issued as issued, Ordered as ordered, Spent as spent}
-use Rattle.desk_model.specs.declared.moves.Move.TheVariants as move
+use Rattle.desk_model.specs.declared.entry.Move.TheVariants as move
 use Rattle.desk_model.specs.declared.rows.Change.TheVariants.{PutNonce, RemoveNonce, PutAccount, PutAuthorization, PutOrder}
 use Rattle.model_laws.specs.Ordered.{Below, IsOrdered}
 use Rattle.model_laws.proofs.Basics.{each, each-map}

@@ -2,7 +2,7 @@
 use Rattle.std.proofs.Common.{◌≡◌, ℕ, List, [], ◌∷◌, ◌++◌, map, Bool, true, false, cond, Option, Some, None, refl, sym, ap, ◌∙◌, append-nil}
 use Rattle.std.specs.Prelude.{◌==◌, ◌||◌, find}
 use Rattle.std.specs.Option.{option_map}
-use Rattle.desk_model.specs.{Tables.Tables, Entry.entry_of, declared.entry.Entry.Entry, declared.moves.Move.Move, declared.rows.AccountRow.AccountRow}
+use Rattle.desk_model.specs.{Tables.Tables, Entry.entry_of, declared.entry.Entry.Entry, declared.entry.Move.Move, declared.rows.AccountRow.AccountRow}
 use Rattle.desk_model.specs.declared.rows.{AuthorizationRow.AuthorizationRow, OrderRow.OrderRow}
 use Rattle.desk_model.specs.Derived.{authorization_numbered, numbers_of, restated_authorization, restated_order}
 use Rattle.desk_model.specs.Document.{and_row, listed_rows, rows_of}

@@ -10,10 +10,11 @@ ghost use Rattle.desk_model.specs.declared.rows.Change.TheVariants.{PutAccount, 
 ghost use Rattle.core_changes.specs.Moved.{AreMoved, moved_one, row_of, standing_rows, stated_authorization, stated_order, stepped_rows, touched_one, touched_rows};
 ghost use Rattle.core_changes.specs.{Recorded.book_moves, declared.moved.Step.Step as StepOf};
 
-use crate::differing::{challenges_differ, is_gained, same_texts};
-use crate::noted::{account_end_by, end_after, note_contacts, note_key, noted_challenges};
+use crate::noted::{
+    account_end_by, challenges_differ, end_after, is_gained, note_contacts, note_key,
+    noted_challenges, same_texts, touches_authorization, touches_order,
+};
 use crate::orders::{note_dates, order_differs};
-use crate::touched::{touches_authorization, touches_order};
 use desk_book::{
     Book, Row, Table, authorization_status, derived_account, derived_authorization, derived_order,
     has_challenge, order_status,

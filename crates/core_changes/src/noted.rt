@@ -1,16 +1,79 @@
-//! Moves, written into the rows of accounts, challenges and authorizations.
-ghost use Rattle.std.specs.Prelude.{◌≡◌, map, unwrap_or, IfOk, OnOk};
-ghost use Rattle.desk_model.specs.{Entry.entry_of, History.earlier, Authorization.in_time, declared.entry.Entry.TheVariants.Reported as reported};
+//! Which rows a move touches, what it writes into those of accounts, challenges and authorizations, and which then differ.
+ghost use Rattle.std.specs.Prelude.{◌≡◌, map, unwrap_or, IfOk, OnOk, bytes_eq};
+ghost use Rattle.desk_model.specs.{Entry.entry_of, Lookup.holds, History.earlier, Authorization.in_time, declared.entry.Entry.TheVariants.Reported as reported};
+ghost use Rattle.desk_model.specs.Derived.{authorization_numbered, numbers_of};
+ghost use Rattle.desk_model.specs.Effect.{names_order, lists_one, touches_authorization, touches_order, noted_challenge, answered_challenge};
+ghost use Rattle.desk_model.specs.Effect.{reported_challenge, row_ends};
 ghost use Rattle.desk_model.specs.Account.{changing, rekeying, ends as account_ends};
-ghost use Rattle.desk_model.specs.Effect.{noted_challenge, answered_challenge, reported_challenge, row_ends};
+ghost use Rattle.std.specs.Cmp.Lexicographic.{pointwise};
+ghost use Rattle.std.specs.List.{list_any, zip};
+ghost use Rattle.desk_model.specs.Change.{is_gained, challenge_differs};
 
-use desk_book::{derived_challenge, has_challenge};
+use desk_book::{Book, derived_challenge, has_challenge};
 use desk_model::{
     AccountEnd, AccountRow, Answer, AuthorizationEnd, AuthorizationRow, ChallengeRow, EndKind,
-    Move, Outcome, Report, Sequence,
+    Listed, Move, OrderRow, Outcome, Report, Sequence, Text,
 };
 use keys::text_thumbprint;
 use std::alloc::{AllocError, Global};
+
+// ---- which rows a move touches
+
+/// Whether a move touches an authorization.
+pub(crate) fn touches_authorization(moved: &Move, row: &AuthorizationRow) -> bool
+    ensures { result ≡ touches_authorization (entry_of moved.now) row.now }
+{
+    match moved {
+        Move::Answered(challenge) => has_challenge(row, *challenge),
+        Move::Reported(challenge, _) => has_challenge(row, *challenge),
+        Move::AuthorizationEnded(number, _) => *number == row.number,
+        Move::AccountEnded(number, _) => *number == row.account,
+        _ => false,
+    }
+}
+
+// Whether a move names the order of a number.
+fn names_order(moved: &Move, number: u64) -> bool
+    ensures { result ≡ names_order (entry_of moved.now) number }
+{
+    match moved {
+        Move::Finalized(order, _) => *order == number,
+        Move::Certified(order, _) => *order == number,
+        Move::Failed(order, _) => *order == number,
+        _ => false,
+    }
+}
+
+// Whether a move touches the authorization of a number.
+fn touches_number(moved: &Move, book: &Book, number: u64) -> bool
+    ensures { result ≡ holds (touches_authorization (entry_of moved.now)) (authorization_numbered number book.now.authorizations) }
+{
+    match book.authorization(number) {
+        Some(row) => touches_authorization(moved, row),
+        None => false,
+    }
+}
+
+// Whether a move touches one of the authorizations that an order lists.
+fn lists_touched(moved: &Move, book: &Book, listed: &[Listed]) -> bool
+    ensures { result ≡ lists_one (touches_authorization (entry_of moved.now)) book.now.authorizations (numbers_of listed.now) }
+{
+    for place in listed {
+        if touches_number(moved, book, place.authorization) {
+            return true;
+        }
+    }
+    false
+}
+
+/// Whether a move touches an order: it names it, or touches an authorization that it lists.
+pub(crate) fn touches_order(moved: &Move, book: &Book, row: &OrderRow) -> bool
+    ensures { result ≡ touches_order (entry_of moved.now) book.now.authorizations row.now }
+{
+    names_order(moved, row.number) || lists_touched(moved, book, row.listed.as_slice())
+}
+
+// ---- what it writes into them
 
 // ---- accounts
 
@@ -172,4 +235,40 @@ pub(crate) fn end_after(
 {
     row.ended
         .or(in_time(row.expires, end_by(moved, moment, row)))
+}
+
+// ---- which then differ
+
+/// Whether there was no fact and now is one.
+pub(crate) fn is_gained<F>(before: &Option<F>, after: &Option<F>) -> bool
+    ensures { result ≡ is_gained before.now after.now }
+{
+    before.is_none() && after.is_some()
+}
+
+/// Whether texts are the same, one by one.
+pub(crate) fn same_texts(before: &[Text], after: &[Text]) -> bool
+    ensures { result ≡ pointwise bytes_eq before.now after.now }
+{
+    before == after
+}
+
+// Whether a challenge has an answer or a report that it had not, or another status.
+fn challenge_differs(before: &ChallengeRow, after: &ChallengeRow) -> bool
+    ensures { result ≡ challenge_differs before.now after.now }
+{
+    is_gained(&before.answered, &after.answered)
+        || is_gained(&before.reported, &after.reported)
+        || before.status != after.status
+}
+
+/// Whether one of the challenges of an authorization differs.
+pub(crate) fn challenges_differ(before: &[ChallengeRow], after: &[ChallengeRow]) -> bool
+    ensures { result ≡ list_any (λ p. challenge_differs p.0 p.1) (zip before.now after.now) }
+{
+    let (Some((old, before)), Some((new, after))) = (before.split_first(), after.split_first())
+    else {
+        return false;
+    };
+    challenge_differs(old, new) || challenges_differ(before, after)
 }

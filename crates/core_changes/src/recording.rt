@@ -11,9 +11,8 @@ ghost use Rattle.desk_model.specs.declared.entry.Entry.TheVariants.{Issued as is
 ghost use Rattle.desk_model.specs.declared.rows.Change.TheVariants.{PutMeta, PutNonce, RemoveNonce, PutAccount, PutAuthorization, PutOrder};
 ghost use Rattle.desk_model.specs.declared.status.AccountStatus.TheVariants as account;
 
-use crate::making::{Making, push_authorizations};
 use crate::moved::{MovedRows, push_change, record_rows};
-use crate::orders::made_order;
+use crate::orders::{Making, made_order, push_authorizations};
 use desk_book::{Book, sweep_changes};
 use desk_model::{
     AccountRow, AccountStatus, AuthorizationRow, Change, Clock, Counters, Jwk, Meta, Move, Nonce,

@@ -8,10 +8,10 @@ ghost use Rattle.moments.specs.Capped.{capped};
 ghost use Rattle.core_replies.specs.Shown.{authorization_members, capped_authorization, capped_challenge, capped_report, challenge_members, shown_challenge};
 ghost use Rattle.core_replies.specs.Texts.{HasMembers};
 
-use crate::json_text::JsonText;
-use crate::lists::{ListItem, write_list};
-use crate::objects::{ShowsObject, write_error, write_identifier, write_object};
-use crate::urls::numbered_url;
+use crate::json_text::{
+    JsonText, ListItem, ShowsObject, write_error, write_identifier, write_list, write_object,
+};
+use crate::replies::numbered_url;
 use desk_model::{AuthorizationRow, ChallengeRow, Outcome, Policy, Report};
 use keys::token_text;
 use moments::capped_moment_text;

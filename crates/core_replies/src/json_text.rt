@@ -1,11 +1,19 @@
-//! The text of a JSON value, written from its beginning to its end (RFC 8259).
-ghost use Rattle.std.specs.Prelude.{◌≡◌, ◌∷◌, ◌++◌, [], IfOk, OnOk, List, ℕ, decimal, string_bytes, true};
+//! The text of a JSON value, written from its beginning to its end (RFC 8259): members of objects, values of lists.
+ghost use Rattle.std.specs.Prelude.{◌≡◌, ◌∷◌, ◌++◌, [], IfOk, OnOk, List, ℕ, decimal, string_bytes, true, IsTrue, codes};
 ghost use Rattle.json.specs.{Lex.tokens, Print.print};
 ghost use Rattle.json.specs.Token.{Token as JsonToken, begin_array, begin_object, end_array, end_object, key};
-ghost use Rattle.serde_json.specs.Data.{boolean, number, string, unsigned};
-ghost use Rattle.core_replies.specs.Texts.{HasMembers, HasValues};
+ghost use Rattle.serde_json.specs.Data.{boolean, number, string, unsigned, Data};
+ghost use Rattle.core_replies.specs.Texts.{HasMembers, HasValues, AreInOrder, IsText};
+ghost use Rattle.desk_model.specs.Document.{error, identifier};
+ghost use Rattle.desk_model.specs.Json.{document, list};
+ghost use Rattle.desk_model.specs.Plain.{is_document};
+ghost use Rattle.core_replies.specs.Shown.{error_members};
+ghost use Rattle.std.specs.List.{flat_map};
 
+use desk_book::{Row, Table};
+use desk_model::{DNS, Document};
 use json::Writer;
+use json_texts::type_text;
 use std::alloc::{AllocError, Global};
 use std::marker::Model;
 
@@ -167,4 +175,180 @@ impl JsonText {
         self.name(name)?;
         self.true_token()
     }
+}
+
+// ---- objects by their members: identifiers and errors (RFC 8555, 6.7, 7.1)
+
+/// What a JSON object shows, by what else it is told.
+pub(crate) trait ShowsObject<C> {
+    // The members.
+    ghost members: { C → Self → List (List ℕ × Data) };
+
+    /// Writes its members, in the order of their names.
+    fn write_members(&self, text: &mut JsonText, by: &C) -> Result<(), AllocError>
+        ensures written { OnOk result (HasMembers text.old text.new (members by.now self.now)) }
+        ensures in_order { OnOk result (AreInOrder (members by.now self.now)) };
+}
+
+/// Writes the object that something shows.
+pub(crate) fn write_object<C, T: ShowsObject<C>>(
+    text: &mut JsonText,
+    shown: &T,
+    by: &C,
+) -> Result<(), AllocError>
+    ensures { OnOk result (HasValues text.old text.new (document (T.members by.now shown.now) ∷ [])) }
+{
+    text.begin_object()?;
+    shown.write_members(text, by)?;
+    text.end_object()
+}
+
+/// The document that something shows.
+pub(crate) fn shown_document<C, T: ShowsObject<C>>(
+    alloc: Global,
+    shown: &T,
+    by: &C,
+) -> Result<Document, AllocError>
+    requires { IsTrue (is_document (document (T.members by.now shown.now))) }
+    ensures { IfOk result (λ d. d ≡ document (T.members by.now shown.now)) }
+{
+    let mut text = JsonText::new(alloc)?;
+    let written = write_object(&mut text, shown, by);
+    document_of(text, written)
+}
+
+// The document of a text, if the whole of it was written.
+fn document_of(text: JsonText, written: Result<(), AllocError>) -> Result<Document, AllocError>
+    requires { OnOk written ((d : Data) × IsText text d) }
+    ensures { (d : Data) → OnOk written (IsText text d) → IfOk result (λ shown. shown ≡ d) }
+{
+    written?;
+    Ok(Document::of_text(text.into_string()))
+}
+
+/// Writes an identifier with its text (RFC 8555, 7.1.3).
+pub(crate) fn write_identifier(text: &mut JsonText, value: &str) -> Result<(), AllocError>
+    ensures { OnOk result (HasValues text.old text.new (identifier value.now ∷ [])) }
+{
+    text.begin_object()?;
+    text.member("type", DNS)?;
+    text.member("value", value)?;
+    text.end_object()
+}
+
+/// Writes a member `error`: its type without the prefix, a text for people, and a status (RFC 8555, 6.7).
+pub(crate) fn write_error(
+    text: &mut JsonText,
+    kind: &str,
+    detail: &str,
+    status: u16,
+) -> Result<(), AllocError>
+    ensures { OnOk result (HasMembers text.old text.new ((codes "error", error kind.now detail.now status) ∷ [])) }
+{
+    text.name("error")?;
+    text.begin_object()?;
+    write_error_members(text, kind, detail, status)?;
+    text.end_object()
+}
+
+// Writes the members of an error.
+fn write_error_members(
+    text: &mut JsonText,
+    kind: &str,
+    detail: &str,
+    status: u16,
+) -> Result<(), AllocError>
+    ensures { OnOk result (HasMembers text.old text.new (error_members kind.now detail.now status)) }
+{
+    text.member("detail", detail)?;
+    text.number_member("status", u64::from(status))?;
+    let kind = type_text(text.alloc(), kind);
+    text.made_member("type", kind)
+}
+
+// ---- lists of what the items of a slice, or the rows of a table, show
+
+/// What shows values in a list, by what else the list knows.
+pub(crate) trait ListItem<C> {
+    // The values.
+    ghost values: { C → Self → List Data };
+
+    /// Writes the values.
+    fn write_shown(&self, text: &mut JsonText, by: &C) -> Result<(), AllocError>
+        ensures { OnOk result (HasValues text.old text.new (values by.now self.now)) };
+}
+
+/// Writes what each item shows.
+pub(crate) fn write_each<C, T: ListItem<C>>(
+    text: &mut JsonText,
+    items: &[T],
+    by: &C,
+) -> Result<(), AllocError>
+    ensures { OnOk result (HasValues text.old text.new (flat_map (T.values by.now) items.now)) }
+{
+    for item in items {
+        item.write_shown(text, by)?;
+    }
+    Ok(())
+}
+
+/// Writes a member that is the list of what the items show.
+pub(crate) fn write_list<C, T: ListItem<C>>(
+    text: &mut JsonText,
+    name: &str,
+    items: &[T],
+    by: &C,
+) -> Result<(), AllocError>
+    ensures { OnOk result (HasMembers text.old text.new ((name.now, list (flat_map (T.values by.now) items.now)) ∷ [])) }
+{
+    text.name(name)?;
+    text.begin_list()?;
+    write_each(text, items, by)?;
+    text.end_list()
+}
+
+// Writes what the rows of a table show.
+fn write_rows<C, R: Row + Drop + ListItem<C>>(
+    text: &mut JsonText,
+    rows: &Table<R>,
+    by: &C,
+) -> Result<(), AllocError>
+    ensures { OnOk result (HasValues text.old text.new (flat_map (R.values by.now) rows.now)) }
+{
+    for row in rows.iter() {
+        row.write_shown(text, by)?;
+    }
+    Ok(())
+}
+
+// Writes an object whose one member is the list of what the rows of a table show.
+fn write_listing<C, R: Row + Drop + ListItem<C>>(
+    text: &mut JsonText,
+    name: &str,
+    rows: &Table<R>,
+    by: &C,
+) -> Result<(), AllocError>
+    ensures { OnOk result (HasValues text.old text.new (document ((name.now, list (flat_map (R.values by.now) rows.now)) ∷ []) ∷ [])) }
+{
+    text.begin_object()?;
+    text.name(name)?;
+    text.begin_list()?;
+    write_rows(text, rows, by)?;
+    text.end_list()?;
+    text.end_object()
+}
+
+/// The document of that object.
+pub(crate) fn listing_document<C, R: Row + Drop + ListItem<C>>(
+    alloc: Global,
+    name: &str,
+    rows: &Table<R>,
+    by: &C,
+) -> Result<Document, AllocError>
+    requires { IsTrue (is_document (document ((name.now, list (flat_map (R.values by.now) rows.now)) ∷ []))) }
+    ensures { IfOk result (λ d. d ≡ document ((name.now, list (flat_map (R.values by.now) rows.now)) ∷ [])) }
+{
+    let mut text = JsonText::new(alloc)?;
+    let written = write_listing(&mut text, name, rows, by);
+    document_of(text, written)
 }

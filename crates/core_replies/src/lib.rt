@@ -4,15 +4,10 @@
 mod authorization_documents;
 mod documents;
 mod json_text;
-mod key_documents;
 mod list_replies;
-mod lists;
 mod object_replies;
-mod objects;
 mod order_documents;
 mod replies;
-mod urls;
-mod work_documents;
 
 pub use list_replies::list_reply;
 pub use object_replies::{

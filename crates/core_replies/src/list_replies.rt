@@ -2,9 +2,8 @@
 ghost use Rattle.std.specs.Prelude.{◌≡◌, IfOk};
 ghost use Rattle.desk_model.specs.Shown.{list_reply};
 
-use crate::lists::listing_document;
+use crate::json_text::{listing_document, shown_document};
 use crate::object_replies::json_reply;
-use crate::objects::shown_document;
 use desk_book::At;
 use desk_model::{Listing, Reply};
 use std::alloc::{AllocError, Global};

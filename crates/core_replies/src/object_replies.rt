@@ -7,9 +7,8 @@ ghost use Rattle.desk_model.specs.Shown.{account_reply, at, authorization_reply,
 ghost use Rattle.desk_model.specs.Shown.{located_account, located_order, ok, order_reply, taken_reply};
 ghost use Rattle.core_replies.specs.Shown.{HasDatedReport, HasMoments};
 
-use crate::objects::shown_document;
-use crate::replies::refusal_reply;
-use crate::urls::numbered_url;
+use crate::json_text::shown_document;
+use crate::replies::{numbered_url, refusal_reply};
 use desk_model::{
     AccountRow, AuthorizationRow, Body, ChallengeRow, DatedBytes, DnsName, Document, OrderRow,
     Policy, Refusal, Reply, Sequence, Text,

@@ -7,10 +7,10 @@ ghost use Rattle.desk_model.specs.Document.{order_error, identifier, certificate
 ghost use Rattle.core_replies.specs.Shown.{capped_order, listed_order, order_members};
 ghost use Rattle.core_replies.specs.Texts.{HasMembers};
 
-use crate::json_text::JsonText;
-use crate::lists::{ListItem, write_list};
-use crate::objects::{ShowsObject, write_error, write_identifier};
-use crate::urls::{numbered_url, url_below};
+use crate::json_text::{
+    JsonText, ListItem, ShowsObject, write_error, write_identifier, write_list,
+};
+use crate::replies::{numbered_url, url_below};
 use desk_book::{Book, Table, order_status};
 use desk_model::{AuthorizationRow, DatedProblem, DnsName, Listed, OrderRow, OrderStatus, Policy};
 use moments::capped_moment_text;

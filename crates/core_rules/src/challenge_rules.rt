@@ -1,12 +1,12 @@
-//! The rules on challenges (RFC 8555, 7.5.1, 8).
+//! The rules on challenges and on authorizations (RFC 8555, 7.5, 7.5.1, 8).
 ghost use Rattle.std.specs.Prelude.{◌≡◌, Some};
 ghost use Rattle.desk_model.specs.{Lookup.holds, Questions.challenge_of};
-ghost use Rattle.desk_model.specs.Rules.{challenge_verdict, outcome_of, outcome_verdict, same_outcome, judged};
+ghost use Rattle.desk_model.specs.Rules.{challenge_verdict, outcome_of, outcome_verdict, same_outcome, judged, authorization_verdict};
 
-use crate::verdicts::refused;
+use crate::judging::refused;
 use desk_model::{
-    AuthorizationRow, AuthzStatus, ChallengeChange, ChallengeRow, FetchError, Finding, Kind, Move,
-    Outcome, Refusal, Shows, Verdict,
+    AuthorizationChange, AuthorizationRow, AuthzStatus, ChallengeChange, ChallengeRow, Ending,
+    FetchError, Finding, Kind, Move, Outcome, Refusal, Shows, Verdict,
 };
 use keys::{dns_matches, http_matches};
 use std::alloc::Global;
@@ -88,4 +88,26 @@ pub(crate) fn outcome_verdict(
         return Verdict::Moves(Move::Reported(number, outcome));
     }
     refused(alloc, Refusal::Conflict)
+}
+
+// ---- authorizations
+
+/// A request to an authorization: one that is over already stays as it is (RFC 8555, 7.5.2).
+#[tactic(auto, unfolding(desk_model::specs::Verdict::choose))]
+pub(crate) fn authorization_verdict(
+    number: u64,
+    row: &AuthorizationRow,
+    status: AuthzStatus,
+    change: AuthorizationChange,
+) -> Verdict
+    ensures { result ≡ authorization_verdict number (record row.now { status = status }) change }
+{
+    match change {
+        AuthorizationChange::Deactivate if status.is_live() => {
+            Verdict::Moves(Move::AuthorizationEnded(number, Ending::Deactivated))
+        }
+        AuthorizationChange::Deactivate | AuthorizationChange::Read => {
+            Verdict::Answers(Shows::Authorization(number))
+        }
+    }
 }

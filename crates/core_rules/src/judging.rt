@@ -1,10 +1,12 @@
-//! Verdicts on signed requests (RFC 8555, 6).
-ghost use Rattle.std.specs.Prelude.{◌≡◌, drop, option_map};
+//! Verdicts on signed requests (RFC 8555, 6): their nonce, their key and their target.
+ghost use Rattle.std.specs.Prelude.{◌≡◌, [], drop, option_map, IfOk};
 ghost use Rattle.serde_json.specs.View.{view};
 ghost use Rattle.core_rules.specs.Needs.{IsJudged};
-ghost use Rattle.desk_model.specs.{Payload.object_in, Questions.account_with_key};
-ghost use Rattle.desk_model.specs.Rules.{key_verdict, signed_verdict, target_verdict};
+ghost use Rattle.desk_model.specs.{Payload.object_in, Questions.account_with_key, Effect.swept, Tokens.nonce_in};
+ghost use Rattle.desk_model.specs.{declared.verdict.Verdict.TheVariants.Refused as refused};
+ghost use Rattle.desk_model.specs.Rules.{key_verdict, signed_verdict, target_verdict, open_nonce, open_nonce_in};
 ghost use Rattle.identifiers.specs.AskedOrders.{target_order};
+ghost use Rattle.model_laws.specs.Ordered.{IsOrdered};
 
 use crate::accounts::unknown_key_verdict;
 use crate::fault::CoreFault;
@@ -14,11 +16,11 @@ use crate::targets::{
     account_target, authorization_target, certificate_target, challenge_target, finalize_target,
     key_change_target, new_account_target, order_target, orders_target,
 };
-use crate::verdicts::refused;
-use desk_book::At;
-use desk_model::{Jwk, Refusal, Target, Verdict};
+use desk_book::{At, Book};
+use desk_model::{Jwk, Refusal, Sequence, Subproblem, Target, Text, Verdict};
 use identifiers::{AskedOrder, ParsedSigned};
-use std::alloc::Global;
+use keys::read_nonce;
+use std::alloc::{AllocError, Global};
 
 // A request of the holder of a valid account, by its target (RFC 8555, 7.3 to 7.5).
 fn target_verdict(
@@ -100,4 +102,77 @@ pub fn judge_signed(
         signed.order(),
         request.target,
     )
+}
+
+// ---- the nonce (RFC 8555, 6.5)
+
+// The serial of a nonce's text that is spelled, and open: not past its life, and with these random bytes.
+fn open_serial(book: &Book, moment: u64, text: &str) -> Option<u64>
+    ensures { IsOrdered book.now → result ≡ open_nonce_in (swept moment book.now) (nonce_in text.now) }
+{
+    let (serial, random) = read_nonce(text)?;
+    let nonce = book.nonce(serial)?;
+    if book.meta().policy.lasts(moment, nonce) && nonce.random == random {
+        Some(serial)
+    } else {
+        None
+    }
+}
+
+/// The serial of the open nonce that a request carries.
+pub fn open_nonce(book: &Book, moment: u64, text: &Option<Text>) -> Option<u64>
+    ensures { IsOrdered book.now → result ≡ open_nonce (swept moment book.now) text.now }
+{
+    match text {
+        Some(text) => open_serial(book, moment, text.as_str()),
+        None => None,
+    }
+}
+
+// ---- refusals as verdicts
+
+/// The request is refused, not by its identifiers.
+pub(crate) fn refused(alloc: Global, refusal: Refusal) -> Verdict
+    ensures { result ≡ refused refusal [] }
+{
+    Verdict::Refused {
+        refusal,
+        subproblems: Sequence::new(Vec::new(alloc)),
+    }
+}
+
+// The same subproblem, for a verdict of its own.
+fn copy_of(subproblem: &Subproblem) -> Result<Subproblem, AllocError>
+    ensures { IfOk result (λ s. s ≡ subproblem.now) }
+{
+    Ok(Subproblem {
+        refusal: subproblem.refusal,
+        kind: subproblem.kind.clone()?,
+        value: subproblem.value.clone()?,
+    })
+}
+
+// The same subproblems.
+fn copies_of(alloc: Global, subproblems: &[Subproblem]) -> Result<Vec<Subproblem>, AllocError>
+    ensures { IfOk result (λ v. v.items ≡ subproblems.now) }
+{
+    let mut copies = Vec::new(alloc);
+    for subproblem in subproblems {
+        copies.push(copy_of(subproblem)?)?;
+    }
+    Ok(copies)
+}
+
+/// The request is refused, by these identifiers.
+pub(crate) fn refused_by(
+    alloc: Global,
+    refusal: Refusal,
+    subproblems: &[Subproblem],
+) -> Result<Verdict, AllocError>
+    ensures { IfOk result (λ v. v ≡ refused refusal subproblems.now) }
+{
+    Ok(Verdict::Refused {
+        refusal,
+        subproblems: Sequence::new(copies_of(alloc, subproblems)?),
+    })
 }

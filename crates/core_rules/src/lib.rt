@@ -2,23 +2,17 @@
 #![tactic(auto)]
 
 mod accounts;
-mod authorization_rules;
 mod challenge_rules;
-mod contacts;
 mod fault;
 mod judging;
-mod key_rules;
 mod limits;
 mod new_orders;
-mod nonces;
 mod offices;
 mod order_rules;
 mod payload;
 mod targets;
-mod verdicts;
 
 pub use fault::CoreFault;
-pub use judging::judge_signed;
+pub use judging::{judge_signed, open_nonce};
 pub use limits::{first_random, has_room};
-pub use nonces::open_nonce;
 pub use offices::judge_office;

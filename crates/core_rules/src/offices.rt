@@ -6,7 +6,7 @@ ghost use Rattle.desk_model.specs.Rules.{certify_verdict, fail_verdict, is_revok
 ghost use Rattle.desk_model.specs.Rules.{report_verdict, revoke_account, revoke_authorization, same_problem};
 
 use crate::challenge_rules::{outcome_of, outcome_verdict};
-use crate::verdicts::refused;
+use crate::judging::refused;
 use desk_book::At;
 use desk_model::{
     AccountRow, AuthzStatus, Ending, Finding, LONGEST_CERTIFICATE, Listing, Move, OfficeAsk,

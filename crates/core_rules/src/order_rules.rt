@@ -2,11 +2,11 @@
 ghost use Rattle.std.specs.Prelude.{◌≡◌, IfOk, MatchResult};
 ghost use Rattle.desk_model.specs.{Order.is_ready, Rules.csr_in, declared.verdict.Verdict.TheVariants.Moves as moves};
 ghost use Rattle.desk_model.specs.Verdict.{check, given};
-ghost use Rattle.desk_model.specs.declared.moves.Move.TheVariants as move;
+ghost use Rattle.desk_model.specs.declared.entry.Move.TheVariants as move;
 ghost use Rattle.core_rules.specs.declared.fault.CoreFault.TheVariants.{Memory};
 
 use crate::fault::CoreFault;
-use crate::verdicts::refused;
+use crate::judging::refused;
 use desk_model::{LONGEST_CSR, Move, OrderStatus, Refusal, Sequence, Verdict};
 use keys::from_base64url;
 use std::alloc::{AllocError, Global};

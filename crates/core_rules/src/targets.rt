@@ -11,17 +11,15 @@ ghost use Rattle.desk_model.specs.declared.verdict.Shows.TheVariants as show;
 ghost use Rattle.desk_model.specs.declared.verdict.Listing.TheVariants as list;
 ghost use Rattle.core_rules.specs.declared.fault.CoreFault.TheVariants.{Memory};
 
-use crate::accounts::account_verdict;
-use crate::authorization_rules::authorization_verdict;
-use crate::challenge_rules::challenge_verdict;
+use crate::accounts::{account_verdict, key_change_verdict};
+use crate::challenge_rules::{authorization_verdict, challenge_verdict};
 use crate::fault::CoreFault;
-use crate::key_rules::key_change_verdict;
+use crate::judging::refused;
 use crate::order_rules::finalize_verdict;
 use crate::payload::{
     Payload, account_change, authorization_change, challenge_change, finalize, key_change,
     new_account,
 };
-use crate::verdicts::refused;
 use desk_book::At;
 use desk_model::{
     AccountStatus, AuthorizationRow, AuthzStatus, Listing, OrderRow, OrderStatus, Refusal, Shows,

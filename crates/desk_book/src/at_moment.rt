@@ -1,15 +1,21 @@
-//! A book at a moment, as rules read it.
-ghost use Rattle.std.specs.Prelude.{◌≡◌, option_copied, option_map, Some, None, MatchOption};
-ghost use Rattle.desk_model.specs.Effect.{swept};
-ghost use Rattle.desk_model.specs.Questions.{account_on, account_with_key, authorization_on, challenge_of, order_on, owner_on, serving_on};
+//! A book at a moment, as rules read it, and the changes that the passing of time makes (RFC 8555, 7.1.6).
+ghost use Rattle.std.specs.Prelude.{◌≡◌, ◌+◌, ◌==◌, ◌++◌, option_copied, option_map, Some, None, MatchOption, find, nat_le, map, IfOk, OnOk};
+ghost use Rattle.desk_model.specs.Effect.{swept, swept_authorization, swept_order, is_overdue, falls, lists_one};
+ghost use Rattle.desk_model.specs.Questions.{account_on, account_with_key, authorization_on, challenge_of, order_on, owner_on, serving_on, serves};
+ghost use Rattle.std.specs.List.{list_any};
+ghost use Rattle.desk_model.specs.Lookup.{holds};
+ghost use Rattle.desk_model.specs.Derived.{authorization_numbered, numbers_of};
+ghost use Rattle.desk_model.specs.Change.{sweep_changes, nonces_gone, authorizations_expired, orders_fallen};
+ghost use Rattle.desk_model.specs.declared.rows.Change.TheVariants.{RemoveNonce, PutAuthorization, PutOrder};
 
 use crate::book::Book;
-use crate::serving::{Need, serving_row};
-use crate::standing::{authorization_status, challenge_of, order_status};
+use crate::derived::is_past;
+use crate::table::Table;
 use desk_model::{
-    AccountRow, AuthorizationRow, AuthzStatus, ChallengeRow, Counters, DnsName, OrderRow,
-    OrderStatus, Policy,
+    AccountRow, AuthorizationRow, AuthzStatus, ChallengeRow, Change, Counters, DnsName, Listed,
+    OrderRow, OrderStatus, Policy,
 };
+use std::alloc::{AllocError, Global};
 use std::marker::Model;
 
 /// A book at a moment; contracts see the tables that stand then, rows with the statuses that the passing of time leaves.
@@ -116,4 +122,186 @@ impl<'a> At<'a> {
         let row = self.book.order(number)?;
         Some((row, order_status(self.book, self.moment, row)))
     }
+}
+
+// ---- which authorization an order uses again (RFC 8555, 7.4)
+
+// What an order asks of an authorization that it uses again.
+#[derive(Clone, Copy)]
+struct Need<'a> {
+    // The account that orders.
+    account: u64,
+    // The name that the order asks for.
+    name: &'a DnsName,
+    // When the order is made, in seconds since 1970.
+    moment: u64,
+    // The life of orders, in seconds.
+    life: u64,
+}
+
+// Whether what expires then lives as long as an order that is made at a moment.
+fn outlives(moment: u64, life: u64, expires: u64) -> bool
+    ensures { result ≡ nat_le (moment + life) expires }
+{
+    life <= expires && moment <= expires - life
+}
+
+// Whether an authorization of this status serves.
+fn serves_with(need: &Need, row: &AuthorizationRow, status: AuthzStatus) -> bool
+    ensures { result ≡ serves need.now.account need.now.name.now (need.now.moment + need.now.life) (record row.now { status = status }) }
+{
+    status.is_valid()
+        && row.account == need.account
+        && row.name.is_same(need.name)
+        && outlives(need.moment, need.life, row.expires)
+}
+
+// Whether an authorization serves, as it stands at the moment.
+fn serves(need: &Need, row: &AuthorizationRow) -> bool
+    ensures { result ≡ serves need.now.account need.now.name.now (need.now.moment + need.now.life) (swept_authorization need.now.moment row.now) }
+{
+    serves_with(need, row, authorization_status(need.moment, row))
+}
+
+// The first row that serves, as it stands at the moment.
+fn serving_row<'a>(rows: &'a Table<AuthorizationRow>, need: &Need) -> Option<&'a AuthorizationRow>
+    ensures { option_copied result
+        ≡ find (λ r. serves need.now.account need.now.name.now (need.now.moment + need.now.life) (swept_authorization need.now.moment r)) rows.now }
+{
+    for row in rows.iter() {
+        if serves(need, row) {
+            return Some(row);
+        }
+    }
+    None
+}
+
+// ---- rows with the statuses that the passing of time leaves
+
+/// The status of an authorization at a moment.
+pub fn authorization_status(moment: u64, row: &AuthorizationRow) -> AuthzStatus
+    ensures { result ≡ (swept_authorization moment row.now).status }
+{
+    if is_overdue(moment, row) {
+        AuthzStatus::Expired
+    } else {
+        row.status
+    }
+}
+
+/// The status of an order of a book at a moment.
+pub fn order_status(book: &Book, moment: u64, row: &OrderRow) -> OrderStatus
+    ensures { result ≡ (swept_order moment book.now.authorizations row.now).status }
+{
+    if falls(moment, book.authorizations(), row) {
+        OrderStatus::Invalid
+    } else {
+        row.status
+    }
+}
+
+/// The challenge of a number among those of an authorization.
+pub fn challenge_of(row: &AuthorizationRow, number: u64) -> Option<&ChallengeRow>
+    ensures { option_copied result ≡ challenge_of number row.now }
+{
+    for challenge in row.challenges.as_slice() {
+        if challenge.number == number {
+            return Some(challenge);
+        }
+    }
+    None
+}
+
+// ---- what is past its end
+
+// Whether an authorization that can still serve is past its end.
+fn is_overdue(moment: u64, row: &AuthorizationRow) -> bool
+    ensures { result ≡ is_overdue moment row.now }
+{
+    row.status.is_live() && is_past(row.expires, moment)
+}
+
+fn is_overdue_number(moment: u64, rows: &Table<AuthorizationRow>, number: u64) -> bool
+    ensures { result ≡ holds (is_overdue moment) (authorization_numbered number rows.now) }
+{
+    match rows.get(number) {
+        Some(row) => is_overdue(moment, row),
+        None => false,
+    }
+}
+
+fn any_overdue(moment: u64, rows: &Table<AuthorizationRow>, listed: &[Listed]) -> bool
+    ensures { result ≡ list_any (λ l. holds (is_overdue moment) (authorization_numbered l.authorization rows.now)) listed.now }
+{
+    for one in listed {
+        if is_overdue_number(moment, rows, one.authorization) {
+            return true;
+        }
+    }
+    false
+}
+
+fn lists_overdue(moment: u64, rows: &Table<AuthorizationRow>, row: &OrderRow) -> bool
+    ensures { result ≡ lists_one (is_overdue moment) rows.now (numbers_of row.now.listed) }
+{
+    any_overdue(moment, rows, row.listed.as_slice())
+}
+
+// Whether an order turns invalid by the passing of time, its own or that of an authorization that it lists.
+fn falls(moment: u64, rows: &Table<AuthorizationRow>, row: &OrderRow) -> bool
+    ensures { result ≡ falls moment rows.now row.now }
+{
+    row.status.is_live() && (is_past(row.expires, moment) || lists_overdue(moment, rows, row))
+}
+
+/// The changes of rows that the passing of time makes, up to a moment.
+///
+/// # Errors
+///
+/// Where there is no memory for them.
+pub fn sweep_changes(alloc: Global, book: &Book, moment: u64) -> Result<Vec<Change>, AllocError>
+    ensures { IfOk result (λ v. v.items ≡ sweep_changes moment book.now) }
+{
+    let mut changes = Vec::new(alloc);
+    remove_gone(&mut changes, book, moment)?;
+    push_expired(&mut changes, book, moment)?;
+    push_fallen(&mut changes, book, moment)?;
+    Ok(changes)
+}
+
+fn remove_gone(changes: &mut Vec<Change>, book: &Book, moment: u64) -> Result<(), AllocError>
+    ensures { OnOk result (changes.new.items ≡ changes.old.items ++ map RemoveNonce (nonces_gone moment book.now)) }
+{
+    for nonce in book.nonces().iter() {
+        if !book.meta().policy.lasts(moment, nonce) {
+            changes.push(Change::RemoveNonce(nonce.serial))?;
+        }
+    }
+    Ok(())
+}
+
+fn push_expired(changes: &mut Vec<Change>, book: &Book, moment: u64) -> Result<(), AllocError>
+    ensures { OnOk result (changes.new.items ≡ changes.old.items ++ map PutAuthorization (authorizations_expired moment book.now)) }
+{
+    for row in book.authorizations().iter() {
+        if is_overdue(moment, row) {
+            let mut expired = row.clone()?;
+            expired.status = AuthzStatus::Expired;
+            changes.push(Change::PutAuthorization(expired))?;
+        }
+    }
+    Ok(())
+}
+
+fn push_fallen(changes: &mut Vec<Change>, book: &Book, moment: u64) -> Result<(), AllocError>
+    ensures { OnOk result (changes.new.items ≡ changes.old.items ++ map PutOrder (orders_fallen moment book.now)) }
+{
+    for row in book.orders().iter() {
+        if falls(moment, book.authorizations(), row) {
+            let mut fallen = row.clone()?;
+            fallen.status = OrderStatus::Invalid;
+            changes.push(Change::PutOrder(fallen))?;
+        }
+    }
+    Ok(())
 }

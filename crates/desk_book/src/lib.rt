@@ -5,17 +5,12 @@ mod at_moment;
 mod book;
 mod derived;
 mod row;
-mod serving;
-mod standing;
-mod sweep;
 mod table;
 
-pub use at_moment::At;
+pub use at_moment::{At, authorization_status, challenge_of, order_status, sweep_changes};
 pub use book::{Book, has_challenge};
 pub use derived::{
     derived_account, derived_authorization, derived_challenge, derived_order, is_past,
 };
 pub use row::Row;
-pub use standing::{authorization_status, challenge_of, order_status};
-pub use sweep::sweep_changes;
 pub use table::Table;

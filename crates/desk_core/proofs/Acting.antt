@@ -4,7 +4,7 @@ use Rattle.model_laws.specs.Ordered.{IsOrdered}
 use Rattle.desk_model.specs.Decide.{entries_of, verdict_reply}
 use Rattle.desk_model.specs.Effect.{effects, swept}
 use Rattle.desk_model.specs.{Entry.entry_of, Shown.moved_reply, Tables.Tables, declared.rows.Counters.Counters, declared.entry.Entry.Entry}
-use Rattle.desk_model.specs.declared.{moves.Move.Move, reply.Reply.Reply, rows.Change.Change, verdict.Verdict.Verdict}
+use Rattle.desk_model.specs.declared.{entry.Move.Move, reply.Reply.Reply, rows.Change.Change, verdict.Verdict.Verdict}
 use Rattle.desk_model.specs.declared.verdict.Verdict.TheVariants.{Refused as refused, KeyTaken as key_taken, Moves as moves}
 use Rattle.core_changes.specs.Recorded.{IsAt, IsRecorded, IsUntouched}
 use Rattle.desk_core.specs.HasTexts.{HasTexts}

@@ -5,7 +5,7 @@ use Rattle.model_laws.proofs.Basics.{eq_turn}
 use Rattle.desk_model.specs.{Document.listed_rows, Entry.entry_of, Tables.Tables}
 use Rattle.desk_model.specs.Effect.{effect, has_row, names_order, swept, touches_account, touches_authorization}
 use Rattle.desk_model.specs.Questions.{account_on, authorization_on, order_on, owner_on}
-use Rattle.desk_model.specs.declared.{moves.Move.Move, rows.AccountRow.AccountRow, rows.AuthorizationRow.AuthorizationRow, rows.OrderRow.OrderRow}
+use Rattle.desk_model.specs.declared.{entry.Move.Move, rows.AccountRow.AccountRow, rows.AuthorizationRow.AuthorizationRow, rows.OrderRow.OrderRow}
 use Rattle.core_changes.specs.Moved.{accounts_moved, authorizations_moved, orders_moved}
 use Rattle.core_changes.proofs.ShownAfter.{account_moved, authorization_moved, names_at, names_moved, order_moved, owner_moved, policy_moved}
 use Rattle.desk_core.specs.Named.{IsNamedAs}

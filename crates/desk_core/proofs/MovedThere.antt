@@ -5,9 +5,9 @@ use Rattle.model_laws.proofs.Basics.{eq_turn, list_any-map, list_any-same}
 use Rattle.model_laws.proofs.MovedRows.{challenge_number}
 use Rattle.desk_model.specs.Effect.{has_row, key_numbered, lists_one, names_order, noted_account, noted_challenge, swept, touches_account}
 use Rattle.desk_model.specs.Effect.{touches_authorization, touches_order}
-use Rattle.desk_model.specs.{Derived.numbers_of, Entry.entry_of, Tables.Tables, declared.entry.Entry.Entry, declared.moves.Move.Move}
+use Rattle.desk_model.specs.{Derived.numbers_of, Entry.entry_of, Tables.Tables, declared.entry.Entry.Entry, declared.entry.Move.Move}
 use Rattle.desk_model.specs.declared.rows.{AccountRow.AccountRow, AuthorizationRow.AuthorizationRow, OrderRow.OrderRow}
-use Rattle.desk_model.specs.declared.moves.Move.TheVariants as move
+use Rattle.desk_model.specs.declared.entry.Move.TheVariants as move
 use Rattle.core_changes.specs.Moved.{AreMoved, accounts_moved, authorizations_moved, orders_moved, standing_rows, stated_authorization, stated_order}
 use Rattle.desk_core.specs.There.{IsAmong}
 

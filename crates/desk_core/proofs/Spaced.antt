@@ -3,7 +3,7 @@ use Rattle.std.proofs.Common.{◌≡◌, ◌≤◌, ◌+◌, ◌*◌, ℕ, lengt
 use Rattle.std.specs.Prelude.{◌&&◌, nat_le}
 use Rattle.desk_model.specs.{Account.is_valid as is_valid_account, Contact.contacts_fault, Decide.entries_of, Name.Name, Run.count_pieces, Tables.Tables}
 use Rattle.desk_model.specs.{Kept.EachOf, Entry.entry_of, declared.refusal.Refusal.Refusal, declared.call.OfficeAsk.OfficeAsk, declared.call.BadKey.BadKey}
-use Rattle.desk_model.specs.declared.{call.Finding.Finding, call.OrderProblem.OrderProblem, call.Signed.Signed, call.Target.Target, moves.Move.Move}
+use Rattle.desk_model.specs.declared.{call.Finding.Finding, call.OrderProblem.OrderProblem, call.Signed.Signed, call.Target.Target, entry.Move.Move}
 use Rattle.desk_model.specs.declared.{entry.Outcome.Outcome, payload.AccountChange.AccountChange, payload.AuthorizationChange.AuthorizationChange}
 use Rattle.desk_model.specs.declared.payload.{KeyChange.KeyChange, ChallengeChange.ChallengeChange, Identifier.Identifier, NewAccount.NewAccount}
 use Rattle.desk_model.specs.declared.{reply.Subproblem.Subproblem, rows.AccountRow.AccountRow, rows.AuthorizationRow.AuthorizationRow}
@@ -21,7 +21,7 @@ use Rattle.desk_model.specs.Rules.{target_verdict, key_verdict, signed_verdict, 
 use Rattle.desk_model.specs.Rules.{revoke_authorization, revoke_account, office_verdict}
 use Rattle.desk_model.specs.declared.call.OfficeAsk.TheVariants as office
 use Rattle.desk_model.specs.declared.call.Target.TheVariants as to
-use Rattle.desk_model.specs.declared.moves.Move.TheVariants as move
+use Rattle.desk_model.specs.declared.entry.Move.TheVariants as move
 use Rattle.desk_model.specs.declared.payload.AccountChange.TheVariants as change
 use Rattle.desk_model.specs.declared.payload.AuthorizationChange.TheVariants as authz_change
 use Rattle.desk_model.specs.declared.payload.ChallengeChange.TheVariants as chall_change

@@ -18,8 +18,7 @@ ghost use Rattle.core_rules.specs.Needs.{IsJudged, NumbersLeft};
 ghost use Rattle.desk_core.specs.Outcomes.{IsAskFault, IsLater, IsPassedFault, IsShort, IsSignedFault, MeetsAsk, MeetsSigned, Passes, Settles};
 ghost use Rattle.core_changes.specs.Recorded.{IsAt, IsRecorded, IsUntouched};
 
-use crate::acts::act;
-use crate::showing::show;
+use crate::acts::{act, show};
 use core_changes::Recording;
 use core_replies::{nonce_reply, refusal_reply, taken_reply, with_nonce};
 use core_rules::{CoreFault, first_random, has_room, judge_office, judge_signed, open_nonce};

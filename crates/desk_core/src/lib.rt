@@ -3,7 +3,6 @@
 
 mod acts;
 mod decisions;
-mod showing;
 
 pub use core_rules::CoreFault;
 pub use decisions::{Outcome, decide};

@@ -9,8 +9,8 @@ use Rattle.http_routes.specs.declared.request.Request.{Request}
 use Rattle.http_routes.specs.declared.request.Request.TheVariants as request
 use Rattle.http_wire.specs.declared.call.ReplyForm.{ReplyForm}
 use Rattle.desk_http.specs.Serving.{HasAnswer, Responds, ServesBy}
-use Rattle.desk_http.specs.declared.{saying.Cause.Cause, sending.IoFault.IoFault, serving.Served.Served, telling.Told.Told}
-use Rattle.desk_http.specs.declared.saying.Cause.TheVariants as cause
+use Rattle.desk_http.specs.declared.{serving.Cause.Cause, serving.IoFault.IoFault, serving.Served.Served, overseeing.Told.Told}
+use Rattle.desk_http.specs.declared.serving.Cause.TheVariants as cause
 use Rattle.desk_http.specs.InTurn.{Ends, IsClosedBy, ServesClient, ended_by, fault_after, fault_of, parsed, if_closes, unread}
 
 -- the desk is closed by this fault, or, where there is none, it is open

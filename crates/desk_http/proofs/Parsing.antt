@@ -8,8 +8,8 @@ use Rattle.http_routes.specs.declared.request.Request.{Request}
 use Rattle.http_wire.specs.Spelled.{IsReplyForm, Spells}
 use Rattle.http_wire.specs.declared.call.ParsedRequest.{ParsedRequest}
 use Rattle.desk_http.specs.Serving.{Fails, HasAnswer, IsParsedOf, IsLeft, LacksReply, LacksText, ReadAnswer}
-use Rattle.desk_http.specs.declared.saying.Cause.{Cause}
-use Rattle.desk_http.specs.declared.saying.Cause.TheVariants as cause
+use Rattle.desk_http.specs.declared.serving.Cause.{Cause}
+use Rattle.desk_http.specs.declared.serving.Cause.TheVariants as cause
 
 -- the request that was read is the input's
 spelled : (known : Option (List ℕ)) (h : ParsedRequest) (q : Request) → IsParsedOf known h → h.request ≡ Ok q

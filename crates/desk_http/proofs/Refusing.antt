@@ -7,12 +7,12 @@ use Rattle.desk.specs.State.{DeskState}
 use Rattle.http_routes.specs.declared.request.Request.{Request}
 use Rattle.http_routes.specs.declared.request.Request.TheVariants as request
 use Rattle.http_wire.specs.declared.call.ReplyForm.{ReplyForm}
-use Rattle.desk_http.specs.{InTurn.ServesAt, declared.moment_bound.MomentBound.MomentBound, declared.saying.Cause.Cause, declared.sending.IoFault.IoFault}
-use Rattle.desk_http.specs.declared.{serving.Served.Served, telling.Told.Told}
+use Rattle.desk_http.specs.{InTurn.ServesAt, declared.clients.MomentBound.MomentBound, declared.serving.Cause.Cause, declared.serving.IoFault.IoFault}
+use Rattle.desk_http.specs.declared.{serving.Served.Served, overseeing.Told.Told}
 use Rattle.desk_http.specs.MomentBounds.{admits, moment_for}
 use Rattle.desk_http.specs.Serving.{Breaks, Fails, HasAnswer, IsLeft, Responds, Serves, ServesBy}
-use Rattle.desk_http.specs.declared.saying.Cause.TheVariants as cause
-use Rattle.desk_http.specs.declared.sending.IoFault.TheVariants as iofault
+use Rattle.desk_http.specs.declared.serving.Cause.TheVariants as cause
+use Rattle.desk_http.specs.declared.serving.IoFault.TheVariants as iofault
 
 module _ {S C : Type 0} (v : Sight S C) (causes : Causes S) (old new : DeskState S) where
   module _ (at : ℕ) (late : last_moment < at) (random : List ℕ) (known : Option (List ℕ)) where

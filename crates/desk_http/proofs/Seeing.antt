@@ -4,7 +4,7 @@ use Rattle.store_api.specs.{Sight.Sight, Storing.Causes}
 use Rattle.desk.specs.{SeenDesks.IsSeenOn, State.DeskState, Meets.ActsOnce, declared.fault.DeskFault.DeskFault}
 use Rattle.desk.proofs.SeeingDesks.{seen_once_more, seen_untouched}
 use Rattle.desk_http.proofs.Acting.{once_acts}
-use Rattle.desk_http.specs.declared.{sending.IoFault.IoFault, serving.Served.Served, serve_fault.ServeFault.ServeFault}
+use Rattle.desk_http.specs.declared.{serving.IoFault.IoFault, serving.Served.Served, serve_fault.ServeFault.ServeFault}
 use Rattle.desk_http.specs.InTurn.{ServesClient, ServesMany, ServesNext, ServesOne, parsed, unread}
 use Rattle.desk_http.specs.declared.serve_fault.ServeFault.TheVariants as servefault
 

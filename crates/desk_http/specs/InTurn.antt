@@ -11,9 +11,9 @@ use Rattle.http_routes.specs.declared.request.Request.{Request}
 use Rattle.http_routes.specs.declared.request.Request.TheVariants as request
 use Rattle.http_wire.specs.declared.call.ParsedRequest.{ParsedRequest}
 use Rattle.desk_http.specs.Serving.{Breaks, IsParsedOf, Serves}
-use Rattle.desk_http.specs.declared.{saying.Cause.Cause, sending.IoFault.IoFault, serving.Served.Served, serve_fault.ServeFault.ServeFault}
-use Rattle.desk_http.specs.declared.saying.Cause.TheVariants as cause
-use Rattle.desk_http.specs.declared.sending.IoFault.TheVariants as iofault
+use Rattle.desk_http.specs.declared.{serving.Cause.Cause, serving.IoFault.IoFault, serving.Served.Served, serve_fault.ServeFault.ServeFault}
+use Rattle.desk_http.specs.declared.serving.Cause.TheVariants as cause
+use Rattle.desk_http.specs.declared.serving.IoFault.TheVariants as iofault
 use Rattle.desk_http.specs.declared.serve_fault.ServeFault.TheVariants as servefault
 
 -- the fault, if it closes a desk

@@ -11,8 +11,8 @@ use Rattle.desk_model.specs.declared.reply.Body.TheVariants as body
 use Rattle.http_routes.specs.{Routes.HasNumber, declared.request.Request.Request}
 use Rattle.http_routes.specs.declared.request.Request.TheVariants as request
 use Rattle.std.specs.declared.alloc.AllocError.{AllocError}
-use Rattle.desk_http.specs.declared.{saying.Cause.Cause, sending.IoFault.IoFault, serving.Served.Served, telling.Told.Told}
-use Rattle.desk_http.specs.declared.saying.Cause.TheVariants as cause
+use Rattle.desk_http.specs.declared.{serving.Cause.Cause, serving.IoFault.IoFault, serving.Served.Served, overseeing.Told.Told}
+use Rattle.desk_http.specs.declared.serving.Cause.TheVariants as cause
 
 -- ---- what a reply tells
 

@@ -15,9 +15,9 @@ use Rattle.http_routes.specs.declared.request.Request.TheVariants as request
 use Rattle.http_wire.specs.{Replies.reply_bytes, ParsedRequest.Parses, declared.call.ParsedRequest.ParsedRequest, declared.call.ReplyForm.ReplyForm}
 use Rattle.http_wire.specs.Spelled.{IsReplyForm, Spells}
 use Rattle.desk_http.specs.Noted.{IsToldOf}
-use Rattle.desk_http.specs.declared.{saying.Cause.Cause, sending.IoFault.IoFault, serving.Served.Served, telling.Told.Told}
-use Rattle.desk_http.specs.declared.saying.Cause.TheVariants as cause
-use Rattle.desk_http.specs.declared.sending.IoFault.TheVariants as iofault
+use Rattle.desk_http.specs.declared.{serving.Cause.Cause, serving.IoFault.IoFault, serving.Served.Served, overseeing.Told.Told}
+use Rattle.desk_http.specs.declared.serving.Cause.TheVariants as cause
+use Rattle.desk_http.specs.declared.serving.IoFault.TheVariants as iofault
 
 -- the call of a request that asks this
 abbrev pub call_of : ℕ → List ℕ → Ask → Call

@@ -4,7 +4,7 @@ ghost use Rattle.std.specs.Io.KnownBytes.{Appends, Consumes};
 ghost use Rattle.desk_http.specs.Asking.{told_by};
 
 use crate::clients::{Patient, end};
-use crate::sending::{IoFault, send};
+use crate::serving::{IoFault, send};
 use desk_model::Refusal;
 use http_wire::fill_from;
 use std::io::{Read, Write};

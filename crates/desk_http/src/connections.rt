@@ -8,12 +8,11 @@ ghost use Rattle.desk_http.specs.Serving.{IsParsedOf};
 ghost use Rattle.desk.specs.SeenDesks.{IsSeenOn};
 
 use crate::clients::{PATIENCE, Patient, end};
-use crate::noting::Noting;
-use crate::overseeing::{Entry, Overseer, Watch, number_of_ask, outcome_number, outcome_status};
-use crate::saying::Cause;
-use crate::sending::IoFault;
+use crate::overseeing::{
+    Entry, Noting, Overseer, Watch, number_of_ask, outcome_number, outcome_status,
+};
 use crate::serve_fault::ServeFault;
-use crate::serving::{Served, serve_parsed};
+use crate::serving::{Cause, IoFault, Served, serve_parsed};
 use crate::{ParsedRequest, Request, Routes, read_call_by};
 use desk::{Desk, DeskFault};
 use desk_model::{Ask, MOST_NAMES, Target};

@@ -1,15 +1,182 @@
-//! Who watches the serving of a desk, and what is noted of each connection.
-ghost use Rattle.std.specs.Prelude.{◌≡◌};
-ghost use Rattle.desk_http.specs.Noted.{number_by, number_of_ask, number_of_cause, number_of_office, number_of_target, outcome_number, outcome_status};
-ghost use Rattle.desk_http.specs.Noted.{status_by};
+//! Who watches the serving of a desk, and what is noted of each connection, its requests and their replies.
+ghost use Rattle.std.specs.Prelude.{◌≡◌, ◌≢◌, ◌++◌, ℕ, List, MatchOption};
+ghost use Rattle.desk_http.specs.Noted.{IsLocated, IsPathOf, IsToldOf, IsUrlOf, refusal_number, shown, number_by, number_of_ask, number_of_cause};
+ghost use Rattle.desk_http.specs.Noted.{number_of_office, number_of_target, outcome_number, outcome_status, status_by};
 
-use crate::moment_bound::MomentBound;
-use crate::saying::Cause;
-use crate::sending::IoFault;
-use crate::serving::Served;
-use crate::telling::Told;
+use crate::clients::MomentBound;
+use crate::serving::{Cause, IoFault, Served};
 use desk::DeskFault;
-use desk_model::{Ask, OfficeAsk, Target};
+use desk_model::{Ask, Body, OfficeAsk, Reply, Target};
+use http_routes::number_between;
+use std::io::{self, Read};
+
+// ---- what a reply tells
+
+/// What a reply tells whoever watches the serving.
+#[derive(Clone, Copy, Debug, PartialEq, Eq)]
+pub struct Told {
+    /// Its HTTP status.
+    pub status: u16,
+    /// The number of the refusal, 1 to 17, where it is one.
+    pub refusal: Option<u8>,
+    /// The number of the account or of the order whose URL it has as its Location.
+    pub located: Option<u64>,
+}
+
+/// What a reply of a desk with this base tells.
+pub(crate) fn told_of(base: &str, reply: &Reply) -> Told
+    ensures { IsToldOf base.now reply.now result }
+{
+    Told {
+        status: reply.status,
+        refusal: refusal_number(&reply.body),
+        located: located(base, reply),
+    }
+}
+
+// The number of the refusal, where the body is one.
+fn refusal_number(body: &Body) -> Option<u8>
+    ensures { result ≡ refusal_number body.now }
+{
+    match body {
+        Body::Empty => None,
+        Body::Json(_) => None,
+        Body::Problem(problem) => Some(problem.refusal.number()),
+        Body::Certificate(_) => None,
+    }
+}
+
+// The number of the account or of the order that a reply locates.
+fn located(base: &str, reply: &Reply) -> Option<u64>
+    ensures { IsLocated base.now reply.now.location result }
+{
+    match &reply.location {
+        Some(url) => number_of_url(base, url.as_str()),
+        None => None,
+    }
+}
+
+// The number of the account or of the order of a URL.
+fn number_of_url(base: &str, url: &str) -> Option<u64>
+    ensures { MatchOption result ((n : ℕ) → ¬ (IsUrlOf base.now url.now n)) (λ n. IsUrlOf base.now url.now n) }
+{
+    match behind(base, url) {
+        Some(path) => number_of_path(path),
+        None => None,
+    }
+}
+
+// What a text has behind this beginning.
+fn behind<'t>(beginning: &str, text: &'t str) -> Option<&'t str>
+    ensures { MatchOption result ((rest : List ℕ) → text.now ≢ beginning.now ++ rest) (λ rest. text.now ≡ beginning.now ++ rest.now) }
+{
+    text.strip_prefix(beginning)
+}
+
+// The number of the account or of the order of a path.
+fn number_of_path(path: &str) -> Option<u64>
+    ensures { MatchOption result ((n : ℕ) → ¬ (IsPathOf path.now n)) (λ n. IsPathOf path.now n) }
+{
+    match number_between(path, "/account/", "") {
+        Some(number) => Some(number),
+        None => number_between(path, "/order/", ""),
+    }
+}
+
+// ---- the first line of a request, as it is noted
+
+// How many bytes are kept.
+const KEPT: usize = 256;
+
+/// A reader that keeps the beginning of what it reads, in visible characters.
+#[derive(Drop)]
+pub(crate) struct Noting<R: Read + Drop> {
+    reader: R,
+    line: [u8; KEPT],
+    len: usize,
+}
+
+impl<R: Read + Drop> Noting<R> {
+    /// The reader, of which nothing is read yet.
+    pub(crate) fn new(reader: R) -> Noting<R> {
+        Noting {
+            reader,
+            line: [0; KEPT],
+            len: 0,
+        }
+    }
+
+    /// The first word of the line, or `-` where there is none.
+    pub(crate) fn method(&self) -> &str {
+        let (method, _) = split(self.line());
+        or_dash(method)
+    }
+
+    /// The second.
+    pub(crate) fn path(&self) -> &str {
+        let (_, behind) = split(self.line());
+        let (path, _) = split(behind);
+        or_dash(path)
+    }
+
+    // What is kept.
+    fn line(&self) -> &str {
+        match self.line.get(..self.len) {
+            Some(bytes) => str::from_utf8(bytes).unwrap_or(""),
+            None => "",
+        }
+    }
+
+    // Keeps the first of these bytes, as far as there is room.
+    fn keep(&mut self, bytes: &[u8]) {
+        for byte in bytes {
+            match self.line.get_mut(self.len) {
+                Some(place) => {
+                    *place = shown(*byte);
+                    self.len = self.len.saturating_add(1);
+                }
+                None => return,
+            }
+        }
+    }
+}
+
+impl<R: Read + Drop> Read for Noting<R> {
+    fn read(&mut self, buf: &mut [u8]) -> io::Result<usize> {
+        let count = self.reader.read(buf)?;
+        if let Some(bytes) = buf.get(..count) {
+            self.keep(bytes);
+        }
+        Ok(count)
+    }
+}
+
+// A text up to its first space, and what is behind that.
+fn split(text: &str) -> (&str, &str) {
+    match text.split_once(' ') {
+        Some(parts) => parts,
+        None => (text, ""),
+    }
+}
+
+// A word, or what stands in its place where it is empty.
+fn or_dash(word: &str) -> &str {
+    if word.is_empty() { "-" } else { word }
+}
+
+// A byte as a note has it: a visible character of ASCII but `"` and `\`, a space for one and for the end of a line, else `?`.
+fn shown(byte: u8) -> u8
+    ensures { result ≡ shown byte }
+{
+    match byte {
+        b' ' | b'\r' | b'\n' => b' ',
+        b'"' | b'\\' => b'?',
+        33..=126 => byte,
+        _ => b'?',
+    }
+}
+
+// ---- who watches, and what is noted of each connection
 
 // The status of a reply that says that the desk could not act (RFC 9110, 15.6.1).
 const INABILITY: u16 = 500;

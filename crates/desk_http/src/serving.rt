@@ -1,18 +1,21 @@
-//! One request from a reader, and its reply to a writer.
-ghost use Rattle.std.specs.Prelude.{◌≡◌, ◌+◌, ℕ, List, Option, IfOk, IfErr};
+//! One request from a reader: read, said to the desk, and its reply sent to a writer.
+ghost use Rattle.std.specs.Prelude.{◌≡◌, ◌+◌, ℕ, List, Option, IfOk, IfErr, MatchResult, Ok, OnOk};
 ghost use Rattle.desk_model.specs.Limits.{longest_body, longest_head};
-ghost use Rattle.http_wire.specs.Head.{TakesAtMost};
-ghost use Rattle.desk_http.specs.Serving.{Breaks, IsParsedOf, Serves, index_for};
+ghost use Rattle.http_wire.specs.{Head.TakesAtMost, Replies.reply_bytes};
+ghost use Rattle.desk_http.specs.Serving.{Breaks, IsParsedOf, Serves, index_for, IsAnswer, LacksReply, LacksText, Responds, Says, call_of, Tells};
+ghost use Rattle.std.specs.Io.KnownBytes.{Appends};
+ghost use Rattle.desk_model.specs.{declared.refusal.Refusal.TheVariants.ServerInternal, declared.reply.Allow.TheVariants.No};
+ghost use Rattle.http_routes.specs.Request.{refused_reply, refused_request};
 
-use crate::saying::{Cause, say};
-use crate::sending::{IoFault, send, tell};
-use crate::telling::Told;
-use desk::Desk;
-use http_routes::Routes;
-use http_wire::{ParsedRequest, ReplyForm, read_call_by};
-use std::alloc::Global;
+use crate::overseeing::{Told, told_of};
+use desk::{Desk, DeskFault};
+use desk_model::{Allow, Ask, Call, Refusal, Reply, Sequence};
+use http_routes::{Request, RequestRefusal, Routes};
+use http_wire::{ParsedRequest, ReplyForm, read_call_by, reply_text};
+use std::alloc::{AllocError, Global};
 use std::io::{Read, Write};
 use store_api::Storage;
+use thiserror::Error;
 
 /// How a request was served.
 #[derive(Clone, Copy, Debug, PartialEq, Eq)]
@@ -136,4 +139,190 @@ fn index_for(cause: Cause, form: ReplyForm) -> bool
         Cause::Reading => true,
         _ => form.index,
     }
+}
+
+// ---- what is said: the bytes of the desk's answer to the call, or of the refusal
+
+/// Why a request did not have its reply.
+#[derive(Clone, Copy, Debug, PartialEq, Eq, Error)]
+pub enum Cause {
+    /// The desk had a fault.
+    #[error("{0}")]
+    Desk(DeskFault),
+    /// Memory was refused in reading the request; the desk is as it was.
+    #[error("out of memory in reading the request")]
+    Reading,
+    /// Memory was refused in writing the reply; the desk is as its answer left it.
+    #[error("out of memory in writing the reply")]
+    Text,
+}
+
+/// The bytes of a reply, and what it tells.
+#[derive(Drop)]
+pub struct Said {
+    pub(crate) text: Vec<u8>,
+    pub(crate) told: Told,
+}
+
+// The bytes of the reply to a request that was read, and what it tells.
+//
+// # Errors
+//
+// Where there is no reply, or no memory for its bytes.
+fn say<K: Storage + Drop>(
+    alloc: Global,
+    desk: &mut Desk<K>,
+    at: u64,
+    random: &[u8],
+    request: Result<Request, AllocError>,
+    head_only: bool,
+) -> Result<Said, Cause>
+    ensures policy { desk.new.policy ≡ desk.old.policy }
+    ensures said { MatchResult result
+        (λ said. Says K.Storage.sight K.Storage.causes at random.now desk.new.policy.base request head_only said.text.items said.told desk.old desk.new)
+        (λ cause. LacksText K.Storage.sight K.Storage.causes at random.now request cause desk.old desk.new) }
+{
+    let Ok(request) = request else {
+        return Err(Cause::Reading);
+    };
+    let reply = match reply_to(alloc, desk, at, random, request) {
+        Ok(reply) => reply,
+        Err(cause) => return Err(cause),
+    };
+    let text = reply_text(alloc, desk.base(), &reply, head_only);
+    let told = told_of(desk.base(), &reply);
+    drop(reply);
+    match text {
+        Ok(text) => Ok(Said { text, told }),
+        Err(_) => Err(Cause::Text),
+    }
+}
+
+// The reply to a request, or why there is none.
+fn reply_to<K: Storage + Drop>(
+    alloc: Global,
+    desk: &mut Desk<K>,
+    at: u64,
+    random: &[u8],
+    request: Request,
+) -> Result<Reply, Cause>
+    ensures policy { desk.new.policy ≡ desk.old.policy }
+    ensures reply { MatchResult result
+        (λ reply. Responds K.Storage.sight K.Storage.causes at random.now desk.old request (Ok reply) desk.new)
+        (λ cause. LacksReply K.Storage.sight K.Storage.causes at random.now request cause desk.old desk.new) }
+{
+    match request {
+        Request::Asks(ask) => {
+            let Ok(call) = call_of(alloc, at, random, ask) else {
+                return Err(Cause::Reading);
+            };
+            let answered = answer(alloc, desk, &call);
+            drop(call);
+            match answered {
+                Ok(reply) => Ok(reply),
+                Err(fault) => Err(Cause::Desk(fault)),
+            }
+        }
+        Request::Refused(why) => Ok(why.reply(alloc)),
+    }
+}
+
+// The desk's answer to a call, with all that a desk promises of it in one fact.
+fn answer<K: Storage + Drop>(
+    alloc: Global,
+    desk: &mut Desk<K>,
+    call: &Call,
+) -> Result<Reply, DeskFault>
+    ensures { IsAnswer K.Storage.sight K.Storage.causes call.now desk.old desk.new result }
+{
+    desk.answer(alloc, call)
+}
+
+// The call of a request that asks this.
+fn call_of(alloc: Global, at: u64, random: &[u8], ask: Ask) -> Result<Call, AllocError>
+    ensures { IfOk result (λ call. call ≡ call_of at random.now ask) }
+{
+    match Vec::from_slice(alloc, random) {
+        Ok(random) => Ok(Call {
+            at,
+            random: Sequence::new(random),
+            ask,
+        }),
+        Err(refused) => {
+            drop(ask);
+            Err(refused)
+        }
+    }
+}
+
+// ---- what is sent: a reply, or in its place that the desk could not act
+
+/// The reader or the writer failed.
+#[derive(Clone, Copy, Debug, PartialEq, Eq, Error)]
+pub enum IoFault {
+    /// The reader failed: nothing was written, and the desk is as it was.
+    #[error("the reader failed")]
+    Read,
+    /// The writer failed: some part of the reply may be written, and the desk is as its answer left it.
+    #[error("the writer failed")]
+    Write,
+}
+
+// Writes that the desk could not act, if there is memory to say it, and tells whether there was.
+//
+// # Errors
+//
+// Where the writer fails.
+fn tell<W: Write>(
+    alloc: Global,
+    writer: &mut W,
+    base: &str,
+    index: bool,
+    head_only: bool,
+) -> Result<bool, IoFault>
+    ensures told { IfOk result (λ written. Tells base.now index head_only (W.contents writer.old) (W.contents writer.new) written) }
+    ensures failed { IfErr result (λ e. e ≡ IoFault.Write) }
+{
+    match inability_text(alloc, base, index, head_only) {
+        Ok(text) => match send(writer, text.as_slice()) {
+            Ok(()) => Ok(true),
+            Err(fault) => Err(fault),
+        },
+        Err(_) => Ok(false),
+    }
+}
+
+// The bytes that say that the desk could not act.
+fn inability_text(
+    alloc: Global,
+    base: &str,
+    index: bool,
+    head_only: bool,
+) -> Result<Vec<u8>, AllocError>
+    ensures { IfOk result (λ text. text.items ≡ reply_bytes base.now (refused_reply (refused_request ServerInternal No index)) head_only) }
+{
+    let why = RequestRefusal {
+        refusal: Refusal::ServerInternal,
+        allow: Allow::No,
+        index,
+    };
+    let reply = why.reply(alloc);
+    let text = reply_text(alloc, base, &reply, head_only);
+    drop(reply);
+    text
+}
+
+/// Writes a text and flushes the writer.
+///
+/// # Errors
+///
+/// Where the writer fails.
+pub(crate) fn send<W: Write>(writer: &mut W, text: &[u8]) -> Result<(), IoFault>
+    ensures took { OnOk result (Appends (W.contents writer.old) (W.contents writer.new) text.now) }
+    ensures failed { IfErr result (λ e. e ≡ IoFault.Write) }
+{
+    if writer.write_all(text).is_err() || writer.flush().is_err() {
+        return Err(IoFault::Write);
+    }
+    Ok(())
 }

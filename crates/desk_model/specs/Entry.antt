@@ -16,8 +16,8 @@ pub use Rattle.desk_model.specs.declared.entry.Entry.TheVariants.{AuthorizationE
 pub use Rattle.desk_model.specs.declared.entry.Entry.TheVariants.{Finalized as finalized, Certified as certified}
 pub use Rattle.desk_model.specs.declared.entry.Entry.TheVariants.{Failed as failed}
 pub use Rattle.desk_model.specs.declared.entry.Dated.{Dated}
-pub use Rattle.desk_model.specs.declared.moves.Move.{Move}
-use Rattle.desk_model.specs.declared.moves.Move.TheVariants as move
+pub use Rattle.desk_model.specs.declared.entry.Move.{Move}
+use Rattle.desk_model.specs.declared.entry.Move.TheVariants as move
 
 -- the entry that a move is recorded as
 abbrev pub entry_of : Move → Entry

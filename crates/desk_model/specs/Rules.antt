@@ -22,7 +22,7 @@ use Rattle.desk_model.specs.declared.refusal.Refusal.TheVariants as refusal
 use Rattle.desk_model.specs.Verdict.{Verdict, refused, key_taken, answers, opens, orders, moves, check, given, unless_fault, choose}
 use Rattle.desk_model.specs.declared.verdict.Shows.TheVariants as show
 use Rattle.desk_model.specs.declared.verdict.Listing.TheVariants as list
-use Rattle.desk_model.specs.declared.moves.Move.TheVariants as move
+use Rattle.desk_model.specs.declared.entry.Move.TheVariants as move
 use Rattle.desk_model.specs.declared.status.AuthzStatus.TheVariants as authz
 use Rattle.desk_model.specs.declared.call.OfficeAsk.TheVariants as office
 use Rattle.desk_model.specs.declared.call.Target.TheVariants as to

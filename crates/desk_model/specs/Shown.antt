@@ -1,7 +1,7 @@
 -- Replies: what each shows, by the tables after its entries.
 use Rattle.std.specs.Prelude.{ℕ, ◌+◌, List, [], take, Bool, false, Option, Some, None, if◌then◌else◌}
 use Rattle.serde_json.specs.Data.{Data}
-use Rattle.desk_model.specs.declared.{refusal.Refusal.Refusal, verdict.Listing.Listing, moves.Move.Move, reply.Subproblem.Subproblem, reply.Body.Body}
+use Rattle.desk_model.specs.declared.{refusal.Refusal.Refusal, verdict.Listing.Listing, entry.Move.Move, reply.Subproblem.Subproblem, reply.Body.Body}
 use Rattle.desk_model.specs.declared.refusal.Refusal.TheVariants as refusal
 use Rattle.desk_model.specs.{Tokens.nonce_text, Order.DatedBytes, Refusals.refusal_of, Verdict.Shows}
 use Rattle.desk_model.specs.Tables.{Tables, AccountRow, ChallengeRow, AuthorizationRow, OrderRow}
@@ -10,7 +10,7 @@ use Rattle.desk_model.specs.Document.{directory, account_url, order_url, authori
 use Rattle.desk_model.specs.Document.{authorization_document, challenge_document, challenge_work, order_work, key_document}
 use Rattle.desk_model.specs.declared.verdict.Shows.TheVariants as show
 use Rattle.desk_model.specs.declared.verdict.Listing.TheVariants as list
-use Rattle.desk_model.specs.declared.moves.Move.TheVariants as move
+use Rattle.desk_model.specs.declared.entry.Move.TheVariants as move
 use Rattle.desk_model.specs.declared.reply.Allow.TheVariants as allow
 pub use Rattle.desk_model.specs.declared.reply.Reply.{Reply}
 use Rattle.desk_model.specs.declared.reply.Body.TheVariants as body

@@ -8,7 +8,6 @@ mod document;
 mod entry;
 mod jwk;
 mod limits;
-mod moves;
 mod objects;
 mod payload;
 mod policy;
@@ -26,14 +25,13 @@ pub use call::{
 pub use clock::Clock;
 pub use dns_name::{DnsName, is_well_formed};
 pub use document::Document;
-pub use entry::{Dated, Ending, Entry, Outcome, Wanted};
+pub use entry::{Dated, Ending, Entry, Move, Outcome, Wanted};
 pub use jwk::{Jwk, has_base64url_bytes, is_number};
 pub use limits::{
     LAST_END, LAST_MOMENT, LAST_NUMBER, LONGEST_BASE, LONGEST_BODY, LONGEST_CERTIFICATE,
     LONGEST_CONTACT, LONGEST_CSR, LONGEST_DETAIL, LONGEST_HEAD, LONGEST_LIFE, MOST_CONTACTS,
     MOST_NAMES, SHORTEST_BASE,
 };
-pub use moves::Move;
 pub use objects::{
     Account, AccountEnd, Answer, Authorization, AuthorizationEnd, Challenge, EndKind, Kind, Nonce,
     Order, Report,

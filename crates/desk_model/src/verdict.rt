@@ -1,7 +1,7 @@
 //! What becomes of a request.
-use crate::entry::Wanted;
+
+use crate::entry::{Move, Wanted};
 use crate::jwk::Jwk;
-use crate::moves::Move;
 use crate::refusal::Refusal;
 use crate::reply::Subproblem;
 use crate::sequence::Sequence;

@@ -1,7 +1,6 @@
 //! The tables of a desk over a connection of `sqlite`.
 #![tactic(auto)]
 
-mod ends;
 mod faults;
 mod known;
 mod laws;
@@ -9,9 +8,6 @@ mod look_ups;
 mod making;
 mod open_fault;
 mod opening;
-mod passes;
-mod rows_above;
-mod storage;
 mod store;
 
 pub use faults::{Cause, cause_of};

@@ -1,7 +1,7 @@
-//! The store of a desk.
+//! The store of a desk, and how a desk asks for it.
 ghost use Rattle.std.specs.Prelude.{◌≡◌, ◌⊎◌, false, Err, IfErr, IfOk, IsTrue, MatchResult, None, Ok, OnOk, option_copied};
 ghost use Rattle.sqlite.specs.State.{HasCleanDisk, IsUnchanged, Survives};
-ghost use Rattle.sqlite.specs.Held.{state};
+ghost use Rattle.sqlite.specs.{Held.state, Tree.Trees};
 ghost use Rattle.desk_model.specs.{History.first_history, Touched.touched};
 ghost use Rattle.desk_model.specs.Tables.{Tables, picture};
 ghost use Rattle.sql_write.specs.{Committing.GoesBack, Standing.IsPartIn};
@@ -14,8 +14,8 @@ ghost use Rattle.store_api.specs.declared.fault.StorageFault.TheVariants.{Memory
 ghost use Rattle.desk_store.specs.Causes.{Failed, FailedToChange, IsMetFault};
 ghost use Rattle.desk_store.specs.Desks.{HasDesk, store_sight};
 ghost use Rattle.desk_store.specs.Making.{FailedToMake, IsNewDesk, IsOfStorage};
-ghost use Rattle.desk_store.specs.Opening.{FailedToOpen, HasLaterFormat, IsUpgraded, IsWhole, IsWholeFirst, ShowsKnownFormat, ShowsNewerFormat};
-ghost use Rattle.desk_store.specs.Opening.{RefusesFormat, ShowsNoDesk, ShowsNoLaterFormat};
+ghost use Rattle.desk_store.specs.Opening.{FailedToOpen, HasLaterFormat, IsUpgraded, IsWhole, IsWholeFirst, ShowsKnownFormat, ShowsNewerFormat, RefusesFormat};
+ghost use Rattle.desk_store.specs.Opening.{ShowsNoDesk, ShowsNoLaterFormat};
 ghost use Rattle.desk_store.specs.declared.open_fault.OpenFault.TheVariants.{NewerFormat as newer_format, NotADesk as not_a_desk, Storage as of_storage};
 ghost use Rattle.sql_upgrade.specs.FirstDesks.{HasFirst};
 ghost use Rattle.store_book.specs.IsBook.{IsStoredBook};
@@ -32,7 +32,7 @@ use sql_schema::uses_names;
 use sql_write::save_all;
 use sqlite::{Alter, Connection};
 use std::alloc::Global;
-use store_api::{ParsedCall, StorageFault, load_part};
+use store_api::{ParsedCall, Storage, StorageFault, load_enough, load_part};
 
 /// The tables of a desk over a connection, which is in no transaction between two calls.
 #[derive(Drop)]
@@ -270,5 +270,32 @@ impl<S: Alter> Store<S> {
         ensures { result ≡ self.conn }
     {
         self.conn
+    }
+}
+
+// ---- as a desk asks for it
+
+impl<S: Alter> Storage for Store<S> {
+    ghost Content = { Trees };
+
+    ghost sight = { store_sight S.Store };
+
+    ghost causes = { λ changes old new why. Failed S.Store changes old.conn new.conn why };
+
+    fn policy(&mut self, alloc: Global) -> Result<Policy, StorageFault> {
+        Store::policy(self, alloc)
+    }
+
+    fn load_part(&mut self, alloc: Global, call: &ParsedCall) -> Result<Book, StorageFault> {
+        load_enough(alloc, self, call)
+    }
+
+    fn save(
+        &mut self,
+        alloc: Global,
+        part: &Book,
+        changes: Vec<Change>,
+    ) -> Result<(), StorageFault> {
+        self.save_known(alloc, Some(part), changes.as_slice())
     }
 }

@@ -1,16 +1,12 @@
 //! What requests ask, by their methods, paths and bodies, and the lines of a batch (RFC 8555, 6.2, 6.3, 7.1).
 #![tactic(auto)]
 
-mod envelopes;
 mod lines;
-mod offices;
-mod paths;
 mod request;
-mod router;
 mod routes;
 
 pub use lines::{Line, LineFault, read_line, reply_line};
-pub use paths::number_between;
 pub use request::{Place, Request, RequestRefusal, ask_in, place_of};
-pub use router::Routes;
-pub use routes::{OfficeResource, Resource, has_index, is_visible, methods_of};
+pub use routes::{
+    OfficeResource, Resource, Routes, has_index, is_visible, methods_of, number_between,
+};

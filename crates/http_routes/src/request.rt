@@ -1,17 +1,21 @@
-//! From a request's method, path and body to what is asked.
+//! What requests ask, by method, path and body: an envelope of the front, or a word of the office.
 ghost use Rattle.std.specs.Prelude.{◌≡◌, None, IfOk, MatchOption};
-ghost use Rattle.http_routes.specs.Request.{IsAskIn, IsFailAsk, IsOfText, IsOfficeAsk, IsPlace, IsReportAsk, IsSignedAsk, IsUnserved};
-ghost use Rattle.http_routes.specs.Request.{certify_ask, refused_reply};
+ghost use Rattle.http_routes.specs.Request.{IsAskIn, IsFailAsk, IsOfText, IsOfficeAsk, IsPlace, IsReportAsk, IsSignedAsk, IsUnserved, certify_ask};
+ghost use Rattle.http_routes.specs.Request.{refused_reply};
 ghost use Rattle.http_routes.specs.Routes.{IsResourceAt};
+ghost use Rattle.http_routes.specs.Envelopes.{IsKeyRead, IsSignedAskIn, formed_nonce, has_nonce_form, nonce_in};
+ghost use Rattle.serde_json.specs.View.{view};
+ghost use Rattle.http_routes.specs.Offices.{body_in, error_in, fetch_error, finding, finding_in, records_in};
 
-use crate::envelopes::signed_ask_in;
-use crate::offices::finding;
-use crate::paths::resource_at;
-use crate::router::Routes;
-use crate::routes::{OfficeResource, Resource, has_index, methods_of, serves};
-use desk_model::{Allow, Ask, OfficeAsk, Refusal, Reply, Sequence, Target};
+use crate::routes::{OfficeResource, Resource, Routes, has_index, methods_of, resource_at, serves};
+use desk_model::{
+    Allow, Ask, BadKey, FetchError, Finding, Jwk, OfficeAsk, Refusal, Reply, Sequence, Signed,
+    Target, Text, has_base64url_bytes,
+};
 use json::Scratch;
-use json_texts::{object_in, order_problem, value_of};
+use json_texts::{JsonValue, object_in, order_problem, text_member, texts_in, value_of};
+use keys::{KeyFault, from_base64url, read_jwk};
+use serde_json::Value;
 use std::alloc::{AllocError, Global};
 
 /// What a request asks, or how one that is no call is refused.
@@ -198,4 +202,166 @@ fn fail_ask(alloc: Global, order: u64, body: &[u8]) -> Result<Option<Ask>, Alloc
         Some(problem) => Ok(Some(Ask::Office(OfficeAsk::FailOrder { order, problem }))),
         None => Ok(None),
     }
+}
+
+// ---- signed requests, by the envelopes that stand for them (RFC 8555, 6.2)
+
+// What a signed request asks of this target by the value of its envelope, or `None` where the value is none (RFC 8555,
+// 6.2).
+//
+// # Errors
+//
+// Where there is no memory for it.
+fn signed_ask_in<V: JsonValue>(
+    alloc: Global,
+    target: Target,
+    envelope: &V,
+) -> Result<Option<Ask>, AllocError>
+    ensures { IfOk result (λ o. IsSignedAskIn target (V.meaning envelope.now) o) }
+{
+    let (Some(jwk), Some(payload)) = (envelope.member("jwk"), text_member(envelope, "payload"))
+    else {
+        return Ok(None);
+    };
+    let Some(nonce) = nonce_of(alloc, envelope)? else {
+        return Ok(None);
+    };
+    let (key, payload) = key_and_payload(alloc, jwk, payload)?;
+    Ok(Some(Ask::Signed(Signed {
+        target,
+        key,
+        nonce,
+        payload,
+    })))
+}
+
+// The key that a value spells, or that it spells none, and the payload.
+fn key_and_payload<V: JsonValue>(
+    alloc: Global,
+    jwk: &V,
+    payload: &str,
+) -> Result<(Result<Jwk, BadKey>, Text), AllocError>
+    ensures { IfOk result (λ r. IsKeyRead (V.meaning jwk.now) r.0 × (r.1 ≡ payload.now)) }
+{
+    let payload = Text::new(String::from_str(alloc, payload)?);
+    let key = key_of(alloc, jwk)?;
+    Ok((key, payload))
+}
+
+// The key that a value spells, or that it spells none.
+fn key_of<V: JsonValue>(alloc: Global, jwk: &V) -> Result<Result<Jwk, BadKey>, AllocError>
+    ensures { IfOk result (λ r. IsKeyRead (V.meaning jwk.now) r) }
+{
+    match read_jwk(alloc, jwk) {
+        Ok(key) => Ok(Ok(key)),
+        Err(KeyFault::Bad) => Ok(Err(BadKey)),
+        Err(KeyFault::Memory) => Err(AllocError),
+    }
+}
+
+// The nonce of an envelope, which may lack it.
+fn nonce_of<V: JsonValue>(alloc: Global, envelope: &V) -> Result<Option<Option<Text>>, AllocError>
+    ensures { IfOk result (λ o. o ≡ nonce_in (V.meaning envelope.now)) }
+{
+    let Some(value) = envelope.member("nonce") else {
+        return Ok(Some(None));
+    };
+    match value.text() {
+        Some(text) => formed_nonce(alloc, text),
+        None => Ok(None),
+    }
+}
+
+// The text, if it has the form of a nonce.
+fn formed_nonce(alloc: Global, text: &str) -> Result<Option<Option<Text>>, AllocError>
+    ensures { IfOk result (λ o. o ≡ formed_nonce text.now) }
+{
+    if !has_nonce_form(text) {
+        return Ok(None);
+    }
+    let nonce = Text::new(String::from_str(alloc, text)?);
+    Ok(Some(Some(nonce)))
+}
+
+// Whether the text has the form of a nonce (RFC 8555, 6.5.2).
+fn has_nonce_form(text: &str) -> bool
+    ensures { result ≡ has_nonce_form text.now }
+{
+    !text.is_empty() && !(text.len() % 4 == 1) && has_base64url_bytes(text)
+}
+
+// ---- what office requests hand in, by their bodies; the problem of an order is read by `json_texts`
+
+// What the validator found, by the body of its report, or `None` where this is none.
+//
+// # Errors
+//
+// Where there is no memory for it.
+fn finding(alloc: Global, body: &str) -> Result<Option<Finding>, AllocError>
+    ensures { IfOk result (λ o. o ≡ finding body.now) }
+{
+    match value_of(alloc, body)? {
+        Some(report) => finding_in(alloc, &report),
+        None => Ok(None),
+    }
+}
+
+// What the validator found, by the one member that says it.
+fn finding_in(alloc: Global, report: &Value) -> Result<Option<Finding>, AllocError>
+    ensures { IfOk result (λ o. o ≡ finding_in (view report.now)) }
+{
+    match (
+        report.get("body"),
+        report.get("records"),
+        report.get("error"),
+    ) {
+        (Some(body), None, None) => body_in(alloc, body),
+        (None, Some(records), None) => records_in(alloc, records),
+        (None, None, Some(error)) => Ok(error_in(error)),
+        _ => Ok(None),
+    }
+}
+
+// The body of the HTTP resource, which a value holds in base64url (RFC 8555, 8.3).
+fn body_in(alloc: Global, value: &Value) -> Result<Option<Finding>, AllocError>
+    ensures { IfOk result (λ o. o ≡ body_in (view value.now)) }
+{
+    let Some(text) = value.as_str() else {
+        return Ok(None);
+    };
+    match from_base64url(alloc, text)? {
+        Some(bytes) => Ok(Some(Finding::Body(Sequence::new(bytes)))),
+        None => Ok(None),
+    }
+}
+
+// The TXT records that a value lists (RFC 8555, 8.4).
+fn records_in(alloc: Global, value: &Value) -> Result<Option<Finding>, AllocError>
+    ensures { IfOk result (λ o. o ≡ records_in (view value.now)) }
+{
+    match texts_in(alloc, value)? {
+        Some(records) => Ok(Some(Finding::Records(records))),
+        None => Ok(None),
+    }
+}
+
+// The error that a value names.
+fn error_in(value: &Value) -> Option<Finding>
+    ensures { result ≡ error_in (view value.now) }
+{
+    let error = fetch_error(value.as_str()?)?;
+    Some(Finding::Error(error))
+}
+
+// The error of this name (RFC 8555, 6.7).
+fn fetch_error(name: &str) -> Option<FetchError>
+    ensures { result ≡ fetch_error name.now }
+{
+    if name == "connection" {
+        return Some(FetchError::Connection);
+    }
+    if name == "dns" {
+        return Some(FetchError::Dns);
+    }
+    None
 }

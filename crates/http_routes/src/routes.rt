@@ -1,8 +1,15 @@
-//! The resources of the desk: their paths, and the methods that they serve.
-ghost use Rattle.std.specs.Prelude.{◌≡◌};
-ghost use Rattle.http_routes.specs.Routes.{has_index, is_visible, is_visible_byte, methods_of, resource_of, serves, text_of};
+//! The resources of the desk: their paths, the methods that they serve, and the router that finds them.
+ghost use Rattle.std.specs.Prelude.{◌≡◌, [], ◌≢◌, ◌++◌, ◌↔◌, false, IfOk, OnOk, option_map, ℕ, List, Some, MatchOption, IsTrue, slice_index};
+ghost use Rattle.http_routes.specs.Routes.{has_index, is_visible, is_visible_byte, methods_of, resource_of, serves, text_of, HasNumber, IsNumberText};
+ghost use Rattle.http_routes.specs.Routes.{IsPathText, IsResourceAt, is_numbered};
+ghost use Rattle.matchit.specs.Seek.{first};
+ghost use Rattle.http_routes.specs.Router.{add_route, desk_routes, value_of};
+ghost use Rattle.std.specs.Int.{IsInRange};
 
-use desk_model::{Allow, Target};
+use desk_model::{Allow, LAST_NUMBER, Target};
+use matchit::Router;
+use std::alloc::{AllocError, Global};
+use std::marker::Model;
 
 /// A resource of the desk.
 #[derive(Clone, Copy)]
@@ -38,9 +45,9 @@ pub enum OfficeResource {
     RevokeAccount(u64),
 }
 
-/// A form of paths, whose number is left open where they have one.
+// A form of paths, whose number is left open where they have one.
 #[derive(Clone, Copy)]
-pub(crate) enum Route {
+enum Route {
     Directory,
     NewNonce,
     NewAccount,
@@ -63,8 +70,8 @@ pub(crate) enum Route {
     RevokeAccount,
 }
 
-/// The text of a route's paths, with `{n}` in the place of their number.
-pub(crate) fn text_of(route: Route) -> &'static str
+// The text of a route's paths, with `{n}` in the place of their number.
+fn text_of(route: Route) -> &'static str
     ensures { result.now ≡ text_of route }
 {
     match route {
@@ -91,8 +98,8 @@ pub(crate) fn text_of(route: Route) -> &'static str
     }
 }
 
-/// The resource of a route, with its number where it has one.
-pub(crate) fn resource_of(route: Route, number: u64) -> Resource
+// The resource of a route, with its number where it has one.
+fn resource_of(route: Route, number: u64) -> Resource
     ensures { result ≡ resource_of route number }
 {
     match route {
@@ -165,4 +172,191 @@ fn is_visible_byte(b: u8) -> bool
     ensures { result ≡ is_visible_byte b }
 {
     b >= 33 && b <= 126
+}
+
+// ---- the router
+
+// The routes of the desk.
+const ROUTES: [Route; 20] = [
+    Route::Directory,
+    Route::NewNonce,
+    Route::NewAccount,
+    Route::KeyChange,
+    Route::NewOrder,
+    Route::Account,
+    Route::Orders,
+    Route::Order,
+    Route::Finalize,
+    Route::Cert,
+    Route::Authz,
+    Route::Chall,
+    Route::Key,
+    Route::ChallengeWork,
+    Route::OrderWork,
+    Route::Report,
+    Route::Certify,
+    Route::FailOrder,
+    Route::RevokeAuthz,
+    Route::RevokeAccount,
+];
+
+/// The routes of the desk, which are put into a router where the first path is looked up. Contracts see whether that was done.
+#[derive(Drop)]
+pub struct Routes {
+    router: Option<Router<Route>>,
+}
+
+impl Model for Routes {
+    ghost use Rattle.std.specs.Prelude.{◌≡◌, Bool, IfSome, is_some};
+    ghost use Rattle.http_routes.specs.Router.{desk_routes};
+
+    ghost Value = { Bool };
+
+    ghost view = { λ a. is_some a.router };
+
+    ghost invariant = { λ a. IfSome a.router (λ rows. rows ≡ desk_routes) };
+}
+
+impl Routes {
+    /// The routes, for which no memory is taken yet.
+    pub fn new() -> Routes
+        ensures { result ≡ false }
+    {
+        Routes { router: None }
+    }
+}
+
+// The route that the router finds for a path.
+//
+// # Errors
+//
+// Where there is no memory for the router, which is then made for the next path.
+fn route_at(alloc: Global, routes: &mut Routes, path: &str) -> Result<Option<Route>, AllocError>
+    ensures { IfOk result (λ o. o ≡ option_map value_of (first desk_routes path.now)) }
+{
+    if let Some(router) = &routes.router {
+        return Ok(find(router, path));
+    }
+    let router = desk_router(alloc)?;
+    let found = find(&router, path);
+    routes.router = Some(router);
+    Ok(found)
+}
+
+// The router of the desk.
+fn desk_router(alloc: Global) -> Result<Router<Route>, AllocError>
+    ensures { IfOk result (λ router. router ≡ desk_routes) }
+{
+    let mut router = Router::new(alloc);
+    add_all(&mut router)?;
+    Ok(router)
+}
+
+// The route that a router finds for a path.
+fn find(router: &Router<Route>, path: &str) -> Option<Route>
+    ensures { result ≡ option_map value_of (first router.now path.now) }
+{
+    match router.at(path) {
+        Ok(found) => Some(*found.value),
+        Err(_) => None,
+    }
+}
+
+// Adds the routes of the desk to a router that has none.
+fn add_all(router: &mut Router<Route>) -> Result<(), AllocError>
+    requires { router.old ≡ [] }
+    ensures { OnOk result (router.new ≡ desk_routes) }
+{
+    for route in ROUTES {
+        add(router, route)?;
+    }
+    Ok(())
+}
+
+// Adds a route.
+fn add(router: &mut Router<Route>, route: Route) -> Result<(), AllocError>
+    ensures { OnOk result (router.new ≡ add_route router.old route) }
+{
+    let Ok(()) = router.insert(text_of(route), route) else {
+        return Err(AllocError);
+    };
+    Ok(())
+}
+
+// ---- from a path to the resource that it leads to
+
+/// The resource at this path, or `None` where there is none (RFC 8555, 7.1).
+///
+/// # Errors
+///
+/// Where there is no memory for the routes.
+pub(crate) fn resource_at(
+    alloc: Global,
+    routes: &mut Routes,
+    path: &str,
+) -> Result<Option<Resource>, AllocError>
+    ensures there { IfOk result (λ o. MatchOption o ((r : Resource) → ¬ (IsResourceAt path.now r)) (λ r. IsResourceAt path.now r)) }
+    ensures one { IfOk result (λ o. (r : Resource) → IsResourceAt path.now r → o ≡ Some r) }
+{
+    let Some(route) = route_at(alloc, routes, path)? else {
+        return Ok(None);
+    };
+    match number_at(path, route) {
+        Some(number) => Ok(Some(resource_of(route, number))),
+        None => Ok(None),
+    }
+}
+
+// The number of a path of this route, 0 where its paths have none, or `None` where it is not of this route.
+fn number_at(path: &str, route: Route) -> Option<u64>
+    ensures { MatchOption result ((n : ℕ) → ¬ (IsPathText (is_numbered route) path.now route n)) (λ n. IsPathText (is_numbered route) path.now route n) }
+{
+    let text = text_of(route);
+    match text.split_once("{n}") {
+        Some((before, after)) => number_between(path, before, after),
+        None if path == text => Some(0),
+        None => None,
+    }
+}
+
+/// The number of an object that a path has between these texts.
+pub fn number_between(path: &str, before: &str, after: &str) -> Option<u64>
+    ensures { MatchOption result ((n : ℕ) → ¬ (HasNumber path.now before.now n after.now)) (λ n. HasNumber path.now before.now n after.now) }
+{
+    let digits = between(path, before, after)?;
+    number_in(digits)
+}
+
+// What a text has between these texts.
+fn between<'t>(text: &'t str, before: &str, after: &str) -> Option<&'t str>
+    ensures { MatchOption result
+        ((middle : List ℕ) → text.now ≢ before.now ++ (middle ++ after.now))
+        (λ middle. text.now ≡ before.now ++ (middle.now ++ after.now)) }
+{
+    text.strip_prefix(before)?.strip_suffix(after)
+}
+
+// The number of an object whose decimal text this is.
+fn number_in(text: &str) -> Option<u64>
+    ensures { MatchOption result ((n : ℕ) → ¬ (IsNumberText text.now n)) (λ n. IsNumberText text.now n) }
+{
+    // A text that begins so has no sign and no zero in front.
+    if !begins_a_number(text.as_bytes()) {
+        return None;
+    }
+    let Ok(number) = text.parse::<u64>() else {
+        return None;
+    };
+    if number <= LAST_NUMBER {
+        Some(number)
+    } else {
+        None
+    }
+}
+
+// Whether the first byte is a digit other than zero.
+fn begins_a_number(text: &[u8]) -> bool
+    ensures { IsTrue result ↔ IsInRange 49 57 (slice_index text.now 0) }
+{
+    matches!(text.first(), Some(b'1'..=b'9'))
 }

@@ -7,7 +7,7 @@ use Rattle.http_routes.specs.declared.request.Request.TheVariants as request
 use Rattle.http_wire.specs.{Framing.framing_for, declared.call.ParsedRequest.ParsedRequest}
 use Rattle.http_wire.specs.ParsedRequest.{IsAnswerTo, IsBody}
 use Rattle.http_wire.specs.Spelled.{IsRequestWith, cut_short, unread, asked}
-use Rattle.http_wire.specs.declared.framing.Framing.TheVariants as frame
+use Rattle.http_wire.specs.declared.body.Framing.TheVariants as frame
 
 -- what a served request asks by its body
 pub request_by_body : (method path : List ℕ) (fields : List (List ℕ × List ℕ)) (rest : List ℕ) (r : Resource) (n : ℕ) (body : Option (List ℕ)) (q : Request)

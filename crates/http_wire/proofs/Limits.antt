@@ -6,8 +6,8 @@ use Rattle.http_routes.specs.{Routes.methods_of, declared.routes.OfficeResource.
 use Rattle.http_routes.specs.declared.routes.OfficeResource.TheVariants as office
 use Rattle.http_routes.specs.declared.routes.Resource.TheVariants as resource
 use Rattle.http_wire.specs.Framing.{framing, framing_by, framing_for, is_posted, length_in, limit_of, values_of}
-use Rattle.http_wire.specs.declared.framing.Framing.{Framing}
-use Rattle.http_wire.specs.declared.framing.Framing.TheVariants as frame
+use Rattle.http_wire.specs.declared.body.Framing.{Framing}
+use Rattle.http_wire.specs.declared.body.Framing.TheVariants as frame
 use Rattle.desk_model.specs.Limits.{longest_body}
 
 -- the bytes that are taken

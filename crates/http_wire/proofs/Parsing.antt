@@ -18,7 +18,7 @@ use Rattle.http_wire.specs.{ParsedRequest.Parses, declared.call.ParsedRequest.Pa
 use Rattle.http_wire.specs.ParsedRequest as parsed
 use Rattle.http_wire.specs.Spelled.{IsReplyForm, IsRequestWith, Spells, form_by}
 use Rattle.http_wire.specs.Spelled as spelled
-use Rattle.http_wire.specs.declared.head.HeadRead.TheVariants as read
+use Rattle.http_wire.specs.declared.call.HeadRead.TheVariants as read
 
 -- ---- the front of the input
 

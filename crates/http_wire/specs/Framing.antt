@@ -9,9 +9,9 @@ use Rattle.desk_model.specs.declared.reply.Allow.TheVariants as allow
 use Rattle.http_routes.specs.{Routes.methods_of, declared.routes.Resource.Resource}
 use Rattle.http_routes.specs.declared.routes.OfficeResource.TheVariants as office
 use Rattle.http_routes.specs.declared.routes.Resource.TheVariants as resource
-use Rattle.http_wire.specs.declared.framing.{Found.Found, Framing.Framing}
-use Rattle.http_wire.specs.declared.framing.Found.TheVariants as found
-use Rattle.http_wire.specs.declared.framing.Framing.TheVariants as frame
+use Rattle.http_wire.specs.declared.body.{Found.Found, Framing.Framing}
+use Rattle.http_wire.specs.declared.body.Found.TheVariants as found
+use Rattle.http_wire.specs.declared.body.Framing.TheVariants as frame
 use Rattle.desk_model.specs.Limits.{longest_body, longest_certificate}
 
 -- names of fields are the same in any case (RFC 9110, 5.1)

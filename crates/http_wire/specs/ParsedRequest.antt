@@ -7,10 +7,10 @@ use Rattle.desk_model.specs.declared.reply.Allow.TheVariants as allow
 use Rattle.http_routes.specs.Request.{IsAskIn, IsServed, refused_request}
 use Rattle.http_routes.specs.declared.{request.Request.Request, routes.Resource.Resource}
 use Rattle.http_routes.specs.declared.request.Request.TheVariants as request
-use Rattle.http_wire.specs.{Framing.framing_for, declared.call.ParsedRequest.ParsedRequest, declared.plan.Plan.Plan}
+use Rattle.http_wire.specs.{Framing.framing_for, declared.call.ParsedRequest.ParsedRequest, declared.call.Plan.Plan}
 use Rattle.http_wire.specs.Spelled.{IsReplyForm, IsRequestWith, Spells}
-use Rattle.http_wire.specs.declared.framing.Framing.TheVariants as frame
-use Rattle.http_wire.specs.declared.plan.Plan.TheVariants as plan
+use Rattle.http_wire.specs.declared.body.Framing.TheVariants as frame
+use Rattle.http_wire.specs.declared.call.Plan.TheVariants as plan
 
 -- the request of the input, unless memory was refused, and how its reply is written
 pub record Parses (input : List ℕ) (parsed : ParsedRequest) : Type 0 where

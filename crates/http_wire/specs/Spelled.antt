@@ -10,7 +10,7 @@ use Rattle.http_routes.specs.declared.{request.Request.Request, request.RequestR
 use Rattle.http_routes.specs.declared.request.Request.TheVariants as request
 use Rattle.http_wire.specs.{Framing.framing_for, declared.call.ReplyForm.ReplyForm}
 use Rattle.http_wire.specs.Head.{BeginsWith, HasNoHead, IsMalformed, IsTooLarge}
-use Rattle.http_wire.specs.declared.framing.Framing.TheVariants as frame
+use Rattle.http_wire.specs.declared.body.Framing.TheVariants as frame
 
 -- what a request asks by its method, its path, its fields and what follows them, or how it is refused:
 -- the path is looked at first, then the method, the fields, the length of the body and the body

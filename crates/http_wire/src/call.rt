@@ -1,20 +1,20 @@
 //! A request, from the bytes of its reader to what it asks.
-ghost use Rattle.std.specs.Prelude.{◌≡◌, ◌≤◌, ◌+◌, ◌++◌, ℕ, List, IfOk, IfSome, IsUtf8, length, take, drop, true, false};
+ghost use Rattle.std.specs.Prelude.{◌≡◌, ◌≤◌, ◌+◌, ◌++◌, ℕ, List, IfOk, IfSome, IsUtf8, length, take, drop, true, false, OnErr, All, map};
 ghost use Rattle.httparse.specs.Grammar.{IsToken};
-ghost use Rattle.httparse.specs.Spans.{IsRequestWithin, span_bytes};
+ghost use Rattle.httparse.specs.Spans.{IsRequestWithin, span_bytes, IsHeaderWithin, header_bytes};
 ghost use Rattle.http_routes.specs.{Request.refused_request, Routes.has_index};
 ghost use Rattle.http_wire.specs.Spelled.{IsRequestWith, form_by};
-ghost use Rattle.http_wire.specs.Head.{TakesAtMost};
+ghost use Rattle.http_wire.specs.Head.{TakesAtMost, HeadSays, most_fields};
 ghost use Rattle.http_wire.specs.ParsedRequest.{Parses, IsPlan, IsRequestAt};
 ghost use Rattle.desk_model.specs.Limits.{longest_body, longest_head};
+ghost use Rattle.std.specs.Io.KnownBytes.{Consumes};
+ghost use Rattle.desk_model.specs.declared.reply.Allow.TheVariants.{No};
 
-use crate::body::{answer_to, read_body};
-use crate::filling::ReadFailed;
-use crate::head::{HeadRead, MOST_FIELDS, read_head};
-use crate::plan::{Plan, plan_for};
+use crate::body::{Framing, ReadFailed, answer_to, fill, framing_for, read_body};
 use desk_model::{Allow, LONGEST_HEAD, Refusal};
-use http_routes::{Request, RequestRefusal, Routes, has_index};
-use httparse::spans::{EMPTY_HEADER_SPAN, HeaderSpan, RequestSpans};
+use http_routes::{Place, Request, RequestRefusal, Resource, Routes, has_index, place_of};
+use httparse::Status;
+use httparse::spans::{EMPTY_HEADER_SPAN, HeaderSpan, RequestSpans, parse_request};
 use std::alloc::{AllocError, Global};
 use std::io::Read;
 
@@ -222,4 +222,101 @@ fn read_planned<R: Read>(
             Ok(answer_to(alloc, resource, method, has_index(path), body))
         }
     }
+}
+
+// ---- the head, read into a buffer of fixed size
+
+// The most fields of a head.
+const MOST_FIELDS: usize = 64;
+
+/// What the first bytes of a request are.
+#[derive(Clone, Copy)]
+pub enum HeadRead {
+    /// A head, whose parts lie at these spans.
+    Complete(RequestSpans),
+    /// They begin no head, or one of too many fields; or the input ends before a head does.
+    Malformed,
+    /// They fill the buffer, and a head goes on behind it.
+    TooLarge,
+}
+
+// Reads until a head is there, it can be one no more, the input ends, or the buffer is full; tells how far it read.
+fn read_head<R: Read>(
+    reader: &mut R,
+    buffer: &mut [u8],
+    headers: &mut [HeaderSpan],
+) -> Result<(HeadRead, usize), ReadFailed>
+    requires room { length buffer.old ≡ longest_head }
+    requires fields { length headers.old ≡ most_fields }
+    ensures within { IfOk result (λ r. r.1 ≤ length buffer.new) }
+    ensures says { IfOk result (λ r. HeadSays (take r.1 buffer.new) headers.new (R.remaining reader.new) r.0) }
+    ensures bytes { IfOk result (λ r. Consumes (R.remaining reader.old) (R.remaining reader.new) (take r.1 buffer.new)) }
+    ensures failed { OnErr result (TakesAtMost (R.remaining reader.old) (R.remaining reader.new) longest_head) }
+{
+    let mut filled = 0;
+    'more: while filled < buffer.len() {
+        match parse_request(&buffer[..filled], headers) {
+            Ok(Status::Complete(spans)) => return Ok((HeadRead::Complete(spans), filled)),
+            Ok(Status::Partial) => {}
+            Err(_) => return Ok((HeadRead::Malformed, filled)),
+        }
+        let count = fill(reader, buffer, filled)?;
+        if count == 0 {
+            return Ok((HeadRead::Malformed, filled));
+        }
+        filled += count;
+    }
+    match parse_request(&buffer[..filled], headers) {
+        Ok(Status::Complete(spans)) => Ok((HeadRead::Complete(spans), filled)),
+        Ok(Status::Partial) => Ok((HeadRead::TooLarge, filled)),
+        Err(_) => Ok((HeadRead::Malformed, filled)),
+    }
+}
+
+// ---- what a head says before the body behind it is read
+
+/// What is done with a request whose head is read.
+#[derive(Clone, Copy)]
+pub enum Plan {
+    /// It is refused, whatever follows.
+    Refused(RequestRefusal),
+    /// So many bytes are taken for this resource.
+    Takes(Resource, usize),
+}
+
+// What is done with the request of this method, path and fields.
+//
+// # Errors
+//
+// Where there is no memory for it.
+fn plan_for(
+    alloc: Global,
+    routes: &mut Routes,
+    method: &str,
+    path: &str,
+    buffer: &[u8],
+    headers: &[HeaderSpan],
+) -> Result<Plan, AllocError>
+    requires { All (IsHeaderWithin (length buffer.now)) headers.now }
+    ensures { IfOk result (λ p. IsPlan method.now path.now (map (header_bytes buffer.now) headers.now) p) }
+{
+    match place_of(alloc, routes, method, path)? {
+        Place::Unserved(why) => Ok(Plan::Refused(why)),
+        Place::Served(resource) => match framing_for(resource, buffer, headers) {
+            Framing::Malformed => Ok(refused(Refusal::Malformed, path)),
+            Framing::TooLarge => Ok(refused(Refusal::TooLarge, path)),
+            Framing::Takes(count) => Ok(Plan::Takes(resource, count)),
+        },
+    }
+}
+
+// The refusal of a request to this path, whatever follows.
+fn refused(refusal: Refusal, path: &str) -> Plan
+    ensures { result ≡ Plan.Refused (refused_request refusal No (has_index path.now)) }
+{
+    Plan::Refused(RequestRefusal {
+        refusal,
+        allow: Allow::No,
+        index: has_index(path),
+    })
 }

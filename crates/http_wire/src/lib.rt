@@ -3,16 +3,10 @@
 
 mod body;
 mod call;
-mod filling;
-mod framing;
-mod head;
-mod plan;
 mod replies;
-mod reply_bodies;
-mod reply_parts;
 mod served;
 
+pub use body::{ReadFailed, fill_from};
 pub use call::{ParsedRequest, ReplyForm, read_call, read_call_by};
-pub use filling::{ReadFailed, fill_from};
 pub use replies::reply_text;
 pub use served::shown_urls_are_served;

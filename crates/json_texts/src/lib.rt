@@ -3,16 +3,10 @@
 
 mod lists;
 mod objects;
-mod problems;
-mod refusal_replies;
 mod refused;
-mod short_lists;
 mod values;
 
-pub use lists::{text_list, texts_in};
+pub use lists::{lone_text, text_list, texts_in, written_list};
 pub use objects::{JsonValue, object_in, text_member};
-pub use problems::order_problem;
-pub use refusal_replies::refusal_reply;
-pub use refused::{problem_document, problem_text, type_text};
-pub use short_lists::{lone_text, written_list};
+pub use refused::{order_problem, problem_document, problem_text, refusal_reply, type_text};
 pub use values::{text_of, texts_of, value_of};

@@ -1,12 +1,17 @@
-//! The JSON documents of refusals (RFC 7807, RFC 8555, 6.7).
+//! The JSON documents of refusals and the replies that refuse (RFC 7807; RFC 8555, 6.7), and the problems of orders.
 ghost use Rattle.std.specs.Prelude.{◌≡◌, IfOk, OnOk, Some, map, string_bytes};
 ghost use Rattle.serde_json.specs.{Data.string, Read.read, Written.compact_text};
 ghost use Rattle.serde_json.specs.View.{view, members_view};
 ghost use Rattle.desk_model.specs.Json.{list, members};
 ghost use Rattle.desk_model.specs.Refusals.{refusal_of, error_type, problem_document, subproblem_document};
 ghost use Rattle.json_texts.specs.Refused.{identifier, refusal_members, with_subproblems};
+ghost use Rattle.json_texts.specs.RefusalReplies.{refusal_reply};
+ghost use Rattle.json_texts.specs.Problems.{order_problem, order_problem_in};
 
-use desk_model::{Document, Problem, Refusal, Subproblem};
+use crate::values::{texts_of, value_of};
+use desk_model::{
+    Allow, Body, Document, OrderProblem, Problem, Refusal, Reply, Sequence, Subproblem,
+};
 use serde_json::{Map, Value, json, put};
 use std::alloc::{AllocError, Global};
 
@@ -116,4 +121,58 @@ pub fn type_text(alloc: Global, name: &str) -> Result<String, AllocError>
     ensures { IfOk result (λ text. string_bytes text ≡ error_type name.now) }
 {
     format!(in alloc; "urn:ietf:params:acme:error:{name}")
+}
+
+// ---- replies that refuse
+
+/// The reply that refuses a request, without a nonce: `subproblems` are the identifiers that were refused
+/// (RFC 8555, 6.7.1), `allow` the methods that the resource serves where it was asked by another, and `index` says
+/// whether the reply has the link to the directory (RFC 8555, 7.1).
+pub fn refusal_reply(
+    refusal: Refusal,
+    subproblems: Sequence<Subproblem>,
+    allow: Allow,
+    index: bool,
+) -> Reply
+    ensures { result ≡ refusal_reply refusal subproblems allow index }
+{
+    Reply {
+        status: refusal.status(),
+        location: None,
+        up: None,
+        nonce: None,
+        body: Body::Problem(Problem {
+            refusal,
+            subproblems,
+            allow,
+            index,
+        }),
+    }
+}
+
+// ---- problems of orders
+
+/// The problem of an order that a text spells, a JSON object with the strings `type` and `detail`, or `None` where it is
+/// no such object.
+///
+/// # Errors
+///
+/// Where there is no memory for it.
+pub fn order_problem(alloc: Global, text: &str) -> Result<Option<OrderProblem>, AllocError>
+    ensures { IfOk result (λ o. o ≡ order_problem text.now) }
+{
+    match value_of(alloc, text)? {
+        Some(problem) => order_problem_in(alloc, &problem),
+        None => Ok(None),
+    }
+}
+
+// The type and the detail of a problem.
+fn order_problem_in(alloc: Global, problem: &Value) -> Result<Option<OrderProblem>, AllocError>
+    ensures { IfOk result (λ o. o ≡ order_problem_in (view problem.now)) }
+{
+    match texts_of(alloc, problem, "type", "detail")? {
+        Some((kind, detail)) => Ok(Some(OrderProblem { kind, detail })),
+        None => Ok(None),
+    }
 }

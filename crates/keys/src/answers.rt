@@ -1,14 +1,41 @@
-//! Thumbprints, key authorizations and the answers that challenges ask for (RFC 8555, 8.1, 8.3, 8.4).
-ghost use Rattle.std.specs.Prelude.{◌≡◌, ◌≤◌, ◌-◌, ◌&&◌, nat_lt, length, slice_index, ◌↔◌, ◌++◌, ◌∷◌, ◌==◌, ℕ, List, IsTrue};
-ghost use Rattle.std.specs.Prelude.{IfOk, Any, All, bytes_eq, string_bytes};
+//! Thumbprints, key authorizations, and the answers that challenges ask for (RFC 8555, 8.1, 8.3, 8.4).
+ghost use Rattle.std.specs.Prelude.{◌≡◌, ◌≤◌, ◌-◌, ◌&&◌, ◌↔◌, ◌++◌, ◌∷◌, ◌==◌, string_bytes, IfOk, nat_lt, length, slice_index, ℕ, List, IsTrue, Any, All};
+ghost use Rattle.std.specs.Prelude.{bytes_eq};
+ghost use Rattle.desk_model.specs.Tokens.{authorization_of, token_text as text_of_token, body_matches, dns_value_of, is_blank, records_match, IsBodyMatch};
+ghost use Rattle.desk_model.specs.Document.{expected_by};
 ghost use Rattle.std.specs.List.{list_any};
 ghost use Rattle.sha2.specs.Sha256.{sha256};
-ghost use Rattle.desk_model.specs.Tokens.{authorization_of, body_matches, dns_value_of, is_blank, records_match, IsBodyMatch};
 
-use crate::base64url::url_safe;
-use desk_model::{Jwk, Text, is_same_bytes, is_same_text};
+use crate::texts::{token_text, url_safe};
+use desk_model::{Jwk, Kind, Text, is_same_bytes, is_same_text};
 use sha2::{Digest, Sha256};
 use std::alloc::{AllocError, Global};
+
+// ---- what an answer has to be
+
+/// What the validator has to find for a token, under the thumbprint of the key that it was answered with: the key
+/// authorization for http-01, the value of the record for dns-01.
+///
+/// # Errors
+///
+/// Where there is no memory for it.
+pub fn expected_text(
+    alloc: Global,
+    kind: Kind,
+    token: [u8; 16],
+    thumb: &[u8],
+) -> Result<String, AllocError>
+    ensures { IfOk result (λ t. string_bytes t ≡ expected_by kind (authorization_of (text_of_token token) thumb.now)) }
+{
+    let token = token_text(alloc, token)?;
+    let authorization = authorization(alloc, token.as_str(), thumb)?;
+    match kind {
+        Kind::Http01 => Ok(authorization),
+        Kind::Dns01 => dns_value(alloc, authorization.as_str()),
+    }
+}
+
+// ---- whether one is that
 
 /// The thumbprint of a key: the SHA-256 of its canonical text (RFC 7638, 3).
 pub fn thumbprint(key: &Jwk) -> [u8; 32]
@@ -35,8 +62,8 @@ pub fn key_authorization(alloc: Global, token: &str, thumb: &[u8; 32]) -> Result
     authorization(alloc, token, thumb)
 }
 
-/// The key authorization of a token's text under these bytes, which are a thumbprint where the challenge was answered.
-pub(crate) fn authorization(alloc: Global, token: &str, thumb: &[u8]) -> Result<String, AllocError>
+// The key authorization of a token's text under these bytes, which are a thumbprint where the challenge was answered.
+fn authorization(alloc: Global, token: &str, thumb: &[u8]) -> Result<String, AllocError>
     ensures { IfOk result (λ t. string_bytes t ≡ authorization_of token.now thumb.now) }
 {
     let digest = url_safe(alloc, thumb)?;

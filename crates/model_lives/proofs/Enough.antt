@@ -7,7 +7,7 @@ use Rattle.desk_model.specs.{Tables.Tables, Entry.entry_of}
 use Rattle.desk_model.specs.Kept.{Covers, EachOf, IsClosed, Kept, restricted}
 use Rattle.desk_model.specs.declared.{call.Ask.Ask, call.OfficeAsk.OfficeAsk, call.Call.Call, call.Signed.Signed, entry.Entry.Entry, objects.Nonce.Nonce}
 use Rattle.desk_model.specs.declared.{rows.AccountRow.AccountRow, rows.AuthorizationRow.AuthorizationRow, rows.OrderRow.OrderRow, verdict.Verdict.Verdict}
-use Rattle.desk_model.specs.declared.{moves.Move.Move}
+use Rattle.desk_model.specs.declared.{entry.Move.Move}
 use Rattle.desk_model.specs.declared.call.Ask.TheVariants as ask
 use Rattle.desk_model.specs.declared.call.OfficeAsk.TheVariants as office
 use Rattle.desk_model.specs.declared.entry.Entry.TheVariants.{Issued as issued, Opened as opened, Ordered as ordering, Spent as spent}
@@ -15,7 +15,7 @@ use Rattle.desk_model.specs.declared.verdict.Verdict.TheVariants.{Refused as ref
 use Rattle.desk_model.specs.declared.verdict.Verdict.TheVariants.{Orders as orders, Moves as moves}
 use Rattle.model_laws.specs.Ordered.{IsOrdered, IsTable}
 use Rattle.model_laws.specs.Parts.{CoversAll, ReusedKept}
-use Rattle.desk_model.specs.declared.moves.Move.TheVariants as move
+use Rattle.desk_model.specs.declared.entry.Move.TheVariants as move
 use Rattle.model_laws.proofs.Basics.{each, each_all}
 use Rattle.model_laws.proofs.Chain.{effects_part, recorded_local}
 use Rattle.model_laws.proofs.Local.{filter_all, swept_part}

@@ -15,7 +15,7 @@ use Rattle.desk_model.specs.Shown.{made_order, moved_reply, ok, reply_of, shown}
 use Rattle.desk_model.specs.Kept.{EachOf, IsClosed, Kept, restricted}
 use Rattle.desk_model.specs.declared.verdict.Shows.TheVariants as show
 use Rattle.desk_model.specs.declared.verdict.Listing.TheVariants as listing
-use Rattle.desk_model.specs.declared.moves.Move.TheVariants as move
+use Rattle.desk_model.specs.declared.entry.Move.TheVariants as move
 use Rattle.model_laws.specs.Parts.{FreshKept}
 use Rattle.model_laws.proofs.Basics.{each, each-append, each-map, one_kept}
 use Rattle.model_laws.proofs.Chain.{order_number, up_kept}

@@ -3,7 +3,7 @@ use Rattle.std.proofs.Common.{◌≡◌, ◌≤◌, ◌*◌, ℕ, List, [], ◌�
 use Rattle.std.specs.Prelude.{IsTrue, nat_le, ◌&&◌, ◌==◌, is_some, bytes_eq, option_and_then, Result}
 use Rattle.std.proofs.lemmas.Bool.{and_from}
 use Rattle.desk_model.specs.Authorization.{is_live, is_pending}
-use Rattle.desk_model.specs.declared.{refusal.Refusal.Refusal, entry.Entry.Entry, moves.Move.Move, entry.Outcome.Outcome, call.OrderProblem.OrderProblem}
+use Rattle.desk_model.specs.declared.{refusal.Refusal.Refusal, entry.Entry.Entry, entry.Move.Move, entry.Outcome.Outcome, call.OrderProblem.OrderProblem}
 use Rattle.desk_model.specs.declared.{objects.Nonce.Nonce, rows.AccountRow.AccountRow, rows.ChallengeRow.ChallengeRow, rows.AuthorizationRow.AuthorizationRow}
 use Rattle.desk_model.specs.declared.{rows.OrderRow.OrderRow, payload.NewAccount.NewAccount, payload.AccountChange.AccountChange, payload.KeyChange.KeyChange}
 use Rattle.desk_model.specs.declared.{payload.AuthorizationChange.AuthorizationChange, payload.ChallengeChange.ChallengeChange, payload.Identifier.Identifier}

@@ -12,7 +12,7 @@ use Rattle.desk_model.specs.declared.{call.OfficeAsk.OfficeAsk, entry.Ending.End
 use Rattle.desk_model.specs.declared.{rows.Change.Change, verdict.Verdict.Verdict}
 use Rattle.desk_model.specs.declared.call.OfficeAsk.TheVariants as office
 use Rattle.desk_model.specs.declared.entry.Entry.TheVariants.{AuthorizationEnded as authorization_ended, Reported as reported}
-use Rattle.desk_model.specs.declared.moves.Move.TheVariants as move
+use Rattle.desk_model.specs.declared.entry.Move.TheVariants as move
 use Rattle.desk_model.specs.declared.refusal.Refusal.TheVariants as refusal
 use Rattle.desk_model.specs.declared.rows.Change.TheVariants.{PutAccount, PutAuthorization, PutMeta, PutNonce, PutOrder, RemoveNonce}
 use Rattle.desk_model.specs.declared.verdict.Shows.TheVariants as show

@@ -25,7 +25,7 @@ use Rattle.desk_model.specs.Rules.{wanted, wanted_by}
 use Rattle.desk_model.specs.Shown.{at, authorization_reply, certificate_reply, challenge_in, client_challenge_in, moved_reply, ok, reply_of, shown}
 use Rattle.desk_model.specs.Verdict.{check, given}
 use Rattle.desk_model.specs.declared.{call.Ask.Ask, call.BadKey.BadKey, call.Finding.Finding, call.OrderProblem.OrderProblem, call.OfficeAsk.OfficeAsk}
-use Rattle.desk_model.specs.declared.{call.Signed.Signed, call.Target.Target, entry.Entry.Entry, moves.Move.Move, payload.AccountChange.AccountChange}
+use Rattle.desk_model.specs.declared.{call.Signed.Signed, call.Target.Target, entry.Entry.Entry, entry.Move.Move, payload.AccountChange.AccountChange}
 use Rattle.desk_model.specs.declared.{payload.AuthorizationChange.AuthorizationChange, payload.ChallengeChange.ChallengeChange, payload.Identifier.Identifier}
 use Rattle.desk_model.specs.declared.{reply.Reply.Reply, reply.Subproblem.Subproblem, rows.AccountRow.AccountRow, rows.AuthorizationRow.AuthorizationRow}
 use Rattle.desk_model.specs.declared.{rows.OrderRow.OrderRow, verdict.Shows.Shows, verdict.Verdict.Verdict}
@@ -33,7 +33,7 @@ use Rattle.desk_model.specs.declared.call.Ask.TheVariants as ask
 use Rattle.desk_model.specs.declared.call.OfficeAsk.TheVariants as office
 use Rattle.desk_model.specs.declared.call.Target.TheVariants as to
 use Rattle.desk_model.specs.declared.entry.Entry.TheVariants.{Answered as answered, Issued as issued, Ordered as ordered, Spent as spent}
-use Rattle.desk_model.specs.declared.moves.Move.TheVariants as move
+use Rattle.desk_model.specs.declared.entry.Move.TheVariants as move
 use Rattle.desk_model.specs.declared.payload.AccountChange.TheVariants as change
 use Rattle.desk_model.specs.declared.payload.AuthorizationChange.TheVariants as authz_change
 use Rattle.desk_model.specs.declared.payload.ChallengeChange.TheVariants as chall_change

@@ -7,7 +7,7 @@ use Rattle.std.proofs.lemmas.List.{map-append, take-map}
 use Rattle.sqlite.specs.Held.{Held, state}
 use Rattle.sqlite.specs.Store.{Ghosts}
 use Rattle.store_columns.specs.Flat.{bare_row, challenge_rows, owned_by}
-use Rattle.store_columns.specs.declared.flat_rows.Owned.{Owned}
+use Rattle.store_columns.specs.declared.columns.Owned.{Owned}
 use Rattle.model_laws.proofs.RowLists.{put_before, put_past}
 use Rattle.model_laws.specs.Distinct.{Distinct}
 use Rattle.desk_model.specs.{Change.put, Tables.Tables}

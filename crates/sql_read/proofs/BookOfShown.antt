@@ -8,8 +8,8 @@ use Rattle.store_book.specs.BookRows.{AreAccounts, AreAuthorizations, AreBookRow
 use Rattle.store_book.proofs.InOrder.{rows_are_books}
 use Rattle.store_columns.specs.Columns.{challenge_columns, key_columns, meta_columns, rows_columns}
 use Rattle.store_columns.specs.Limits.{AreStored, IsStoredChallenge, IsStoredKey, IsStoredMeta}
-use Rattle.store_columns.specs.declared.{columns.StoredRows.StoredRows, flat_rows.AnswerKey.AnswerKey, flat_rows.BareChallenge.BareChallenge}
-use Rattle.store_columns.specs.declared.{flat_rows.FlatRows.FlatRows, flat_rows.Owned.Owned}
+use Rattle.store_columns.specs.declared.{columns.StoredRows.StoredRows, columns.AnswerKey.AnswerKey, columns.BareChallenge.BareChallenge}
+use Rattle.store_columns.specs.declared.{columns.FlatRows.FlatRows, columns.Owned.Owned}
 use Rattle.model_laws.specs.Ordered.{IsTable}
 use Rattle.desk_model.specs.{Kept.EachOf, Tables.Tables}
 use Rattle.desk_model.specs.declared.rows.{Counters.Counters, Meta.Meta}

@@ -7,7 +7,7 @@ use Rattle.sqlite.specs.Held.{Held, state}
 use Rattle.sqlite.specs.Store.{Ghosts}
 use Rattle.store_columns.specs.Columns.{authorization_columns, challenge_columns, key_columns}
 use Rattle.store_columns.specs.Flat.{answer_key, bare_row, challenge_rows, key_rows}
-use Rattle.store_columns.specs.declared.{columns.StoredRows.StoredRows, flat_rows.Owned.Owned}
+use Rattle.store_columns.specs.declared.{columns.StoredRows.StoredRows, columns.Owned.Owned}
 use Rattle.desk_model.specs.Tables.{Tables}
 use Rattle.desk_model.specs.declared.{objects.Answer.Answer, rows.ChallengeRow.ChallengeRow}
 use Rattle.sql_read.specs.First.{AreFirstShown, blank_key, raised_meta}

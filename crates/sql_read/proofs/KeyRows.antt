@@ -5,7 +5,7 @@ use Rattle.std.specs.Prelude.{◌==◌, nat_lt, option_map}
 use Rattle.std.proofs.lemmas.Bool.{eq-eqb, ne_eqb}
 use Rattle.std.proofs.lemmas.{Option.same_Some}
 use Rattle.store_columns.specs.Flat.{answer_key, challenge_rows, key_rows}
-use Rattle.store_columns.specs.declared.flat_rows.{AnswerKey.AnswerKey, Owned.Owned}
+use Rattle.store_columns.specs.declared.columns.{AnswerKey.AnswerKey, Owned.Owned}
 use Rattle.model_laws.proofs.Basics.{each, each_both}
 use Rattle.model_laws.proofs.Keeps.{each-filter}
 use Rattle.model_laws.specs.Distinct.{Distinct}

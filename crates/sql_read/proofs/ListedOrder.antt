@@ -13,7 +13,7 @@ use Rattle.sqlite.specs.Held.{Held, state}
 use Rattle.sqlite.specs.{State.Shown, Store.Ghosts}
 use Rattle.store_columns.specs.{Columns.listed_columns, Limits.IsStoredListed}
 use Rattle.store_columns.specs.Flat.{listed_rows, owned_by}
-use Rattle.store_columns.specs.declared.flat_rows.Owned.{Owned}
+use Rattle.store_columns.specs.declared.columns.Owned.{Owned}
 use Rattle.store_columns.proofs.RowsApart.{listed-apart, table-apart}
 use Rattle.model_laws.proofs.{Keeps.each-filter, Basics.each_all}
 use Rattle.model_laws.specs.Ordered.{Ascends}

@@ -11,8 +11,8 @@ use Rattle.store_columns.specs.Limits.{IsStoredAccount, IsStoredAuthorization, I
 use Rattle.store_columns.specs.TextColumns.{HasTextAccount, HasTextAuthorization, HasTextChallenge, HasTextMeta, HasTextOrder}
 use Rattle.store_columns.specs.declared.{columns.AccountColumns.AccountColumns, columns.AuthzColumns.AuthzColumns, columns.ChallColumns.ChallColumns}
 use Rattle.store_columns.specs.declared.{columns.ChallKeyColumns.ChallKeyColumns, columns.MetaColumns.MetaColumns, columns.NonceColumns.NonceColumns}
-use Rattle.store_columns.specs.declared.{columns.OrderColumns.OrderColumns, flat_rows.AnswerKey.AnswerKey, flat_rows.BareChallenge.BareChallenge}
-use Rattle.store_columns.specs.declared.{flat_rows.Owned.Owned}
+use Rattle.store_columns.specs.declared.{columns.OrderColumns.OrderColumns, columns.AnswerKey.AnswerKey, columns.BareChallenge.BareChallenge}
+use Rattle.store_columns.specs.declared.{columns.Owned.Owned}
 use Rattle.store_columns.proofs.RowsApart.{accounts-apart, authorizations-apart, challenges-apart, keys-apart, metas-apart, nonces-apart, orders-apart}
 use Rattle.desk_model.specs.declared.{objects.Nonce.Nonce, rows.AccountRow.AccountRow, rows.AuthorizationRow.AuthorizationRow, rows.ChallengeRow.ChallengeRow}
 use Rattle.desk_model.specs.declared.{rows.Meta.Meta, rows.OrderRow.OrderRow}

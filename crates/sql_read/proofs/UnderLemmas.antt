@@ -5,7 +5,7 @@ use Rattle.std.specs.List.{flat_map}
 use Rattle.std.proofs.lemmas.Bool.{eq-eqb, eqb-true}
 use Rattle.std.proofs.lemmas.{List.map-append, Simd.map-map}
 use Rattle.store_columns.specs.Flat.{challenge_rows, listed_rows, owned_by}
-use Rattle.store_columns.specs.declared.flat_rows.Owned.{Owned}
+use Rattle.store_columns.specs.declared.columns.Owned.{Owned}
 use Rattle.model_laws.proofs.Basics.{each, each_both, less_differs, more_differs}
 use Rattle.model_laws.proofs.RowLists.{ascends_above, ascends_map}
 use Rattle.model_laws.specs.Ordered.{Ascends}

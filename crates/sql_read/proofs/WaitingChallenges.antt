@@ -4,7 +4,7 @@ use Rattle.std.specs.Prelude.{◌==◌, ◌&&◌}
 use Rattle.std.specs.List.{list_any}
 use Rattle.std.proofs.lemmas.{List.Sorted.list_any-IsPermutation, Simd.map-map}
 use Rattle.store_columns.specs.Flat.{challenge_rows, owned_by}
-use Rattle.store_columns.specs.declared.flat_rows.Owned.{Owned}
+use Rattle.store_columns.specs.declared.columns.Owned.{Owned}
 use Rattle.model_laws.specs.{Distinct.Distinct, Ordered.Ascends}
 use Rattle.model_laws.proofs.Basics.{each, list_any-map, list_any-same}
 use Rattle.desk_model.specs.{Kept.EachOf, Legal.is_processing_challenge, Tables.Tables}

@@ -9,7 +9,7 @@ use Rattle.sqlite_value.specs.Order.{Row}
 use Rattle.sqlite_sql.specs.Query.{Output}
 use Rattle.store_columns.specs.Columns.{listed_columns}
 use Rattle.store_columns.specs.Flat.{challenge_rows, key_rows, listed_rows}
-use Rattle.store_columns.specs.declared.{columns.OrderAuthzColumns.OrderAuthzColumns, flat_rows.Owned.Owned}
+use Rattle.store_columns.specs.declared.{columns.OrderAuthzColumns.OrderAuthzColumns, columns.Owned.Owned}
 use Rattle.model_laws.proofs.Basics.{each_all}
 use Rattle.desk_model.specs.Tables.{Tables}
 use Rattle.desk_model.specs.declared.rows.Listed.{Listed}

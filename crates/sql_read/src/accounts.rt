@@ -4,10 +4,9 @@ ghost use Rattle.model_lives.specs.{Above.accounts_above, Above.first_of, LookUp
 ghost use Rattle.sql_read.specs.{Looking.LooksUp, Queries.account_query, Queries.asked};
 ghost use Rattle.sql_read.specs.Spelled.{FitsAccount, account_in};
 
-use crate::columns::Selected;
 use crate::fault::ReadFault;
-use crate::params::Query;
-use crate::rows::find_rows;
+use crate::query::Query;
+use crate::rows::{Selected, find_rows};
 use crate::values::{both, number_or_none, numbers, text, text_or_none};
 use desk_model::AccountRow;
 use model_lives::AccountsWhere;

@@ -2,16 +2,15 @@
 ghost use Rattle.std.specs.Prelude.{◌≡◌, [], ◌∷◌, Some, IfErr, IfOk, IsTrue, map};
 ghost use Rattle.sqlite.specs.Held.{state};
 ghost use Rattle.store_columns.specs.Flat.{bare, bare_row};
-ghost use Rattle.store_columns.specs.declared.flat_rows.AnswerKey.{AnswerKey as KeyRow};
+ghost use Rattle.store_columns.specs.declared.columns.AnswerKey.{AnswerKey as KeyRow};
 ghost use Rattle.desk_model.specs.Kept.{EachOf};
 ghost use Rattle.sql_schema.specs.Stays.{Asks};
 ghost use Rattle.sql_read.specs.{Looking.LooksFor, Spelled.FitsKey, Spelled.key_in};
 ghost use Rattle.sql_read.specs.Keys.{HasItsKey, answered_as, keys_of};
 
-use crate::columns::Selected;
 use crate::fault::ReadFault;
-use crate::params::Query;
-use crate::rows::find_rows;
+use crate::query::Query;
+use crate::rows::{Selected, find_rows};
 use crate::values::{bytes, numbers};
 use desk_model::{Answer, ChallengeRow};
 use sql_schema::keys;

@@ -10,13 +10,9 @@ ghost use Rattle.sql_read.specs.{Keys.HasItsKey, Queries.asked, Queries.authoriz
 ghost use Rattle.sql_read.specs.Spelled.{FitsAuthorization, FitsChallenge, authorization_in, challenge_in};
 
 use crate::answers::with_answers;
-use crate::columns::Selected;
-use crate::earliest::earliest;
 use crate::fault::ReadFault;
-use crate::owned::{owners, without_owners};
-use crate::params::Query;
-use crate::parents::{Parent, find_parents};
-use crate::rows::find_rows;
+use crate::query::{Query, earliest};
+use crate::rows::{Parent, Selected, find_parents, find_rows, owners, without_owners};
 use crate::values::{both, bytes, number_or_none, numbers, numbers_or_none, text, text_or_none};
 use desk_model::{AuthorizationRow, AuthzStatus, ChallengeRow, ChallengeStatus, Sequence};
 use model_lives::AuthorizationsWhere;

@@ -16,8 +16,7 @@ ghost use Rattle.store_laws.specs.Blank.{blank, zeros};
 
 use crate::checked::check_nonces;
 use crate::formats::Format;
-use crate::params::Query;
-use crate::query::read_query;
+use crate::query::{Query, read_query};
 use crate::stored::read_first_tables;
 use crate::values::both;
 use desk_model::{Meta, Sequence};

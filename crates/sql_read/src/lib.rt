@@ -5,9 +5,6 @@ mod accounts;
 mod answers;
 mod authorizations;
 mod checked;
-mod checking;
-mod columns;
-mod earliest;
 mod fault;
 mod first;
 mod format;
@@ -15,13 +12,9 @@ mod formats;
 mod meta;
 mod nonces;
 mod orders;
-mod owned;
-mod params;
-mod parents;
 mod query;
 mod rows;
 mod stored;
-mod tables;
 mod values;
 
 pub use accounts::{account_above, find_accounts};
@@ -29,13 +22,12 @@ pub use authorizations::{
     authorization_above, bare_authorizations, challenge_above, earliest_authorization_end,
     find_authorizations, owners_of, waiting_challenges,
 };
-pub use checked::has_book_rows;
-pub use checking::check_table;
-pub use columns::Selected;
+pub use checked::{check_table, has_book_rows};
 pub use fault::ReadFault;
 pub use first::{first_meta, load_first};
 pub use format::is_newer;
 pub use meta::meta_row;
 pub use nonces::{earliest_issue, find_nonces};
 pub use orders::{bare_orders_of, earliest_order_end, find_orders, order_above, orders_listing};
+pub use rows::Selected;
 pub use stored::load_stored;

@@ -3,10 +3,9 @@ ghost use Rattle.std.specs.Prelude.{◌≡◌, [], ◌∷◌, IfErr, IfOk};
 ghost use Rattle.desk_model.specs.declared.rows.Meta.{Meta as MetaRow};
 ghost use Rattle.sql_read.specs.{Looking.LooksUp, Spelled.FitsMeta, Spelled.meta_in};
 
-use crate::columns::Selected;
 use crate::fault::ReadFault;
-use crate::params::Query;
-use crate::rows::find_rows;
+use crate::query::Query;
+use crate::rows::{Selected, find_rows};
 use crate::values::{numbers, text};
 use desk_model::Meta;
 use sql_schema::meta;

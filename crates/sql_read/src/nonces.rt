@@ -5,11 +5,9 @@ ghost use Rattle.sql_read.specs.Earliest.{TellsEarliest, issues};
 ghost use Rattle.sql_read.specs.{Looking.LooksUp, Queries.asked, Queries.nonce_query};
 ghost use Rattle.sql_read.specs.Spelled.{FitsNonce, nonce_in};
 
-use crate::columns::Selected;
-use crate::earliest::earliest;
 use crate::fault::ReadFault;
-use crate::params::Query;
-use crate::rows::find_rows;
+use crate::query::{Query, earliest};
+use crate::rows::{Selected, find_rows};
 use crate::values::{bytes, numbers};
 use desk_model::Nonce;
 use model_lives::NoncesWhere;

@@ -7,13 +7,9 @@ ghost use Rattle.sql_read.specs.Earliest.{TellsEarliest, order_ends};
 ghost use Rattle.sql_read.specs.{Looking.LooksUp, Queries.asked, Queries.order_query, Under.HasItsListed};
 ghost use Rattle.sql_read.specs.Spelled.{FitsListed, FitsOrder, listed_in, order_in};
 
-use crate::columns::Selected;
-use crate::earliest::earliest;
 use crate::fault::ReadFault;
-use crate::owned::{owners, without_owners};
-use crate::params::Query;
-use crate::parents::{Parent, find_parents};
-use crate::rows::find_rows;
+use crate::query::{Query, earliest};
+use crate::rows::{Parent, Selected, find_parents, find_rows, owners, without_owners};
 use crate::values::{both, bytes_or_none, numbers, numbers_or_none, text, text_or_none};
 use desk_model::{OrderRow, OrderStatus, Sequence};
 use model_lives::OrdersWhere;

@@ -1,16 +1,16 @@
-//! The rows of all tables.
+//! The rows of all tables, by the statements that read a whole table each.
+ghost use Rattle.sql_read.specs.Reads.{ThenReads, Reads};
+ghost use Rattle.sql_read.specs.{Selecting.IsQuery, Held.ForHeld};
 ghost use Rattle.std.specs.Prelude.{IfErr, IfOk, OnOk};
 ghost use Rattle.sqlite.specs.State.{HasCleanDisk, IsUnchanged};
 ghost use Rattle.sqlite.specs.Held.{state};
 ghost use Rattle.sql_schema.specs.{Failing.IsFailure, Stays.Asks};
 ghost use Rattle.sql_read.specs.Failures.{HasTexts, IsMet, MayRead};
-ghost use Rattle.sql_read.specs.{Held.ForHeld, Reads.Reads};
 ghost use Rattle.sql_read.specs.AllTables.{AreAllShown, AreFirstReadable, AreFirstTablesShown, AreReadable, FailsAtFirst, FailsAtTable};
 ghost use Rattle.sql_read.specs.Shown.{AreColumnsOf, AreShown};
 
-use crate::params::Query;
-use crate::query::read_query;
-use crate::tables::then_read;
+use crate::query::{Query, read_query};
+use crate::rows::Selected;
 use desk_model::Sequence;
 use sql_schema::{accounts, authorizations, challenges, keys, listed, meta, nonces, orders};
 use sqlite::{Alter, Connection, Error};
@@ -19,6 +19,25 @@ use store_columns::{
     AccountColumns, AuthzColumns, ChallColumns, ChallKeyColumns, MetaColumns, NonceColumns,
     OrderAuthzColumns, OrderColumns, StoredRows,
 };
+
+// The columns of a table, which is read after what was read earlier, and only if that did not fail.
+//
+// # Errors
+//
+// The engine's; the connection is as it was, or what was not committed is undone.
+fn then_read<S: Alter, A: Drop, C: Selected>(
+    earlier: Result<A, Error>,
+    alloc: Global,
+    conn: &mut Connection<S>,
+    text: &'static str,
+) -> Result<(A, Sequence<C>), Error>
+    requires { IsQuery text.now }
+    ensures { ThenReads S.Store text.now C.spelled C.Fits conn.old conn.new earlier result }
+{
+    let found = earlier?;
+    let columns = read_query(alloc, conn, Query::all(text))?;
+    Ok((found, columns))
+}
 
 // The tables in the order in which they are read: `meta`, `nonce`, `account`, `ord` ..
 type UpToOrders = (

@@ -2,7 +2,7 @@
 use Rattle.std.specs.{Prelude.option_map, List.cons_option}
 use Rattle.std.proofs.Common.{◌≢◌, ℕ, List, [], ◌∷◌, Option, Some, None}
 use Rattle.store_columns.specs.Flat.{key_rows}
-use Rattle.store_columns.specs.declared.flat_rows.{AnswerKey.AnswerKey, Owned.Owned}
+use Rattle.store_columns.specs.declared.columns.{AnswerKey.AnswerKey, Owned.Owned}
 use Rattle.model_laws.specs.Distinct.{Distinct}
 use Rattle.desk_model.specs.Kept.{EachOf}
 use Rattle.desk_model.specs.declared.{objects.Answer.Answer, rows.ChallengeRow.ChallengeRow}

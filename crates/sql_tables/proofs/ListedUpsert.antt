@@ -11,7 +11,7 @@ use Rattle.sqlite_tied.specs.Compute.{everything}
 use Rattle.sqlite.specs.Listing.{understood}
 use Rattle.sqlite.specs.State.{State, Executes}
 use Rattle.store_columns.specs.Columns.{listed_columns}
-use Rattle.store_columns.specs.declared.{flat_rows.Owned.Owned}
+use Rattle.store_columns.specs.declared.{columns.Owned.Owned}
 use Rattle.desk_model.specs.declared.rows.Listed.{Listed}
 use Rattle.sql_schema.specs.Schema.{desk_schema, ord_authz_table}
 use Rattle.sql_tables.specs.Effects.{Appends, Places, is_same_place}

@@ -3,7 +3,7 @@ use Rattle.std.specs.Prelude.{◌≡◌, ◌≢◌, ◌&&◌, ◌==◌, ℕ, Boo
 use Rattle.sqlite.specs.Effect.{Database, IsDatabase}
 use Rattle.sqlite.specs.Order.{Row}
 use Rattle.sqlite_rules.specs.{Edit.IsNoIndex, Lists.Has}
-use Rattle.store_columns.specs.declared.flat_rows.Owned.{Owned}
+use Rattle.store_columns.specs.declared.columns.Owned.{Owned}
 use Rattle.desk_model.specs.Change.{put, remove}
 use Rattle.desk_model.specs.declared.rows.Listed.{Listed}
 use Rattle.sql_schema.specs.Schema.{desk_schema}

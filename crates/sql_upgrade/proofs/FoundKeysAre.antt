@@ -7,7 +7,7 @@ use Rattle.sqlite.specs.Store.{Ghosts}
 use Rattle.store_columns.specs.Columns.{account_columns, authorization_columns, challenge_columns}
 use Rattle.store_columns.specs.Flat.{answer_key, bare_row, challenge_rows, key_rows, owned_by, without_challenges}
 use Rattle.store_columns.specs.Limits.{IsStoredAccount, IsStoredAuthorization, IsStoredChallenge}
-use Rattle.store_columns.specs.declared.flat_rows.{AnswerKey.AnswerKey, Owned.Owned}
+use Rattle.store_columns.specs.declared.columns.{AnswerKey.AnswerKey, Owned.Owned}
 use Rattle.store_columns.proofs.RowsApart.{accounts-apart, authorizations-apart, challenges-apart}
 use Rattle.model_laws.proofs.Basics.{each, each-append, each-map, each_both, find-map}
 use Rattle.model_laws.proofs.RowLists.{ascends_found, ascends_map, puts_ascending}

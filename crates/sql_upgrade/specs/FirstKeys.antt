@@ -1,7 +1,7 @@
 -- The keys of answers, where no account ever got another key.
 use Rattle.std.specs.Prelude.{ℕ, List, Option, filter_map, option_map}
 use Rattle.std.specs.List.{flat_map}
-use Rattle.store_columns.specs.declared.flat_rows.AnswerKey.{AnswerKey}
+use Rattle.store_columns.specs.declared.columns.AnswerKey.{AnswerKey}
 use Rattle.desk_model.specs.{Effect.key_numbered, Keys.thumbprint, Tables.Tables}
 use Rattle.desk_model.specs.declared.rows.{AccountRow.AccountRow, AuthorizationRow.AuthorizationRow, ChallengeRow.ChallengeRow}
 

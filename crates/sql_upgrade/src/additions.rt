@@ -12,8 +12,7 @@ ghost use Rattle.sql_upgrade.specs.FirstDesks.{AreOfDesks, IsOfBook};
 ghost use Rattle.store_book.specs.IsBook.{IsBookOfStored};
 ghost use Rattle.store_columns.specs.declared.columns.StoredRows.{StoredRows};
 
-use crate::answer_keys::read_keys;
-use crate::first_keys::first_keys;
+use crate::answer_keys::{first_keys, read_keys};
 use desk_book::Book;
 use desk_model::Meta;
 use sql_read::first_meta;

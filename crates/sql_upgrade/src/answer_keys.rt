@@ -1,15 +1,19 @@
-//! The keys of all answers in format 1, by rows that are read one after the other.
-ghost use Rattle.std.specs.Prelude.{◌≡◌, ◌⊎◌, IfSome};
+//! The keys of all answers in format 1: by rows that are read one after the other, or those that the accounts have, where no account
+//! ever got another.
+ghost use Rattle.std.specs.Prelude.{◌≡◌, ◌⊎◌, IfSome, filter_map, IfOk};
 ghost use Rattle.sqlite.specs.Held.{state};
 ghost use Rattle.sql_read.specs.{AllTables.FailsAtFirst, Failures.IsOutOfMemory, FirstRows.IsFirstReadable, Reads.Reads};
 ghost use Rattle.sql_upgrade.specs.FoundKeys.{ShowsAnswers, ShowsOwners, ShowsThumbs};
+ghost use Rattle.sql_upgrade.specs.FirstKeys.{first_keys, key_under};
 
 use crate::key_checks::{AccountThumb, AnswerCheck, AuthorizationAccount, OwnerCheck, ThumbCheck};
-use desk_book::Table;
+use desk_book::{Book, Table};
+use desk_model::ChallengeRow;
+use keys::text_thumbprint;
 use sql_read::check_table;
 use sql_schema::{accounts, authorizations, challenges};
 use sqlite::{Alter, Connection, Error};
-use std::alloc::Global;
+use std::alloc::{AllocError, Global};
 use store_columns::{AccountColumns, AnswerKey, AuthzColumns, ChallColumns};
 
 // The keys of the challenges, by the accounts of authorizations and the thumbprints of their keys.
@@ -65,4 +69,48 @@ pub(crate) fn read_keys<S: Alter>(
         Ok(None) => Ok(None),
         Err(error) => Err(error),
     }
+}
+
+// ---- where no account ever got another key
+
+// The key of a challenge's answer, under the key of this canonical text.
+fn key_under(key: &str, row: &ChallengeRow) -> Option<AnswerKey>
+    ensures { result ≡ key_under key.now row.now }
+{
+    match row.answered {
+        Some(_) => {
+            let thumb = text_thumbprint(key);
+            Some(AnswerKey {
+                challenge: row.number,
+                thumb,
+            })
+        }
+        None => None,
+    }
+}
+
+// The keys of the answers of challenges.
+fn keys_under(alloc: Global, key: &str, rows: &[ChallengeRow]) -> Result<Vec<AnswerKey>, AllocError>
+    ensures { IfOk result (λ keys. keys.items ≡ filter_map (key_under key.now) rows.now) }
+{
+    rows.iter()
+        .filter_map(|row| key_under(key, row))
+        .collect(alloc)
+}
+
+/// The keys of all answers of a book, each the one that the account has.
+///
+/// # Errors
+///
+/// Where there is no memory for them.
+pub(crate) fn first_keys(alloc: Global, book: &Book) -> Result<Vec<AnswerKey>, AllocError>
+    ensures { IfOk result (λ keys. keys.items ≡ first_keys book.now) }
+{
+    let mut keys = Vec::new(alloc);
+    for row in book.authorizations().iter() {
+        let key = book.account_key(row.account);
+        let mut more = keys_under(alloc, key, row.challenges.as_slice())?;
+        keys.append(&mut more)?;
+    }
+    Ok(keys)
 }

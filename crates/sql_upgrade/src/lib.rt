@@ -3,7 +3,6 @@
 
 mod additions;
 mod answer_keys;
-mod first_keys;
 mod key_checks;
 mod laws;
 mod upgrading;

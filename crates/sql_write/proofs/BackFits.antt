@@ -4,7 +4,7 @@ use Rattle.std.proofs.Common.{◌≡◌, inl, inr, ℕ, ◌++◌, List, [], ◌�
 use Rattle.std.proofs.lemmas.List.{append_assoc}
 use Rattle.sqlite.specs.Effect.{Database}
 use Rattle.store_columns.specs.Flat.{challenge_rows, listed_rows, owned_by}
-use Rattle.store_columns.specs.declared.flat_rows.Owned.{Owned}
+use Rattle.store_columns.specs.declared.columns.Owned.{Owned}
 use Rattle.model_laws.proofs.{Basics.each_parts, NewChildren.kept_bring_new}
 use Rattle.model_laws.proofs.RowLists.{ascends_filter, put_before, put_past}
 use Rattle.model_laws.specs.Distinct.{Distinct}

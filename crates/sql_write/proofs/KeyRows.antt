@@ -4,7 +4,7 @@ use Rattle.std.specs.List.{cons_option, flat_map}
 use Rattle.std.proofs.Common.{◌≡◌, inl, ℕ, ◌++◌, List, [], ◌∷◌, map, Option, Some, None, refl, ap, subst, ◌∙◌}
 use Rattle.std.proofs.lemmas.List.Elements.{filter_map-append}
 use Rattle.store_columns.specs.Flat.{answer_key, challenge_rows, key_rows, owned_by}
-use Rattle.store_columns.specs.declared.flat_rows.{AnswerKey.AnswerKey, Owned.Owned}
+use Rattle.store_columns.specs.declared.columns.{AnswerKey.AnswerKey, Owned.Owned}
 use Rattle.model_laws.specs.News.{KeepChallenges}
 use Rattle.desk_model.specs.declared.{objects.Answer.Answer, rows.AuthorizationRow.AuthorizationRow, rows.ChallengeRow.ChallengeRow}
 use Rattle.sql_write.proofs.Numbered.{AreWithin, within_more}

@@ -7,7 +7,7 @@ use Rattle.std.proofs.lemmas.List.Sorted.{IsPermutation-refl, IsPermutation-sym,
 use Rattle.std.proofs.lemmas.List.Sorted.{IsPermutation-append_right, IsPermutation-append_comm}
 use Rattle.sqlite_rules.specs.Lists.{Has}
 use Rattle.store_columns.specs.Flat.{listed_rows, owned_by}
-use Rattle.store_columns.specs.declared.flat_rows.Owned.{Owned}
+use Rattle.store_columns.specs.declared.columns.Owned.{Owned}
 use Rattle.model_laws.proofs.RowLists.{ascends_above, put_before, put_instead, put_past}
 use Rattle.model_laws.specs.Ordered.{Ascends}
 use Rattle.desk_model.specs.Change.{put}

@@ -3,7 +3,7 @@ use Rattle.std.specs.Prelude.{option_map, IfSome}
 use Rattle.std.proofs.Common.{◌≡◌, ◌≢◌, inl, inr, ℕ, ◌++◌, List, [], ◌∷◌, Option, Some, None, Bool, true, false, Result, Ok, refl, sym, ap, subst, ◌∙◌, arith}
 use Rattle.sqlite.specs.{Effect.Database, Order.Row, Store.Ghosts}
 use Rattle.sqlite_rules.specs.Lists.{Has}
-use Rattle.store_columns.specs.declared.flat_rows.Owned.{Owned}
+use Rattle.store_columns.specs.declared.columns.Owned.{Owned}
 use Rattle.model_laws.proofs.Basics.{each, each_parts}
 use Rattle.model_laws.proofs.Distinctness.{distinct_parts}
 use Rattle.model_laws.proofs.RowLists.{put_before, put_instead, put_past, puts_append}
@@ -14,8 +14,8 @@ use Rattle.sql_write.proofs.Written.{nothing_written, written_as, written_with}
 use Rattle.sql_write.specs.Makes.{PutsAllOver, PutsOver, Sets, StandUnder, Writes}
 use Rattle.sql_write.specs.{Write.write, Refusals.HasWritten}
 use Rattle.sql_write.specs.Statements.{Sql, of_some}
-use Rattle.sql_write.specs.declared.{fault.SaveFault.SaveFault, write.Write.Write, write.Difference.Difference}
-use Rattle.sql_write.specs.declared.write.Difference.TheVariants.{Same, Moved, Other}
+use Rattle.sql_write.specs.declared.{fault.SaveFault.SaveFault, differences.Write.Write, differences.Difference.Difference}
+use Rattle.sql_write.specs.declared.differences.Difference.TheVariants.{Same, Moved, Other}
 use Rattle.sql_tables.specs.{Effects.BecomesRows, Sorted.sorted_by}
 use Rattle.sql_tables.specs.Layouts.{HasRows, Layout}
 use Rattle.sql_tables.proofs.Keyed.{put_ascends, ranked}

@@ -8,7 +8,7 @@ use Rattle.std.proofs.lemmas.List.{append_assoc, map-append}
 use Rattle.std.proofs.lemmas.List.Elements.{All-from_recursion, recursion_from_All}
 use Rattle.std.proofs.lemmas.List.Sorted.{All-permutation, IsPermutation-sym}
 use Rattle.sqlite_rules.specs.Lists.{Has}
-use Rattle.store_columns.specs.declared.flat_rows.Owned.{Owned}
+use Rattle.store_columns.specs.declared.columns.Owned.{Owned}
 use Rattle.model_laws.proofs.Basics.{eq_turn}
 use Rattle.model_laws.proofs.RowLists.{ascends_above, ascends_from, put_instead, put_past, puts_last}
 use Rattle.model_laws.specs.Ordered.{Ascends, Below}

@@ -7,7 +7,7 @@ use Rattle.std.proofs.{Math.Seq.take-suc, lemmas.List.Elements.filter_map-append
 use Rattle.std.proofs.lemmas.List.{append_assoc, map-append, take-append-drop}
 use Rattle.sqlite.specs.{Effect.Database, Order.Row}
 use Rattle.store_columns.specs.Flat.{answer_key, key_rows, owned_by}
-use Rattle.store_columns.specs.declared.flat_rows.{AnswerKey.AnswerKey, Owned.Owned}
+use Rattle.store_columns.specs.declared.columns.{AnswerKey.AnswerKey, Owned.Owned}
 use Rattle.desk_model.specs.Change.{applied, applied_one, put}
 use Rattle.desk_model.specs.{Kept.EachOf, Tables.Tables}
 use Rattle.desk_model.specs.declared.rows.{ChallengeRow.ChallengeRow, Change.Change, Counters.Counters, Listed.Listed}
@@ -17,8 +17,8 @@ use Rattle.sql_write.specs.Makes.{AddsOrPuts, AppendsAll, AppendsOrPlaces, ArePl
 use Rattle.sql_write.specs.Makes.{RenewsOrPuts, Writes, WritesListed, appended}
 use Rattle.sql_write.specs.Standing.{known_after, last_given}
 use Rattle.sql_write.specs.Statements.{save_statements, statements_from, statements_of}
-use Rattle.sql_write.specs.declared.write.Write.{Write}
-use Rattle.sql_write.specs.declared.write.Write.TheVariants.{Upsert, Insert, Update}
+use Rattle.sql_write.specs.declared.differences.Write.{Write}
+use Rattle.sql_write.specs.declared.differences.Write.TheVariants.{Upsert, Insert, Update}
 use Rattle.model_laws.proofs.{RowLists.puts_append, Recorded.applied-append}
 use Rattle.sql_write.proofs.Over.{over_both, over_none, over_one}
 use Rattle.sql_write.proofs.Written.{Turns}

@@ -10,7 +10,7 @@ use Rattle.sql_write.specs.declared.fault.SaveFault.{SaveFault}
 use Rattle.std.proofs.Common.{◌≡◌, ℕ, List, [], ◌∷◌, map, Result, refl, sym, ap, subst, ◌∙◌, arith}
 use Rattle.sqlite.specs.Effect.{Database}
 use Rattle.store_columns.specs.Columns.{first_format, known_format}
-use Rattle.store_columns.specs.declared.flat_rows.AnswerKey.{AnswerKey}
+use Rattle.store_columns.specs.declared.columns.AnswerKey.{AnswerKey}
 use Rattle.desk_model.specs.declared.rows.Meta.{Meta}
 use Rattle.sql_schema.specs.Defined.{AddsKeyTable}
 use Rattle.sql_write.specs.Upgrading.{Fills, Upgrades}

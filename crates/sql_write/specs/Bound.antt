@@ -2,7 +2,7 @@
 use Rattle.store_columns.specs.declared.columns.{AccountColumns.AccountColumns, AuthzColumns.AuthzColumns, ChallColumns.ChallColumns, MetaColumns.MetaColumns}
 use Rattle.store_columns.specs.declared.columns.{OrderColumns.OrderColumns}
 use Rattle.sql_write.specs.declared.{accounts.AccountNumbers.AccountNumbers, authorizations.AuthorizationNumbers.AuthorizationNumbers}
-use Rattle.sql_write.specs.declared.{challenges.ChallengeNumbers.ChallengeNumbers, meta.MetaNumbers.MetaNumbers, orders.OrderNumbers.OrderNumbers}
+use Rattle.sql_write.specs.declared.{authorizations.ChallengeNumbers.ChallengeNumbers, meta.MetaNumbers.MetaNumbers, orders.OrderNumbers.OrderNumbers}
 
 -- the numbers of the row of `meta` with these columns
 abbrev pub meta_numbers : MetaColumns → MetaNumbers

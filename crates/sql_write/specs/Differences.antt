@@ -1,13 +1,13 @@
 -- How a row differs from the one that stands in its place, table by table.
 use Rattle.std.specs.Prelude.{ℕ, List, ◌==◌, ◌&&◌, Bool, true, false, Option, Some, None, bytes_eq}
-use Rattle.store_columns.specs.declared.flat_rows.AnswerKey.{AnswerKey}
+use Rattle.store_columns.specs.declared.columns.AnswerKey.{AnswerKey}
 use Rattle.desk_model.specs.Document.{authorization_status_text, challenge_status_text, kind_text}
 use Rattle.desk_model.specs.Facts.{end_kind_text, outcome_text}
 use Rattle.desk_model.specs.Name.{same_name}
 use Rattle.desk_model.specs.declared.{objects.Answer.Answer, objects.AuthorizationEnd.AuthorizationEnd, objects.Report.Report, rows.AccountRow.AccountRow}
 use Rattle.desk_model.specs.declared.{rows.AuthorizationRow.AuthorizationRow, rows.ChallengeRow.ChallengeRow, rows.Meta.Meta, rows.OrderRow.OrderRow}
 use Rattle.sql_write.specs.Write.{difference}
-use Rattle.sql_write.specs.declared.write.Difference.{Difference}
+use Rattle.sql_write.specs.declared.differences.Difference.{Difference}
 
 -- ---- what a row was made with
 

@@ -4,7 +4,7 @@ use Rattle.desk_model.specs.Kept.{EachOf}
 use Rattle.desk_model.specs.declared.{objects.Nonce.Nonce, rows.AccountRow.AccountRow, rows.AuthorizationRow.AuthorizationRow, rows.ChallengeRow.ChallengeRow}
 use Rattle.desk_model.specs.declared.{rows.Listed.Listed, rows.Meta.Meta, rows.OrderRow.OrderRow}
 use Rattle.store_columns.specs.Limits.{IfRecorded}
-use Rattle.store_columns.specs.declared.flat_rows.{AnswerKey.AnswerKey, Owned.Owned}
+use Rattle.store_columns.specs.declared.columns.{AnswerKey.AnswerKey, Owned.Owned}
 
 -- a number
 abbrev pub Fits : ℕ → Type 0

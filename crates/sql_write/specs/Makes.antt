@@ -5,7 +5,7 @@ use Rattle.sqlite.specs.Order.{Row}
 use Rattle.sqlite_rules.specs.Lists.{Has}
 use Rattle.store_columns.specs.Columns.{known_format, order_columns}
 use Rattle.store_columns.specs.Flat.{key_rows, owned_by}
-use Rattle.store_columns.specs.declared.flat_rows.{AnswerKey.AnswerKey, Owned.Owned}
+use Rattle.store_columns.specs.declared.columns.{AnswerKey.AnswerKey, Owned.Owned}
 use Rattle.model_laws.specs.{Distinct.Distinct, Placing.puts}
 use Rattle.desk_model.specs.Change.{applied, applied_one, put}
 use Rattle.desk_model.specs.{Kept.EachOf, Tables.Tables}
@@ -13,8 +13,8 @@ use Rattle.desk_model.specs.declared.rows.{AuthorizationRow.AuthorizationRow, Ch
 use Rattle.desk_model.specs.declared.rows.{OrderRow.OrderRow}
 use Rattle.sql_write.specs.Fitting.{AreFit, IsFit}
 use Rattle.sql_write.specs.Standing.{IsPartIn, known_challenge, known_key}
-use Rattle.sql_write.specs.declared.write.Write.{Write}
-use Rattle.sql_write.specs.declared.write.Write.TheVariants.{Upsert, Insert, Update}
+use Rattle.sql_write.specs.declared.differences.Write.{Write}
+use Rattle.sql_write.specs.declared.differences.Write.TheVariants.{Upsert, Insert, Update}
 use Rattle.sql_tables.specs.Effects.{Adds, Appends, Becomes, BecomesRows, Places, Puts, Renews, is_same_place}
 use Rattle.sql_tables.specs.Hidden.{IsPlaced, next, number}
 use Rattle.sql_tables.specs.{Holds.Holds, Images.order_kept}

@@ -1,7 +1,7 @@
 -- Changes whose numbers the columns take.
 use Rattle.std.specs.Prelude.{◌≢◌, List}
 use Rattle.store_columns.specs.Flat.{owned_by}
-use Rattle.store_columns.specs.declared.flat_rows.AnswerKey.{AnswerKey}
+use Rattle.store_columns.specs.declared.columns.AnswerKey.{AnswerKey}
 use Rattle.desk_model.specs.Kept.{EachOf}
 use Rattle.desk_model.specs.declared.rows.{Change.Change, Meta.Meta}
 use Rattle.desk_model.specs.declared.rows.Change.TheVariants.{PutMeta, PutNonce, RemoveNonce, PutAccount, PutAuthorization, PutOrder}

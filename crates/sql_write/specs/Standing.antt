@@ -2,7 +2,7 @@
 use Rattle.std.specs.Prelude.{◌≡◌, ◌==◌, ◌-◌, ◌^◌, ℕ, List, Option, Some, None, IfSome, find, option_map, option_and_then}
 use Rattle.sqlite_rules.specs.Lists.{Has}
 use Rattle.store_columns.specs.Flat.{answer_key}
-use Rattle.store_columns.specs.declared.flat_rows.AnswerKey.{AnswerKey}
+use Rattle.store_columns.specs.declared.columns.AnswerKey.{AnswerKey}
 use Rattle.desk_model.specs.{Change.applied, Kept.EachOf, Tables.Tables}
 use Rattle.desk_model.specs.Questions.{account_on, authorization_on, order_on}
 use Rattle.desk_model.specs.declared.rows.{AccountRow.AccountRow, AuthorizationRow.AuthorizationRow, ChallengeRow.ChallengeRow, Change.Change}

@@ -6,7 +6,7 @@ use Rattle.sqlite.specs.declared.types.Value.TheVariants.{Int}
 use Rattle.store_columns.specs.Columns.{account_columns, authorization_columns, challenge_columns, key_columns, known_format}
 use Rattle.store_columns.specs.Columns.{listed_columns, nonce_columns, order_columns}
 use Rattle.store_columns.specs.Flat.{answer_key, bare_row}
-use Rattle.store_columns.specs.declared.flat_rows.{AnswerKey.AnswerKey, Owned.Owned}
+use Rattle.store_columns.specs.declared.columns.{AnswerKey.AnswerKey, Owned.Owned}
 use Rattle.desk_model.specs.declared.{objects.Nonce.Nonce, rows.AccountRow.AccountRow, rows.AuthorizationRow.AuthorizationRow, rows.ChallengeRow.ChallengeRow}
 use Rattle.desk_model.specs.declared.{rows.Change.Change, rows.Listed.Listed, rows.Meta.Meta, rows.OrderRow.OrderRow, rows.Counters.Counters}
 use Rattle.desk_model.specs.declared.rows.Change.TheVariants.{PutMeta, PutNonce, RemoveNonce, PutAccount, PutAuthorization, PutOrder}
@@ -14,8 +14,8 @@ use Rattle.desk_model.specs.{Change.applied_one, Tables.Tables}
 use Rattle.sql_write.specs.Differences.{account_difference, authorization_difference, challenge_difference, key_difference, meta_difference, order_difference}
 use Rattle.sql_write.specs.Write.{write}
 use Rattle.sql_write.specs.Standing.{known_account, known_authorization, known_challenge, known_key, known_meta, known_order, last_given}
-use Rattle.sql_write.specs.declared.write.Write.{Write}
-use Rattle.sql_write.specs.declared.write.Write.TheVariants.{Upsert, Insert, Update}
+use Rattle.sql_write.specs.declared.differences.Write.{Write}
+use Rattle.sql_write.specs.declared.differences.Write.TheVariants.{Upsert, Insert, Update}
 use Rattle.sql_schema.specs.declared.accounts.TheConstants as account
 use Rattle.sql_schema.specs.declared.authorizations.TheConstants as authz
 use Rattle.sql_schema.specs.declared.challenges.TheConstants as chall

@@ -3,7 +3,7 @@ use Rattle.std.specs.Prelude.{◌≡◌, List, []}
 use Rattle.sqlite.specs.Effect.{Database}
 use Rattle.store_columns.specs.Columns.{known_format}
 use Rattle.store_columns.specs.Flat.{challenge_rows, key_rows}
-use Rattle.store_columns.specs.declared.flat_rows.AnswerKey.{AnswerKey}
+use Rattle.store_columns.specs.declared.columns.AnswerKey.{AnswerKey}
 use Rattle.model_laws.specs.Placing.{puts}
 use Rattle.desk_model.specs.Tables.{Tables}
 use Rattle.desk_model.specs.declared.rows.Meta.{Meta}

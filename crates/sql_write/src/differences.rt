@@ -1,15 +1,67 @@
-//! How a row differs from the one that is known to stand in its place.
+//! How a row differs from the one that is known to stand in its place, and how it is written.
 ghost use Rattle.std.specs.Prelude.{◌≡◌, option_copied, option_map};
-ghost use Rattle.sql_write.specs.Differences.{account_difference, authorization_difference, challenge_difference, is_same_authorization};
-ghost use Rattle.sql_write.specs.Differences.{is_same_challenge, is_same_date, is_same_end, is_same_report, keeps_authorization};
-ghost use Rattle.sql_write.specs.Differences.{keeps_challenge, keeps_order, keeps_policy, key_difference, meta_difference, order_difference};
+ghost use Rattle.sql_write.specs.Write.{difference, write};
+ghost use Rattle.sql_write.specs.Differences.{account_difference, authorization_difference, challenge_difference, is_same_authorization, is_same_challenge};
+ghost use Rattle.sql_write.specs.Differences.{is_same_date, is_same_end, is_same_report, keeps_authorization, keeps_challenge, keeps_order, keeps_policy};
+ghost use Rattle.sql_write.specs.Differences.{key_difference, meta_difference, order_difference};
 
-use crate::write::Difference;
 use desk_model::{
     AccountRow, Answer, AuthorizationEnd, AuthorizationRow, ChallengeRow, Meta, OrderRow, Report,
     is_same_bytes, is_same_text,
 };
 use store_columns::AnswerKey;
+
+/// How a row is written.
+#[derive(Clone, Copy)]
+pub(crate) enum Write {
+    /// In the place of the one with its key, or else as a new one.
+    Upsert,
+    /// As a new one: none has its key.
+    Insert,
+    /// In the place of the one with its key, in the columns that calls move.
+    Update,
+}
+
+// How a row differs from the one that stands in its place.
+#[derive(Clone, Copy)]
+enum Difference {
+    /// In no column.
+    Same,
+    /// In columns that calls move.
+    Moved,
+    /// In what it was made with.
+    Other,
+}
+
+impl Difference {
+    /// The difference by whether a row keeps what it was made with, and whether all else is the same.
+    pub(crate) fn of(is_kept: bool, is_same: bool) -> Difference
+        ensures { result ≡ difference is_kept is_same }
+    {
+        match (is_kept, is_same) {
+            (true, true) => Difference::Same,
+            (true, false) => Difference::Moved,
+            (false, _) => Difference::Other,
+        }
+    }
+}
+
+impl Write {
+    /// How a row is written, by how it differs from the one that is known to stand in its place, or else by whether it is new;
+    /// not at all where it stands there as it is.
+    pub(crate) fn of(known: Option<Difference>, is_new: bool) -> Option<Write>
+        ensures { result ≡ write known is_new }
+    {
+        match known {
+            Some(Difference::Same) => None,
+            Some(Difference::Moved) => Some(Write::Update),
+            Some(Difference::Other) => Some(Write::Upsert),
+            None => Some(if is_new { Write::Insert } else { Write::Upsert }),
+        }
+    }
+}
+
+// ---- differences
 
 // Whether a row of `meta` keeps the terms of the desk.
 fn keeps_policy(old: &Meta, row: &Meta) -> bool

@@ -3,27 +3,19 @@
 
 mod accounts;
 mod authorizations;
-mod challenges;
-mod changes;
 mod children;
 mod definitions;
 mod differences;
-mod ending;
 mod fault;
-mod keys;
 mod laws;
-mod listed;
 mod making;
 mod meta;
 mod nonces;
-mod numbers;
 mod orders;
 mod saving;
 mod standing;
 mod statements;
 mod upgrading;
-mod values;
-mod write;
 
 pub use fault::{SaveFault, WriteFault};
 pub use laws::{left_tables_are_found, ordered_changes_fit};

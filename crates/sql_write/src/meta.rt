@@ -7,11 +7,9 @@ ghost use Rattle.sql_write.specs.Statements.{meta_writing, writes};
 ghost use Rattle.sql_tables.specs.Images.{formatted_columns, meta_kept, meta_moved, meta_params};
 ghost use Rattle.sql_tables.specs.Layouts.{formatted_layout};
 
+use crate::differences::Write;
 use crate::fault::{SaveFault, WriteFault};
-use crate::numbers::number_column;
-use crate::statements::write_row;
-use crate::values::text;
-use crate::write::Write;
+use crate::statements::{number_column, text, write_row};
 use desk_model::Meta;
 use sql_schema::meta;
 use sqlite::types::ValueRef;

@@ -1,21 +1,20 @@
-//! Orders, written into their table; what they list stands in another.
+//! Orders, written into their table, and what they list into another.
 ghost use Rattle.std.specs.Prelude.{◌≡◌, IfErr, IfOk, IsOk};
 ghost use Rattle.sqlite.specs.Values.{bound, bound_value};
 ghost use Rattle.sqlite_value.specs.Value.{owned};
 ghost use Rattle.store_columns.specs.Columns.{dated_bytes_columns, dated_problem_columns, order_columns};
-ghost use Rattle.sql_write.specs.{Bound.order_numbers, Fits.FitsOrder, Makes.Writes, Numbers.IsNotTooLarge, Refusals.HasWritten};
-ghost use Rattle.sql_write.specs.Statements.{order_writing, writes};
+ghost use Rattle.sql_write.specs.{Bound.order_numbers, Numbers.IsNotTooLarge, Refusals.HasWritten, declared.fault.WriteFault.TheVariants.Memory};
+ghost use Rattle.sql_write.specs.Fits.{FitsOrder, FitsListed};
+ghost use Rattle.sql_write.specs.Makes.{Writes, AppendsOrPlaces};
+ghost use Rattle.sql_write.specs.Statements.{order_writing, writes, writes_listed};
 ghost use Rattle.sql_tables.specs.Images.{blob_or_null, order_kept, order_moved, order_params};
 ghost use Rattle.sql_tables.specs.Layouts.{order_layout};
-ghost use Rattle.sql_write.specs.declared.fault.WriteFault.TheVariants.{Memory};
 
+use crate::differences::Write;
 use crate::fault::{SaveFault, WriteFault};
-use crate::numbers::{date_column, number_column};
-use crate::statements::write_row;
-use crate::values::{int_or_null, text, text_or_null};
-use crate::write::Write;
-use desk_model::{DatedBytes, DatedProblem, OrderRow, Text};
-use sql_schema::orders;
+use crate::statements::{date_column, int_or_null, number_column, text, text_or_null, write_row};
+use desk_model::{DatedBytes, DatedProblem, Listed, OrderRow, Text};
+use sql_schema::{listed, orders};
 use sqlite::types::ValueRef;
 use sqlite::{Alter, Transaction};
 use std::alloc::Global;
@@ -121,4 +120,29 @@ pub(crate) fn write_order<S: Alter>(
     let written = write_row(tx, write, orders::WRITING, &all, &moved);
     drop(problem);
     written
+}
+
+// ---- what an order lists
+
+/// Writes what an order lists at a place.
+pub(crate) fn write_listed<S: Alter>(
+    tx: &mut Transaction<'_, S>,
+    write: Write,
+    order: u64,
+    row: &Listed,
+) -> Result<(), SaveFault>
+    ensures same_reference { tx.new.conn.ghost_name ≡ tx.old.conn.ghost_name }
+    ensures writes { HasWritten S.Store (writes_listed write order row.now) (AppendsOrPlaces write (record { owner = order; row = row.now }))
+        tx.old.conn.now tx.new.conn.now result }
+    ensures fits { FitsListed (record { owner = order; row = row.now }) → IfErr result IsNotTooLarge }
+{
+    let number = number_column(order)?;
+    let place = number_column(row.place)?;
+    let authorization = number_column(row.authorization)?;
+    let values = [
+        ValueRef::Int(number),
+        ValueRef::Int(place),
+        ValueRef::Int(authorization),
+    ];
+    write_row(tx, write, listed::WRITING, &values, &values)
 }

@@ -1,13 +1,19 @@
-//! Statements inside a transaction.
-ghost use Rattle.std.specs.Prelude.{◌≡◌, IfErr, OnErr};
-ghost use Rattle.sqlite.specs.{State.Survives, Values.bound, Held.state};
-ghost use Rattle.sql_write.specs.Numbers.{IsNotTooLarge};
-ghost use Rattle.sql_write.specs.Refusals.{IsRun, Runs};
-ghost use Rattle.sql_write.specs.Statements.{sql_by};
+//! Statements inside a transaction and its end, and parts of rows as their parameters.
+ghost use Rattle.std.specs.Prelude.{◌≡◌, ◌⊎◌, ◌≤◌, ◌^◌, IfErr, OnErr, false, Err, IsOk, OnOk, IsTrue, pos, IfOk, MatchResult, option_map};
+ghost use Rattle.sqlite.specs.State.{Survives, HasCleanDisk, IsRolledBack};
+ghost use Rattle.sqlite.specs.Values.{bound, bound_value};
+ghost use Rattle.sqlite.specs.{Held.state, declared.types.Value.TheVariants.Text as SqlText};
+ghost use Rattle.sql_write.specs.{Numbers.IsNotTooLarge, Statements.sql_by, Fits.Fits, declared.fault.WriteFault.TheVariants.TooLarge};
+ghost use Rattle.sql_write.specs.Refusals.{IsRun, Runs, FailedCommit};
 ghost use Rattle.sql_schema.specs.Advances.{Declines, KeepsLast, Performs};
+ghost use Rattle.sql_write.specs.Committing.{HasCommitted, IsBeforeCommit};
+ghost use Rattle.sqlite_value.specs.Value.{owned};
+ghost use Rattle.sql_tables.specs.Images.{int_or_null, text_or_null};
+ghost use Rattle.store_columns.specs.{Columns.wildcard_column, Limits.IfRecorded};
 
-use crate::fault::SaveFault;
-use crate::write::Write;
+use crate::differences::Write;
+use crate::fault::{SaveFault, WriteFault};
+use desk_model::Text;
 use sql_schema::Writing;
 use sqlite::types::ValueRef;
 use sqlite::{Alter, Error, Transaction};
@@ -71,4 +77,95 @@ pub(crate) fn write_row<S: Alter>(
         Write::Insert => run(tx, insert, all),
         Write::Update => run(tx, update, moved),
     }
+}
+
+// ---- the end of a transaction
+
+/// Commits what was done in the transaction, or undoes it where it failed.
+pub(crate) fn end<S: Alter>(
+    tx: Transaction<'_, S>,
+    done: Result<(), SaveFault>,
+) -> Result<(), SaveFault>
+    ensures ended { tx.exit.0.now.in_transaction ≡ false }
+    ensures done { OnOk result (IsOk done) }
+    ensures ok { HasCleanDisk (state S.Store tx.exit.0.now)
+        → OnOk result (HasCommitted (state S.Store tx.entry.conn.now) (state S.Store tx.exit.0.now) (λ now db. db ≡ now)) }
+    ensures err { HasCleanDisk (state S.Store tx.exit.0.now)
+        → OnErr result (OnOk done (IsTrue (state S.Store tx.entry.conn.now).in_transaction)
+        → IsRolledBack (state S.Store tx.entry.conn.now) (state S.Store tx.exit.0.now)) }
+    ensures before { IfErr result (λ why. IsBeforeCommit why → Survives (state S.Store tx.entry.conn.now) (state S.Store tx.exit.0.now) (λ _. ⊥)) }
+    ensures left { Survives (state S.Store tx.entry.conn.now) (state S.Store tx.exit.0.now) (λ db. IsOk done
+        × (db ≡ (state S.Store tx.entry.conn.now).now.trees)) }
+    ensures cause { IfErr result (λ why. (done ≡ Err why) ⊎ (IsOk done × FailedCommit S.Store tx.entry.conn.now tx.exit.0.now why)) }
+    ensures fits { IfErr done IsNotTooLarge → IfErr result IsNotTooLarge }
+{
+    done?;
+    tx.commit().map_err(SaveFault::Commit)
+}
+
+// ---- parts of rows
+
+/// A text, as TEXT.
+pub(crate) fn text<'a>(text: &'a str) -> ValueRef<'a>
+    ensures { bound_value (owned result) ≡ SqlText text.now }
+{
+    ValueRef::Text(text.as_bytes())
+}
+
+/// A number, or NULL.
+pub(crate) fn int_or_null<'a>(number: &Option<i64>) -> ValueRef<'a>
+    ensures { bound_value (owned result) ≡ int_or_null number.now }
+{
+    match number {
+        Some(number) => ValueRef::Int(*number),
+        None => ValueRef::Null,
+    }
+}
+
+/// A text, or NULL.
+pub(crate) fn text_or_null<'a>(text: &'a Option<Text>) -> ValueRef<'a>
+    ensures { bound_value (owned result) ≡ text_or_null text.now }
+{
+    match text {
+        Some(text) => ValueRef::Text(text.as_str().as_bytes()),
+        None => ValueRef::Null,
+    }
+}
+
+// ---- numbers and marks as INTEGER columns
+
+/// A number as a column.
+///
+/// # Errors
+///
+/// `TooLarge`, where it is above 2^63 - 1.
+pub(crate) fn number_column(number: u64) -> Result<i64, WriteFault>
+    ensures { MatchResult result (λ column. column ≡ pos number) (λ why. (why ≡ TooLarge) × (2 ^ 63 ≤ number)) }
+{
+    if number <= i64::MAX as u64 {
+        Ok(number as i64)
+    } else {
+        Err(WriteFault::TooLarge)
+    }
+}
+
+/// A date as a column, or NULL.
+pub(crate) fn date_column(date: Option<u64>) -> Result<Option<i64>, WriteFault>
+    ensures column { IfOk result (λ column. column ≡ option_map (λ n. pos n) date) }
+    ensures fits { IfRecorded Fits date → IsOk result }
+{
+    match date {
+        Some(date) => {
+            let column = number_column(date)?;
+            Ok(Some(column))
+        }
+        None => Ok(None),
+    }
+}
+
+/// The mark of a wildcard as a column.
+pub(crate) fn wildcard_column(wildcard: bool) -> i64
+    ensures { result ≡ wildcard_column wildcard }
+{
+    if wildcard { 1 } else { 0 }
 }

@@ -12,10 +12,10 @@ ghost use Rattle.sql_write.specs.Fits.{FitsKey, FitsMeta};
 
 use crate::children::write_keys;
 use crate::definitions::define_key_table;
-use crate::ending::end;
+use crate::differences::Write;
 use crate::fault::SaveFault;
 use crate::meta::write_meta;
-use crate::write::Write;
+use crate::statements::end;
 use desk_model::Meta;
 use sqlite::{Alter, Connection, Transaction};
 use store_columns::AnswerKey;

@@ -18,7 +18,7 @@ use Rattle.model_lives.specs.FewLoaded.{few_accounts, holders_of, moved_authoriz
 use Rattle.model_lives.specs.Loaded.{accounts_once, authorizations_once, listing_orders, named_accounts, past_authorizations, past_orders}
 use Rattle.model_lives.specs.LookUps.{authorizations_numbered, authorizations_of, orders_numbered, owners_of}
 use Rattle.store_api.specs.Needing.{NeedsFor, moved_by, opened_with, restated_by}
-use Rattle.store_api.specs.declared.needs.Needs.{Needs}
+use Rattle.store_api.specs.declared.enough.Needs.{Needs}
 
 -- rows that lead to themselves alone
 pub themselves : {X : Type 0} (xs : List X) → flat_map (λ x. x ∷ []) xs ≡ xs

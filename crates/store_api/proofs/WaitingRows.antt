@@ -16,7 +16,7 @@ use Rattle.model_lives.proofs.Lists.{filtered_each}
 use Rattle.store_api.proofs.{Lacking.rows_one, Pairs.row_next}
 use Rattle.store_api.specs.Nesting.{joined, nested}
 use Rattle.store_columns.specs.Flat.{owned_by}
-use Rattle.store_columns.specs.declared.flat_rows.Owned.{Owned}
+use Rattle.store_columns.specs.declared.columns.Owned.{Owned}
 
 -- ---- the challenges of rows
 

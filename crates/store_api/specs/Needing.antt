@@ -11,7 +11,7 @@ use Rattle.model_lives.specs.Loaded.{past_authorizations, past_orders}
 use Rattle.model_lives.specs.LookUps.{accounts_numbered, accounts_with_key, authorizations_numbered, authorizations_of, bare_orders_of, orders_numbered}
 use Rattle.model_lives.specs.LookUps.{owners_of}
 use Rattle.store_api.specs.Naming.{Names}
-use Rattle.store_api.specs.declared.needs.Needs.{Needs}
+use Rattle.store_api.specs.declared.enough.Needs.{Needs}
 
 -- these are needed for the ask at the moment
 pub record NeedsFor (a : Ask) (m : ℕ) (needs : Needs) : Type 0 where

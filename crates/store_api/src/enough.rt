@@ -1,22 +1,28 @@
 //! The book of the rows that are enough for a call.
-ghost use Rattle.std.specs.Prelude.{◌≡◌, [], filter, map, IfOk};
+ghost use Rattle.std.specs.Prelude.{◌≡◌, [], ◌&&◌, filter, map, IfOk};
 ghost use Rattle.model_laws.specs.Ordered.{IsOrdered};
-ghost use Rattle.desk_model.specs.Touched.{only_meta};
-ghost use Rattle.store_api.specs.{Finding.Finds, Storing.Loads};
+ghost use Rattle.desk_model.specs.{Touched.only_meta, Lookup.holds};
+ghost use Rattle.store_api.specs.{Finding.Finds, Storing.Loads, Needing.NeedsFor};
 ghost use Rattle.model_lives.specs.IsEnough.{challenge_work_rows, enough, is_worked_on, order_work_rows};
 ghost use Rattle.model_lives.specs.{LookUps.orders_processing, Thinned.without_challenges};
 ghost use Rattle.store_api.specs.Sight.{ForTables, Reads};
+ghost use Rattle.desk_model.specs.Payload.{account_change, says_deactivated};
+ghost use Rattle.identifiers.specs.Parsed.{ask_of};
+ghost use Rattle.model_lives.specs.Few.{is_end, needs_holders, needs_listed, restates, target_restates};
+ghost use Rattle.serde_json.specs.View.{view};
 
 use crate::fault::StorageFault;
 use crate::few::few_book;
-use crate::gathering::add_found;
-use crate::listed::add_bare_listed;
+use crate::links::{add_bare_listed, add_found};
 use crate::look_ups::LookUps;
+use crate::named::{Named, named_in};
 use crate::waiting::add_working;
 use desk_book::{Book, Table};
-use desk_model::{Ask, AuthorizationRow, OfficeAsk, OrderRow};
-use identifiers::ParsedCall;
+use desk_model::{Ask, AuthorizationRow, DnsName, OfficeAsk, OrderRow, Target};
+use identifiers::{ParsedAsk, ParsedCall, ParsedSigned};
+use json_texts::text_of;
 use model_lives::OrdersWhere;
+use serde_json::Value;
 use std::alloc::Global;
 
 // ---- the work of the validator
@@ -122,4 +128,119 @@ pub fn load_enough<S: LookUps>(
     ensures enough { ForTables S.sight source.old source.new (λ T. IsOrdered T → IfOk result (λ book. book ≡ enough T call.now)) }
 {
     enough_book(alloc, source, call)
+}
+
+// ---- what is enough for an ask, by numbers, and what leads to more
+
+/// What is enough for an ask: what it names, and what leads to more.
+#[derive(Drop)]
+pub(crate) struct Needs<'a> {
+    pub(crate) named: Named,
+    /// When the call acts.
+    pub(crate) moment: u64,
+    /// Whether statuses of authorizations may change, and with them those of orders.
+    pub(crate) restates: bool,
+    /// Whether what the orders that are named list is needed.
+    pub(crate) needs_listed: bool,
+    /// Whether the accounts of the authorizations that are named are needed.
+    pub(crate) needs_holders: bool,
+    /// The names that a new order asks for.
+    pub(crate) names: Option<&'a [DnsName]>,
+}
+
+impl<'a> Needs<'a> {
+    /// Whether an account that is named ends, and its authorizations with it.
+    pub(crate) fn ends_account(&self) -> bool
+        ensures { result ≡ (self.now.restates && self.now.named.asks_authorizations) }
+    {
+        self.restates && self.named.asks_authorizations
+    }
+}
+
+// Whether an object says that what it is sent to is to be deactivated.
+fn says_deactivated(value: &Value) -> bool
+    ensures { result ≡ says_deactivated (view value.now) }
+{
+    match text_of(value, "status") {
+        Some(text) => text == "deactivated",
+        None => false,
+    }
+}
+
+// Whether a request ends the account that it is sent to.
+#[tactic(auto, unfolding(desk_model::specs::Payload::object_in))]
+fn ends_account(request: &ParsedSigned) -> bool
+    ensures { result ≡ holds is_end (account_change request.now.payload) }
+{
+    if request.request().payload.as_str().is_empty() {
+        return false;
+    }
+    match request.value() {
+        Some(value) if value.is_object() => says_deactivated(value),
+        _ => false,
+    }
+}
+
+// Whether a request may change statuses of authorizations.
+fn target_restates(request: &ParsedSigned) -> bool
+    ensures { result ≡ target_restates request.now.target request.now.payload }
+{
+    let signed = request.request();
+    match &signed.target {
+        Target::Account(_) => ends_account(request),
+        Target::Authz(_) => !signed.payload.as_str().is_empty(),
+        _ => false,
+    }
+}
+
+// Whether an ask may change statuses of authorizations.
+fn restates(ask: &ParsedAsk) -> bool
+    ensures { result ≡ restates (ask_of ask.now) }
+{
+    match ask {
+        ParsedAsk::Signed(request) => target_restates(request),
+        ParsedAsk::Office(OfficeAsk::Report { .. }) => true,
+        ParsedAsk::Office(OfficeAsk::RevokeAuthz(_)) => true,
+        ParsedAsk::Office(OfficeAsk::RevokeAccount(_)) => true,
+        _ => false,
+    }
+}
+
+// Whether what the orders that an ask names list is needed.
+fn needs_listed(ask: &Ask) -> bool
+    ensures { result ≡ needs_listed ask.now }
+{
+    match ask {
+        Ask::Signed(request) => match request.target {
+            Target::Orders(_) | Target::Cert(_) => false,
+            _ => true,
+        },
+        _ => true,
+    }
+}
+
+// Whether the accounts of the authorizations that an ask names are needed: a report takes the key's thumbprint from the answer.
+fn needs_holders(ask: &Ask) -> bool
+    ensures { result ≡ needs_holders ask.now }
+{
+    match ask {
+        Ask::Office(OfficeAsk::Report { .. }) => false,
+        Ask::Office(OfficeAsk::RevokeAuthz(_)) => false,
+        _ => true,
+    }
+}
+
+/// What is enough for a call that acts at a moment, by what its payload says.
+pub(crate) fn needs_of<'a>(call: &'a ParsedCall, moment: u64) -> Needs<'a>
+    ensures { NeedsFor call.now.ask moment result }
+{
+    let ask = &call.call().ask;
+    Needs {
+        named: named_in(ask),
+        moment,
+        restates: restates(call.ask()),
+        needs_listed: needs_listed(ask),
+        needs_holders: needs_holders(ask),
+        names: call.names(),
+    }
 }

@@ -1,20 +1,14 @@
 //! What a store of a desk's tables is, what is looked up in it, and the rows that a call touches.
 #![tactic(auto)]
 
-mod asked;
 mod book_source;
 mod enough;
 mod fault;
 mod few;
-mod gathering;
 mod laws;
 mod links;
-mod listed;
 mod look_ups;
 mod named;
-mod needs;
-mod objects;
-mod rows_above;
 mod storage;
 mod touched;
 mod waiting;
@@ -23,7 +17,6 @@ pub use enough::load_enough;
 pub use fault::StorageFault;
 pub use identifiers::ParsedCall;
 pub use laws::touched_rows_are_a_book;
-pub use look_ups::{Found, LookUps};
-pub use rows_above::RowsAbove;
+pub use look_ups::{Found, LookUps, RowsAbove};
 pub use storage::Storage;
 pub use touched::{load_part, touched_book};

@@ -8,8 +8,7 @@ ghost use Rattle.store_api.specs.Needing.{missings};
 ghost use Rattle.store_api.specs.Nesting.{joined, nested};
 
 use crate::fault::StorageFault;
-use crate::gathering::add_missing;
-use crate::listed::Bare;
+use crate::links::{Bare, add_missing};
 use crate::look_ups::LookUps;
 use desk_book::Table;
 use desk_model::{AuthorizationRow, ChallengeRow, Sequence};

@@ -10,7 +10,7 @@ use Rattle.std.proofs.lemmas.List.Elements.{All-from_recursion, recursion_from_A
 use Rattle.std.specs.List.Sorted.{IsPermutation, IsSorted, IsStrictlySortedBy}
 use Rattle.std.specs.Ordering.{eq_by_cmp}
 use Rattle.store_columns.specs.Flat.{answer_key, bare_row, key_rows}
-use Rattle.store_columns.specs.declared.flat_rows.{AnswerKey.AnswerKey, BareChallenge.BareChallenge, Owned.Owned}
+use Rattle.store_columns.specs.declared.columns.{AnswerKey.AnswerKey, BareChallenge.BareChallenge, Owned.Owned}
 use Rattle.model_laws.proofs.{Distinctness.distinct-map, RowLists.ascends_from}
 use Rattle.model_laws.specs.{Distinct.Distinct, Ordered.Ascends}
 use Rattle.desk_model.specs.declared.{objects.Answer.Answer, rows.ChallengeRow.ChallengeRow}

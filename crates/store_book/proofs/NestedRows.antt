@@ -3,7 +3,7 @@ use Rattle.std.proofs.Common.{◌≡◌, ℕ, ◌+◌, ◌<◌, ◌≤◌, Bool,
 use Rattle.std.specs.{Prelude.◌==◌, List.AllByRecursion}
 use Rattle.std.proofs.lemmas.Bool.{eqb-true, eq-eqb}
 use Rattle.model_laws.specs.Ordered.{Ascends}
-use Rattle.store_columns.specs.declared.flat_rows.Owned.{Owned}
+use Rattle.store_columns.specs.declared.columns.Owned.{Owned}
 use Rattle.store_columns.specs.Flat.{owned_by}
 use Rattle.store_book.specs.Nesting.{IsNesting, child_rows, first_of, behind, nested, left_over}
 use Rattle.model_laws.proofs.Basics.{more_differs}

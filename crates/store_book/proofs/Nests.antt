@@ -6,7 +6,7 @@ use Rattle.std.proofs.lemmas.List.{append-nil}
 use Rattle.desk_model.specs.Kept.{EachOf}
 use Rattle.model_laws.specs.Ordered.{Ascends}
 use Rattle.model_laws.proofs.RowLists.{ascends_map}
-use Rattle.store_columns.specs.declared.flat_rows.Owned.{Owned}
+use Rattle.store_columns.specs.declared.columns.Owned.{Owned}
 use Rattle.store_book.specs.Nesting.{IsNesting, IsNestOf, by_number, by_owner, child_rows, nested, left_over}
 use Rattle.store_book.proofs.NestedRows.{children-nested, parents-nested, nested-flat, left_over-flat}
 use Rattle.store_book.proofs.OrderedRows.{by_owner-total, same_by_number, same_ascending, strictly-children}

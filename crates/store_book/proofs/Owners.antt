@@ -6,7 +6,7 @@ use Rattle.std.proofs.lemmas.{List.Elements.filter_map-append, Bool.eqb-true}
 use Rattle.std.specs.List.Sorted.{IsPermutation}
 use Rattle.std.proofs.lemmas.List.Sorted.{IsPermutation-append_right, IsPermutation-cons, IsPermutation-filter_both, IsPermutation-middle}
 use Rattle.std.proofs.lemmas.List.Sorted.{IsPermutation-refl, IsPermutation-sym, IsPermutation-trans}
-use Rattle.store_columns.specs.declared.flat_rows.Owned.{Owned}
+use Rattle.store_columns.specs.declared.columns.Owned.{Owned}
 use Rattle.store_columns.specs.Flat.{owned_by}
 use Rattle.model_laws.specs.{Ordered.Ascends, Distinct.Distinct}
 use Rattle.model_laws.proofs.Basics.{each-map, each_all, eq_turn, find-map}

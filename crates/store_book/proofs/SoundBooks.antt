@@ -11,7 +11,7 @@ use Rattle.model_laws.proofs.Basics.{each}
 use Rattle.store_columns.proofs.RowsApart.{rows-apart}
 use Rattle.store_columns.specs.Columns.{rows_columns}
 use Rattle.store_columns.specs.Limits.{AreStored, IsStoredAuthorization, IsStoredOrder}
-use Rattle.store_columns.specs.declared.{columns.StoredRows.StoredRows, flat_rows.Owned.Owned, flat_rows.FlatRows.FlatRows}
+use Rattle.store_columns.specs.declared.{columns.StoredRows.StoredRows, columns.Owned.Owned, columns.FlatRows.FlatRows}
 use Rattle.model_laws.specs.Ordered.{Ascends, Below}
 use Rattle.store_columns.specs.Flat.{answer_key, bare_row, challenge_rows, key_rows, listed_rows, owned_by, without_challenges, without_listed}
 use Rattle.model_laws.proofs.Distinctness.{distinct-map, map-distinct}

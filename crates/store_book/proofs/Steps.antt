@@ -4,7 +4,7 @@ use Rattle.std.proofs.Common.{◌∙◌}
 use Rattle.std.specs.Prelude.{IfOk, option_to_list}
 use Rattle.std.specs.List.{cons_option}
 use Rattle.std.proofs.lemmas.List.Elements.{filter_map-append}
-use Rattle.store_columns.specs.declared.flat_rows.{AnswerKey.AnswerKey, BareChallenge.BareChallenge, Owned.Owned}
+use Rattle.store_columns.specs.declared.columns.{AnswerKey.AnswerKey, BareChallenge.BareChallenge, Owned.Owned}
 use Rattle.desk_model.specs.Kept.{EachOf}
 use Rattle.desk_model.specs.declared.rows.Listed.{Listed}
 use Rattle.store_book.specs.BookRows.{IsAmong, PlacesRise, Rise, answered_number, answered_numbers}

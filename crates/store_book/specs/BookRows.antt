@@ -1,7 +1,7 @@
 -- Which rows, table by table in the order of their keys, are those of a book.
 use Rattle.std.specs.Prelude.{◌≡◌, ◌==◌, ◌<◌, ℕ, List, [], ◌∷◌, map, find, filter_map, IsSome, Option, option_map}
 use Rattle.store_columns.specs.Limits.{AreStored}
-use Rattle.store_columns.specs.declared.flat_rows.{AnswerKey.AnswerKey, BareChallenge.BareChallenge, FlatRows.FlatRows, Owned.Owned}
+use Rattle.store_columns.specs.declared.columns.{AnswerKey.AnswerKey, BareChallenge.BareChallenge, FlatRows.FlatRows, Owned.Owned}
 use Rattle.model_laws.specs.Distinct.{Distinct}
 use Rattle.model_laws.specs.Ordered.{Ascends, IsTable}
 use Rattle.desk_model.specs.{Kept.EachOf, Tables.Tables}

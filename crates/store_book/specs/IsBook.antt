@@ -8,7 +8,7 @@ use Rattle.model_laws.specs.Ordered.{Ascends, Below}
 use Rattle.store_book.specs.FaultNumbers.{challenges_of}
 use Rattle.store_columns.specs.Flat.{AreReordered, flat}
 use Rattle.store_columns.specs.{Columns.rows_columns, Limits.AreStored, TextColumns.ColumnsAreTexts}
-use Rattle.store_columns.specs.declared.{columns.StoredRows.StoredRows, flat_rows.FlatRows.FlatRows}
+use Rattle.store_columns.specs.declared.{columns.StoredRows.StoredRows, columns.FlatRows.FlatRows}
 
 -- the numbers of each table ascend, those of each authorization's challenges, and the places of what each order lists
 pub record AreInOrder (T : Tables) : Type 0 where

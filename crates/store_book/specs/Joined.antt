@@ -2,7 +2,7 @@
 use Rattle.std.specs.Prelude.{◌≡◌, [], ◌∷◌, map}
 use Rattle.std.specs.List.Sorted.{IsPermutation}
 use Rattle.store_columns.specs.Flat.{challenge_rows, listed_rows, without_challenges, without_listed}
-use Rattle.store_columns.specs.declared.flat_rows.FlatRows.{FlatRows}
+use Rattle.store_columns.specs.declared.columns.FlatRows.{FlatRows}
 use Rattle.desk_model.specs.{Tables.Tables, Kept.EachOf}
 use Rattle.store_book.specs.{IsBook.IsBook, Joining.AreJoined}
 use Rattle.store_book.specs.declared.joined_rows.JoinedRows.{JoinedRows}

@@ -2,7 +2,7 @@
 use Rattle.std.specs.Prelude.{◌==◌, ℕ, List, [], ◌∷◌, Option, None, Some, cond, map, option_map}
 use Rattle.std.specs.List.Sorted.{IsPermutation}
 use Rattle.store_columns.specs.Flat.{bare_row, key_rows}
-use Rattle.store_columns.specs.declared.flat_rows.{AnswerKey.AnswerKey, BareChallenge.BareChallenge, Owned.Owned}
+use Rattle.store_columns.specs.declared.columns.{AnswerKey.AnswerKey, BareChallenge.BareChallenge, Owned.Owned}
 use Rattle.model_laws.specs.Distinct.{Distinct}
 use Rattle.desk_model.specs.declared.{objects.Answer.Answer, rows.ChallengeRow.ChallengeRow}
 

@@ -5,7 +5,7 @@ use Rattle.std.specs.Ordering.{nat_cmp, ordering_then}
 use Rattle.std.specs.declared.cmp.Ordering.{Ordering}
 use Rattle.desk_model.specs.Kept.{EachOf}
 use Rattle.model_laws.specs.Ordered.{Ascends}
-use Rattle.store_columns.specs.declared.flat_rows.Owned.{Owned}
+use Rattle.store_columns.specs.declared.columns.Owned.{Owned}
 use Rattle.store_columns.specs.Flat.{owned_by}
 
 -- what a row's children are, and the row with others

@@ -1,7 +1,7 @@
 -- Rows that pass one after the other.
 use Rattle.std.specs.Prelude.{◌≡◌, ◌+◌, ◌<◌, ◌≤◌, ◌⊎◌, ◌++◌, ℕ, List, [], ◌∷◌, Option, None, Some}
 use Rattle.model_laws.specs.Ordered.{Ascends, Below}
-use Rattle.store_columns.specs.declared.flat_rows.Owned.{Owned}
+use Rattle.store_columns.specs.declared.columns.Owned.{Owned}
 use Rattle.desk_model.specs.declared.rows.{Counters.Counters, Listed.Listed, Meta.Meta}
 use Rattle.store_book.specs.BookRows.{AreListed, Rise}
 use Rattle.store_book.specs.declared.counter.Counter.{Counter}

@@ -1,7 +1,7 @@
 //! Challenges, each with the key of its answer.
 ghost use Rattle.std.specs.Prelude.{◌≡◌, List, None, Some, option_map, MatchResult, IsPermutation};
 ghost use Rattle.std.specs.List.Sorted.{IsSorted};
-ghost use Rattle.store_columns.specs.declared.flat_rows.Owned.{Owned as OwnedRow};
+ghost use Rattle.store_columns.specs.declared.columns.Owned.{Owned as OwnedRow};
 ghost use Rattle.desk_model.specs.declared.rows.ChallengeRow.{ChallengeRow as Challenge};
 ghost use Rattle.store_book.specs.Joining.{AreJoined, HaveRows, merged, split_by, with_answer};
 ghost use Rattle.store_book.specs.Nesting.{by_number};

@@ -2,7 +2,7 @@
 ghost use Rattle.std.specs.Prelude.{◌≡◌, [], ◌∷◌, IfOk, IfErr, MatchResult};
 ghost use Rattle.desk_model.specs.Tables.{Tables};
 ghost use Rattle.store_columns.specs.{Columns.rows_columns, Limits.AreStored};
-ghost use Rattle.store_columns.specs.declared.flat_rows.FlatRows.{FlatRows as Rows};
+ghost use Rattle.store_columns.specs.declared.columns.FlatRows.{FlatRows as Rows};
 ghost use Rattle.store_book.specs.Both.{both};
 ghost use Rattle.store_book.specs.IsBook.{AreInOrder, IsBookOf, IsBookOfStored, IsSound};
 ghost use Rattle.store_book.specs.Joined.{AreFlat, AreMoved, IsBookOfJoined, JoinsRows, joined};

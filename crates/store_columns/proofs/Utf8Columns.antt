@@ -24,7 +24,7 @@ use Rattle.store_columns.specs.Laws.{TextsAreWritten}
 use Rattle.desk_model.specs.Facts.{ending_text, end_kind_text, outcome_text}
 use Rattle.store_columns.specs.Spelling.{contacts_text, problem_document, problem_text}
 use Rattle.store_columns.specs.TextColumns.{HasTextAccount, HasTextAuthorization, HasTextChallenge, HasTextMeta, HasTextOrder, ColumnsAreTexts, RowsHoldTexts}
-use Rattle.store_columns.specs.declared.flat_rows.{BareChallenge.BareChallenge, FlatRows.FlatRows, Owned.Owned}
+use Rattle.store_columns.specs.declared.columns.{BareChallenge.BareChallenge, FlatRows.FlatRows, Owned.Owned}
 
 -- ---- JSON
 

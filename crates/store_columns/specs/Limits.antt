@@ -5,7 +5,7 @@ use Rattle.desk_model.specs.Limits.{last_end, last_moment, last_number}
 use Rattle.desk_model.specs.declared.{call.OrderProblem.OrderProblem, objects.AccountEnd.AccountEnd, objects.AuthorizationEnd.AuthorizationEnd}
 use Rattle.desk_model.specs.declared.{objects.Nonce.Nonce, objects.Report.Report, rows.AccountRow.AccountRow, rows.AuthorizationRow.AuthorizationRow}
 use Rattle.desk_model.specs.declared.{rows.DatedBytes.DatedBytes, rows.DatedProblem.DatedProblem, rows.Listed.Listed, rows.Meta.Meta, rows.OrderRow.OrderRow}
-use Rattle.store_columns.specs.declared.flat_rows.{AnswerKey.AnswerKey, BareChallenge.BareChallenge, FlatRows.FlatRows, Owned.Owned}
+use Rattle.store_columns.specs.declared.columns.{AnswerKey.AnswerKey, BareChallenge.BareChallenge, FlatRows.FlatRows, Owned.Owned}
 
 -- the number of an object
 abbrev pub IsNumber : ℕ → Type 0

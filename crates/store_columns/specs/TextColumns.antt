@@ -4,7 +4,7 @@ use Rattle.desk_model.specs.Kept.{EachOf}
 use Rattle.desk_model.specs.Texts.{HoldsTextAccount, HoldsTextAuthorization, HoldsTextMeta, HoldsTextOrder}
 use Rattle.store_columns.specs.declared.{columns.AccountColumns.AccountColumns, columns.AuthzColumns.AuthzColumns, columns.ChallColumns.ChallColumns}
 use Rattle.store_columns.specs.declared.{columns.MetaColumns.MetaColumns, columns.OrderColumns.OrderColumns, columns.StoredRows.StoredRows}
-use Rattle.store_columns.specs.declared.{flat_rows.FlatRows.FlatRows}
+use Rattle.store_columns.specs.declared.{columns.FlatRows.FlatRows}
 
 -- each text of the rows is UTF-8; the other tables hold none
 pub record RowsHoldTexts (rows : FlatRows) : Type 0 where

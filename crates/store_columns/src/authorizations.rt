@@ -1,14 +1,22 @@
-//! Rows of the table `authz`.
+//! Rows of the table `authz`, and of `chall`, which has their challenges.
 ghost use Rattle.std.specs.Prelude.{◌≡◌};
-ghost use Rattle.store_columns.specs.{Columns.authorization_columns, Limits.IsStoredAuthorization, Reading.IsRead, RowHeads.IsAuthorizationHeadRead};
-ghost use Rattle.store_columns.specs.declared.columns.AuthzColumns.{AuthzColumns as ColumnsOf};
+ghost use Rattle.store_columns.specs.Columns.{authorization_columns, challenge_columns, key_columns};
+ghost use Rattle.store_columns.specs.Limits.{IsStoredAuthorization, IsStoredChallenge, IsStoredKey};
+ghost use Rattle.store_columns.specs.{Reading.IsRead, RowHeads.IsAuthorizationHeadRead, declared.columns.AuthzColumns.AuthzColumns as ColumnsOf};
 
-use crate::columns::AuthzColumns;
-use crate::facts::read_authorization_end;
-use crate::numbers::{read_expiry, read_moment, read_number, read_wildcard};
-use crate::table::Columns;
-use desk_model::{AuthorizationEnd, AuthorizationRow, AuthzStatus, DnsName, Sequence, Text};
+use crate::columns::{
+    AnswerKey, AuthzColumns, BareChallenge, ChallColumns, ChallKeyColumns, Columns, Owned,
+};
+use crate::facts::{
+    read_answered, read_authorization_end, read_expiry, read_moment, read_number, read_report,
+    read_sixteen, read_thirty_two, read_wildcard,
+};
+use desk_model::{
+    AuthorizationEnd, AuthorizationRow, AuthzStatus, ChallengeStatus, DnsName, Kind, Sequence, Text,
+};
 use std::alloc::{AllocError, Global};
+
+// ---- authorizations
 
 // What owns nothing.
 #[derive(Clone, Copy)]
@@ -70,5 +78,57 @@ impl Columns for AuthzColumns {
     fn read(self, alloc: Global) -> Result<Option<AuthorizationRow>, AllocError> {
         let head = read_head(&self);
         Ok(authorization_with(alloc, head, self.name))
+    }
+}
+
+// ---- challenges
+
+// The challenge with these columns, under its authorization, or `None` where none in its limits has them.
+fn read_challenge(columns: &ChallColumns) -> Option<Owned<BareChallenge>>
+    ensures { IsRead challenge_columns IsStoredChallenge columns.now result }
+{
+    Some(Owned {
+        owner: read_number(columns.authz)?,
+        row: BareChallenge {
+            number: read_number(columns.num)?,
+            kind: Kind::from_text(columns.kind.as_str())?,
+            token: read_sixteen(columns.token.as_slice())?,
+            answered: read_answered(columns.answered)?,
+            reported: read_report(columns.reported, &columns.outcome)?,
+            status: ChallengeStatus::from_text(columns.status.as_str())?,
+        },
+    })
+}
+
+impl Columns for ChallColumns {
+    type Row = Owned<BareChallenge>;
+
+    ghost write = { challenge_columns };
+
+    ghost IsStored = { IsStoredChallenge };
+
+    fn read(self, _alloc: Global) -> Result<Option<Owned<BareChallenge>>, AllocError> {
+        Ok(read_challenge(&self))
+    }
+}
+
+// The key of an answer with these columns, or `None` where none in its limits has them.
+fn read_key(columns: &ChallKeyColumns) -> Option<AnswerKey>
+    ensures { IsRead key_columns IsStoredKey columns.now result }
+{
+    let challenge = read_number(columns.chall)?;
+    let thumb = read_thirty_two(columns.thumb.as_slice())?;
+    Some(AnswerKey { challenge, thumb })
+}
+
+impl Columns for ChallKeyColumns {
+    type Row = AnswerKey;
+
+    ghost write = { key_columns };
+
+    ghost IsStored = { IsStoredKey };
+
+    fn read(self, _alloc: Global) -> Result<Option<AnswerKey>, AllocError> {
+        Ok(read_key(&self))
     }
 }

@@ -1,6 +1,14 @@
-//! The columns of the tables of a file, format 2: INTEGER is `i64`, TEXT is `Text`, BLOB is a `Sequence<u8>`, and
-//! `None` is NULL.
-use desk_model::{Sequence, Text};
+//! The columns of the tables of a file, format 2: INTEGER is `i64`, TEXT is `Text`, BLOB is a `Sequence<u8>`, and `None` is NULL;
+//! the rows of a desk as these tables have them, and tables read row by row.
+ghost use Rattle.std.specs.Prelude.{IfOk, map};
+ghost use Rattle.desk_model.specs.Kept.{EachOf};
+ghost use Rattle.store_columns.specs.Reading.{IsRead};
+
+use desk_model::{
+    AccountRow, AuthorizationRow, ChallengeStatus, Kind, Listed, Meta, Nonce, OrderRow, Report,
+    Sequence, Text,
+};
+use std::alloc::{AllocError, Global};
 
 /// The format of the tables.
 pub const FORMAT: i64 = 2;
@@ -169,4 +177,104 @@ pub struct StoredRows {
     pub order_authzs: Sequence<OrderAuthzColumns>,
     pub challs: Sequence<ChallColumns>,
     pub chall_keys: Sequence<ChallKeyColumns>,
+}
+
+// ---- the rows of a desk, table by table
+
+/// A row that belongs to another, and the number of that other row.
+#[derive(Drop)]
+pub struct Owned<T> {
+    /// The number of the order or authorization that it belongs to.
+    pub owner: u64,
+    /// The row without that number.
+    pub row: T,
+}
+
+/// A challenge as its table has it: when it was answered, and not under which key.
+#[derive(Clone, Copy)]
+pub struct BareChallenge {
+    /// The key of the table, from 1, over all authorizations.
+    pub number: u64,
+    /// What the validator has to look at.
+    pub kind: Kind,
+    /// Random bytes.
+    pub token: [u8; 16],
+    /// When its client said that it may be tried.
+    pub answered: Option<u64>,
+    /// What the validator found, and when.
+    pub reported: Option<Report>,
+    /// The stored status.
+    pub status: ChallengeStatus,
+}
+
+/// The key under which a challenge was answered.
+#[derive(Clone, Copy)]
+pub struct AnswerKey {
+    /// The number of the challenge.
+    pub challenge: u64,
+    /// The thumbprint of the key that its account had then (RFC 7638, 3).
+    pub thumb: [u8; 32],
+}
+
+/// The rows of each table, in any order.
+#[derive(Drop)]
+pub struct FlatRows {
+    /// The desk's own row; that there is one is not asked here.
+    pub metas: Sequence<Meta>,
+    /// The nonces that are neither spent nor removed by a sweep.
+    pub nonces: Sequence<Nonce>,
+    /// The accounts, whole.
+    pub accounts: Sequence<AccountRow>,
+    /// The orders, which list nothing here.
+    pub orders: Sequence<OrderRow>,
+    /// The authorizations, which have no challenges here.
+    pub authorizations: Sequence<AuthorizationRow>,
+    /// The authorizations that orders list.
+    pub listed: Sequence<Owned<Listed>>,
+    /// The challenges of authorizations, without the keys of their answers.
+    pub challenges: Sequence<Owned<BareChallenge>>,
+    /// The keys of answers.
+    pub keys: Sequence<AnswerKey>,
+}
+
+// ---- tables, read row by row
+
+/// Columns that spell the rows of a table.
+pub trait Columns: Drop {
+    type Row: Drop;
+
+    // The columns of a row.
+    ghost write: { Self.Row → Self };
+
+    // What a row keeps in the table.
+    ghost IsStored: { Self.Row → Type 0 };
+
+    /// The row with these columns, or `None` where none in its limits has them.
+    ///
+    /// # Errors
+    ///
+    /// Where there is no memory for it.
+    fn read(self, alloc: Global) -> Result<Option<Self::Row>, AllocError>
+        ensures { IfOk result (λ row. IsRead write IsStored self row) };
+}
+
+/// The rows with these columns, or `None` where no row in its limits has some of them.
+///
+/// # Errors
+///
+/// Where there is no memory for them.
+pub fn read_table<C: Columns>(
+    alloc: Global,
+    table: Sequence<C>,
+) -> Result<Option<Sequence<C::Row>>, AllocError>
+    ensures { IfOk result (λ rows. IsRead (map C.write) (EachOf C.IsStored) table rows) }
+{
+    let mut rows = Vec::new(alloc);
+    for columns in table.into_vec() {
+        let Some(row) = columns.read(alloc)? else {
+            return Ok(None);
+        };
+        rows.push(row)?;
+    }
+    Ok(Some(Sequence::new(rows)))
 }

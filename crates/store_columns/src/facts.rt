@@ -1,16 +1,19 @@
-//! The facts that several columns record: all of them hold something, or all are NULL.
-ghost use Rattle.std.specs.Prelude.{pos, option_map, IfOk};
+//! What columns hold: numbers, moments, marks, JSON values, and facts that several record together.
+ghost use Rattle.std.specs.Prelude.{◌≡◌, ◌↔◌, pos, option_map, IfOk, false, IsTrue};
 ghost use Rattle.store_columns.specs.Columns.{account_end_columns, authorization_end_columns, dated_bytes_columns, dated_problem_columns, report_columns};
-ghost use Rattle.store_columns.specs.Limits.{AreDatedBytes, IfRecorded, IsAccountEnd, IsAuthorizationEnd, IsDatedProblem};
-ghost use Rattle.store_columns.specs.Limits.{IsMoment, IsReport, IsSixteen, IsThirtyTwo};
-ghost use Rattle.store_columns.specs.Reading.{IsRead};
+ghost use Rattle.store_columns.specs.Columns.{wildcard_column};
+ghost use Rattle.store_columns.specs.Limits.{AreDatedBytes, IfRecorded, IsAccountEnd, IsAuthorizationEnd, IsDatedProblem, IsMoment, IsReport, IsSixteen};
+ghost use Rattle.store_columns.specs.Limits.{IsThirtyTwo, IsNumber, IsCounter, IsExpiry};
+ghost use Rattle.store_columns.specs.Reading.{IsRead, IsAtMost, IsFrom, Unlimited};
+ghost use Rattle.serde_json.specs.View.{view};
+ghost use Rattle.serde_json.specs.Written.{compact_text, has_float};
 
-use crate::numbers::read_moment;
-use crate::problem::read_problem;
+use crate::orders::read_problem;
 use desk_model::{
-    AccountEnd, AuthorizationEnd, DatedBytes, DatedProblem, EndKind, Ending, Outcome, Report,
-    Sequence, Text,
+    AccountEnd, AuthorizationEnd, DatedBytes, DatedProblem, EndKind, Ending, LAST_END, LAST_MOMENT,
+    LAST_NUMBER, Outcome, Report, Sequence, Text, is_same_text,
 };
+use serde_json::Value;
 use std::alloc::{AllocError, Global};
 
 /// When and how an account ended.
@@ -129,4 +132,83 @@ pub(crate) fn read_thirty_two(bytes: &[u8]) -> Option<[u8; 32]>
     ensures { IsRead (λ b. b) IsThirtyTwo bytes.now result }
 {
     bytes.as_array::<32>().copied()
+}
+
+// ---- numbers, moments and marks
+
+/// The number of an object, from 1 to the greatest.
+pub(crate) fn read_number(column: i64) -> Option<u64>
+    ensures { IsRead (λ n. pos n) IsNumber column result }
+{
+    let number = read_count(column, LAST_NUMBER)?;
+    if number >= 1 { Some(number) } else { None }
+}
+
+/// The last number given, 0 for none.
+pub(crate) fn read_counter(column: i64) -> Option<u64>
+    ensures { IsRead (λ n. pos n) IsCounter column result }
+{
+    read_count(column, LAST_NUMBER)
+}
+
+/// A moment.
+pub(crate) fn read_moment(column: i64) -> Option<u64>
+    ensures { IsRead (λ n. pos n) IsMoment column result }
+{
+    read_count(column, LAST_MOMENT)
+}
+
+/// A moment and a life.
+pub(crate) fn read_expiry(column: i64) -> Option<u64>
+    ensures { IsRead (λ n. pos n) IsExpiry column result }
+{
+    read_count(column, LAST_END)
+}
+
+/// A place in an order, from 1.
+pub(crate) fn read_place(column: i64) -> Option<u64>
+    ensures { IsRead (λ n. pos n) (IsFrom 1) column result }
+{
+    let place = read_natural(column)?;
+    if place >= 1 { Some(place) } else { None }
+}
+
+// A number of 0 to this limit.
+fn read_count(column: i64, limit: u64) -> Option<u64>
+    ensures { IsRead (λ n. pos n) (IsAtMost limit) column result }
+{
+    let number = read_natural(column)?;
+    if number <= limit { Some(number) } else { None }
+}
+
+/// A number from 0.
+pub(crate) fn read_natural(column: i64) -> Option<u64>
+    ensures { IsRead (λ n. pos n) Unlimited column result }
+{
+    if column >= 0 {
+        Some(column as u64)
+    } else {
+        None
+    }
+}
+
+/// Whether a name is a wildcard.
+pub(crate) fn read_wildcard(column: i64) -> Option<bool>
+    ensures { IsRead wildcard_column Unlimited column result }
+{
+    match column {
+        0 => Some(false),
+        1 => Some(true),
+        _ => None,
+    }
+}
+
+// ---- JSON values
+
+/// Whether a text is the compact text of a value.
+pub(crate) fn is_compact(alloc: Global, value: &Value, text: &str) -> Result<bool, AllocError>
+    ensures { IfOk result (λ compact. has_float (view value.now) ≡ false → IsTrue compact ↔ (text.now ≡ compact_text (view value.now))) }
+{
+    let written = value.to_string(alloc)?;
+    Ok(is_same_text(text, written.as_str()))
 }

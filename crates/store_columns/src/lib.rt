@@ -3,28 +3,19 @@
 
 mod accounts;
 mod authorizations;
-mod challenges;
 mod columns;
-mod contacts;
 mod facts;
-mod flat_rows;
 mod laws;
-mod listed;
 mod meta;
 mod nonces;
-mod numbers;
 mod orders;
-mod problem;
 mod stored;
-mod table;
-mod values;
 
 pub use columns::{
-    AccountColumns, AuthzColumns, ChallColumns, ChallKeyColumns, FIRST_FORMAT, FORMAT, MetaColumns,
-    NonceColumns, OrderAuthzColumns, OrderColumns, StoredRows,
+    AccountColumns, AnswerKey, AuthzColumns, BareChallenge, ChallColumns, ChallKeyColumns, Columns,
+    FIRST_FORMAT, FORMAT, FlatRows, MetaColumns, NonceColumns, OrderAuthzColumns, OrderColumns,
+    Owned, StoredRows, read_table,
 };
-pub use flat_rows::{AnswerKey, BareChallenge, FlatRows, Owned};
 pub use laws::{columns_tell_rows_apart, texts_are_written};
-pub use problem::problem_text;
+pub use orders::problem_text;
 pub use stored::read_rows;
-pub use table::{Columns, read_table};

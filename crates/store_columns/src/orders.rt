@@ -1,15 +1,21 @@
-//! Rows of the table `ord`.
-ghost use Rattle.std.specs.Prelude.{◌≡◌, ◌≢◌, Option, Some, MatchOption};
-ghost use Rattle.desk_model.specs.declared.rows.{DatedBytes.DatedBytes as Bytes, OrderRow.OrderRow as Row};
-ghost use Rattle.store_columns.specs.Columns.{dated_bytes_columns, dated_problem_columns, order_columns};
-ghost use Rattle.store_columns.specs.Limits.{AreDatedBytes, IfRecorded, IsDatedProblem, IsStoredOrder};
+//! Rows of the table `ord`, and of `ord_authz`, which has what an order lists.
+ghost use Rattle.std.specs.Prelude.{◌≡◌, ◌≢◌, ◌↔◌, Option, Some, MatchOption, string_bytes, IfOk, IsTrue};
+ghost use Rattle.desk_model.specs.{declared.rows.DatedBytes.DatedBytes as Bytes, declared.rows.OrderRow.OrderRow as Row};
+ghost use Rattle.store_columns.specs.Columns.{dated_bytes_columns, dated_problem_columns, order_columns, listed_columns};
+ghost use Rattle.store_columns.specs.Limits.{AreDatedBytes, IfRecorded, IsDatedProblem, IsStoredOrder, IsProblem, IsStoredListed};
 ghost use Rattle.store_columns.specs.{Reading.IsRead, RowHeads.IsOrderHead};
+ghost use Rattle.serde_json.specs.View.{view};
+ghost use Rattle.store_columns.specs.Spelling.{problem_document, problem_text};
 
-use crate::columns::OrderColumns;
-use crate::facts::{read_dated_bytes, read_dated_problem};
-use crate::numbers::{read_expiry, read_moment, read_number};
-use crate::table::Columns;
-use desk_model::{DatedBytes, DatedProblem, OrderRow, OrderStatus, Sequence};
+use crate::columns::{Columns, OrderAuthzColumns, OrderColumns, Owned};
+use crate::facts::{
+    read_dated_bytes, read_dated_problem, read_expiry, read_moment, read_number, read_place,
+};
+use desk_model::{
+    DatedBytes, DatedProblem, Listed, OrderProblem, OrderRow, OrderStatus, Sequence, is_same_text,
+};
+use json_texts::order_problem;
+use serde_json::{Value, json};
 use std::alloc::{AllocError, Global};
 
 // What stands in columns of its own.
@@ -110,5 +116,78 @@ impl Columns for OrderColumns {
             Some(failed) => Ok(order_with(alloc, failed, self)),
             None => Ok(None),
         }
+    }
+}
+
+// ---- the column `problem`: a compact JSON object of a detail and a type
+
+/// The problem that a column spells.
+pub(crate) fn read_problem(alloc: Global, text: &str) -> Result<Option<OrderProblem>, AllocError>
+    ensures { IfOk result (λ problem. IsRead problem_text IsProblem text.now problem) }
+{
+    let Some(problem) = order_problem(alloc, text)? else {
+        return Ok(None);
+    };
+    Ok(spells_problem(alloc, text, &problem)?.then_some(problem))
+}
+
+// Whether a problem is of a known type and a text is that of its object.
+fn spells_problem(alloc: Global, text: &str, problem: &OrderProblem) -> Result<bool, AllocError>
+    ensures { IfOk result (λ spells. IsTrue spells ↔ IsProblem problem.now × (text.now ≡ problem_text problem.now)) }
+{
+    if !OrderProblem::is_kind(problem.kind.as_str()) {
+        return Ok(false);
+    }
+    let written = problem_text(alloc, problem)?;
+    Ok(is_same_text(text, written.as_str()))
+}
+
+/// The text of a problem as a column, a JSON object of its detail and its type.
+///
+/// # Errors
+///
+/// Where there is no memory for it.
+pub fn problem_text(alloc: Global, problem: &OrderProblem) -> Result<String, AllocError>
+    ensures { IfOk result (λ text. string_bytes text ≡ problem_text problem.now) }
+{
+    problem_value(alloc, problem)?.to_string(alloc)
+}
+
+// The value of a problem.
+fn problem_value(alloc: Global, problem: &OrderProblem) -> Result<Value, AllocError>
+    ensures { IfOk result (λ value. view value ≡ problem_document problem.now) }
+{
+    let detail = problem.detail.as_str();
+    let kind = problem.kind.as_str();
+    json!(in alloc; {"detail": detail, "type": kind})
+}
+
+// ---- what an order lists
+
+// The listed authorization with these columns, under its order, or `None` where none in its limits has them.
+fn read_listed(columns: OrderAuthzColumns) -> Option<Owned<Listed>>
+    ensures { IsRead listed_columns IsStoredListed columns result }
+{
+    let owner = read_number(columns.ord)?;
+    let place = read_place(columns.place)?;
+    let authorization = read_number(columns.authz)?;
+    Some(Owned {
+        owner,
+        row: Listed {
+            place,
+            authorization,
+        },
+    })
+}
+
+impl Columns for OrderAuthzColumns {
+    type Row = Owned<Listed>;
+
+    ghost write = { listed_columns };
+
+    ghost IsStored = { IsStoredListed };
+
+    fn read(self, _alloc: Global) -> Result<Option<Owned<Listed>>, AllocError> {
+        Ok(read_listed(self))
     }
 }

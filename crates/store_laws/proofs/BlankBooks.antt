@@ -5,7 +5,7 @@ use Rattle.std.proofs.Common.{◌≡◌, ℕ, ◌++◌, List, [], ◌∷◌, map
 use Rattle.std.proofs.lemmas.List.{map-append}
 use Rattle.store_columns.specs.Flat.{bare_row, challenge_rows, flat, key_rows, owned_by, without_challenges}
 use Rattle.store_columns.specs.Limits.{AreStored, IsStoredAuthorization, IsStoredChallenge, IsStoredKey}
-use Rattle.store_columns.specs.declared.flat_rows.{AnswerKey.AnswerKey, BareChallenge.BareChallenge, Owned.Owned}
+use Rattle.store_columns.specs.declared.columns.{AnswerKey.AnswerKey, BareChallenge.BareChallenge, Owned.Owned}
 use Rattle.model_laws.proofs.Basics.{each, each-map, find-map}
 use Rattle.model_laws.proofs.{Distinctness.distinct-map, Recorded.below_map, RowLists.ascends_map}
 use Rattle.model_laws.specs.Distinct.{Distinct}

@@ -7,7 +7,7 @@ use Rattle.sha2.proofs.Facts256.{length-sha256}
 use Rattle.std.proofs.lemmas.Bool.{and_parts, eqb-true}
 use Rattle.store_columns.specs.Limits.{AreStored, IfRecorded, IsDatedProblem, IsMoment, IsNumber, IsStoredAccount}
 use Rattle.store_columns.specs.Limits.{IsStoredChallenge, IsStoredKey, IsStoredListed, IsStoredMeta, IsStoredNonce}
-use Rattle.store_columns.specs.declared.flat_rows.Owned.{Owned}
+use Rattle.store_columns.specs.declared.columns.Owned.{Owned}
 use Rattle.desk_model.specs.{Account.account_key, BaseName.is_base_name, Change.spent_by, Entry.History, Order.orders}
 use Rattle.desk_model.specs.declared.{objects.Answer.Answer, entry.Entry.Entry, entry.Entry.TheVariants.Spent as spent, rows.AuthorizationRow.AuthorizationRow}
 use Rattle.desk_model.specs.declared.{rows.ChallengeRow.ChallengeRow, rows.DatedProblem.DatedProblem, rows.Listed.Listed, rows.OrderRow.OrderRow}

@@ -1,6 +1,6 @@
 use Rattle.http_wire.specs.{ParsedRequest.IsPlan, Spelled.IsRequestWith}
 use Rattle.http_routes.specs.declared.request.Request.TheVariants as request
-use Rattle.http_wire.specs.declared.plan.Plan.TheVariants as plan
+use Rattle.http_wire.specs.declared.call.Plan.TheVariants as plan
 use Rattle.http_wire.proofs.Asked.{request_behind, whatever_is_left}
 use Rattle.http_wire.proofs.Bytes.{takes_none, takes_within}
 use Rattle.http_wire.proofs.Limits.{body_within}

@@ -1,5 +1,5 @@
 use Rattle.std.proofs.Common.{ap, sym, ◌∙◌}
-use Rattle.store_columns.specs.declared.flat_rows.BareChallenge.{BareChallenge}
+use Rattle.store_columns.specs.declared.columns.BareChallenge.{BareChallenge}
 use Rattle.sql_read.specs.Keys.{keys_of}
 use Rattle.sql_read.proofs.{Looking.unasked, KeyRows.answered_found, KeyRows.unanswered, KeyRows.with_key}
 use Rattle.sql_read.proofs.answers.answer_to.Goals as goal

@@ -1,7 +1,7 @@
 use Rattle.sqlite.specs.Held.{state}
 use Rattle.sqlite.proofs.StateLemmas.{survives_weaker}
 use Rattle.std.proofs.Common.{IfErr, List, subst}
-use Rattle.store_columns.specs.declared.flat_rows.AnswerKey.{AnswerKey}
+use Rattle.store_columns.specs.declared.columns.AnswerKey.{AnswerKey}
 use Rattle.sql_write.specs.{Numbers.FitsUpgrade, Refusals.IsCause, Statements.upgrade_statements, Upgrading.Upgrades}
 use Rattle.sql_upgrade.specs.FirstDesks.{UpgradesDesk}
 use Rattle.sql_upgrade.proofs.FirstDesksKept.{committed_as, desk_brought, desks_upgrade, left_as}

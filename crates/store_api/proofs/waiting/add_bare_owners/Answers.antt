@@ -2,7 +2,7 @@ use Rattle.std.proofs.Common.{add-one, ap, arith, drop, drop-cons, map, suc, sym
 use Rattle.store_api.proofs.Found.{fails_behind, finds_then}
 use Rattle.store_api.proofs.waiting.add_bare_owners.Goals as goal
 use Rattle.store_api.specs.Needing.{missings}
-use Rattle.store_columns.specs.declared.flat_rows.Owned.{Owned}
+use Rattle.store_columns.specs.declared.columns.Owned.{Owned}
 use Rattle.desk_model.specs.declared.rows.{AuthorizationRow.AuthorizationRow, ChallengeRow.ChallengeRow}
 use Rattle.model_lives.specs.LookUps.{bare_authorizations}
 

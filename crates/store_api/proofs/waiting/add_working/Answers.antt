@@ -9,7 +9,7 @@ use Rattle.store_api.proofs.Readings.{reads_standing, stands_here}
 use Rattle.store_api.proofs.WaitingRows.{nested_working, numbered, working_ascend}
 use Rattle.store_api.proofs.waiting.add_working.Goals as goal
 use Rattle.store_api.specs.{Needing.missings, Nesting.nested}
-use Rattle.store_columns.specs.declared.flat_rows.Owned.{Owned}
+use Rattle.store_columns.specs.declared.columns.Owned.{Owned}
 
 pub returns : goal.returns
 returns g c =

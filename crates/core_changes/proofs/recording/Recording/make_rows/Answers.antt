@@ -1,7 +1,7 @@
 use Rattle.std.proofs.Common.{arith, rules, ◌≡◌, ℕ, ◌+◌, ◌-◌, length, ◌++◌, ap, ◌∙◌}
 use Rattle.std.proofs.lemmas.List.{length-map}
 use Rattle.desk_model.specs.Authorization.{count_challenges, made_for}
-use Rattle.core_changes.specs.declared.making.Making.{Making}
+use Rattle.core_changes.specs.declared.orders.Making.{Making}
 use Rattle.core_changes.specs.Made.{made_row, made_rows, next_authorizations, next_rows}
 use Rattle.core_changes.proofs.recording.Recording.make_rows.Goals as goal
 

@@ -1,5 +1,0 @@
-use Rattle.std.proofs.Common.{length}
-use Rattle.core_changes.proofs.making.+push_authorizations.Given as goal
-
-abbrev pub decreases-push_authorizations : goal.decreases-push_authorizations
-decreases-push_authorizations l = length l.wanted.now

@@ -1,0 +1,9 @@
+use Rattle.std.proofs.Common.{◌≡◌, drop}
+use Rattle.desk_model.specs.{Derived.numbers_of, Entry.entry_of}
+use Rattle.desk_model.specs.Effect.{lists_one, touches_authorization}
+use Rattle.core_changes.proofs.noted.lists_touched.Given as goal
+
+abbrev pub invariant-loop-place : goal.invariant-loop-place
+invariant-loop-place l =
+    lists_one (touches_authorization (entry_of l.moved)) l.book.authorizations (numbers_of (drop l.place-index l.listed))
+    ≡ lists_one (touches_authorization (entry_of l.moved)) l.book.authorizations (numbers_of l.listed)

@@ -1,0 +1,29 @@
+use Rattle.std.proofs.Common.{rules, sym, ap, ◌∙◌}
+use Rattle.std.specs.Prelude.{option_copied}
+use Rattle.core_rules.proofs.OpenNonces.{absent, opens}
+use Rattle.core_rules.proofs.judging.open_serial.Goals as goal
+use Rattle.core_rules.proofs.judging.open_serial.Goals.{else-lasts-via-then-lasts+else-eq, else-lasts-via-else-lasts}
+
+pub returns-in_err-nonce : goal.returns-in_err-nonce
+returns-in_err-nonce c =
+    λ ordered.
+    let none = absent c.args.book.now c.args.moment ordered c.args.text.now _ c.in_ok-serial.ensures.value
+    (sym (ap option_copied c.in_err-nonce.was) ∙ c.nonce.ensures) in
+    search (rules, none)
+
+pub returns-then-eq : goal.returns-then-eq
+returns-then-eq c =
+    λ ordered.
+    let found = opens c.args.book.now c.args.moment ordered c.args.text.now _ _ c.in_ok-serial.ensures.value
+    (sym (ap option_copied c.in_ok-nonce.was) ∙ c.nonce.ensures) in
+    search (rules, found)
+
+pub returns-else-lasts : goal.returns-else-lasts
+returns-else-lasts c =
+    λ ordered.
+    let found = opens c.args.book.now c.args.moment ordered c.args.text.now _ _ c.in_ok-serial.ensures.value
+    (sym (ap option_copied c.in_ok-nonce.was) ∙ c.nonce.ensures) in
+    elim c.else-lasts.branch [
+      | else-lasts-via-then-lasts+else-eq w ↦ search (rules, found)
+      | else-lasts-via-else-lasts w ↦ search (rules, found)
+    ]

@@ -1,0 +1,8 @@
+use Rattle.std.proofs.Common.{refl}
+use Rattle.desk_store.proofs.Standing.{handed}
+use Rattle.desk_store.proofs.look_ups.StoreRowsAbove.account_above.Goals as goal
+
+pub returns : goal.returns
+returns g c =
+    let read = c.account_above-read.ensures in
+    handed g.S.Store read (c.told.ensures.reads c.args.self.now refl read.asks read.unchanged read.caused) c.told.ensures.found c.told.ensures.honest

@@ -1,8 +1,0 @@
-use Rattle.std.proofs.Common.{refl}
-use Rattle.desk_store.proofs.Standing.{handed}
-use Rattle.desk_store.proofs.rows_above.StoreRowsAbove.account_above.Goals as goal
-
-pub returns : goal.returns
-returns g c =
-    let read = c.account_above-read.ensures in
-    handed g.S.Store read (c.told.ensures.reads c.args.self.now refl read.asks read.unchanged read.caused) c.told.ensures.found c.told.ensures.honest

@@ -1,0 +1,74 @@
+use Rattle.std.proofs.Common.{subst}
+use Rattle.std.specs.Prelude.{option_copied}
+use Rattle.sql_write.specs.Makes.{PutsOver, SetsAuthorization, SetsMeta, SetsOrder}
+use Rattle.sql_write.specs.{Numbers.FitsColumns, Refusals.HasWritten, Standing.known_after}
+use Rattle.sql_write.specs.Statements.{sets_account, sets_authorization, sets_meta, sets_order}
+use Rattle.sql_write.proofs.MadeChanges.{makes_account, makes_authorization, makes_meta, makes_nonce, makes_removal, makes_set_order, writes_change}
+use Rattle.sql_write.proofs.saving.make_change.Goals as goal
+use Rattle.sql_tables.specs.Layouts.{account_layout}
+
+pub returns-in-PutMeta-clause-writes : goal.returns-in-PutMeta-clause-writes
+returns-in-PutMeta-clause-writes g c =
+    let known = known_after (option_copied c.args.known) c.args.before.now in
+    let run = c.set_meta in
+    let stood = subst (λ k. HasWritten g.S.Store (sets_meta k c.in-PutMeta.row) (SetsMeta k c.in-PutMeta.row) c.args.tx.now.conn.now run.new.tx.conn.now
+    run.result)
+    c.known_row.ensures run.ensures.writes in
+    writes_change g.S.Store known c.args.last.now _ _ c.in-PutMeta.is _ _ _ run.result (makes_meta known c.in-PutMeta.row _ _) stood
+
+pub returns-in-PutMeta-clause-fits : goal.returns-in-PutMeta-clause-fits
+returns-in-PutMeta-clause-fits g c fits = c.set_meta.ensures.fits (subst FitsColumns c.in-PutMeta.is fits)
+
+pub returns-in-PutNonce-clause-writes : goal.returns-in-PutNonce-clause-writes
+returns-in-PutNonce-clause-writes g c =
+    let known = known_after (option_copied c.args.known) c.args.before.now in
+    let run = c.set_nonce in
+    writes_change g.S.Store known c.args.last.now _ _ c.in-PutNonce.is _ _ _ run.result (makes_nonce known c.in-PutNonce.row _ _) run.ensures.writes
+
+pub returns-in-PutNonce-clause-fits : goal.returns-in-PutNonce-clause-fits
+returns-in-PutNonce-clause-fits g c fits = c.set_nonce.ensures.fits (subst FitsColumns c.in-PutNonce.is fits)
+
+pub returns-in-RemoveNonce-clause-writes : goal.returns-in-RemoveNonce-clause-writes
+returns-in-RemoveNonce-clause-writes g c =
+    let known = known_after (option_copied c.args.known) c.args.before.now in
+    let run = c.remove_nonce in
+    writes_change g.S.Store known c.args.last.now _ _ c.in-RemoveNonce.is _ _ _ run.result (makes_removal known c.in-RemoveNonce.serial _ _) run.ensures.writes
+
+pub returns-in-RemoveNonce-clause-fits : goal.returns-in-RemoveNonce-clause-fits
+returns-in-RemoveNonce-clause-fits g c fits = c.remove_nonce.ensures.fits (subst FitsColumns c.in-RemoveNonce.is fits)
+
+pub returns-in-PutAccount-clause-writes : goal.returns-in-PutAccount-clause-writes
+returns-in-PutAccount-clause-writes g c =
+    let known = known_after (option_copied c.args.known) c.args.before.now in
+    let run = c.set_account in
+    let stood = subst (λ k. HasWritten g.S.Store (sets_account k c.args.last.now.accounts c.in-PutAccount.row) (PutsOver account_layout k c.in-PutAccount.row)
+    c.args.tx.now.conn.now run.new.tx.conn.now run.result)
+    c.known_row-known.ensures run.ensures.writes in
+    writes_change g.S.Store known c.args.last.now _ _ c.in-PutAccount.is _ _ _ run.result (makes_account known c.in-PutAccount.row _ _) stood
+
+pub returns-in-PutAccount-clause-fits : goal.returns-in-PutAccount-clause-fits
+returns-in-PutAccount-clause-fits g c fits = c.set_account.ensures.fits (subst FitsColumns c.in-PutAccount.is fits)
+
+pub returns-in-PutAuthorization-clause-writes : goal.returns-in-PutAuthorization-clause-writes
+returns-in-PutAuthorization-clause-writes g c =
+    let known = known_after (option_copied c.args.known) c.args.before.now in
+    let run = c.set_authorization in
+    let stood = subst (λ k. HasWritten g.S.Store (sets_authorization k c.args.last.now c.in-PutAuthorization.row)
+    (SetsAuthorization k c.in-PutAuthorization.row) c.args.tx.now.conn.now run.new.tx.conn.now run.result)
+    c.known_row-known-in-PutAuthorization.ensures run.ensures.writes in
+    writes_change g.S.Store known c.args.last.now _ _ c.in-PutAuthorization.is _ _ _ run.result (makes_authorization known c.in-PutAuthorization.row _ _) stood
+
+pub returns-in-PutAuthorization-clause-fits : goal.returns-in-PutAuthorization-clause-fits
+returns-in-PutAuthorization-clause-fits g c fits = c.set_authorization.ensures.fits (subst FitsColumns c.in-PutAuthorization.is fits)
+
+pub returns-in-PutOrder-clause-writes : goal.returns-in-PutOrder-clause-writes
+returns-in-PutOrder-clause-writes g c =
+    let known = known_after (option_copied c.args.known) c.args.before.now in
+    let run = c.set_order in
+    let stood = subst (λ k. HasWritten g.S.Store (sets_order k c.args.last.now.orders c.in-PutOrder.row) (SetsOrder k c.in-PutOrder.row) c.args.tx.now.conn.now
+    run.new.tx.conn.now run.result)
+    c.known_row-known-in-PutOrder.ensures run.ensures.writes in
+    writes_change g.S.Store known c.args.last.now _ _ c.in-PutOrder.is _ _ _ run.result (makes_set_order known c.in-PutOrder.row _ _) stood
+
+pub returns-in-PutOrder-clause-fits : goal.returns-in-PutOrder-clause-fits
+returns-in-PutOrder-clause-fits g c fits = c.set_order.ensures.fits (subst FitsColumns c.in-PutOrder.is fits)

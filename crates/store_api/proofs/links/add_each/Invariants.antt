@@ -1,0 +1,11 @@
+use Rattle.std.proofs.Common.{◌≡◌, drop}
+use Rattle.std.specs.{Prelude.Ok, List.flat_map}
+use Rattle.model_laws.specs.Placing.{puts}
+use Rattle.store_api.specs.Finding.{Finds}
+use Rattle.store_api.proofs.links.add_each.Given as goal
+
+abbrev pub invariant-loop-item : goal.invariant-loop-item
+invariant-loop-item g l =
+    Finds g.S.LookUps.sight {A = Unit {0}} l.fn.source l.source (Ok tt) (λ T.
+    puts g.R.Row.number (flat_map (g.Q.LeadsTo.rows_of T) (drop l.item-index l.items)) l.table
+    ≡ puts g.R.Row.number (flat_map (g.Q.LeadsTo.rows_of T) l.items) l.fn.table)

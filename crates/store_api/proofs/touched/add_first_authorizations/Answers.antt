@@ -1,0 +1,39 @@
+use Rattle.std.proofs.Common.{[], ◌++◌, ap, refl, ◌∙◌}
+use Rattle.std.specs.Prelude.{if◌then◌else◌, option_to_list}
+use Rattle.std.specs.List.{flat_map}
+use Rattle.model_laws.specs.Placing.{puts}
+use Rattle.store_api.proofs.Found.{fails_behind, finds_both, finds_failing, finds_fourth, listed_as}
+use Rattle.store_api.proofs.Gathered.{of_two, put_by, put_then}
+use Rattle.store_api.proofs.touched.add_first_authorizations.Goals as goal
+use Rattle.desk_model.specs.declared.rows.{AccountRow.AccountRow, AuthorizationRow.AuthorizationRow}
+use Rattle.desk_model.specs.declared.status.AuthzStatus.TheVariants as authz
+use Rattle.model_lives.specs.Loaded.{past_authorizations}
+use Rattle.model_lives.specs.LookUps.{authorizations_numbered, authorizations_of, authorizations_past, owners_of}
+
+pub returns : goal.returns
+returns g c =
+    let number = λ (a : AuthorizationRow). a.number in
+    let named = c.args.named.now in
+    let moment = c.args.moment in
+    finds_fourth c.add_each-2.result c.in_ok-add_each.ensures c.in_ok-add_owner.ensures c.in_ok-add_asked.ensures c.add_each-2.ensures
+    (λ T numbered owners asked past.
+    let numbered_rows = flat_map (authorizations_numbered T) (option_to_list named.authorization) in
+    let owners_rows = flat_map (λ k. flat_map (authorizations_numbered T) (owners_of T k)) (option_to_list named.challenge) in
+    let own = if named.asks_authorizations then flat_map (λ (x : AccountRow). authorizations_of T x.number) c.args.accounts.now else [] in
+    put_then number (numbered_rows ++ owners_rows) (own ++ past_authorizations T moment) _ _ _
+    (put_then number numbered_rows owners_rows _ _ _
+    (put_by number (flat_map (authorizations_numbered T)) _ _ _ _ numbered (listed_as _ _ _ c.as_slice.ensures refl)) owners)
+    (put_then number own (past_authorizations T moment) _ _ _ asked
+    (past ∙ ap (λ l. puts number l c.add_asked.new.table)
+    (of_two (λ s. authorizations_past T s moment) authz.Pending authz.Valid))))
+
+pub returns-in_err-add_each : goal.returns-in_err-add_each
+returns-in_err-add_each g c = finds_failing _ c.in_err-add_each.ensures c.from_residual.ensures.1
+
+pub returns-in_err-add_owner : goal.returns-in_err-add_owner
+returns-in_err-add_owner g c = fails_behind _ c.in_ok-add_each.ensures c.in_err-add_owner.ensures c.from_residual-in_err-add_owner.ensures.1
+
+pub returns-in_err-add_asked : goal.returns-in_err-add_asked
+returns-in_err-add_asked g c =
+    fails_behind _ (finds_both _ c.in_ok-add_each.ensures c.in_ok-add_owner.ensures) c.in_err-add_asked.ensures
+    c.from_residual-in_err-add_asked.ensures.1
