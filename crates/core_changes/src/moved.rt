@@ -28,12 +28,7 @@ use std::alloc::{AllocError, Global};
 fn row_numbered<R: Row>(rows: &[R], number: u64) -> Option<&R>
     ensures { option_copied result ≡ find (λ row. R.number row == number) rows.now }
 {
-    for row in rows {
-        if row.number() == number {
-            return Some(row);
-        }
-    }
-    None
+    rows.iter().find(|row| row.number() == number)
 }
 
 /// The rows that a move touches, as it leaves them.
@@ -66,12 +61,9 @@ impl MovedRows {
     pub fn owner(&self, challenge: u64) -> Option<&AuthorizationRow>
         ensures { option_copied result ≡ find (has_row challenge) self.now.authorizations.items }
     {
-        for row in &self.authorizations {
-            if has_challenge(row, challenge) {
-                return Some(row);
-            }
-        }
-        None
+        self.authorizations
+            .iter()
+            .find(|row| has_challenge(row, challenge))
     }
 
     /// The order of a number.

@@ -77,12 +77,9 @@ impl ShowsObject<Policy> for ChallengeRow {
 fn is_reported(challenges: &[ChallengeRow]) -> bool
     ensures { result ≡ list_any (λ c. is_some c.reported) challenges.now }
 {
-    for challenge in challenges {
-        if challenge.reported.is_some() {
-            return true;
-        }
-    }
-    false
+    challenges
+        .iter()
+        .any(|challenge| challenge.reported.is_some())
 }
 
 // A challenge, which is shown if it was reported, or if none was.

@@ -168,12 +168,7 @@ fn serving_row<'a>(rows: &'a Table<AuthorizationRow>, need: &Need) -> Option<&'a
     ensures { option_copied result
         ≡ find (λ r. serves need.now.account need.now.name.now (need.now.moment + need.now.life) (swept_authorization need.now.moment r)) rows.now }
 {
-    for row in rows.iter() {
-        if serves(need, row) {
-            return Some(row);
-        }
-    }
-    None
+    rows.iter().find(|row| serves(need, row))
 }
 
 // ---- rows with the statuses that the passing of time leaves
@@ -204,12 +199,10 @@ pub fn order_status(book: &Book, moment: u64, row: &OrderRow) -> OrderStatus
 pub fn challenge_of(row: &AuthorizationRow, number: u64) -> Option<&ChallengeRow>
     ensures { option_copied result ≡ challenge_of number row.now }
 {
-    for challenge in row.challenges.as_slice() {
-        if challenge.number == number {
-            return Some(challenge);
-        }
-    }
-    None
+    row.challenges
+        .as_slice()
+        .iter()
+        .find(|challenge| challenge.number == number)
 }
 
 // ---- what is past its end
@@ -233,12 +226,9 @@ fn is_overdue_number(moment: u64, rows: &Table<AuthorizationRow>, number: u64) -
 fn any_overdue(moment: u64, rows: &Table<AuthorizationRow>, listed: &[Listed]) -> bool
     ensures { result ≡ list_any (λ l. holds (is_overdue moment) (authorization_numbered l.authorization rows.now)) listed.now }
 {
-    for one in listed {
-        if is_overdue_number(moment, rows, one.authorization) {
-            return true;
-        }
-    }
-    false
+    listed
+        .iter()
+        .any(|one| is_overdue_number(moment, rows, one.authorization))
 }
 
 fn lists_overdue(moment: u64, rows: &Table<AuthorizationRow>, row: &OrderRow) -> bool

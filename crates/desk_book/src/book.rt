@@ -218,24 +218,17 @@ impl Book {
 fn row_with_key<'a>(accounts: &'a Table<AccountRow>, key: &str) -> Option<&'a AccountRow>
     ensures { option_copied result ≡ find (λ a. bytes_eq a.key key.now) accounts.now }
 {
-    for row in accounts.iter() {
-        if row.key.canonical() == key {
-            return Some(row);
-        }
-    }
-    None
+    accounts.iter().find(|row| row.key.canonical() == key)
 }
 
 /// Whether a challenge is one of an authorization's.
 pub fn has_challenge(row: &AuthorizationRow, challenge: u64) -> bool
     ensures { result ≡ has_row challenge row.now }
 {
-    for row in row.challenges.as_slice() {
-        if row.number == challenge {
-            return true;
-        }
-    }
-    false
+    row.challenges
+        .as_slice()
+        .iter()
+        .any(|row| row.number == challenge)
 }
 
 fn row_with_challenge(
@@ -244,12 +237,9 @@ fn row_with_challenge(
 ) -> Option<&AuthorizationRow>
     ensures { option_copied result ≡ find (has_row challenge) authorizations.now }
 {
-    for row in authorizations.iter() {
-        if has_challenge(row, challenge) {
-            return Some(row);
-        }
-    }
-    None
+    authorizations
+        .iter()
+        .find(|row| has_challenge(row, challenge))
 }
 
 impl Clone for Book {

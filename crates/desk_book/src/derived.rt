@@ -96,23 +96,13 @@ fn lasting_status(moment: u64, row: &AuthorizationRow) -> AuthzStatus
 fn any_over(statuses: &[AuthzStatus]) -> bool
     ensures { result ≡ list_any is_over statuses.now }
 {
-    for status in statuses {
-        if status.is_over() {
-            return true;
-        }
-    }
-    false
+    statuses.iter().any(|status| status.is_over())
 }
 
 fn all_valid(statuses: &[AuthzStatus]) -> bool
     ensures { result ≡ list_all is_valid statuses.now }
 {
-    for status in statuses {
-        if !status.is_valid() {
-            return false;
-        }
-    }
-    true
+    statuses.iter().all(|status| status.is_valid())
 }
 
 // Whether an order can lead to no certificate any more: it failed, is past its `expires`, or lost an authorization.

@@ -135,12 +135,7 @@ fn subproblem(identifier: &Identifier, refusal: Refusal) -> Result<Subproblem, A
 fn has_name(names: &[DnsName], name: &DnsName) -> bool
     ensures { result ≡ list_any (λ other. same_name other name.now) names.now }
 {
-    for other in names {
-        if other.is_same(name) {
-            return true;
-        }
-    }
-    false
+    names.iter().any(|other| other.is_same(name))
 }
 
 // Adds a name, unless it is among those that were kept.

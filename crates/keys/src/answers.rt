@@ -103,12 +103,9 @@ pub fn dns_matches(records: &[Text], expected: &str) -> bool
 fn has_text(records: &[Text], expected: &str) -> bool
     ensures { result ≡ list_any (λ r. bytes_eq r expected.now) records.now }
 {
-    for text in records {
-        if is_same_text(text.as_str(), expected) {
-            return true;
-        }
-    }
-    false
+    records
+        .iter()
+        .any(|text| is_same_text(text.as_str(), expected))
 }
 
 // The bytes without the blanks at their end.

@@ -133,11 +133,7 @@ pub(crate) fn without_owners<T: Drop>(
     ensures rows { IfOk result (λ all. all.items ≡ map (λ r. r.row) rows.items) }
     ensures fault { IfErr result IsOfMemory }
 {
-    let mut all = Vec::new(alloc);
-    for owned in rows {
-        all.push(owned.row)?;
-    }
-    Ok(all)
+    Ok(rows.into_iter().map(|owned| owned.row).collect(alloc)?)
 }
 
 /// The numbers of the owners.
@@ -145,9 +141,5 @@ pub(crate) fn owners<T: Drop>(alloc: Global, rows: Vec<Owned<T>>) -> Result<Vec<
     ensures numbers { IfOk result (λ numbers. numbers.items ≡ map (λ r. r.owner) rows.items) }
     ensures fault { IfErr result IsOfMemory }
 {
-    let mut numbers = Vec::new(alloc);
-    for owned in rows {
-        numbers.push(owned.owner)?;
-    }
-    Ok(numbers)
+    Ok(rows.into_iter().map(|owned| owned.owner).collect(alloc)?)
 }

@@ -47,12 +47,7 @@ fn uses(schema: &Schema, name: &str) -> bool
 fn uses_one(schema: &Schema, names: &[&str]) -> bool
     ensures { result ≡ list_any (λ name. is_used schema.now name.now) names.now }
 {
-    for name in names {
-        if uses(schema, name) {
-            return true;
-        }
-    }
-    false
+    names.iter().any(|name| uses(schema, name))
 }
 
 /// Whether a table, an index or a view has a name that a table or an index of a desk has, in any case of its ASCII letters.
@@ -80,12 +75,7 @@ fn has_index(schema: &Schema, name: &str) -> bool
 fn has_each(schema: &Schema, names: &[&str]) -> bool
     ensures { result ≡ list_all (λ name. is_some (index_named schema.now name.now)) names.now }
 {
-    for name in names {
-        if !has_index(schema, name) {
-            return false;
-        }
-    }
-    true
+    names.iter().all(|name| has_index(schema, name))
 }
 
 /// Whether there is an index of each name that an index of a desk has.

@@ -166,12 +166,7 @@ pub(crate) fn known_row<'a, R: Standing>(
 fn challenge_numbered(rows: &[ChallengeRow], number: u64) -> Option<&ChallengeRow>
     ensures { option_copied result ≡ find (λ c. c.number == number) rows.now }
 {
-    for row in rows {
-        if row.number == number {
-            return Some(row);
-        }
-    }
-    None
+    rows.iter().find(|row| row.number == number)
 }
 
 /// The challenge of this number of an authorization that is known.
