@@ -7,7 +7,8 @@ ghost use Rattle.desk_model.specs.Effect.{has_row, swept_authorization, swept_or
 ghost use Rattle.desk_model.specs.Change.{account_differs, authorization_differs, order_differs, moved_rows};
 ghost use Rattle.desk_model.specs.declared.rows.{AuthorizationRow.AuthorizationRow as AuthorizationOf, Change.Change as ChangeOf};
 ghost use Rattle.desk_model.specs.declared.rows.Change.TheVariants.{PutAccount, PutAuthorization, PutOrder};
-ghost use Rattle.core_changes.specs.Moved.{AreMoved, moved_one, row_of, standing_rows, stated_authorization, stated_order, stepped_rows, touched_one, touched_rows};
+ghost use Rattle.core_changes.specs.Moved.{AreMoved, moved_one, row_of, standing_rows, stated_authorization, stated_order, stepped_rows, touched_one};
+ghost use Rattle.core_changes.specs.Moved.{touched_rows};
 ghost use Rattle.core_changes.specs.{Recorded.book_moves, declared.moved.Step.Step as StepOf};
 
 use crate::noted::{

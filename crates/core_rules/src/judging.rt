@@ -62,7 +62,8 @@ fn key_verdict(
 ) -> Result<Verdict, CoreFault>
     requires object { option_map (λ v. view v.now) payload.object ≡ object_in payload.text.now }
     requires order { order.now ≡ target_order target payload.text.now }
-    ensures { IsJudged at.now.meta.counters random.now result (key_verdict at.now (drop 16 random.now) key.now payload.entry.text.now target (account_with_key at.now key.now)) }
+    ensures { IsJudged at.now.meta.counters random.now result
+        (key_verdict at.now (drop 16 random.now) key.now payload.entry.text.now target (account_with_key at.now key.now)) }
 {
     let Some(row) = at.account_with_key(key.canonical()) else {
         return unknown_key_verdict(alloc, at, key, payload, target);

@@ -65,8 +65,8 @@ authorization-found m o found row s moves there is =
     ∙ ap (option_map (swept_authorization m)) there
     ∙ sym moves
 
-pub order-found : (m : ℕ) (rows : List AuthorizationRow) (o found : Option OrderRow) (row : OrderRow) (s : OrderStatus) → found ≡ option_map (swept_order m rows) o
-    → Some row ≡ o → s ≡ (swept_order m rows row).status → Some (record row { status = s }) ≡ found
+pub order-found : (m : ℕ) (rows : List AuthorizationRow) (o found : Option OrderRow) (row : OrderRow) (s : OrderStatus)
+    → found ≡ option_map (swept_order m rows) o → Some row ≡ o → s ≡ (swept_order m rows row).status → Some (record row { status = s }) ≡ found
 order-found m rows o found row s moves there is =
     ap (λ x. Some (record row { status = x })) is
     ∙ ap (λ r. Some r) (swept_order-status m rows row)
