@@ -17,8 +17,8 @@ use Rattle.sql_schema.specs.declared.authorizations.TheConstants as authz
 use Rattle.sql_schema.specs.declared.nonces.TheConstants as nonce
 use Rattle.sql_schema.specs.declared.orders.TheConstants as ord
 use Rattle.sql_read.specs.Bounded.{bounded}
-use Rattle.sql_read.specs.declared.query.{Params.Params, Query.Query}
-use Rattle.sql_read.specs.declared.query.Params.TheVariants as params
+use Rattle.sql_read.specs.declared.rows.{Params.Params, Query.Query}
+use Rattle.sql_read.specs.declared.rows.Params.TheVariants as params
 
 -- what parameters are bound to
 abbrev pub bound_by : Params → Row

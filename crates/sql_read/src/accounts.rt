@@ -5,8 +5,7 @@ ghost use Rattle.sql_read.specs.{Looking.LooksUp, Queries.account_query, Queries
 ghost use Rattle.sql_read.specs.Spelled.{FitsAccount, account_in};
 
 use crate::fault::ReadFault;
-use crate::query::Query;
-use crate::rows::{Selected, find_rows};
+use crate::rows::{Query, Selected, find_rows};
 use crate::values::{both, number_or_none, numbers, text, text_or_none};
 use desk_model::AccountRow;
 use model_lives::AccountsWhere;

@@ -9,8 +9,7 @@ ghost use Rattle.sql_read.specs.{Looking.LooksFor, Spelled.FitsKey, Spelled.key_
 ghost use Rattle.sql_read.specs.Keys.{HasItsKey, answered_as, keys_of};
 
 use crate::fault::ReadFault;
-use crate::query::Query;
-use crate::rows::{Selected, find_rows};
+use crate::rows::{Query, Selected, find_rows};
 use crate::values::{bytes, numbers};
 use desk_model::{Answer, ChallengeRow};
 use sql_schema::keys;

@@ -11,8 +11,9 @@ ghost use Rattle.sql_read.specs.Spelled.{FitsAuthorization, FitsChallenge, autho
 
 use crate::answers::with_answers;
 use crate::fault::ReadFault;
-use crate::query::{Query, earliest};
-use crate::rows::{Parent, Selected, find_parents, find_rows, owners, without_owners};
+use crate::rows::{
+    Parent, Query, Selected, earliest, find_parents, find_rows, owners, without_owners,
+};
 use crate::values::{both, bytes, number_or_none, numbers, numbers_or_none, text, text_or_none};
 use desk_model::{AuthorizationRow, AuthzStatus, ChallengeRow, ChallengeStatus, Sequence};
 use model_lives::AuthorizationsWhere;

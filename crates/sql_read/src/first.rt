@@ -16,7 +16,7 @@ ghost use Rattle.store_laws.specs.Blank.{blank, zeros};
 
 use crate::checked::check_nonces;
 use crate::formats::Format;
-use crate::query::{Query, read_query};
+use crate::rows::{Query, read_query};
 use crate::stored::read_first_tables;
 use crate::values::both;
 use desk_model::{Meta, Sequence};

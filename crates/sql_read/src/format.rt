@@ -8,7 +8,7 @@ ghost use Rattle.sql_read.specs.Failures.{IsMet, MayRead};
 ghost use Rattle.sql_read.specs.{First.ForFirst, Held.ForHeld};
 ghost use Rattle.sql_read.specs.Format.{FailsToShowFormat, IsNewer, IsOfLaterFormat, ShowsFormats};
 
-use crate::query::{Query, all_rows};
+use crate::rows::{Query, all_rows};
 use sql_schema::meta;
 use sqlite::types::ValueRef;
 use sqlite::{Alter, Connection, Error, Row};

@@ -12,7 +12,6 @@ mod formats;
 mod meta;
 mod nonces;
 mod orders;
-mod query;
 mod rows;
 mod stored;
 mod values;

@@ -4,8 +4,7 @@ ghost use Rattle.desk_model.specs.declared.rows.Meta.{Meta as MetaRow};
 ghost use Rattle.sql_read.specs.{Looking.LooksUp, Spelled.FitsMeta, Spelled.meta_in};
 
 use crate::fault::ReadFault;
-use crate::query::Query;
-use crate::rows::{Selected, find_rows};
+use crate::rows::{Query, Selected, find_rows};
 use crate::values::{numbers, text};
 use desk_model::Meta;
 use sql_schema::meta;

@@ -6,8 +6,7 @@ ghost use Rattle.sql_read.specs.{Looking.LooksUp, Queries.asked, Queries.nonce_q
 ghost use Rattle.sql_read.specs.Spelled.{FitsNonce, nonce_in};
 
 use crate::fault::ReadFault;
-use crate::query::{Query, earliest};
-use crate::rows::{Selected, find_rows};
+use crate::rows::{Query, Selected, earliest, find_rows};
 use crate::values::{bytes, numbers};
 use desk_model::Nonce;
 use model_lives::NoncesWhere;

@@ -8,8 +8,9 @@ ghost use Rattle.sql_read.specs.{Looking.LooksUp, Queries.asked, Queries.order_q
 ghost use Rattle.sql_read.specs.Spelled.{FitsListed, FitsOrder, listed_in, order_in};
 
 use crate::fault::ReadFault;
-use crate::query::{Query, earliest};
-use crate::rows::{Parent, Selected, find_parents, find_rows, owners, without_owners};
+use crate::rows::{
+    Parent, Query, Selected, earliest, find_parents, find_rows, owners, without_owners,
+};
 use crate::values::{both, bytes_or_none, numbers, numbers_or_none, text, text_or_none};
 use desk_model::{OrderRow, OrderStatus, Sequence};
 use model_lives::OrdersWhere;

@@ -9,8 +9,7 @@ ghost use Rattle.sql_read.specs.Failures.{HasTexts, IsMet, MayRead};
 ghost use Rattle.sql_read.specs.AllTables.{AreAllShown, AreFirstReadable, AreFirstTablesShown, AreReadable, FailsAtFirst, FailsAtTable};
 ghost use Rattle.sql_read.specs.Shown.{AreColumnsOf, AreShown};
 
-use crate::query::{Query, read_query};
-use crate::rows::Selected;
+use crate::rows::{Query, Selected, read_query};
 use desk_model::Sequence;
 use sql_schema::{accounts, authorizations, challenges, keys, listed, meta, nonces, orders};
 use sqlite::{Alter, Connection, Error};

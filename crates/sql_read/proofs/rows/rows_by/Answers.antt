@@ -2,7 +2,7 @@ use Rattle.sqlite.proofs.StateLemmas.{survives_weaker}
 use Rattle.sqlite.specs.Values.{bound}
 use Rattle.sql_read.proofs.Asking.{stays_queried, unchanged_queried}
 use Rattle.sql_read.proofs.{MetFaults.query_met, Results.fails_then, Selecting.commits_none}
-use Rattle.sql_read.proofs.query.rows_by.Goals as goal
+use Rattle.sql_read.proofs.rows.rows_by.Goals as goal
 
 pub returns : goal.returns
 returns g c =

@@ -1,4 +1,4 @@
-use Rattle.sql_read.proofs.query.all_rows.Goals as goal
+use Rattle.sql_read.proofs.rows.all_rows.Goals as goal
 
 pub returns-in-None : goal.returns-in-None
 returns-in-None g c = rw c.in-None.is c.rows_by.ensures

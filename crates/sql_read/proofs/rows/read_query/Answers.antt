@@ -5,7 +5,7 @@ use Rattle.sql_read.specs.Failures.{FailsToRead, IsMet, IsOutOfMemory}
 use Rattle.sql_read.specs.Queries.{asked}
 use Rattle.sql_read.proofs.MetFaults.{no_device}
 use Rattle.sql_read.proofs.Results.{failed_as, fails_then, fails_under, read_then}
-use Rattle.sql_read.proofs.query.read_query.Goals as goal
+use Rattle.sql_read.proofs.rows.read_query.Goals as goal
 
 pub all_rows-requires : goal.all_rows-requires
 all_rows-requires g c = c.requires

@@ -1,5 +1,5 @@
 use Rattle.sql_read.proofs.EarliestRows.{earliest_failed, earliest_told}
-use Rattle.sql_read.proofs.query.earliest.Goals as goal
+use Rattle.sql_read.proofs.rows.earliest.Goals as goal
 
 pub all_rows-requires : goal.all_rows-requires
 all_rows-requires g c = c.requires
