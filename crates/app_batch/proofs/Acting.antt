@@ -1,13 +1,12 @@
 -- What a line of a batch does to a desk: nothing, or what the desk's answer to its call does.
 use Rattle.std.proofs.Common.{ℕ, List, Result, Ok, Err, inl, inr}
-use Rattle.std.specs.Prelude.{MatchResult}
 use Rattle.desk_model.specs.declared.reply.Reply.{Reply}
 use Rattle.store_api.specs.Sight.{Sight}
 use Rattle.desk.specs.{Meets.ActsOnce, State.DeskState, declared.fault.DeskFault.DeskFault}
 use Rattle.http_routes.specs.declared.{lines.Line.Line, request.Request.Request}
 use Rattle.http_routes.specs.declared.request.Request.TheVariants as request
 use Rattle.app_batch.specs.{LineRequests.call_of, declared.lines.AnswerFault.AnswerFault}
-use Rattle.app_batch.specs.Said.{DeclinesTo, LacksMemory, RepliesTo, Says, SaysNothing}
+use Rattle.app_batch.specs.Said.{Answered, DeclinesTo, LacksMemory, RepliesTo, SaysNothing}
 use Rattle.app_batch.specs.declared.lines.AnswerFault.TheVariants as answerfault
 
 module _ {S C : Type 0} (v : Sight S C) where
@@ -34,6 +33,6 @@ module _ {S C : Type 0} (v : Sight S C) where
 
   -- whatever becomes of it
   pub line_acts : {V : Type 0} (items : V → List ℕ) (old new : DeskState S) (bytes : List ℕ) (result : Result V AnswerFault)
-      → MatchResult result (λ said. Says v old bytes (items said) new) (λ why. SaysNothing v old bytes why new) → ActsOnce v old new
+      → Answered v items old bytes result new → ActsOnce v old new
   line_acts items old new bytes (Ok said) is = replies_act old new is.1.line is.1.request is.0 is.1.replies
   line_acts items old new bytes (Err why) is = silence_acts old new bytes why is

@@ -1,14 +1,14 @@
 -- Lines that are answered, one after the other.
 use Rattle.std.proofs.Common.{◌≡◌, ◌≢◌, ℕ, List, [], ◌∷◌, ◌++◌, Option, None, Some, Result, Ok, Err, ◌∙◌, ap, refl, sym, subst}
 use Rattle.std.proofs.KnownBytes.{Appends-nil, Appends-trans}
-use Rattle.std.specs.Prelude.{◌==◌, if◌then◌else◌, IfErr, IfOk, IfSome, IsErr, MatchResult, OnOk, unwrap_or}
+use Rattle.std.specs.Prelude.{◌==◌, if◌then◌else◌, IfErr, IfOk, IfSome, IsErr, OnOk, unwrap_or}
 use Rattle.std.specs.Io.BufRead.{DropsThrough, drop_through, first_piece}
 use Rattle.std.specs.Io.Buffered.{reader_buffer, reader_capacity, reader_inner, reader_remaining}
 use Rattle.std.specs.Io.KnownBytes.{Appends, IsAtEnd, prepend_known}
 use Rattle.std.specs.declared.io.buffered.BufReader.{BufReader}
 use Rattle.app_batch.specs.InTurn.{AnswersEach, AnswersFirst, AnswersLine, AnswersLines, AreLines, Stops, StopsBehind, no_line, not_one, one_line_more}
 use Rattle.app_batch.specs.InTurn.{one_more, silent, unwritten}
-use Rattle.app_batch.specs.Said.{Says, SaysNothing}
+use Rattle.app_batch.specs.Said.{Answered, Says}
 use Rattle.app_batch.specs.declared.lines.AnswerFault.{AnswerFault}
 use Rattle.desk.specs.State.{DeskState}
 use Rattle.store_api.specs.Sight.{Sight}
@@ -52,9 +52,8 @@ module _ {S C : Type 0} (v : Sight S C) where
   -- what became of a line, by what was said to it and what was written
   pub line_answered : {V E : Type 0} (items : V → List ℕ) (line : List ℕ) (was is : Option (List ℕ)) (old new : DeskState S)
       (answered : Result V AnswerFault) (result : Result Unit E)
-      → MatchResult answered (λ said. Says v old line (items said) new) (λ why. SaysNothing v old line why new)
-      → IfOk answered (λ said. OnOk result (Appends was is (items said ++ 10 ∷ []))) → IfErr answered (λ why. IsErr result × (is ≡ was))
-      → AnswersLine v line was is old new result
+      → Answered v items old line answered new → IfOk answered (λ said. OnOk result (Appends was is (items said ++ 10 ∷ [])))
+      → IfErr answered (λ why. IsErr result × (is ≡ was)) → AnswersLine v line was is old new result
   line_answered items line was is old new (Ok said) (Ok done) says written none = (items said, says, written)
   line_answered items line was is old new (Ok said) (Err e) says written none = unwritten line (items said) says
   line_answered items line was is old new (Err why) (Ok done) says written none = absurd (cc none.0)

@@ -1,5 +1,5 @@
 -- What is said to a line of a batch, by a desk over any store.
-use Rattle.std.specs.Prelude.{◌≡◌, ◌⊎◌, ℕ, List, Ok, Err}
+use Rattle.std.specs.Prelude.{◌≡◌, ◌⊎◌, ℕ, List, Result, Ok, Err, MatchResult}
 use Rattle.desk_model.specs.declared.reply.Reply.{Reply}
 use Rattle.http_routes.specs.Lines.{Spells, line_text}
 use Rattle.http_routes.specs.{Request.refused_reply, declared.lines.Line.Line, declared.request.Request.Request}
@@ -50,3 +50,7 @@ module _ {S C : Type 0} (v : Sight S C) where
   SaysNothing old bytes answerfault.NotACall new = ((l : Line) → Spells bytes l → ⊥) × (new ≡ old)
   SaysNothing old bytes (answerfault.Desk why) new = Declined old bytes why new
   SaysNothing old bytes answerfault.Memory new = LacksMemory old bytes new
+
+  -- what becomes of a line: this is said to it, or nothing, and why
+  abbrev pub Answered : {V : Type 0} (items : V → List ℕ) (old : DeskState S) (bytes : List ℕ) → Result V AnswerFault → DeskState S → Type 0
+  Answered items old bytes result new = MatchResult result (λ said. Says old bytes (items said) new) (λ why. SaysNothing old bytes why new)

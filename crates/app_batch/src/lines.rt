@@ -5,7 +5,7 @@ ghost use Rattle.std.specs.Io.KnownBytes.{Appends, IsAtEnd};
 ghost use Rattle.app_batch.specs.InTurn.{AnswersFirst, AnswersLine, AnswersLines, StopsBehind};
 ghost use Rattle.app_batch.specs.LineRequests.{call_of};
 ghost use Rattle.desk.specs.{Meets.ActsOnce, SeenDesks.IsSeenOn};
-ghost use Rattle.app_batch.specs.Said.{Says, SaysNothing, RepliesTo, DeclinesTo};
+ghost use Rattle.app_batch.specs.Said.{Answered, RepliesTo, DeclinesTo};
 
 use crate::line_requests::request_of;
 use desk::{Desk, DeskFault};
@@ -55,9 +55,7 @@ pub fn batch_line<K: Storage + Drop>(
     desk: &mut Desk<K>,
     line: &[u8],
 ) -> Result<Vec<u8>, AnswerFault>
-    ensures { MatchResult result
-        (λ said. Says K.Storage.sight desk.old line.now said.items desk.new)
-        (λ fault. SaysNothing K.Storage.sight desk.old line.now fault desk.new) }
+    ensures { Answered K.Storage.sight (λ said. said.items) desk.old line.now result desk.new }
 {
     let mut routes = Routes::new();
     batch_line_by(alloc, &mut routes, desk, line)
@@ -70,9 +68,7 @@ fn batch_line_by<K: Storage + Drop>(
     desk: &mut Desk<K>,
     line: &[u8],
 ) -> Result<Vec<u8>, AnswerFault>
-    ensures { MatchResult result
-        (λ said. Says K.Storage.sight desk.old line.now said.items desk.new)
-        (λ fault. SaysNothing K.Storage.sight desk.old line.now fault desk.new) }
+    ensures { Answered K.Storage.sight (λ said. said.items) desk.old line.now result desk.new }
 {
     let line = match read_line(alloc, line) {
         Ok(line) => line,
