@@ -4,7 +4,7 @@ ghost use Rattle.app_commands.specs.Asked.{RevokesServed, TellsReply, request_of
 ghost use Rattle.app_commands.specs.declared.fault.Fault.TheVariants as fault;
 
 use crate::fault::Fault;
-use crate::revoking::tell_revoked;
+use crate::tasks::tell_revoked;
 use app_words::Target;
 use desk::DeskFault;
 use desk_http::ask_at;

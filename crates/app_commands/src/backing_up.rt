@@ -4,7 +4,7 @@ ghost use Rattle.sqlite.specs.WalFiles.{image_at};
 ghost use Rattle.app_commands.specs.Statuses.{EndsBackUp, IsToldCopied};
 
 use crate::fault::Fault;
-use crate::reporting::CheckStatuses;
+use crate::tasks::CheckStatuses;
 use app_files::{CopyFault, Left, copy_file, is_taken, run_over_file};
 use app_reports::Form;
 use desk_http::moment;

@@ -29,28 +29,14 @@ pub(crate) fn explain<D: Disk, E: Write>(
         (Ok(BROKEN), Command::Make { terms, .. }) => {
             let _ = writeln!(errors, "desk: {}", broken_limit(terms));
         }
-        (Err(fault), _) => explain_fault(rt, errors, command, fault, left),
-        _ => {}
-    }
-}
-
-// Says which file a fault is of, and its cause.
-fn explain_fault<D: Disk, E: Write>(
-    rt: &HostRuntime,
-    errors: &mut E,
-    command: Command<'_>,
-    fault: Fault,
-    left: &Left<D>,
-) {
-    match (fault, command) {
-        (Fault::Copy(fault), Command::BackUp { to, .. }) => {
+        (Err(Fault::Copy(fault)), Command::BackUp { to, .. }) => {
             let _ = writeln!(errors, "desk: {to}: {}", fault.cause());
         }
-        (Fault::Serve(ServeFault::Replaced), Command::Serve { file, .. }) => {
+        (Err(Fault::Serve(ServeFault::Replaced)), Command::Serve { file, .. }) => {
             let _ = writeln!(errors, "desk: {}: {}", file.path, FaultCause::Replaced);
         }
-        (Fault::Desk(fault), _) => explain_desk_fault(rt, errors, command, fault, left),
-        (Fault::Serve(ServeFault::Desk(fault)), _) => {
+        (Err(Fault::Desk(fault)), _) => explain_desk_fault(rt, errors, command, fault, left),
+        (Err(Fault::Serve(ServeFault::Desk(fault))), _) => {
             explain_desk_fault(rt, errors, command, fault, left)
         }
         _ => {}

@@ -35,20 +35,6 @@ pub enum Fault {
     Serve(ServeFault),
 }
 
-/// What a word gets wrong that the parser does not see.
-#[derive(Clone, Copy, Debug, Error)]
-pub(crate) enum Wrong {
-    /// A limit of the terms is broken.
-    #[error("bad policy")]
-    Policy,
-    /// It names no status of an order.
-    #[error("no status of an order")]
-    Status,
-    /// It stands for no name that an order may ask for.
-    #[error("not a name that is served")]
-    Name,
-}
-
 impl From<DeskFault> for Fault {
     ghost from_gives = { λ fault e. e ≡ Desk fault };
 
@@ -94,6 +80,20 @@ pub(crate) fn tell<E: Write>(errors: &mut E, fault: Fault) -> u8
 {
     let _ = writeln!(errors, "desk: {fault}");
     1
+}
+
+/// What a word gets wrong that the parser does not see.
+#[derive(Clone, Copy, Debug, Error)]
+pub(crate) enum Wrong {
+    /// A limit of the terms is broken.
+    #[error("bad policy")]
+    Policy,
+    /// It names no status of an order.
+    #[error("no status of an order")]
+    Status,
+    /// It stands for no name that an order may ask for.
+    #[error("not a name that is served")]
+    Name,
 }
 
 /// Says what a word gets wrong, and gives the exit status.

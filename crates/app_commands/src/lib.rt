@@ -1,7 +1,6 @@
 //! The commands of the program `desk`: its words, done over a reader and writers.
 #![tactic(auto)]
 
-mod answering;
 mod asking;
 mod backing_up;
 mod call_log;
@@ -11,9 +10,8 @@ mod fault;
 mod filters;
 mod limits;
 mod overseeing;
-mod reporting;
-mod revoking;
 mod running;
+mod tasks;
 
 pub use fault::Fault;
 pub use limits::Limit;

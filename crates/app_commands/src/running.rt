@@ -11,14 +11,14 @@ ghost use Rattle.app_reports.specs.Listed.{roster};
 ghost use Rattle.app_files.specs.Endings.{EndsInMemory};
 ghost use Rattle.app_commands.specs.declared.fault.Fault.TheVariants as fault;
 
-use crate::answering::{AnswerLines, ServeConnections};
 use crate::asking::revoke_served;
 use crate::backing_up::back_up;
 use crate::explaining::explain;
 use crate::fault::{Fault, Wrong, refuse, tell};
 use crate::filters::{Unasked, authorization_filter, order_filter};
-use crate::reporting::{CheckStatuses, ListRows, ShowPage, TellAbout, form};
-use crate::revoking::Revoke;
+use crate::tasks::{
+    AnswerLines, CheckStatuses, ListRows, Revoke, ServeConnections, ShowPage, TellAbout, form,
+};
 use app_files::{Left, Task, Unknown, Wary, make_desk, run_in_memory, run_over_file, wait_for};
 use app_reports::{AllAccounts, Beside, RowList};
 use app_words::{
