@@ -155,10 +155,9 @@ fn touched_accounts<S: Alter>(alloc: Global, store: &mut Store<S>) -> Result<usi
 
 // How many statuses are wrong, by a pass for each kind.
 fn wrong_statuses<S: Alter>(alloc: Global, store: &mut Store<S>) -> Result<u64, StorageFault> {
-    let moment = moment_of(alloc, store)?;
     let mut wrong = 0u64;
     for kind in FaultKind::ALL {
-        wrong = wrong.saturating_add(wrong_of(alloc, store, kind, moment)?);
+        wrong = wrong.saturating_add(wrong_of(alloc, store, kind)?);
     }
     Ok(wrong)
 }
@@ -168,8 +167,8 @@ fn wrong_of<S: Alter>(
     alloc: Global,
     store: &mut Store<S>,
     kind: FaultKind,
-    moment: u64,
 ) -> Result<u64, StorageFault> {
+    let moment = moment_of(alloc, store)?;
     let mut wrong = 0u64;
     let mut faults = store.faults(kind, moment);
     for _ in 0..MOST {
