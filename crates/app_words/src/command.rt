@@ -137,14 +137,6 @@ pub enum LogForm {
     Json,
 }
 
-impl LogForm {
-    /// The word for words.
-    pub(crate) const TEXT: &'static str = "text";
-
-    /// The word for JSON.
-    pub(crate) const JSON: &'static str = "json";
-}
-
 /// The file that holds a desk which records calls.
 #[derive(Clone, Copy)]
 pub struct SyncedFile<'a> {
@@ -161,14 +153,6 @@ pub enum Syncs {
     Once,
     /// Twice: nothing is supposed of such bytes.
     Twice,
-}
-
-impl Syncs {
-    /// The word for once.
-    pub(crate) const ONCE: &'static str = "once";
-
-    /// The word for twice.
-    pub(crate) const TWICE: &'static str = "twice";
 }
 
 /// What is revoked.

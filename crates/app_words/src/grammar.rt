@@ -1,5 +1,5 @@
 //! The command that knows the words, made from their table.
-use crate::words::{Argument, LONGEST_WAIT, Word, desk_words, operator_words};
+use crate::words::{Argument, LONGEST_WAIT, SYNC_TWICE, SYNCS, Word, desk_words, operator_words};
 use crate::{arguments, help};
 use clap::builder::ValueParser;
 use clap::{Arg, ArgAction, Command};
@@ -50,15 +50,9 @@ fn arg<'a>(alloc: Global, argument: Argument) -> Result<Arg<'a>, AllocError> {
         Argument::Wait { of } => option(alloc, arguments::WAIT, "SECONDS", help::WAITS)
             .value_parser(ValueParser::unsigned(0, LONGEST_WAIT))
             .requires_arg(of)?,
-        Argument::Choice {
-            id,
-            value,
-            default,
-            of,
-            help,
-        } => option(alloc, id, "WORD", help)
-            .value_parser(value.parser())
-            .default_value(default)
+        Argument::Sync { of } => option(alloc, arguments::SYNC, "WORD", help::SYNCS)
+            .value_parser(ValueParser::Names(SYNCS))
+            .default_value(SYNC_TWICE)
             .requires_arg(of)?,
         Argument::Optional {
             id,

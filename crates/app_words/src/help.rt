@@ -11,14 +11,16 @@ macro_rules! after {
     };
     ($($before:literal,)* Example: $example:literal) => {
         concat!(
-            $($before,)*
+            $($before, "\n\n",)*
             "Example:\n  ",
             $example,
-            "\n\nExit statuses:\n",
-            "  0  done\n",
-            "  1  a fault or a refusal, with a line on standard error that begins with desk:\n",
-            "  2  wrong words, or a limit that is broken\n",
-            "  3  a stored status is wrong: check found it, or backup, which then copies nothing"
+            "
+
+Exit statuses:
+  0  done
+  1  a fault or a refusal, with a line on standard error that begins with desk:
+  2  wrong words, or a limit that is broken
+  3  a stored status is wrong: check found it, or backup, which then copies nothing"
         )
     };
 }
@@ -27,39 +29,43 @@ macro_rules! after {
 pub(crate) const WAITS: &str =
     "for how many seconds to try again while another program has the file, as serve does while it runs, 0 to 86400; without it not at all";
 
+/// What help says of `--sync`.
+pub(crate) const SYNCS: &str =
+    "how often a commit syncs the log of the file; once supposes more of the disk, as said below";
+
 /// What help says of `--verbose`.
 pub(crate) const VERBOSE: &str =
     "say the file of a fault and its cause on a second line of standard error";
 
 /// Below the words.
 pub(crate) const DESK: &str = after!(
-    "Files:\n",
-    "  One program at a time has a file: while serve runs, any other word on it ends with fault 21, at\n",
-    "  once or after its --wait, and changes nothing. The first word that opens a file of an earlier\n",
-    "  format brings it into today's, status and check too. There is no way back, and an older program\n",
-    "  refuses the file then: keep a copy.\n\n",
-    "Faults, of which --verbose says the file and the cause:\n",
-    "  20 memory        a growth of memory was refused\n",
-    "  21 device        another program has the file, as serve does while it runs; this user may not read\n",
-    "                   and write the file, its log or its directory; their file system is read-only; the\n",
-    "                   directory is missing; the file has a second name, by a hard link; a rollback\n",
-    "                   journal stands beside it; it was replaced, cut or removed while it was served; the\n",
-    "                   disk is full, or failed\n",
-    "  22 reopen        an earlier fault closed the desk, and the next start opens it\n",
-    "  23 not a desk    there is no file, an empty one, or one of something else; for make, one with bytes\n",
-    "  24 moment        a moment is past the last one that a desk knows, or further above the latest than\n",
-    "                   the --max-step of serve\n",
-    "  25 short random  a line of a batch has too few random bytes\n",
-    "  26 full          a number would be past 2^62\n",
-    "  27 newer format  a newer program wrote the file\n\n",
+    "Files:
+  One program at a time has a file: while serve runs, any other word on it ends with fault 21, at
+  once or after its --wait, and changes nothing. The first word that opens a file of an earlier
+  format brings it into today's, status and check too. There is no way back, and an older program
+  refuses the file then: keep a copy.",
+    "Faults, of which --verbose says the file and the cause:
+  20 memory        a growth of memory was refused
+  21 device        another program has the file, as serve does while it runs; this user may not read
+                   and write the file, its log or its directory; their file system is read-only; the
+                   directory is missing; the file has a second name, by a hard link; a rollback
+                   journal stands beside it; it was replaced, cut or removed while it was served; the
+                   disk is full, or failed
+  22 reopen        an earlier fault closed the desk, and the next start opens it
+  23 not a desk    there is no file, an empty one, or one of something else; for make, one with bytes
+  24 moment        a moment is past the last one that a desk knows, or further above the latest than
+                   the --max-step of serve
+  25 short random  a line of a batch has too few random bytes
+  26 full          a number would be past 2^62
+  27 newer format  a newer program wrote the file",
     Example: "desk status --help"
 );
 
 /// Below the options of `make`.
 pub(crate) const MAKE: &str = after!(
-    "Files:\n",
-    "  A file that is made is its user's alone, mode 600, as is its log. One that stands empty keeps its\n",
-    "  user and its mode.\n\n",
+    "Files:
+  A file that is made is its user's alone, mode 600, as is its log. One that stands empty keeps its
+  user and its mode.",
     Example: "desk make /var/lib/desk/desk.db --base https://ca.example --nonce-life 600"
 );
 
@@ -71,11 +77,11 @@ macro_rules! synced {
     ($($before:literal,)* Example: $example:literal) => {
         after!(
             $($before,)*
-            "Syncs:\n",
-            "  A call's commit is on the disk before its reply is written. By twice nothing is supposed of what\n",
-            "  a loss of power leaves of bytes that were written and not synced. By once each of them is supposed\n",
-            "  to be the old or the new one then, as on a disk that finishes each sector it begins, and most\n",
-            "  commits sync once.\n\n",
+            "Syncs:
+  A call's commit is on the disk before its reply is written. By twice nothing is supposed of what
+  a loss of power leaves of bytes that were written and not synced. By once each of them is supposed
+  to be the old or the new one then, as on a disk that finishes each sector it begins, and most
+  commits sync once.",
             Example: $example
         )
     };
@@ -83,22 +89,22 @@ macro_rules! synced {
 
 /// Below the options of `serve`.
 pub(crate) const SERVE: &str = synced!(
-    "Log:\n",
-    "  By --log a line is written for each connection: moment, method, path, status, number of the\n",
-    "  refusal (1 to 17) or fault (20 to 26), number of the object, microseconds from the request read\n",
-    "  to the reply sent; - for what there is none of, and for the status of a connection that failed.\n\n",
-    "Clock:\n",
-    "  Moments never go back, so one wrong reading of the machine's clock, the year 2099 say, ends every\n",
-    "  order for good. By --max-step a call is refused, and changes nothing, whose moment is more than so\n",
-    "  many seconds above the latest that serve knows: the desk's clock as it was opened, or the moment of a\n",
-    "  call since then that was not refused so. A desk that make has just left knows none, and takes any.\n",
-    "  Nobody can tell a long silence from a wrong clock: choose more than the longest time without a call,\n",
-    "  2592000 for 30 days. The log has the machine's moment beside a 24. If it is wrong, set the machine's\n",
-    "  clock. If it is right, start serve once without --max-step, or with a larger one, until a call has\n",
-    "  been recorded, a nonce say; then start it as before.\n\n",
-    "Files:\n",
-    "  While it serves, no other word works on the file: each ends with fault 21, at once or after its\n",
-    "  --wait. Do not replace, cut or remove the file meanwhile: serve ends with fault 21 at the next call.\n\n",
+    "Log:
+  By --log a line is written for each connection: moment, method, path, status, number of the
+  refusal (1 to 17) or fault (20 to 26), number of the object, microseconds from the request read
+  to the reply sent; - for what there is none of, and for the status of a connection that failed.",
+    "Clock:
+  Moments never go back, so one wrong reading of the machine's clock, the year 2099 say, ends every
+  order for good. By --max-step a call is refused, and changes nothing, whose moment is more than so
+  many seconds above the latest that serve knows: the desk's clock as it was opened, or the moment of a
+  call since then that was not refused so. A desk that make has just left knows none, and takes any.
+  Nobody can tell a long silence from a wrong clock: choose more than the longest time without a call,
+  2592000 for 30 days. The log has the machine's moment beside a 24. If it is wrong, set the machine's
+  clock. If it is right, start serve once without --max-step, or with a larger one, until a call has
+  been recorded, a nonce say; then start it as before.",
+    "Files:
+  While it serves, no other word works on the file: each ends with fault 21, at once or after its
+  --wait. Do not replace, cut or remove the file meanwhile: serve ends with fault 21 at the next call.",
     Example: "desk serve /var/lib/desk/desk.db --port 8555"
 );
 
@@ -110,20 +116,20 @@ pub(crate) const ABOUT: &str = after!("desk about /var/lib/desk/desk.db");
 
 /// Below the arguments of `page`.
 pub(crate) const PAGE: &str = after!(
-    "Page:\n",
-    "  One document without scripts, and with nothing from elsewhere. What clients gave stands in it as\n",
-    "  text. A table shows the first 50 rows, by number, and says how many there are in all.\n\n",
+    "Page:
+  One document without scripts, and with nothing from elsewhere. What clients gave stands in it as
+  text. A table shows the first 50 rows, by number, and says how many there are in all.",
     Example: "desk page /var/lib/desk/desk.db > page.html"
 );
 
 /// Below the arguments of `backup`.
 pub(crate) const BACKUP: &str = after!(
-    "Copies:\n",
-    "  The copy is the desk as it stands, in one file, which is its user's alone, and it is on the disk\n",
-    "  once copied is printed. A file that stands at TO is left as it is. A desk with a wrong stored status\n",
-    "  is listed, as check does, and not copied. To restore a copy, stop the desk, put the copy in the\n",
-    "  place of the file, and remove the old FILE-wal. A copy by hand takes a desk that no program has:\n",
-    "  while one does, some of the desk is in FILE-wal alone.\n\n",
+    "Copies:
+  The copy is the desk as it stands, in one file, which is its user's alone, and it is on the disk
+  once copied is printed. A file that stands at TO is left as it is. A desk with a wrong stored status
+  is listed, as check does, and not copied. To restore a copy, stop the desk, put the copy in the
+  place of the file, and remove the old FILE-wal. A copy by hand takes a desk that no program has:
+  while one does, some of the desk is in FILE-wal alone.",
     Example: "desk backup /var/lib/desk/desk.db /var/backups/desk.db"
 );
 
@@ -145,9 +151,9 @@ pub(crate) const CHECK: &str = after!("desk check /var/lib/desk/desk.db --json")
 macro_rules! revoked {
     ($example:literal) => {
         after!(
-            "While it is served:\n",
-            "  A desk that serve has is asked by --port. Where no reply comes within a minute, the word ends\n",
-            "  with desk: connection; the desk may then have revoked or not, and asking again is safe.\n\n",
+            "While it is served:
+  A desk that serve has is asked by --port. Where no reply comes within a minute, the word ends
+  with desk: connection; the desk may then have revoked or not, and asking again is safe.",
             Example: $example
         )
     };

@@ -8,7 +8,7 @@ use crate::fault::WordsFault;
 use crate::grammar::desk;
 use crate::numbers::number_in;
 use crate::task::Task;
-use crate::words::{Argument, word_named};
+use crate::words::{Argument, LOG_JSON, SYNC_ONCE, word_named};
 use clap::ArgMatches;
 use clap::error::ErrorKind;
 use std::alloc::Global;
@@ -29,55 +29,59 @@ fn asked<'a>(matches: &ArgMatches<'a>) -> Option<Asked<'a>> {
 
 // What a word asks for by what is given behind it.
 fn command<'a>(task: Task, given: &ArgMatches<'a>) -> Option<Command<'a>> {
-    match task {
-        Task::Make => Some(Command::Make {
-            file: file(given)?,
+    let file = given.get_str(arguments::FILE);
+    let json = given.get_flag(arguments::JSON);
+    Some(match task {
+        Task::Make => Command::Make {
+            file: file?,
             terms: terms(given)?,
-        }),
-        Task::Serve => serve(given),
-        Task::Batch => Some(batch(given)),
-        Task::About => Some(Command::About { file: file(given)? }),
-        Task::Page => Some(Command::Page { file: file(given)? }),
-        Task::Status => Some(Command::Status {
-            file: file(given)?,
-            listing: listing(given),
-        }),
-        Task::Accounts => Some(Command::Accounts {
-            file: file(given)?,
-            json: given.get_flag(arguments::JSON),
-        }),
-        Task::Authorizations => Some(Command::Authorizations {
-            file: file(given)?,
-            listing: authorization_listing(given),
-        }),
-        Task::Check => Some(Command::Check {
-            file: file(given)?,
-            json: given.get_flag(arguments::JSON),
-        }),
-        Task::BackUp => Some(Command::BackUp {
-            file: file(given)?,
+        },
+        Task::Serve => serve(file?, given)?,
+        Task::Batch => batch(given),
+        Task::About => Command::About { file: file? },
+        Task::Page => Command::Page { file: file? },
+        Task::Status => Command::Status {
+            file: file?,
+            listing: Listing {
+                account: given.get_one::<u64>(arguments::ACCOUNT),
+                status: given.get_str(arguments::STATUS),
+                name: given.get_str(arguments::NAME),
+                json,
+            },
+        },
+        Task::Accounts => Command::Accounts { file: file?, json },
+        Task::Authorizations => Command::Authorizations {
+            file: file?,
+            listing: AuthorizationListing {
+                account: given.get_one::<u64>(arguments::ACCOUNT),
+                name: given.get_str(arguments::NAME),
+                json,
+            },
+        },
+        Task::Check => Command::Check { file: file?, json },
+        Task::BackUp => Command::BackUp {
+            file: file?,
             to: given.get_str(arguments::TO)?,
-        }),
-        Task::RevokeAuthorization => revoke(given, Target::Authorization(number(given)?)),
-        Task::RevokeAccount => revoke(given, Target::Account(number(given)?)),
-    }
+        },
+        Task::RevokeAuthorization => revoke(file?, given, Target::Authorization(number(given)?)),
+        Task::RevokeAccount => revoke(file?, given, Target::Account(number(given)?)),
+    })
 }
 
-fn serve<'a>(given: &ArgMatches<'a>) -> Option<Command<'a>> {
-    let (path, port) = file(given).zip(given.get_one::<u16>(arguments::PORT))?;
-    let file = synced(path, given);
+fn serve<'a>(path: &'a str, given: &ArgMatches<'a>) -> Option<Command<'a>> {
     let serving = Serving {
-        port,
+        port: given.get_one::<u16>(arguments::PORT)?,
         count: given.get_one::<u64>(arguments::COUNT),
         max_step: given.get_one::<u64>(arguments::MAX_STEP),
         log: log_form(given),
     };
+    let file = synced(path, given);
     Some(Command::Serve { file, serving })
 }
 
 // How a line for each connection is written, where one is asked for.
 fn log_form(given: &ArgMatches<'_>) -> Option<LogForm> {
-    if given.get_str(arguments::LOG)? == LogForm::JSON {
+    if given.get_str(arguments::LOG)? == LOG_JSON {
         Some(LogForm::Json)
     } else {
         Some(LogForm::Text)
@@ -93,22 +97,16 @@ fn batch<'a>(given: &ArgMatches<'a>) -> Command<'a> {
 }
 
 // By the desk that is served at a port, where one is given, else in the file.
-fn revoke<'a>(given: &ArgMatches<'a>, target: Target) -> Option<Command<'a>> {
-    let file = file(given)?;
-    Some(match given.get_one::<u16>(arguments::PORT) {
+fn revoke<'a>(file: &'a str, given: &ArgMatches<'a>, target: Target) -> Command<'a> {
+    match given.get_one::<u16>(arguments::PORT) {
         Some(port) => Command::RevokeServed { port, target },
         None => Command::Revoke { file, target },
-    })
-}
-
-// The file that holds the desk, or that will.
-fn file<'a>(given: &ArgMatches<'a>) -> Option<&'a str> {
-    given.get_str(arguments::FILE)
+    }
 }
 
 // The file at a path, with how often a commit to it syncs.
 fn synced<'a>(path: &'a str, given: &ArgMatches<'a>) -> SyncedFile<'a> {
-    let syncs = if given.get_str(arguments::SYNC) == Some(Syncs::ONCE) {
+    let syncs = if given.get_str(arguments::SYNC) == Some(SYNC_ONCE) {
         Syncs::Once
     } else {
         Syncs::Twice
@@ -129,25 +127,6 @@ fn terms<'a>(given: &ArgMatches<'a>) -> Option<Terms<'a>> {
         order_life: given.get_one::<u64>(arguments::ORDER_LIFE)?,
         authz_life: given.get_one::<u64>(arguments::AUTHZ_LIFE)?,
     })
-}
-
-// Which orders are listed, and how.
-fn listing<'a>(given: &ArgMatches<'a>) -> Listing<'a> {
-    Listing {
-        account: given.get_one::<u64>(arguments::ACCOUNT),
-        status: given.get_str(arguments::STATUS),
-        name: given.get_str(arguments::NAME),
-        json: given.get_flag(arguments::JSON),
-    }
-}
-
-// Which authorizations are listed, and how.
-fn authorization_listing<'a>(given: &ArgMatches<'a>) -> AuthorizationListing<'a> {
-    AuthorizationListing {
-        account: given.get_one::<u64>(arguments::ACCOUNT),
-        name: given.get_str(arguments::NAME),
-        json: given.get_flag(arguments::JSON),
-    }
 }
 
 // Whether each number that is given is written in decimal, which the parser does not ask: it takes a sign, and zeros in front.

@@ -1,5 +1,4 @@
 //! The words that the program knows, as help lists them.
-use crate::command::{LogForm, Syncs};
 use crate::lives::{AUTHZ_LIFE, Life, NONCE_LIFE, ORDER_LIFE};
 use crate::task::Task;
 use crate::{arguments, help};
@@ -17,11 +16,23 @@ pub(crate) const LONGEST_WAIT: u64 = 86400;
 // The statuses of an order (RFC 8555, 7.1.6).
 const ORDER_STATUSES: &[&str] = &["pending", "ready", "processing", "valid", "invalid"];
 
-// How the lines of a log may be written.
-const LOG_FORMS: &[&str] = &[LogForm::TEXT, LogForm::JSON];
+// The word for a log of words.
+const LOG_TEXT: &str = "text";
 
-// How often a commit may sync.
-const SYNCS: &[&str] = &[Syncs::ONCE, Syncs::TWICE];
+/// The word for a log of JSON.
+pub(crate) const LOG_JSON: &str = "json";
+
+// How the lines of a log may be written.
+const LOG_FORMS: &[&str] = &[LOG_TEXT, LOG_JSON];
+
+/// The word for commits of which most sync once.
+pub(crate) const SYNC_ONCE: &str = "once";
+
+/// The word for commits that sync twice.
+pub(crate) const SYNC_TWICE: &str = "twice";
+
+/// How often a commit may sync.
+pub(crate) const SYNCS: &[&str] = &[SYNC_ONCE, SYNC_TWICE];
 
 /// A word, with what help says of it above its options and below them.
 pub(crate) struct Word {
@@ -60,13 +71,9 @@ pub(crate) enum Argument {
         default: Life,
         help: &'static str,
     },
-    /// An option of another argument: a word, with the one that stands where it is not given.
-    Choice {
-        id: &'static str,
-        value: Value,
-        default: &'static str,
+    /// An option of another argument, which names a file: how often a commit to that syncs.
+    Sync {
         of: &'static str,
-        help: &'static str,
     },
     /// An option that may take a word, with the one that stands where it has none.
     Optional {
@@ -101,8 +108,6 @@ pub(crate) enum Value {
     Step,
     /// The status of an order.
     Status,
-    /// How often a commit syncs.
-    Syncs,
     /// How the lines of a log are written.
     LogForm,
 }
@@ -138,7 +143,6 @@ impl Value {
             Value::Number => ValueParser::unsigned(1, LAST_NUMBER),
             Value::Step => ValueParser::unsigned(1, LAST_MOMENT),
             Value::Status => ValueParser::Names(ORDER_STATUSES),
-            Value::Syncs => ValueParser::Names(SYNCS),
             Value::LogForm => ValueParser::Names(LOG_FORMS),
         }
     }
@@ -158,21 +162,15 @@ const NUMBER: Argument = Argument::Positional {
     help: "its number, 1 to 2^62",
 };
 
-// How long to try again while another program has the desk's file. A word that looks at a desk, or changes it, has it.
+// How long to try again while another program has the desk's file.
 const DESK_WAIT: Argument = Argument::Wait {
     of: arguments::FILE,
 };
 
-// How often a commit to the file that an argument names syncs.
-macro_rules! sync {
-    ($of:expr) => {
-        Argument::Choice {
-            id: arguments::SYNC,
-            value: Value::Syncs,
-            default: Syncs::TWICE,
-            of: $of,
-            help: "how often a commit syncs the log of the file; once supposes more of the disk, as said below",
-        }
+// The arguments of a word that looks at a desk, or changes it: `DESK_WAIT` is among them.
+macro_rules! on_desk {
+    ($($argument:expr,)*) => {
+        &[DESK_FILE, $($argument,)* DESK_WAIT]
     };
 }
 
@@ -245,69 +243,59 @@ const SERVE: &[Argument] = &[
     Argument::Optional {
         id: arguments::LOG,
         value: Value::LogForm,
-        missing: LogForm::TEXT,
+        missing: LOG_TEXT,
         help: "writes a line for each connection to standard output, as text without a word; what it says is said below",
     },
-    sync!(arguments::FILE),
+    Argument::Sync {
+        of: arguments::FILE,
+    },
 ];
 
 const BATCH: &[Argument] = &[
     option! { arguments::BATCH_FILE, "FILE", Text, "the file that holds the desk; without it a new desk in memory" },
-    sync!(arguments::BATCH_FILE),
+    Argument::Sync {
+        of: arguments::BATCH_FILE,
+    },
     Argument::Wait {
         of: arguments::BATCH_FILE,
     },
 ];
 
-const STATUS: &[Argument] = &[
-    DESK_FILE,
+const STATUS: &[Argument] = on_desk! {
     option! { arguments::ACCOUNT, "N", Number, "only orders of the account of this number, 1 to 2^62; without it of all accounts" },
     option! { arguments::STATUS, "WORD", Status, "only orders of this status; without it of every status" },
     option! { arguments::NAME, "NAME", Text, "only orders that ask for this name, as www.example.org or '*.example.org'; without it of every name" },
     json! { "one JSON document a line, an order each, and no count" },
-    DESK_WAIT,
-];
+};
 
-const ABOUT: &[Argument] = &[DESK_FILE, DESK_WAIT];
+const ABOUT: &[Argument] = on_desk! {};
 
-const PAGE: &[Argument] = &[DESK_FILE, DESK_WAIT];
+const PAGE: &[Argument] = on_desk! {};
 
-const ACCOUNTS: &[Argument] = &[
-    DESK_FILE,
-    json! { "one JSON document a line, an account each, and no count" },
-    DESK_WAIT,
-];
+const ACCOUNTS: &[Argument] =
+    on_desk! { json! { "one JSON document a line, an account each, and no count" }, };
 
-const AUTHORIZATIONS: &[Argument] = &[
-    DESK_FILE,
+const AUTHORIZATIONS: &[Argument] = on_desk! {
     option! { arguments::ACCOUNT, "N", Number, "only authorizations of the account of this number, 1 to 2^62; without it of all accounts" },
     option! { arguments::NAME, "NAME", Text, "only authorizations for this name, as www.example.org or '*.example.org'; without it of every name" },
     json! { "one JSON document a line, an authorization each, and no count" },
-    DESK_WAIT,
-];
+};
 
-const CHECK: &[Argument] = &[
-    DESK_FILE,
-    json! { "one JSON document a line, a wrong status each; nothing where there is none" },
-    DESK_WAIT,
-];
+const CHECK: &[Argument] =
+    on_desk! { json! { "one JSON document a line, a wrong status each; nothing where there is none" }, };
 
-const BACKUP: &[Argument] = &[
-    DESK_FILE,
+const BACKUP: &[Argument] = on_desk! {
     Argument::Positional {
         id: arguments::TO,
         value: Value::Text,
         help: "the new file that will hold the copy",
     },
-    DESK_WAIT,
-];
+};
 
-const REVOKE: &[Argument] = &[
-    DESK_FILE,
+const REVOKE: &[Argument] = on_desk! {
     NUMBER,
     option! { arguments::PORT, "N", Port, "asks the desk that is served at this port of 127.0.0.1, 0 to 65535, and leaves the file alone" },
-    DESK_WAIT,
-];
+};
 
 // A word: what it asks for, its name, what it does, what help says below its arguments, and these.
 macro_rules! word {
