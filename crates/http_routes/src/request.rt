@@ -300,10 +300,10 @@ fn has_nonce_form(text: &str) -> bool
 fn finding(alloc: Global, body: &str) -> Result<Option<Finding>, AllocError>
     ensures { IfOk result (λ o. o ≡ finding body.now) }
 {
-    match value_of(alloc, body)? {
-        Some(report) => finding_in(alloc, &report),
-        None => Ok(None),
-    }
+    let Some(report) = value_of(alloc, body)? else {
+        return Ok(None);
+    };
+    finding_in(alloc, &report)
 }
 
 // What the validator found, by the one member that says it.
