@@ -220,15 +220,6 @@ pub struct OrderFilter {
     pub name: Option<DnsName>,
 }
 
-impl OrderFilter {
-    // Whether an order has the account and the status that are asked for.
-    fn allows(&self, row: &OrderRow) -> bool
-        ensures { IsTrue result ↔ (Allows self.now.account row.now.account × Allows self.now.status row.now.status) }
-    {
-        allows_account(self.account, row.account) && allows_status(self.status, row.status)
-    }
-}
-
 impl RowList for OrderFilter {
     type Item = OrderRow;
 
@@ -277,6 +268,15 @@ impl RowList for OrderFilter {
 
     fn noun() -> &'static str {
         "orders"
+    }
+}
+
+impl OrderFilter {
+    // Whether an order has the account and the status that are asked for.
+    fn allows(&self, row: &OrderRow) -> bool
+        ensures { IsTrue result ↔ (Allows self.now.account row.now.account × Allows self.now.status row.now.status) }
+    {
+        allows_account(self.account, row.account) && allows_status(self.status, row.status)
     }
 }
 

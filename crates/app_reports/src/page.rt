@@ -63,17 +63,16 @@ macro_rules! authorizations {
 }
 
 /// The beginning of the page, up to the base of the desk.
-pub(crate) const HEAD: &str = concat!(
-    "<!doctype html>\n<html lang=\"en\"><head><meta charset=\"utf-8\"><title>desk</title>\n<style>\n",
-    "body{max-width:1120px;margin:2em auto;padding:0 1em;font:15px/1.5 sans-serif;color:#222;background:#f7f7f7}\n",
-    "h1{font-size:1.5em}h2{margin:1.8em 0 0;font-size:1.2em}p{margin:.3em 0;color:#555}\n",
-    "pre,table{margin:.6em 0;background:#fff;border:1px solid #ddd}pre{padding:.8em 1em}\n",
-    "table{width:100%;table-layout:fixed;border-collapse:collapse}table:has(tbody:empty){display:none}\n",
-    "th,td{padding:.4em .8em;text-align:left;vertical-align:top;border-bottom:1px solid #eee}\n",
-    "th{background:#eee}th:nth-child(-n+3){width:7.2em}th:nth-child(4){width:12em}td>*{display:block;overflow-wrap:anywhere}\n",
-    ".valid{color:#17703a}.ready,.processing{color:#96600a}.invalid,.deactivated,.expired,.revoked{color:#a32626}\n",
-    "</style></head><body>\n<h1>The desk of <code>"
-);
+pub(crate) const HEAD: &str = "\
+    <!doctype html>\n<html lang=\"en\"><head><meta charset=\"utf-8\"><title>desk</title>\n<style>\n\
+    body{max-width:1120px;margin:2em auto;padding:0 1em;font:15px/1.5 sans-serif;color:#222;background:#f7f7f7}\n\
+    h1{font-size:1.5em}h2{margin:1.8em 0 0;font-size:1.2em}p{margin:.3em 0;color:#555}\n\
+    pre,table{margin:.6em 0;background:#fff;border:1px solid #ddd}pre{padding:.8em 1em}\n\
+    table{width:100%;table-layout:fixed;border-collapse:collapse}table:has(tbody:empty){display:none}\n\
+    th,td{padding:.4em .8em;text-align:left;vertical-align:top;border-bottom:1px solid #eee}\n\
+    th{background:#eee}th:nth-child(-n+3){width:7.2em}th:nth-child(4){width:12em}td>*{display:block;overflow-wrap:anywhere}\n\
+    .valid{color:#17703a}.ready,.processing{color:#96600a}.invalid,.deactivated,.expired,.revoked{color:#a32626}\n\
+    </style></head><body>\n<h1>The desk of <code>";
 
 /// What stands between its base and its clock.
 pub(crate) const CLOCK: &str =
@@ -129,8 +128,7 @@ pub fn write_page<K: RowsAbove, W: Write>(
     out: &mut W,
 ) -> Result<(), ReportFault>
     ensures reads { Reports K.sight source.old source.new result }
-    ensures printed { ForTables K.sight source.old source.new (λ T. OnOk result
-        (Appends (W.contents out.old) (W.contents out.new) (page_html T))) }
+    ensures printed { ForTables K.sight source.old source.new (λ T. OnOk result (Appends (W.contents out.old) (W.contents out.new) (page_html T))) }
 {
     let counters = write_meta(alloc, source, out)?;
     write_statuses(alloc, source, out)?;
@@ -146,8 +144,7 @@ fn write_meta<K: RowsAbove, W: Write>(
 ) -> Result<Counters, ReportFault>
     ensures reads { Reports K.sight source.old source.new result }
     ensures counters { ForTables K.sight source.old source.new (λ T. IfOk result (λ counters. counters ≡ T.meta.counters)) }
-    ensures printed { ForTables K.sight source.old source.new (λ T. OnOk result
-        (Appends (W.contents out.old) (W.contents out.new) (head_html T.meta))) }
+    ensures printed { ForTables K.sight source.old source.new (λ T. OnOk result (Appends (W.contents out.old) (W.contents out.new) (head_html T.meta))) }
 {
     let meta = source.meta_row(alloc)?;
     write_head(alloc, out, &meta)?;
@@ -181,8 +178,7 @@ fn write_tables<K: RowsAbove, W: Write>(
     counters: Counters,
 ) -> Result<(), ReportFault>
     ensures reads { Reports K.sight source.old source.new result }
-    ensures printed { ForTables K.sight source.old source.new (λ T. OnOk result
-        (Appends (W.contents out.old) (W.contents out.new) (tables_html counters T))) }
+    ensures printed { ForTables K.sight source.old source.new (λ T. OnOk result (Appends (W.contents out.old) (W.contents out.new) (tables_html counters T))) }
 {
     write_waiting(alloc, source, out)?;
     write_ending(alloc, source, out, soon_after(counters.clock))?;
@@ -198,8 +194,7 @@ fn write_waiting<K: RowsAbove, W: Write>(
     out: &mut W,
 ) -> Result<(), ReportFault>
     ensures reads { Reports K.sight source.old source.new result }
-    ensures printed { ForTables K.sight source.old source.new (λ T. OnOk result
-        (Appends (W.contents out.old) (W.contents out.new) (waiting_html T))) }
+    ensures printed { ForTables K.sight source.old source.new (λ T. OnOk result (Appends (W.contents out.old) (W.contents out.new) (waiting_html T))) }
 {
     write_table(alloc, source, out, UNREPORTED, &Unreported, 0)?;
     write_table(alloc, source, out, PROCESSING, &OrdersWhere::Processing, 0)
@@ -220,8 +215,7 @@ fn write_ending<K: RowsAbove, W: Write>(
     moment: u64,
 ) -> Result<(), ReportFault>
     ensures reads { Reports K.sight source.old source.new result }
-    ensures printed { ForTables K.sight source.old source.new (λ T. OnOk result
-        (Appends (W.contents out.old) (W.contents out.new) (ending_html moment T))) }
+    ensures printed { ForTables K.sight source.old source.new (λ T. OnOk result (Appends (W.contents out.old) (W.contents out.new) (ending_html moment T))) }
 {
     write_table(alloc, source, out, ENDING_ORDERS, &EndingOrders(moment), 0)?;
     let ending = EndingAuthorizations(moment);
@@ -236,8 +230,7 @@ fn write_last<K: RowsAbove, W: Write>(
     last: u64,
 ) -> Result<(), ReportFault>
     ensures reads { Reports K.sight source.old source.new result }
-    ensures printed { ForTables K.sight source.old source.new (λ T. OnOk result
-        (Appends (W.contents out.old) (W.contents out.new) (last_html last T))) }
+    ensures printed { ForTables K.sight source.old source.new (λ T. OnOk result (Appends (W.contents out.old) (W.contents out.new) (last_html last T))) }
 {
     let above = last.saturating_sub(LAST);
     write_table(alloc, source, out, LAST_ORDERS, &OrdersWhere::Any, above)

@@ -29,8 +29,7 @@ pub(crate) trait PageRow: PassedRow + Drop {
         out: &mut W,
     ) -> Result<(), ReportFault>
         ensures reads { Reports K.sight source.old source.new result }
-        ensures written { ForTables K.sight source.old source.new (λ T. OnOk result
-            (Appends (W.contents out.old) (W.contents out.new) (html T self.now))) };
+        ensures written { ForTables K.sight source.old source.new (λ T. OnOk result (Appends (W.contents out.old) (W.contents out.new) (html T self.now))) };
 }
 
 // An order, with the names that it asks for and the contacts of its account.
@@ -74,14 +73,8 @@ fn write_order_row<W: Write>(
 ) -> io::Result<()>
     ensures { OnOk result (Appends (W.contents out.old) (W.contents out.new) (order_row_html row.now names.now accounts.now)) }
 {
-    write_cells(
-        alloc,
-        out,
-        row.number,
-        row.account,
-        row.status.as_str(),
-        row.expires,
-    )?;
+    let status = row.status.as_str();
+    write_cells(alloc, out, row.number, row.account, status, row.expires)?;
     write_pieces(alloc, out, names)?;
     out.write_all(b"</td><td>")?;
     write_pieces(alloc, out, accounts)?;
@@ -96,14 +89,8 @@ fn write_authorization<W: Write>(
 ) -> io::Result<()>
     ensures { OnOk result (Appends (W.contents out.old) (W.contents out.new) (authorization_html row.now)) }
 {
-    write_cells(
-        alloc,
-        out,
-        row.number,
-        row.account,
-        row.status.as_str(),
-        row.expires,
-    )?;
+    let status = row.status.as_str();
+    write_cells(alloc, out, row.number, row.account, status, row.expires)?;
     row.name.write_piece(alloc, out)?;
     out.write_all(b"</td><td>")?;
     write_pieces(alloc, out, row.challenges.as_slice())?;

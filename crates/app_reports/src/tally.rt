@@ -227,8 +227,7 @@ pub fn tell_about<K: RowsAbove, W: Write>(
     beside: Beside,
 ) -> Result<(), ReportFault>
     ensures reads { Reports K.sight source.old source.new result }
-    ensures printed { ForTables K.sight source.old source.new (λ T. OnOk result
-        (Appends (W.contents out.old) (W.contents out.new) (about_text beside T))) }
+    ensures printed { ForTables K.sight source.old source.new (λ T. OnOk result (Appends (W.contents out.old) (W.contents out.new) (about_text beside T))) }
 {
     write_meta(alloc, source, out, beside.now)?;
     write_statuses(alloc, source, out)?;
@@ -244,8 +243,7 @@ fn write_meta<K: RowsAbove, W: Write>(
     now: Option<u64>,
 ) -> Result<(), ReportFault>
     ensures reads { Reports K.sight source.old source.new result }
-    ensures printed { ForTables K.sight source.old source.new (λ T. OnOk result (Appends (W.contents out.old) (W.contents out.new)
-        (meta_said now T.meta))) }
+    ensures printed { ForTables K.sight source.old source.new (λ T. OnOk result (Appends (W.contents out.old) (W.contents out.new) (meta_said now T.meta))) }
 {
     let meta = source.meta_row(alloc)?;
     write_known(alloc, out, &meta, now)?;
@@ -317,8 +315,7 @@ pub(crate) fn write_statuses<K: RowsAbove, W: Write>(
     out: &mut W,
 ) -> Result<(), ReportFault>
     ensures reads { Reports K.sight source.old source.new result }
-    ensures printed { ForTables K.sight source.old source.new (λ T. OnOk result
-        (Appends (W.contents out.old) (W.contents out.new) (statuses_said T))) }
+    ensures printed { ForTables K.sight source.old source.new (λ T. OnOk result (Appends (W.contents out.old) (W.contents out.new) (statuses_said T))) }
 {
     write_tally::<AccountRow, K, W>(alloc, source, out)?;
     write_tally::<AuthorizationRow, K, W>(alloc, source, out)?;
