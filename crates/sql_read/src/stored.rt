@@ -47,8 +47,8 @@ type UpToOrders = (
     Sequence<OrderColumns>,
 );
 
-// .. `ord_authz`, `authz`, `chall` ..
-type FirstTables = (
+/// .. `ord_authz`, `authz`, `chall` ..
+pub(crate) type FirstTables = (
     (
         (UpToOrders, Sequence<OrderAuthzColumns>),
         Sequence<AuthzColumns>,

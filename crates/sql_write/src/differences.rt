@@ -22,9 +22,9 @@ pub(crate) enum Write {
     Update,
 }
 
-// How a row differs from the one that stands in its place.
+/// How a row differs from the one that stands in its place.
 #[derive(Clone, Copy)]
-enum Difference {
+pub(crate) enum Difference {
     /// In no column.
     Same,
     /// In columns that calls move.
