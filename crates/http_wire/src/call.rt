@@ -116,10 +116,7 @@ fn read_as<R: Read>(
     ensures taken { (fields : List (List ℕ × List ℕ)) → IfOk plan (IsPlan method.now path.now fields)
         → TakesAtMost (R.remaining reader.old) (R.remaining reader.new) longest_body }
 {
-    let request = match plan {
-        Ok(plan) => read_with(alloc, reader, plan, method, path, begun)?,
-        Err(error) => Err(error),
-    };
+    let request = read_with(alloc, reader, plan, method, path, begun)?;
     Ok(ParsedRequest {
         form: form_by(method, path),
         request,
@@ -181,9 +178,30 @@ fn behind(bytes: &[u8], len: usize) -> &[u8]
     &bytes[len..]
 }
 
-// The request of this method and path by a plan for it, with what was begun behind its head; an inner error where memory was
+// The request of this method and path by what its head says, with what was begun behind it; an inner error where memory was
 // refused.
 fn read_with<R: Read>(
+    alloc: Global,
+    reader: &mut R,
+    plan: Result<Plan, AllocError>,
+    method: &str,
+    path: &str,
+    begun: &[u8],
+) -> Result<Result<Request, AllocError>, ReadFailed>
+    ensures request { (fields : List (List ℕ × List ℕ)) → IfOk plan (IsPlan method.now path.now fields)
+        → IfOk result (λ r. IfOk r
+        (λ q. IfSome (R.remaining reader.old) (λ left. IsRequestWith method.now path.now fields (begun.now ++ left) q))) }
+    ensures taken { (fields : List (List ℕ × List ℕ)) → IfOk plan (IsPlan method.now path.now fields)
+        → TakesAtMost (R.remaining reader.old) (R.remaining reader.new) longest_body }
+{
+    match plan {
+        Ok(plan) => read_planned(alloc, reader, plan, method, path, begun),
+        Err(error) => Ok(Err(error)),
+    }
+}
+
+// The request of this method and path by a plan for it.
+fn read_planned<R: Read>(
     alloc: Global,
     reader: &mut R,
     plan: Plan,

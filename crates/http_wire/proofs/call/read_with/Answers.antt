@@ -4,7 +4,7 @@ use Rattle.http_wire.specs.declared.call.Plan.TheVariants as plan
 use Rattle.http_wire.proofs.Asked.{request_behind, whatever_is_left}
 use Rattle.http_wire.proofs.Bytes.{takes_none, takes_within}
 use Rattle.http_wire.proofs.Limits.{body_within}
-use Rattle.http_wire.proofs.call.read_with.Goals as goal
+use Rattle.http_wire.proofs.call.read_planned.Goals as goal
 use Rattle.desk_model.specs.Limits.{longest_body}
 
 pub returns-in-Refused-clause-request : goal.returns-in-Refused-clause-request
