@@ -3,8 +3,8 @@ use Rattle.std.specs.Prelude.{ℕ, ◌-◌, ◌++◌, List, Option, None, Some, 
 use Rattle.desk_model.specs.{Derived.sorted_challenges, Moment.moment_text, Tables.Tables, Terms.Terms, declared.rows.Meta.Meta}
 use Rattle.moments.specs.Capped.{capped}
 use Rattle.std.specs.List.{flat_map}
-use Rattle.app_reports.specs.Tallied.{account_place, accounts_said, authorization_place, authorizations_said, challenge_place, challenges_said}
-use Rattle.app_reports.specs.Tallied.{order_place, orders_said, tally_of}
+use Rattle.app_reports.specs.Tallied.{accounts_said, authorizations_said, challenges_said, orders_said, tally_of}
+use Rattle.desk_model.specs.Derived.{account_code, authz_code, chall_code, order_code}
 use Rattle.app_reports.specs.declared.tally.Beside.{Beside}
 
 -- by how many seconds a desk's clock is ahead of the machine's, if it is
@@ -34,10 +34,10 @@ meta_said now m = base_said m.policy ++ (lives_said m.policy ++ clock_said m.cou
 -- how many objects of each kind have each stored status
 abbrev pub statuses_said : Tables → List ℕ
 statuses_said T =
-    accounts_said (tally_of (λ a. account_place a.status) T.accounts)
-    ++ (authorizations_said (tally_of (λ a. authorization_place a.status) T.authorizations)
-    ++ (challenges_said (tally_of (λ c. challenge_place c.status) (sorted_challenges (flat_map (λ r. r.challenges) T.authorizations)))
-    ++ orders_said (tally_of (λ o. order_place o.status) T.orders)))
+    accounts_said (tally_of (λ a. account_code a.status) T.accounts)
+    ++ (authorizations_said (tally_of (λ a. authz_code a.status) T.authorizations)
+    ++ (challenges_said (tally_of (λ c. chall_code c.status) (sorted_challenges (flat_map (λ r. r.challenges) T.authorizations)))
+    ++ orders_said (tally_of (λ o. order_code o.status) T.orders)))
 
 -- the whole text
 abbrev pub about_text : Beside → Tables → List ℕ

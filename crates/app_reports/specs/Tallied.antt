@@ -1,39 +1,6 @@
 -- How many rows have each status.
 use Rattle.std.specs.Prelude.{◌≡◌, ◌==◌, ℕ, ◌^◌, ◌-◌, ◌++◌, List, codes, decimal, length, min, slice_index}
 use Rattle.std.specs.List.{filter}
-use Rattle.desk_model.specs.declared.status.{AccountStatus.AccountStatus, AuthzStatus.AuthzStatus, ChallengeStatus.ChallengeStatus, OrderStatus.OrderStatus}
-use Rattle.desk_model.specs.declared.status.AccountStatus.TheVariants as account
-use Rattle.desk_model.specs.declared.status.AuthzStatus.TheVariants as authz
-use Rattle.desk_model.specs.declared.status.ChallengeStatus.TheVariants as chall
-use Rattle.desk_model.specs.declared.status.OrderStatus.TheVariants as order
-
--- ---- statuses by their places
-
-abbrev pub account_place : AccountStatus → ℕ
-account_place account.Valid = 0
-account_place account.Deactivated = 1
-account_place account.Revoked = 2
-
-abbrev pub authorization_place : AuthzStatus → ℕ
-authorization_place authz.Pending = 0
-authorization_place authz.Valid = 1
-authorization_place authz.Invalid = 2
-authorization_place authz.Deactivated = 3
-authorization_place authz.Expired = 4
-authorization_place authz.Revoked = 5
-
-abbrev pub challenge_place : ChallengeStatus → ℕ
-challenge_place chall.Pending = 0
-challenge_place chall.Processing = 1
-challenge_place chall.Valid = 2
-challenge_place chall.Invalid = 3
-
-abbrev pub order_place : OrderStatus → ℕ
-order_place order.Pending = 0
-order_place order.Ready = 1
-order_place order.Processing = 2
-order_place order.Valid = 3
-order_place order.Invalid = 4
 
 -- ---- counts
 

@@ -3,16 +3,13 @@ ghost use Rattle.std.specs.Prelude.{◌≡◌, ◌==◌, ◌<◌, ◌+◌, ◌-�
 ghost use Rattle.std.specs.Io.KnownBytes.{Appends};
 ghost use Rattle.store_api.specs.Sight.{ForTables, Reads};
 ghost use Rattle.app_reports.specs.Reported.{Reports};
-ghost use Rattle.app_reports.specs.Tallied.{IsTally, ended_said, tally_of, unended_said, account_place, accounts_said, authorization_place};
-ghost use Rattle.app_reports.specs.Tallied.{authorizations_said, challenge_place, challenges_said, order_place, orders_said};
+ghost use Rattle.app_reports.specs.Tallied.{IsTally, accounts_said, authorizations_said, challenges_said, ended_said, orders_said, tally_of, unended_said};
+ghost use Rattle.desk_model.specs.Derived.{account_code, authz_code, chall_code, order_code};
 ghost use Rattle.app_reports.specs.About.{about_text, ahead, base_said, clock_said, lives_said, meta_said, statuses_said};
 
 use crate::fault::ReportFault;
 use desk_book::Row;
-use desk_model::{
-    AccountRow, AccountStatus, AuthorizationRow, AuthzStatus, ChallengeRow, ChallengeStatus, Meta,
-    OrderRow, OrderStatus, Policy,
-};
+use desk_model::{AccountRow, AuthorizationRow, ChallengeRow, Meta, OrderRow, Policy};
 use moments::capped_moment_text;
 use std::alloc::Global;
 use std::io::{self, Write};
@@ -41,16 +38,12 @@ trait Stated: PassedRow + Drop {
 }
 
 impl Stated for AccountRow {
-    ghost place = { λ row. account_place row.status };
+    ghost place = { λ row. account_code row.status };
 
     ghost said = { accounts_said };
 
     fn place(&self) -> usize {
-        match self.status {
-            AccountStatus::Valid => 0,
-            AccountStatus::Deactivated => 1,
-            AccountStatus::Revoked => 2,
-        }
+        self.status.place()
     }
 
     fn write_counts<W: Write>(out: &mut W, counts: &[u64; MOST]) -> io::Result<()> {
@@ -63,19 +56,12 @@ impl Stated for AccountRow {
 }
 
 impl Stated for AuthorizationRow {
-    ghost place = { λ row. authorization_place row.status };
+    ghost place = { λ row. authz_code row.status };
 
     ghost said = { authorizations_said };
 
     fn place(&self) -> usize {
-        match self.status {
-            AuthzStatus::Pending => 0,
-            AuthzStatus::Valid => 1,
-            AuthzStatus::Invalid => 2,
-            AuthzStatus::Deactivated => 3,
-            AuthzStatus::Expired => 4,
-            AuthzStatus::Revoked => 5,
-        }
+        self.status.place()
     }
 
     fn write_counts<W: Write>(out: &mut W, counts: &[u64; MOST]) -> io::Result<()> {
@@ -107,17 +93,12 @@ fn write_ended<W: Write>(out: &mut W, counts: &[u64; MOST]) -> io::Result<()>
 }
 
 impl Stated for ChallengeRow {
-    ghost place = { λ row. challenge_place row.status };
+    ghost place = { λ row. chall_code row.status };
 
     ghost said = { challenges_said };
 
     fn place(&self) -> usize {
-        match self.status {
-            ChallengeStatus::Pending => 0,
-            ChallengeStatus::Processing => 1,
-            ChallengeStatus::Valid => 2,
-            ChallengeStatus::Invalid => 3,
-        }
+        self.status.place()
     }
 
     fn write_counts<W: Write>(out: &mut W, counts: &[u64; MOST]) -> io::Result<()> {
@@ -130,18 +111,12 @@ impl Stated for ChallengeRow {
 }
 
 impl Stated for OrderRow {
-    ghost place = { λ row. order_place row.status };
+    ghost place = { λ row. order_code row.status };
 
     ghost said = { orders_said };
 
     fn place(&self) -> usize {
-        match self.status {
-            OrderStatus::Pending => 0,
-            OrderStatus::Ready => 1,
-            OrderStatus::Processing => 2,
-            OrderStatus::Valid => 3,
-            OrderStatus::Invalid => 4,
-        }
+        self.status.place()
     }
 
     fn write_counts<W: Write>(out: &mut W, counts: &[u64; MOST]) -> io::Result<()> {

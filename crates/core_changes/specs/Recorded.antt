@@ -5,12 +5,17 @@ use Rattle.desk_model.specs.Effect.{effects, swept, swept_order, noted_account, 
 use Rattle.desk_model.specs.Change.{all_changes, sweep_changes, moved_rows, account_differs, authorization_differs, order_differs}
 use Rattle.desk_model.specs.declared.rows.Change.TheVariants.{PutAccount, PutAuthorization, PutOrder}
 use Rattle.core_changes.specs.Moved.{standing_rows, stated_authorization, stated_order}
+use Rattle.core_changes.specs.declared.recording.Recording.{Recording}
 
 -- these entries are recorded at m: the changes of rows so far, and the counters after them; the policy stays
 pub record IsRecorded (m : ℕ) (B : Tables) (es : List Entry) (done : List Change) (counters : Counters) : Type 0 where
   pub changes : done ≡ sweep_changes m B ++ all_changes m (swept m B) es
   pub counted : counters ≡ (effects m (swept m B) es).meta.counters
   pub policy : (effects m (swept m B) es).meta.policy ≡ B.meta.policy
+
+-- where these entries are recorded before, some more are recorded after
+abbrev pub GoesOn : ℕ → Tables → List Entry → (more : List Entry) → (before after : Recording) → Type 0
+GoesOn m B es more before after = IsRecorded m B es before.changes.items before.counters → IsRecorded m B (es ++ more) after.changes.items after.counters
 
 -- the counters are those of a book at the moment, but for that of nonces
 abbrev pub IsAt : ℕ → Tables → Counters → Type 0

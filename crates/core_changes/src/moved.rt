@@ -3,7 +3,8 @@ ghost use Rattle.std.specs.Prelude.{◌≡◌, ◌==◌, ◌++◌, ◌∷◌, []
 ghost use Rattle.std.specs.List.{filter};
 ghost use Rattle.desk_model.specs.Derived.{authorization_numbered, numbers_of, stored_statuses};
 ghost use Rattle.desk_model.specs.Entry.{entry_of};
-ghost use Rattle.desk_model.specs.Effect.{has_row, swept_authorization, swept_order, noted_account, touches_account, touches_authorization, touches_order};
+ghost use Rattle.desk_model.specs.Effect.{has_row, swept_authorization, swept_order, noted_account, touches_account, touches_authorization};
+ghost use Rattle.desk_model.specs.Effect.{touches_order};
 ghost use Rattle.desk_model.specs.Change.{account_differs, authorization_differs, order_differs, moved_rows};
 ghost use Rattle.desk_model.specs.declared.rows.{AuthorizationRow.AuthorizationRow as AuthorizationOf, Change.Change as ChangeOf};
 ghost use Rattle.desk_model.specs.declared.rows.Change.TheVariants.{PutAccount, PutAuthorization, PutOrder};
@@ -16,6 +17,7 @@ use crate::noted::{
     noted_challenges, same_texts, touches_authorization, touches_order,
 };
 use crate::orders::{note_dates, order_differs};
+use crate::recording::push_change;
 use desk_book::{
     Book, Row, Table, authorization_status, derived_account, derived_authorization, derived_order,
     has_challenge, order_status,
@@ -73,14 +75,6 @@ impl MovedRows {
     {
         row_numbered(&self.orders, number)
     }
-}
-
-/// Adds a change to the changes.
-pub(crate) fn push_change(changes: &mut Vec<Change>, change: Change) -> Result<(), AllocError>
-    ensures { OnOk result (changes.new.items ≡ changes.old.items ++ change ∷ []) }
-{
-    changes.push(change)?;
-    Ok(())
 }
 
 // Adds a row to the rows, or a status to the statuses, if there is one.

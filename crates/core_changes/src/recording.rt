@@ -6,12 +6,12 @@ ghost use Rattle.desk_model.specs.Run.{count_new, count_tokens};
 ghost use Rattle.core_changes.specs.Made.{AreStanding, next_account, next_order, next_rows, ordered_counters};
 ghost use Rattle.std.specs.Prelude.{◌≡◌, ◌<◌, ◌≤◌, map, ◌+◌, ◌++◌, ◌∷◌, [], None, IfOk, OnOk, ℕ, List};
 ghost use Rattle.core_changes.specs.Moved.{AreMoved};
-ghost use Rattle.core_changes.specs.Recorded.{IsRecorded, IsUntouched, book_moves};
+ghost use Rattle.core_changes.specs.Recorded.{GoesOn, IsRecorded, IsUntouched, book_moves};
 ghost use Rattle.desk_model.specs.declared.entry.Entry.TheVariants.{Issued as issued, Spent as spent, Opened as opened, Ordered as ordered};
 ghost use Rattle.desk_model.specs.declared.rows.Change.TheVariants.{PutMeta, PutNonce, RemoveNonce, PutAccount, PutAuthorization, PutOrder};
 ghost use Rattle.desk_model.specs.declared.status.AccountStatus.TheVariants as account;
 
-use crate::moved::{MovedRows, push_change, record_rows};
+use crate::moved::{MovedRows, record_rows};
 use crate::orders::{Making, made_order, push_authorizations};
 use desk_book::{Book, sweep_changes};
 use desk_model::{
@@ -80,9 +80,7 @@ impl Recording {
     pub fn spend(&mut self, serial: u64) -> Result<(), AllocError>
         ensures changes { OnOk result (self.new.changes.items ≡ self.old.changes.items ++ RemoveNonce serial ∷ []) }
         ensures counters { OnOk result (self.new.counters ≡ self.old.counters) }
-        ensures recorded { OnOk result ((m : ℕ) (B : Tables) (es : List EntryOf)
-            → IsRecorded m B es self.old.changes.items self.old.counters
-            → IsRecorded m B (es ++ spent serial ∷ []) self.new.changes.items self.new.counters) }
+        ensures recorded { OnOk result ((m : ℕ) (B : Tables) (es : List EntryOf) → GoesOn m B es (spent serial ∷ []) self.old self.new) }
     {
         self.push(Change::RemoveNonce(serial))
     }
@@ -97,9 +95,7 @@ impl Recording {
         ensures changes { OnOk result (self.new.changes.items ≡ self.old.changes.items
             ++ PutNonce (record { serial = self.old.counters.nonces + 1; random = random; issued = self.old.counters.clock }) ∷ []) }
         ensures counters { OnOk result (self.new.counters ≡ record self.old.counters { nonces = self.old.counters.nonces + 1 }) }
-        ensures recorded { OnOk result ((m : ℕ) (B : Tables) (es : List EntryOf)
-            → IsRecorded m B es self.old.changes.items self.old.counters
-            → IsRecorded m B (es ++ issued random ∷ []) self.new.changes.items self.new.counters) }
+        ensures recorded { OnOk result ((m : ℕ) (B : Tables) (es : List EntryOf) → GoesOn m B es (issued random ∷ []) self.old self.new) }
     {
         self.counters.nonces += 1;
         let nonce = Nonce {
@@ -118,9 +114,7 @@ impl Recording {
     pub fn open(&mut self, key: Jwk, contacts: Sequence<Text>) -> Result<AccountRow, AllocError>
         requires { self.old.counters.accounts < last_number }
         ensures account { IfOk result (λ r. r ≡ next_account self.old.counters key contacts) }
-        ensures recorded { OnOk result ((m : ℕ) (B : Tables) (es : List EntryOf)
-            → IsRecorded m B es self.old.changes.items self.old.counters
-            → IsRecorded m B (es ++ opened key contacts ∷ []) self.new.changes.items self.new.counters) }
+        ensures recorded { OnOk result ((m : ℕ) (B : Tables) (es : List EntryOf) → GoesOn m B es (opened key contacts ∷ []) self.old self.new) }
     {
         self.counters.accounts += 1;
         let row = AccountRow {
@@ -150,8 +144,7 @@ impl Recording {
         ensures rows { IfOk result (λ r. AreMoved self.old.counters.clock book.now (entry_of moved.now) r.accounts.items
             r.authorizations.items r.orders.items) }
         ensures recorded { OnOk result ((m : ℕ) (es : List EntryOf) → IsUntouched m book.now es
-            → IsRecorded m book.now es self.old.changes.items self.old.counters
-            → IsRecorded m book.now (es ++ entry_of moved.now ∷ []) self.new.changes.items self.new.counters) }
+            → GoesOn m book.now es (entry_of moved.now ∷ []) self.old self.new) }
     {
         let moment = self.counters.clock.moment();
         let mut rows = MovedRows {
@@ -183,9 +176,7 @@ impl Recording {
         ensures counters { OnOk result (self.new.counters ≡ ordered_counters policy.now self.old.counters account wanted.now) }
         ensures order { IfOk result (λ o. o ≡ next_order policy.now self.old.counters account wanted.now) }
         ensures recorded { OnOk result ((m : ℕ) (B : Tables) (es : List EntryOf) → B.meta.policy ≡ policy.now → IsOrdered B → IsUntouched m B es
-            → AreStanding (swept m B).authorizations wanted.now
-            → IsRecorded m B es self.old.changes.items self.old.counters
-            → IsRecorded m B (es ++ ordered account wanted.now ∷ []) self.new.changes.items self.new.counters) }
+            → AreStanding (swept m B).authorizations wanted.now → GoesOn m B es (ordered account wanted.now ∷ []) self.old self.new) }
     {
         let first = self.counters.authorizations + 1;
         let rows = self.make_rows(alloc, policy, account, wanted)?;
@@ -243,4 +234,12 @@ fn record_made(
         push_change(changes, Change::PutAuthorization(row))?;
     }
     push_change(changes, Change::PutOrder(order.clone()?))
+}
+
+/// Adds a change to the changes.
+pub(crate) fn push_change(changes: &mut Vec<Change>, change: Change) -> Result<(), AllocError>
+    ensures { OnOk result (changes.new.items ≡ changes.old.items ++ change ∷ []) }
+{
+    changes.push(change)?;
+    Ok(())
 }

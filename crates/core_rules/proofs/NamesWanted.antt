@@ -5,7 +5,7 @@ use Rattle.std.specs.{Prelude.sum_by, Option.option_map}
 use Rattle.std.proofs.lemmas.List.{at_drop_more, drop-drop}
 use Rattle.std.proofs.lemmas.List.Sums.{sum_by-cons}
 use Rattle.desk_model.specs.{Authorization.kinds_of, Name.Name, Questions.serving_on, Tables.Tables}
-use Rattle.desk_model.specs.declared.objects.Kind.TheVariants.{Http01 as http_01, Dns01 as dns_01}
+use Rattle.desk_model.specs.declared.status.Kind.TheVariants.{Http01 as http_01, Dns01 as dns_01}
 use Rattle.desk_model.specs.declared.{entry.Wanted.Wanted, rows.AuthorizationRow.AuthorizationRow, entry.Wanted.TheVariants.New as new}
 use Rattle.desk_model.specs.Rules.{left_by, pieces, wanted, wanted_by}
 use Rattle.desk_model.specs.Run.{count_new, count_tokens}

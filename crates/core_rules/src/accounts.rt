@@ -8,8 +8,7 @@ ghost use Rattle.std.specs.List.{list_any};
 ghost use Rattle.desk_model.specs.Contact.{parts_fault, contact_fault, contacts_fault};
 
 use crate::fault::CoreFault;
-use crate::judging::refused;
-use crate::limits::has_room;
+use crate::judging::{has_room, refused};
 use crate::payload::{Payload, new_account};
 use desk_book::At;
 use desk_model::{

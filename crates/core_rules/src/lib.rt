@@ -5,7 +5,6 @@ mod accounts;
 mod challenge_rules;
 mod fault;
 mod judging;
-mod limits;
 mod new_orders;
 mod offices;
 mod order_rules;
@@ -13,6 +12,5 @@ mod payload;
 mod targets;
 
 pub use fault::CoreFault;
-pub use judging::{judge_signed, open_nonce};
-pub use limits::{first_random, has_room};
+pub use judging::{first_random, has_room, judge_signed, open_nonce};
 pub use offices::judge_office;

@@ -7,8 +7,9 @@ ghost use Rattle.core_rules.specs.OrderVerdicts.{order_verdict};
 ghost use Rattle.desk_model.specs.Rules.{pieces, wanted};
 
 use crate::fault::CoreFault;
-use crate::judging::{refused, refused_by};
-use crate::limits::{first_piece, has_room, has_room_for, has_tokens, later_random};
+use crate::judging::{
+    first_piece, has_room, has_room_for, has_tokens, later_random, refused, refused_by,
+};
 use desk_book::At;
 use desk_model::{Counters, DnsName, Refusal, Sequence, Verdict, Wanted};
 use identifiers::AskedOrder;

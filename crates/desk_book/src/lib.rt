@@ -4,7 +4,6 @@
 mod at_moment;
 mod book;
 mod derived;
-mod row;
 mod table;
 
 pub use at_moment::{At, authorization_status, challenge_of, order_status, sweep_changes};
@@ -12,5 +11,4 @@ pub use book::{Book, has_challenge};
 pub use derived::{
     derived_account, derived_authorization, derived_challenge, derived_order, is_past,
 };
-pub use row::Row;
-pub use table::Table;
+pub use table::{Row, Table};

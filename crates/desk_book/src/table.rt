@@ -1,9 +1,9 @@
-//! Tables: rows in the order of their numbers.
-ghost use Rattle.std.specs.Prelude.{◌≡◌, ◌==◌, ◌^◌, ◌<◌, [], List, length, map, find, IfOk, OnOk, OnErr, IfSome, option_map, option_copied};
+//! Tables: rows in the order of their numbers, each under its own.
+ghost use Rattle.std.specs.Prelude.{◌≡◌, ◌==◌, ◌^◌, ◌<◌, [], List, length, map, find, IfOk, OnOk, OnErr, IfSome, option_map, option_copied, ℕ};
 ghost use Rattle.std.specs.Map.Iter.{ShowsInOrder, deref};
 ghost use Rattle.desk_model.specs.Change.{put, remove};
 
-use crate::row::Row;
+use desk_model::{AccountRow, AuthorizationRow, ChallengeRow, Listed, Nonce, OrderRow};
 use std::alloc::{AllocError, Global};
 use std::collections::BTreeMap;
 use std::collections::btree_map::Values;
@@ -81,5 +81,78 @@ impl<R: Row + Drop> Clone for Table<R> {
     fn clone(&self) -> Result<Table<R>, AllocError> {
         let rows = self.rows.clone()?;
         Ok(Table { rows })
+    }
+}
+
+// ---- rows, which have numbers
+
+/// A row of a table, which has a number of its own.
+pub trait Row: Clone {
+    ghost number: { Self → ℕ };
+
+    /// The number of the row in its table.
+    fn number(&self) -> u64
+        ensures { result ≡ number self.now };
+
+    ghost clones: { (row copy : Self) → Self.is_clone row copy → copy ≡ row };
+}
+
+impl Row for Nonce {
+    ghost number = { λ row. row.serial };
+
+    ghost clones = { λ row copy same. same };
+
+    fn number(&self) -> u64 {
+        self.serial
+    }
+}
+
+impl Row for AccountRow {
+    ghost number = { λ row. row.number };
+
+    ghost clones = { λ row copy same. same };
+
+    fn number(&self) -> u64 {
+        self.number
+    }
+}
+
+impl Row for AuthorizationRow {
+    ghost number = { λ row. row.number };
+
+    ghost clones = { λ row copy same. same };
+
+    fn number(&self) -> u64 {
+        self.number
+    }
+}
+
+impl Row for OrderRow {
+    ghost number = { λ row. row.number };
+
+    ghost clones = { λ row copy same. same };
+
+    fn number(&self) -> u64 {
+        self.number
+    }
+}
+
+impl Row for ChallengeRow {
+    ghost number = { λ row. row.number };
+
+    ghost clones = { λ row copy same. same };
+
+    fn number(&self) -> u64 {
+        self.number
+    }
+}
+
+impl Row for Listed {
+    ghost number = { λ row. row.place };
+
+    ghost clones = { λ row copy same. same };
+
+    fn number(&self) -> u64 {
+        self.place
     }
 }

@@ -5,7 +5,7 @@ use Rattle.std.specs.Prelude.{IsTrue}
 use Rattle.desk_model.specs.{Account.accounts, Decide.entries_of, Legal.numbers_fit, Limits.last_number, Nonce.nonces, Tables.picture, Kept.EachOf}
 use Rattle.desk_model.specs.Authorization.{authorizations, challenges_from, count_challenges, kinds_of, made_for}
 use Rattle.desk_model.specs.Entry.{History, entry_of}
-use Rattle.desk_model.specs.declared.{entry.Move.Move, entry.Wanted.Wanted, objects.Authorization.Authorization, objects.Kind.Kind, verdict.Verdict.Verdict}
+use Rattle.desk_model.specs.declared.{entry.Move.Move, entry.Wanted.Wanted, objects.Authorization.Authorization, status.Kind.Kind, verdict.Verdict.Verdict}
 use Rattle.desk_model.specs.declared.entry.Move.TheVariants as move
 use Rattle.desk_model.specs.History.{clock, record_all, terms}
 use Rattle.desk_model.specs.Order.{listed_by, orders}

@@ -13,7 +13,7 @@ ghost use Rattle.desk_model.specs.declared.verdict.Verdict.TheVariants.{Moves as
 ghost use Rattle.desk_core.specs.{HasTexts.HasTexts, Named.IsNamedAs};
 ghost use Rattle.desk_core.specs.There.{NamesRows, IsAmong, IsThere};
 ghost use Rattle.core_rules.specs.Needs.{NumbersLeft};
-ghost use Rattle.core_changes.specs.Recorded.{IsAt, IsRecorded, IsUntouched};
+ghost use Rattle.core_changes.specs.Recorded.{GoesOn, IsAt, IsUntouched};
 ghost use Rattle.desk_model.specs.Questions.{account_on, authorization_on, challenge_of, order_on, owner_on};
 ghost use Rattle.core_changes.specs.Moved.{AreMoved};
 ghost use Rattle.core_replies.specs.Shown.{HasMoments};
@@ -40,8 +40,7 @@ fn act_on_rows(
 ) -> Result<Reply, AllocError>
     requires there { NamesRows (swept recording.old.counters.clock book.now) (moves moved.now) }
     ensures recorded { OnOk result ((m : ℕ) (es : List EntryOf) → IsUntouched m book.now es
-        → IsRecorded m book.now es recording.old.changes.items recording.old.counters
-        → IsRecorded m book.now (es ++ entry_of moved.now ∷ []) recording.new.changes.items recording.new.counters) }
+        → GoesOn m book.now es (entry_of moved.now ∷ []) recording.old recording.new) }
     ensures reply { IfOk result (λ r. (let T : Tables = effects recording.old.counters.clock (swept recording.old.counters.clock book.now)
         (entry_of moved.now ∷ []) in
         HasTexts T → r ≡ moved_reply T moved.now)) }
@@ -59,9 +58,7 @@ fn act_on_account(
     contacts: Sequence<Text>,
 ) -> Result<Reply, AllocError>
     requires { recording.old.counters.accounts < last_number }
-    ensures recorded { OnOk result ((m : ℕ) (es : List EntryOf)
-        → IsRecorded m book.now es recording.old.changes.items recording.old.counters
-        → IsRecorded m book.now (es ++ opened key contacts ∷ []) recording.new.changes.items recording.new.counters) }
+    ensures recorded { OnOk result ((m : ℕ) (es : List EntryOf) → GoesOn m book.now es (opened key contacts ∷ []) recording.old recording.new) }
     ensures reply { IfOk result (λ r. (m : ℕ) → IsAt m book.now recording.old.counters → IsOrdered book.now
         → r ≡ made_account (effects m (swept m book.now) (opened key contacts ∷ []))) }
 {
@@ -107,8 +104,7 @@ fn act_on_order(
     requires challenges { recording.old.counters.challenges + count_tokens wanted.now ≤ last_number }
     requires there { NamesRows (swept recording.old.counters.clock book.now) (orders account wanted.now) }
     ensures recorded { OnOk result ((m : ℕ) (es : List EntryOf) → IsOrdered book.now → IsUntouched m book.now es
-        → IsRecorded m book.now es recording.old.changes.items recording.old.counters
-        → IsRecorded m book.now (es ++ ordered account wanted.now ∷ []) recording.new.changes.items recording.new.counters) }
+        → GoesOn m book.now es (ordered account wanted.now ∷ []) recording.old recording.new) }
     ensures reply { IfOk result (λ r. (m : ℕ) → IsAt m book.now recording.old.counters → IsOrdered book.now
         → HasTexts (effects m (swept m book.now) (ordered account wanted.now ∷ []))
         → r ≡ made_order (effects m (swept m book.now) (ordered account wanted.now ∷ []))) }
@@ -128,8 +124,7 @@ pub(crate) fn act(
     requires numbers { NumbersLeft recording.old.counters verdict }
     requires there { NamesRows (swept recording.old.counters.clock book.now) verdict }
     ensures recorded { OnOk result ((m : ℕ) (es : List EntryOf) → IsOrdered book.now → IsUntouched m book.now es
-        → IsRecorded m book.now es recording.old.changes.items recording.old.counters
-        → IsRecorded m book.now (es ++ entries_of verdict) recording.new.changes.items recording.new.counters) }
+        → GoesOn m book.now es (entries_of verdict) recording.old recording.new) }
     ensures reply { IfOk result (λ r. (m : ℕ) → IsAt m book.now recording.old.counters → IsOrdered book.now
         → HasTexts (effects m (swept m book.now) (entries_of verdict))
         → r ≡ verdict_reply true (effects m (swept m book.now) (entries_of verdict)) verdict) }

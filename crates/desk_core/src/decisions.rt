@@ -16,7 +16,7 @@ ghost use Rattle.identifiers.specs.Parsed.{ask_of};
 ghost use Rattle.model_lives.specs.IsEnough.{IsEnoughFor};
 ghost use Rattle.core_rules.specs.Needs.{IsJudged, NumbersLeft};
 ghost use Rattle.desk_core.specs.Outcomes.{IsAskFault, IsLater, IsPassedFault, IsShort, IsSignedFault, MeetsAsk, MeetsSigned, Passes, Settles};
-ghost use Rattle.core_changes.specs.Recorded.{IsAt, IsRecorded, IsUntouched};
+ghost use Rattle.core_changes.specs.Recorded.{GoesOn, IsAt, IsRecorded, IsUntouched};
 
 use crate::acts::{act, show};
 use core_changes::Recording;
@@ -135,8 +135,7 @@ fn act_with_nonce(
     requires numbers { NumbersLeft recording.old.counters verdict }
     requires there { NamesRows (swept recording.old.counters.clock book.now) verdict }
     ensures recorded { OnOk result ((m : ℕ) (es : List EntryOf) → IsOrdered book.now → IsUntouched m book.now es
-        → IsRecorded m book.now es recording.old.changes.items recording.old.counters
-        → IsRecorded m book.now (es ++ entries_of verdict) recording.new.changes.items recording.new.counters) }
+        → GoesOn m book.now es (entries_of verdict) recording.old recording.new) }
     ensures reply { IfOk result (λ r. (m : ℕ) → IsAt m book.now recording.old.counters → IsOrdered book.now
         → HasTexts (effects m (swept m book.now) (entries_of verdict))
         → r ≡ with_nonce (nonce_text (book.now.meta.counters.nonces + 1) random)

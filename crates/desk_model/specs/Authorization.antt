@@ -6,15 +6,15 @@ use Rattle.desk_model.specs.{Name.Name, Account.account_key, Keys.thumbprint}
 use Rattle.desk_model.specs.Entry.{Entry, ordered, answered, reported, authorization_ended, account_ended, Wanted, new, reused, Ending, deactivated, revoked}
 use Rattle.desk_model.specs.Entry.{Outcome, good, History}
 use Rattle.desk_model.specs.History.{first, earlier, terms}
-pub use Rattle.desk_model.specs.declared.objects.Kind.{Kind}
-pub use Rattle.desk_model.specs.declared.objects.Kind.TheVariants.{Http01 as http_01, Dns01 as dns_01}
+pub use Rattle.desk_model.specs.declared.status.Kind.{Kind}
+pub use Rattle.desk_model.specs.declared.status.Kind.TheVariants.{Http01 as http_01, Dns01 as dns_01}
 pub use Rattle.desk_model.specs.declared.objects.Challenge.{Challenge}
 pub use Rattle.desk_model.specs.declared.objects.Authorization.{Authorization}
 pub use Rattle.desk_model.specs.declared.objects.Answer.{Answer}
 pub use Rattle.desk_model.specs.declared.objects.Report.{Report}
 pub use Rattle.desk_model.specs.declared.objects.AuthorizationEnd.{AuthorizationEnd}
-pub use Rattle.desk_model.specs.declared.objects.EndKind.{EndKind}
-use Rattle.desk_model.specs.declared.objects.EndKind.TheVariants as kind
+pub use Rattle.desk_model.specs.declared.status.EndKind.{EndKind}
+use Rattle.desk_model.specs.declared.status.EndKind.TheVariants as kind
 use Rattle.desk_model.specs.declared.{status.AuthzStatus.AuthzStatus, status.ChallengeStatus.ChallengeStatus}
 use Rattle.desk_model.specs.declared.status.AuthzStatus.TheVariants as authz
 use Rattle.desk_model.specs.declared.status.ChallengeStatus.TheVariants as chall

@@ -1,9 +1,9 @@
 -- The texts of facts, as the columns of a file keep them.
 use Rattle.std.specs.Prelude.{ℕ, List, codes}
-use Rattle.desk_model.specs.declared.{entry.Ending.Ending, entry.Outcome.Outcome, objects.EndKind.EndKind}
+use Rattle.desk_model.specs.declared.{entry.Ending.Ending, entry.Outcome.Outcome, status.EndKind.EndKind}
 use Rattle.desk_model.specs.declared.entry.Ending.TheVariants as ending
 use Rattle.desk_model.specs.declared.entry.Outcome.TheVariants as outcome
-use Rattle.desk_model.specs.declared.objects.EndKind.TheVariants as end
+use Rattle.desk_model.specs.declared.status.EndKind.TheVariants as end
 
 -- how an account ended
 abbrev pub ending_text : Ending → List ℕ

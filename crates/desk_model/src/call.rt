@@ -7,8 +7,7 @@ ghost use Rattle.desk_model.specs.Run.{IsFormedCall, IsFormedSigned};
 use crate::jwk::Jwk;
 use crate::limits::LONGEST_DETAIL;
 use crate::refusal::Refusal;
-use crate::sequence::Sequence;
-use crate::text::{Text, is_same_text};
+use crate::sequence::{Sequence, Text, is_same_text};
 
 /// One call: when it was made, the random bytes that it may take, and what it asks.
 #[derive(Drop)]

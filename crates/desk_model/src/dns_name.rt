@@ -4,8 +4,8 @@ ghost use Rattle.std.specs.{Int.is_in_range, List.list_all, Char.is_ascii_digit}
 ghost use Rattle.desk_model.specs.{Authorization.kinds_of, Name.same_name, Names.shown_name};
 ghost use Rattle.desk_model.specs.BaseName.{is_base_name, is_label, is_label_byte, labels_of, last_label};
 
-use crate::objects::Kind;
-use crate::text::Text;
+use crate::sequence::Text;
+use crate::status::Kind;
 use std::alloc::{AllocError, Global};
 use std::marker::Model;
 

@@ -8,10 +8,9 @@ ghost use Rattle.desk_model.specs.{Legal.wanted_name, Lookup.IsValueOf};
 use crate::call::OrderProblem;
 use crate::dns_name::DnsName;
 use crate::jwk::Jwk;
-use crate::objects::EndKind;
 use crate::policy::Policy;
-use crate::sequence::Sequence;
-use crate::text::Text;
+use crate::sequence::{Sequence, Text};
+use crate::status::EndKind;
 
 /// How an account ends, and how a client or the operator ends an authorization.
 #[derive(Clone, Copy)]

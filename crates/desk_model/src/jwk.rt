@@ -4,7 +4,7 @@ ghost use Rattle.std.specs.{Int.is_in_range, List.list_all};
 ghost use Rattle.desk_model.specs.Keys.{IsKeyText, is_number_text, is_base64url_byte};
 ghost use Rattle.desk_model.specs.KeyTexts.{IsNumberThen, IsLastNumber, AreTwoNumbers, HasEcShape, HasKeyShape, HasTwoNumbers, HasOneNumber};
 
-use crate::text::{Text, is_same_text};
+use crate::sequence::{Text, is_same_text};
 use std::alloc::AllocError;
 use std::marker::Model;
 

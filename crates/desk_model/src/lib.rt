@@ -2,9 +2,7 @@
 #![tactic(auto)]
 
 mod call;
-mod clock;
 mod dns_name;
-mod document;
 mod entry;
 mod jwk;
 mod limits;
@@ -16,15 +14,12 @@ mod reply;
 mod rows;
 mod sequence;
 mod status;
-mod text;
 mod verdict;
 
 pub use call::{
     Ask, BadKey, Call, FetchError, Finding, OfficeAsk, OrderProblem, Signed, Target, keep_form,
 };
-pub use clock::Clock;
 pub use dns_name::{DnsName, is_well_formed};
-pub use document::Document;
 pub use entry::{Dated, Ending, Entry, Move, Outcome, Wanted};
 pub use jwk::{Jwk, has_base64url_bytes, is_number};
 pub use limits::{
@@ -33,8 +28,7 @@ pub use limits::{
     MOST_NAMES, SHORTEST_BASE,
 };
 pub use objects::{
-    Account, AccountEnd, Answer, Authorization, AuthorizationEnd, Challenge, EndKind, Kind, Nonce,
-    Order, Report,
+    Account, AccountEnd, Answer, Authorization, AuthorizationEnd, Challenge, Nonce, Order, Report,
 };
 pub use payload::{
     AccountChange, AuthorizationChange, ChallengeChange, DNS, Identifier, KeyChange, NewAccount,
@@ -43,10 +37,9 @@ pub use policy::Policy;
 pub use refusal::Refusal;
 pub use reply::{Allow, Body, Problem, Reply, Subproblem};
 pub use rows::{
-    AccountRow, AuthorizationRow, ChallengeRow, Change, Counters, DatedBytes, DatedProblem, Listed,
-    Meta, OrderRow, StatusFault,
+    AccountRow, AuthorizationRow, ChallengeRow, Change, Clock, Counters, DatedBytes, DatedProblem,
+    Listed, Meta, OrderRow, StatusFault,
 };
-pub use sequence::Sequence;
-pub use status::{AccountStatus, AuthzStatus, ChallengeStatus, OrderStatus};
-pub use text::{Text, is_same_bytes, is_same_text};
+pub use sequence::{Document, Sequence, Text, is_same_bytes, is_same_text};
+pub use status::{AccountStatus, AuthzStatus, ChallengeStatus, EndKind, Kind, OrderStatus};
 pub use verdict::{Listing, Shows, Verdict};

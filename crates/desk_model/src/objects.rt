@@ -1,13 +1,10 @@
 //! What a history makes, as it was made.
-ghost use Rattle.std.specs.Prelude.{◌≡◌};
-ghost use Rattle.desk_model.specs.{Authorization.status_of, Document.kind_text, Facts.end_kind_text, Lookup.IsValueOf};
 
 use crate::dns_name::DnsName;
 use crate::entry::{Ending, Outcome};
 use crate::jwk::Jwk;
-use crate::sequence::Sequence;
-use crate::status::AuthzStatus;
-use crate::text::Text;
+use crate::sequence::{Sequence, Text};
+use crate::status::{EndKind, Kind};
 
 /// A nonce: its serial, its random bytes and when it was issued (RFC 8555, 6.5).
 #[derive(Clone, Copy)]
@@ -77,38 +74,6 @@ pub struct Challenge {
     pub token: [u8; 16],
 }
 
-/// How a challenge is answered (RFC 8555, 8.3, 8.4).
-#[derive(Clone, Copy)]
-pub enum Kind {
-    /// By a resource of the name's HTTP server (RFC 8555, 8.3).
-    Http01,
-    /// By a TXT record beside the name (RFC 8555, 8.4).
-    Dns01,
-}
-
-impl Kind {
-    /// The type of the challenge as RFC 8555, 8.3 and 8.4, spell it.
-    pub fn as_str(self) -> &'static str
-        ensures { result.now ≡ kind_text self }
-    {
-        match self {
-            Kind::Http01 => "http-01",
-            Kind::Dns01 => "dns-01",
-        }
-    }
-
-    /// The type of a challenge that a text spells (RFC 8555, 8.3, 8.4), or `None` where it spells none.
-    pub fn from_text(text: &str) -> Option<Kind>
-        ensures { IsValueOf kind_text text.now result }
-    {
-        match text {
-            "http-01" => Some(Kind::Http01),
-            "dns-01" => Some(Kind::Dns01),
-            _ => None,
-        }
-    }
-}
-
 /// When a challenge was answered, and under which key.
 #[derive(Clone, Copy)]
 pub struct Answer {
@@ -134,53 +99,6 @@ pub struct AccountEnd {
     pub date: u64,
     /// Who ended it, which is its status from then on.
     pub ending: Ending,
-}
-
-/// How an authorization ended: by a bad report, by its client or with its account, or by the operator.
-#[derive(Clone, Copy)]
-pub enum EndKind {
-    /// By a report other than a good one (RFC 8555, 7.1.6).
-    Invalid,
-    /// By its client, or with its account, which the client deactivated (RFC 8555, 7.5.2).
-    Deactivated,
-    /// By the operator, or with its account, which the operator revoked.
-    Revoked,
-}
-
-impl EndKind {
-    /// The end of an authorization as the columns of a file keep it.
-    pub fn as_str(self) -> &'static str
-        ensures { result.now ≡ end_kind_text self }
-    {
-        match self {
-            EndKind::Invalid => "invalid",
-            EndKind::Deactivated => "deactivated",
-            EndKind::Revoked => "revoked",
-        }
-    }
-
-    /// The end of an authorization that a text in columns spells (RFC 8555, 7.1.6), or `None` where it spells none.
-    pub fn from_text(text: &str) -> Option<EndKind>
-        ensures { IsValueOf end_kind_text text.now result }
-    {
-        match text {
-            "invalid" => Some(EndKind::Invalid),
-            "deactivated" => Some(EndKind::Deactivated),
-            "revoked" => Some(EndKind::Revoked),
-            _ => None,
-        }
-    }
-
-    /// The status that it gives the authorization (RFC 8555, 7.1.6).
-    pub fn status(self) -> AuthzStatus
-        ensures { result ≡ status_of self }
-    {
-        match self {
-            EndKind::Invalid => AuthzStatus::Invalid,
-            EndKind::Deactivated => AuthzStatus::Deactivated,
-            EndKind::Revoked => AuthzStatus::Revoked,
-        }
-    }
 }
 
 /// When and how an authorization ended.

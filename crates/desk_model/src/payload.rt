@@ -1,7 +1,7 @@
 //! What the payloads of signed requests say.
+
 use crate::jwk::Jwk;
-use crate::sequence::Sequence;
-use crate::text::Text;
+use crate::sequence::{Sequence, Text};
 
 /// A newAccount payload (RFC 8555, 7.3).
 #[derive(Drop)]

@@ -7,7 +7,7 @@ ghost use Rattle.desk_model.specs.Terms.{Terms, are_terms, is_base, is_life, has
 
 use crate::limits::{LONGEST_BASE, LONGEST_LIFE, SHORTEST_BASE};
 use crate::objects::Nonce;
-use crate::text::Text;
+use crate::sequence::Text;
 use std::alloc::{AllocError, Global};
 use std::marker::Model;
 

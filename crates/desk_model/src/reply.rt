@@ -1,8 +1,7 @@
 //! What the desk answers.
-use crate::document::Document;
+
 use crate::refusal::Refusal;
-use crate::sequence::Sequence;
-use crate::text::Text;
+use crate::sequence::{Document, Sequence, Text};
 
 /// A reply: an HTTP status, the fields that some replies carry, and a body.
 #[derive(Drop)]

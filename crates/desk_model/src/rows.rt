@@ -1,17 +1,18 @@
 //! The rows of a desk's tables, and changes of them.
-ghost use Rattle.std.specs.Prelude.{◌≡◌};
+ghost use Rattle.std.specs.Prelude.{◌≡◌, ◌<◌, ◌≤◌, MatchOption};
 ghost use Rattle.desk_model.specs.Document.{answer_thumb};
+ghost use Rattle.desk_model.specs.Limits.{last_moment};
 
 use crate::call::OrderProblem;
-use crate::clock::Clock;
 use crate::dns_name::DnsName;
 use crate::jwk::Jwk;
-use crate::objects::{AccountEnd, Answer, AuthorizationEnd, Kind, Nonce, Report};
+use crate::limits::LAST_MOMENT;
+use crate::objects::{AccountEnd, Answer, AuthorizationEnd, Nonce, Report};
 use crate::policy::Policy;
-use crate::sequence::Sequence;
-use crate::status::{AccountStatus, AuthzStatus, ChallengeStatus, OrderStatus};
-use crate::text::Text;
+use crate::sequence::{Sequence, Text};
+use crate::status::{AccountStatus, AuthzStatus, ChallengeStatus, Kind, OrderStatus};
 use std::alloc::AllocError;
+use std::marker::Model;
 
 /// What calls move of a desk's own row: its clock, and the last number given of each kind.
 #[derive(Clone, Copy)]
@@ -295,4 +296,53 @@ pub enum StatusFault {
         /// The status that its other columns give at the moment of the check.
         derived: ChallengeStatus,
     },
+}
+
+// ---- the clock: the latest moment at which something was recorded
+
+/// A moment in seconds since 1970, not past the last one; contracts see the number.
+#[derive(Clone, Copy)]
+pub struct Clock {
+    moment: u64,
+}
+
+impl Model for Clock {
+    ghost use Rattle.std.specs.Prelude.{ℕ, ◌≤◌};
+    ghost use Rattle.desk_model.specs.Limits.{last_moment};
+
+    ghost Value = { ℕ };
+
+    ghost view = { λ c. c.moment };
+
+    ghost invariant = { λ c. c.moment ≤ last_moment };
+
+    ghost inverse = { λ moment. record { moment = moment } };
+}
+
+impl Clock {
+    /// The clock at a moment, or `None` where that is past the last one.
+    pub fn new(moment: u64) -> Option<Clock>
+        ensures { MatchOption result (last_moment < moment) (λ clock. (clock ≡ moment) × (moment ≤ last_moment)) }
+    {
+        if moment > LAST_MOMENT {
+            return None;
+        }
+        Some(Clock { moment })
+    }
+
+    /// The clock at a moment that is not past the last one.
+    pub fn at(moment: u64) -> Clock
+        requires { moment ≤ last_moment }
+        ensures { result ≡ moment }
+    {
+        Clock { moment }
+    }
+
+    /// The moment, in seconds since 1970.
+    pub fn moment(self) -> u64
+        ensures same { result ≡ self }
+        ensures in_time { result ≤ last_moment }
+    {
+        self.moment
+    }
 }

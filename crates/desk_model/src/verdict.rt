@@ -4,8 +4,7 @@ use crate::entry::{Move, Wanted};
 use crate::jwk::Jwk;
 use crate::refusal::Refusal;
 use crate::reply::Subproblem;
-use crate::sequence::Sequence;
-use crate::text::Text;
+use crate::sequence::{Sequence, Text};
 
 /// Refused by the first test that fails, else what is recorded besides nonces; what the reply shows follows from it.
 #[derive(Drop)]

@@ -2,7 +2,6 @@
 //! so of them.
 ghost use Rattle.std.specs.Prelude.{◌≡◌, ◌<◌, IfOk, IfSome, Some, slice_index, slice_set};
 ghost use Rattle.desk_model.specs.Change.{applied, applied_one};
-ghost use Rattle.desk_model.specs.Derived.{authz_code, order_code};
 ghost use Rattle.desk_model.specs.Tables.{Tables};
 ghost use Rattle.model_laws.specs.Ordered.{Ascends};
 ghost use Rattle.model_lives.specs.LookUps.{nonces_where};
@@ -33,35 +32,6 @@ fn nonce_place(serial: u64) -> usize
     ensures in_range { result < 8 }
 {
     (serial % 8) as usize
-}
-
-// The place of a status among the ends.
-fn order_place(status: OrderStatus) -> usize
-    ensures code { result ≡ order_code status }
-    ensures in_range { result < 5 }
-{
-    match status {
-        OrderStatus::Pending => 0,
-        OrderStatus::Ready => 1,
-        OrderStatus::Processing => 2,
-        OrderStatus::Valid => 3,
-        OrderStatus::Invalid => 4,
-    }
-}
-
-// The place of a status among the ends.
-fn authorization_place(status: AuthzStatus) -> usize
-    ensures code { result ≡ authz_code status }
-    ensures in_range { result < 6 }
-{
-    match status {
-        AuthzStatus::Pending => 0,
-        AuthzStatus::Valid => 1,
-        AuthzStatus::Invalid => 2,
-        AuthzStatus::Deactivated => 3,
-        AuthzStatus::Expired => 4,
-        AuthzStatus::Revoked => 5,
-    }
 }
 
 // The moment from which rows are there, where the earliest of them is found.
@@ -158,14 +128,14 @@ impl Known {
     pub(crate) fn order_end(&self, status: OrderStatus) -> u64
         ensures { result ≡ slice_index self.now.order_ends (order_code status) }
     {
-        self.order_ends[order_place(status)]
+        self.order_ends[status.place()]
     }
 
     /// A moment, in seconds since 1970, before which no authorization of a status ends.
     pub(crate) fn authorization_end(&self, status: AuthzStatus) -> u64
         ensures { result ≡ slice_index self.now.authorization_ends (authz_code status) }
     {
-        self.authorization_ends[authorization_place(status)]
+        self.authorization_ends[status.place()]
     }
 
     /// Keeps a copy of the desk's own row, if there is memory for it.
@@ -187,14 +157,14 @@ impl Known {
     pub(crate) fn note_order_end(&mut self, status: OrderStatus, earliest: Option<u64>)
         ensures { self.new ≡ record self.old { order_ends = slice_set self.old.order_ends (order_code status) (bound_of earliest) } }
     {
-        self.order_ends[order_place(status)] = bound_of(earliest);
+        self.order_ends[status.place()] = bound_of(earliest);
     }
 
     /// Keeps when the earliest authorization of a status ends.
     pub(crate) fn note_authorization_end(&mut self, status: AuthzStatus, earliest: Option<u64>)
         ensures { self.new ≡ record self.old { authorization_ends = slice_set self.old.authorization_ends (authz_code status) (bound_of earliest) } }
     {
-        self.authorization_ends[authorization_place(status)] = bound_of(earliest);
+        self.authorization_ends[status.place()] = bound_of(earliest);
     }
 
     // Knows a nonce that is put.
@@ -226,14 +196,10 @@ impl Known {
             Change::PutNonce(nonce) => self.add_nonce(nonce),
             Change::PutAuthorization(row) => lower(
                 &mut self.authorization_ends,
-                authorization_place(row.status),
+                row.status.place(),
                 row.expires,
             ),
-            Change::PutOrder(row) => lower(
-                &mut self.order_ends,
-                order_place(row.status),
-                row.expires,
-            ),
+            Change::PutOrder(row) => lower(&mut self.order_ends, row.status.place(), row.expires),
             Change::RemoveNonce(serial) => self.remove_nonce(*serial),
             Change::PutAccount(_) => {}
         }

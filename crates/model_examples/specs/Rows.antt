@@ -1,12 +1,12 @@
 -- The rows that a desk keeps, and which stored statuses are faults.
 use Rattle.desk_model.specs.declared.{rows.ChallengeRow.ChallengeRow, rows.AuthorizationRow.AuthorizationRow, rows.AccountRow.AccountRow}
-use Rattle.desk_model.specs.declared.{rows.OrderRow.OrderRow, objects.Kind.Kind}
+use Rattle.desk_model.specs.declared.{rows.OrderRow.OrderRow, status.Kind.Kind}
 use Rattle.std.specs.Prelude.{◌≡◌, ℕ, List, [], ◌∷◌, map, Some, None, codes}
 use Rattle.desk_model.specs.Tables.{Tables, picture, tables_at}
 use Rattle.desk_model.specs.{Derived.status_faults, Name.Name}
 use Rattle.desk_model.specs.declared.rows.StatusFault.TheVariants as fault
-use Rattle.desk_model.specs.declared.objects.EndKind.TheVariants as kind
-use Rattle.desk_model.specs.declared.objects.Kind.TheVariants.{Http01 as http_01, Dns01 as dns_01}
+use Rattle.desk_model.specs.declared.status.EndKind.TheVariants as kind
+use Rattle.desk_model.specs.declared.status.Kind.TheVariants.{Http01 as http_01, Dns01 as dns_01}
 use Rattle.desk_model.specs.declared.status.AccountStatus.TheVariants as account
 use Rattle.desk_model.specs.declared.status.OrderStatus.TheVariants as order
 use Rattle.desk_model.specs.declared.status.AuthzStatus.TheVariants as authz

@@ -8,7 +8,7 @@ use Rattle.desk_model.specs.{BaseName.is_base_name, Entry.History, History.terms
 use Rattle.desk_model.specs.Legal.{EachFollows, Follows, is_problem, is_wanted, may_follow}
 use Rattle.desk_model.specs.Nonce.{issued_by, nonces}
 use Rattle.desk_model.specs.Order.{failing, failure}
-use Rattle.desk_model.specs.declared.{entry.Dated.Dated, entry.Entry.Entry, entry.Wanted.Wanted, objects.Authorization.Authorization, objects.Kind.Kind}
+use Rattle.desk_model.specs.declared.{entry.Dated.Dated, entry.Entry.Entry, entry.Wanted.Wanted, objects.Authorization.Authorization, status.Kind.Kind}
 use Rattle.desk_model.specs.declared.{rows.DatedProblem.DatedProblem}
 use Rattle.desk_model.specs.declared.entry.Entry.TheVariants.{Issued as issued, Ordered as ordered, Failed as failed}
 use Rattle.desk_model.specs.declared.entry.Wanted.TheVariants.{New, Reused}

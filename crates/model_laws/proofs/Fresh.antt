@@ -13,7 +13,7 @@ use Rattle.desk_model.specs.Order.{orders, ordered_by, listed_by}
 use Rattle.desk_model.specs.Tables.{account_row, challenge_row, authorization_row, order_row, row_of_challenge}
 use Rattle.desk_model.specs.Derived.{restated_authorization, restated_order}
 use Rattle.desk_model.specs.Effect.{names_order, fresh_account, fresh_challenge, fresh_authorization, fresh_order}
-use Rattle.desk_model.specs.declared.objects.EndKind.TheVariants as kind
+use Rattle.desk_model.specs.declared.status.EndKind.TheVariants as kind
 use Rattle.desk_model.specs.declared.status.AccountStatus.TheVariants as account
 use Rattle.desk_model.specs.declared.{entry.Dated.Dated, entry.Ending.Ending, entry.Entry.Entry, entry.Wanted.Wanted, objects.Account.Account}
 use Rattle.desk_model.specs.declared.{objects.AccountEnd.AccountEnd, objects.Authorization.Authorization, objects.AuthorizationEnd.AuthorizationEnd}

@@ -12,7 +12,7 @@ use Rattle.desk_model.specs.Authorization.{authorizations, has_challenge, made_b
 use Rattle.desk_model.specs.Order.{orders, ordered_by}
 use Rattle.desk_model.specs.Legal.{EachFollows, may_follow, may_want, is_pending_challenge, is_processing_challenge}
 use Rattle.desk_model.specs.declared.{entry.Dated.Dated, entry.Entry.Entry, entry.Wanted.Wanted, objects.Authorization.Authorization}
-use Rattle.desk_model.specs.declared.{objects.Challenge.Challenge, objects.Kind.Kind, objects.Order.Order}
+use Rattle.desk_model.specs.declared.{objects.Challenge.Challenge, status.Kind.Kind, objects.Order.Order}
 use Rattle.desk_model.specs.declared.entry.Entry.TheVariants.{Issued as issued, Spent as spent, Opened as opened, ContactsChanged as contacts_changed}
 use Rattle.desk_model.specs.declared.entry.Entry.TheVariants.{KeyChanged as key_changed, AccountEnded as account_ended, Ordered as ordered}
 use Rattle.desk_model.specs.declared.entry.Entry.TheVariants.{Answered as answered, Reported as reported, AuthorizationEnded as authorization_ended}

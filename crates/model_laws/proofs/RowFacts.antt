@@ -15,12 +15,12 @@ use Rattle.desk_model.specs.Tables.{account_row, authorization_row, challenge_ro
 use Rattle.desk_model.specs.Derived.{is_proved, restated_authorization}
 use Rattle.desk_model.specs.Effect.{key_in, key_numbered, noted_challenge, answered_challenge, reported_challenge, noted_authorization, row_ends, has_row}
 use Rattle.desk_model.specs.Effect.{touches_authorization, moved_authorization, is_overdue, swept_authorization}
-use Rattle.desk_model.specs.declared.objects.EndKind.TheVariants as kind
+use Rattle.desk_model.specs.declared.status.EndKind.TheVariants as kind
 use Rattle.desk_model.specs.declared.status.AuthzStatus.TheVariants as authz
 use Rattle.desk_model.specs.declared.status.ChallengeStatus.TheVariants as chall
 use Rattle.desk_model.specs.declared.{entry.Entry.Entry, entry.Outcome.Outcome, objects.Account.Account, objects.Answer.Answer}
 use Rattle.desk_model.specs.declared.{objects.Authorization.Authorization, objects.AuthorizationEnd.AuthorizationEnd, objects.Challenge.Challenge}
-use Rattle.desk_model.specs.declared.{objects.EndKind.EndKind, objects.Report.Report, rows.AccountRow.AccountRow, rows.AuthorizationRow.AuthorizationRow}
+use Rattle.desk_model.specs.declared.{status.EndKind.EndKind, objects.Report.Report, rows.AccountRow.AccountRow, rows.AuthorizationRow.AuthorizationRow}
 use Rattle.desk_model.specs.declared.{rows.ChallengeRow.ChallengeRow}
 use Rattle.desk_model.specs.declared.entry.Entry.TheVariants.{AccountEnded as account_ended, Answered as answered, Reported as reported}
 use Rattle.desk_model.specs.declared.entry.Entry.TheVariants.{AuthorizationEnded as authorization_ended}

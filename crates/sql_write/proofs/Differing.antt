@@ -17,9 +17,9 @@ use Rattle.sql_write.specs.Differences.{account_difference, authorization_differ
 use Rattle.sql_write.specs.Differences.{is_same_authorization, is_same_challenge, is_same_date, is_same_dated, is_same_end, is_same_fact, is_same_report}
 use Rattle.sql_write.specs.Differences.{keeps_authorization, keeps_challenge, keeps_order, keeps_policy, order_difference}
 use Rattle.sql_write.specs.Write.{difference, write}
-use Rattle.sql_write.specs.declared.differences.{Write.Write, Difference.Difference}
-use Rattle.sql_write.specs.declared.differences.Write.TheVariants.{Upsert, Insert, Update}
-use Rattle.sql_write.specs.declared.differences.Difference.TheVariants.{Same, Moved, Other}
+use Rattle.sql_write.specs.declared.standing.{Write.Write, Difference.Difference}
+use Rattle.sql_write.specs.declared.standing.Write.TheVariants.{Upsert, Insert, Update}
+use Rattle.sql_write.specs.declared.standing.Difference.TheVariants.{Same, Moved, Other}
 use Rattle.sql_tables.specs.Images.{account_kept, authorization_image, authorization_kept, challenge_image, challenge_kept, formatted_columns}
 use Rattle.sql_tables.specs.Images.{int_or_null, key_image, meta_kept, order_kept, text_or_null}
 use Rattle.sql_tables.specs.Layouts.{account_layout, authorization_layout, challenge_layout, formatted_layout, key_layout}

@@ -18,8 +18,8 @@ use Rattle.desk_model.specs.declared.rows.Change.TheVariants.{PutMeta, PutNonce,
 use Rattle.sql_write.specs.Makes.{AppendsAll, Makes, PlacesAll, PutsOver, SetsAuthorization, SetsMeta, SetsOrder, WritesOrder, appended}
 use Rattle.sql_write.specs.{Refusals.HasWritten, Statements.statements_of}
 use Rattle.sql_write.specs.Standing.{HasSome, IsPartIn, IsWithout, known_account, known_authorization, known_meta, known_order}
-use Rattle.sql_write.specs.declared.{fault.SaveFault.SaveFault, differences.Write.Write}
-use Rattle.sql_write.specs.declared.differences.Write.TheVariants.{Upsert, Insert, Update}
+use Rattle.sql_write.specs.declared.{fault.SaveFault.SaveFault, standing.Write.Write}
+use Rattle.sql_write.specs.declared.standing.Write.TheVariants.{Upsert, Insert, Update}
 use Rattle.sql_write.proofs.{ChallengeNumbers.keys_owned, InPlace.put_alike, Over.has_own, PlacedRows.appended_rows, Written.written_as}
 use Rattle.sql_write.proofs.ChildrenStanding.{IsThere, challenges_stand, keys_stand}
 use Rattle.sql_write.proofs.KeyRows.{keys_flat, keys_within}

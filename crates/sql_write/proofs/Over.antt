@@ -14,8 +14,8 @@ use Rattle.sql_write.proofs.Written.{nothing_written, written_as, written_with}
 use Rattle.sql_write.specs.Makes.{PutsAllOver, PutsOver, Sets, StandUnder, Writes}
 use Rattle.sql_write.specs.{Write.write, Refusals.HasWritten}
 use Rattle.sql_write.specs.Statements.{Sql, of_some}
-use Rattle.sql_write.specs.declared.{fault.SaveFault.SaveFault, differences.Write.Write, differences.Difference.Difference}
-use Rattle.sql_write.specs.declared.differences.Difference.TheVariants.{Same, Moved, Other}
+use Rattle.sql_write.specs.declared.{fault.SaveFault.SaveFault, standing.Write.Write, standing.Difference.Difference}
+use Rattle.sql_write.specs.declared.standing.Difference.TheVariants.{Same, Moved, Other}
 use Rattle.sql_tables.specs.{Effects.BecomesRows, Sorted.sorted_by}
 use Rattle.sql_tables.specs.Layouts.{HasRows, Layout}
 use Rattle.sql_tables.proofs.Keyed.{put_ascends, ranked}

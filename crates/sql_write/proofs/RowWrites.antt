@@ -10,8 +10,8 @@ use Rattle.sql_write.specs.Statements.{RowWriting, account_writing, authorizatio
 use Rattle.sql_write.specs.Statements.{nonce_writing, order_writing, sql_by, writes}
 use Rattle.sql_write.specs.declared.fault.SaveFault.{SaveFault}
 use Rattle.sql_write.specs.declared.fault.SaveFault.TheVariants as save
-use Rattle.sql_write.specs.declared.{fault.WriteFault.WriteFault, differences.Write.Write}
-use Rattle.sql_write.specs.declared.differences.Write.TheVariants.{Upsert, Insert, Update}
+use Rattle.sql_write.specs.declared.{fault.WriteFault.WriteFault, standing.Write.Write}
+use Rattle.sql_write.specs.declared.standing.Write.TheVariants.{Upsert, Insert, Update}
 use Rattle.sql_write.proofs.Written.{none_written, run_written}
 use Rattle.sql_tables.specs.Images.{account_kept, authorization_kept}
 use Rattle.sql_tables.specs.Images.{challenge_kept, formatted_columns, meta_kept}

@@ -17,8 +17,8 @@ use Rattle.sql_write.specs.Makes.{AddsOrPuts, AppendsAll, AppendsOrPlaces, ArePl
 use Rattle.sql_write.specs.Makes.{RenewsOrPuts, Writes, WritesListed, appended}
 use Rattle.sql_write.specs.Standing.{known_after, last_given}
 use Rattle.sql_write.specs.Statements.{save_statements, statements_from, statements_of}
-use Rattle.sql_write.specs.declared.differences.Write.{Write}
-use Rattle.sql_write.specs.declared.differences.Write.TheVariants.{Upsert, Insert, Update}
+use Rattle.sql_write.specs.declared.standing.Write.{Write}
+use Rattle.sql_write.specs.declared.standing.Write.TheVariants.{Upsert, Insert, Update}
 use Rattle.model_laws.proofs.{RowLists.puts_append, Recorded.applied-append}
 use Rattle.sql_write.proofs.Over.{over_both, over_none, over_one}
 use Rattle.sql_write.proofs.Written.{Turns}

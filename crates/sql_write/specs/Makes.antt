@@ -13,8 +13,8 @@ use Rattle.desk_model.specs.declared.rows.{AuthorizationRow.AuthorizationRow, Ch
 use Rattle.desk_model.specs.declared.rows.{OrderRow.OrderRow}
 use Rattle.sql_write.specs.Fitting.{AreFit, IsFit}
 use Rattle.sql_write.specs.Standing.{IsPartIn, known_challenge, known_key}
-use Rattle.sql_write.specs.declared.differences.Write.{Write}
-use Rattle.sql_write.specs.declared.differences.Write.TheVariants.{Upsert, Insert, Update}
+use Rattle.sql_write.specs.declared.standing.Write.{Write}
+use Rattle.sql_write.specs.declared.standing.Write.TheVariants.{Upsert, Insert, Update}
 use Rattle.sql_tables.specs.Effects.{Adds, Appends, Becomes, BecomesRows, Places, Puts, Renews, is_same_place}
 use Rattle.sql_tables.specs.Hidden.{IsPlaced, next, number}
 use Rattle.sql_tables.specs.{Holds.Holds, Images.order_kept}

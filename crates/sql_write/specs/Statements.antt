@@ -14,8 +14,8 @@ use Rattle.desk_model.specs.{Change.applied_one, Tables.Tables}
 use Rattle.sql_write.specs.Differences.{account_difference, authorization_difference, challenge_difference, key_difference, meta_difference, order_difference}
 use Rattle.sql_write.specs.Write.{write}
 use Rattle.sql_write.specs.Standing.{known_account, known_authorization, known_challenge, known_key, known_meta, known_order, last_given}
-use Rattle.sql_write.specs.declared.differences.Write.{Write}
-use Rattle.sql_write.specs.declared.differences.Write.TheVariants.{Upsert, Insert, Update}
+use Rattle.sql_write.specs.declared.standing.Write.{Write}
+use Rattle.sql_write.specs.declared.standing.Write.TheVariants.{Upsert, Insert, Update}
 use Rattle.sql_schema.specs.declared.accounts.TheConstants as account
 use Rattle.sql_schema.specs.declared.authorizations.TheConstants as authz
 use Rattle.sql_schema.specs.declared.challenges.TheConstants as chall

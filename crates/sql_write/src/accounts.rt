@@ -10,8 +10,8 @@ ghost use Rattle.sql_write.specs.declared.fault.WriteFault.TheVariants.{Memory};
 ghost use Rattle.sql_tables.specs.Images.{account_kept, account_moved, account_params, text_or_null};
 ghost use Rattle.sql_tables.specs.Layouts.{account_layout};
 
-use crate::differences::Write;
 use crate::fault::{SaveFault, WriteFault};
+use crate::standing::Write;
 use crate::statements::{date_column, int_or_null, number_column, text, write_row};
 use desk_model::{AccountEnd, AccountRow, Text};
 use json_texts::written_list;

@@ -13,8 +13,8 @@ ghost use Rattle.sql_tables.specs.Images.{challenge_params};
 ghost use Rattle.sql_tables.specs.Layouts.{authorization_layout, challenge_layout, key_layout};
 ghost use Rattle.store_columns.specs.Flat.{bare_row};
 
-use crate::differences::Write;
 use crate::fault::{SaveFault, WriteFault};
+use crate::standing::Write;
 use crate::statements::{
     date_column, int_or_null, number_column, text, wildcard_column, write_row,
 };

@@ -6,15 +6,14 @@ ghost use Rattle.desk_model.specs.Kept.{EachOf};
 ghost use Rattle.sql_write.specs.Makes.{PutsAll, PutsAllOver, PutsChallenges, PutsOver, WritesListed, challenge_under, key_under};
 ghost use Rattle.sql_write.specs.{Numbers.IsNotTooLarge, Refusals.HasWritten, Standing.known_key};
 ghost use Rattle.sql_write.specs.Statements.{key_writing, lacks_key, sets_answer, sets_challenge, sets_challenges, sets_key, writes, writes_listed};
-ghost use Rattle.sql_write.specs.declared.differences.Write.TheVariants.{Upsert};
+ghost use Rattle.sql_write.specs.declared.standing.Write.TheVariants.{Upsert};
 ghost use Rattle.sql_tables.specs.Layouts.{challenge_layout, key_layout};
 ghost use Rattle.sql_write.specs.Fits.{FitsChallenge, FitsKey, FitsListed};
 
 use crate::authorizations::{write_challenge, write_key};
-use crate::differences::{Write, challenge_difference, key_difference};
 use crate::fault::SaveFault;
 use crate::orders::write_listed;
-use crate::standing::known_challenge;
+use crate::standing::{Write, challenge_difference, key_difference, known_challenge};
 use desk_model::{AuthorizationRow, ChallengeRow, Listed};
 use sqlite::{Alter, Transaction};
 use store_columns::AnswerKey;

@@ -5,7 +5,6 @@ mod accounts;
 mod authorizations;
 mod children;
 mod definitions;
-mod differences;
 mod fault;
 mod laws;
 mod making;

@@ -7,9 +7,9 @@ ghost use Rattle.sql_write.specs.{Making.MakesDesk, Numbers.IsNotTooLarge, State
 ghost use Rattle.sql_write.specs.Refusals.{HasWritten, IsCause};
 
 use crate::definitions::define_all;
-use crate::differences::Write;
 use crate::fault::SaveFault;
 use crate::meta::write_meta;
+use crate::standing::Write;
 use crate::statements::end;
 use desk_model::Meta;
 use sqlite::{Alter, Connection, Transaction};

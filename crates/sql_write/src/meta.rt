@@ -7,8 +7,8 @@ ghost use Rattle.sql_write.specs.Statements.{meta_writing, writes};
 ghost use Rattle.sql_tables.specs.Images.{formatted_columns, meta_kept, meta_moved, meta_params};
 ghost use Rattle.sql_tables.specs.Layouts.{formatted_layout};
 
-use crate::differences::Write;
 use crate::fault::{SaveFault, WriteFault};
+use crate::standing::Write;
 use crate::statements::{number_column, text, write_row};
 use desk_model::Meta;
 use sql_schema::meta;

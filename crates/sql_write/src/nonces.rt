@@ -7,8 +7,8 @@ ghost use Rattle.sql_write.specs.Statements.{nonce_writing, removes_nonce, write
 ghost use Rattle.sql_tables.specs.{Effects.Removes, Images.nonce_params, Layouts.nonce_layout};
 ghost use Rattle.sql_write.specs.Fits.{Fits, FitsNonce};
 
-use crate::differences::Write;
 use crate::fault::SaveFault;
+use crate::standing::Write;
 use crate::statements::{number_column, run, write_row};
 use desk_model::Nonce;
 use sql_schema::nonces;

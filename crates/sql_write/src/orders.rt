@@ -10,8 +10,8 @@ ghost use Rattle.sql_write.specs.Statements.{order_writing, writes, writes_liste
 ghost use Rattle.sql_tables.specs.Images.{blob_or_null, order_kept, order_moved, order_params};
 ghost use Rattle.sql_tables.specs.Layouts.{order_layout};
 
-use crate::differences::Write;
 use crate::fault::{SaveFault, WriteFault};
+use crate::standing::Write;
 use crate::statements::{date_column, int_or_null, number_column, text, text_or_null, write_row};
 use desk_model::{DatedBytes, DatedProblem, Listed, OrderRow, Text};
 use sql_schema::{listed, orders};

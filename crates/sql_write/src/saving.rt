@@ -18,14 +18,14 @@ ghost use Rattle.sql_write.specs.Fits.{FitsAccount, FitsAuthorization, FitsMeta,
 use crate::accounts::write_account;
 use crate::authorizations::write_authorization;
 use crate::children::{set_challenges, write_all_listed};
-use crate::differences::{
-    Write, account_difference, authorization_difference, meta_difference, order_difference,
-};
 use crate::fault::SaveFault;
 use crate::meta::write_meta;
 use crate::nonces::{remove_nonce, write_nonce};
 use crate::orders::write_order;
-use crate::standing::{Highest, known_row, last_given};
+use crate::standing::{
+    Highest, Write, account_difference, authorization_difference, known_row, last_given,
+    meta_difference, order_difference,
+};
 use crate::statements::end;
 use desk_book::Book;
 use desk_model::{AccountRow, AuthorizationRow, Change, Counters, Meta, Nonce, OrderRow};

@@ -11,8 +11,8 @@ ghost use Rattle.sqlite_value.specs.Value.{owned};
 ghost use Rattle.sql_tables.specs.Images.{int_or_null, text_or_null};
 ghost use Rattle.store_columns.specs.{Columns.wildcard_column, Limits.IfRecorded};
 
-use crate::differences::Write;
 use crate::fault::{SaveFault, WriteFault};
+use crate::standing::Write;
 use desk_model::Text;
 use sql_schema::Writing;
 use sqlite::types::ValueRef;

@@ -12,9 +12,9 @@ ghost use Rattle.sql_write.specs.Fits.{FitsKey, FitsMeta};
 
 use crate::children::write_keys;
 use crate::definitions::define_key_table;
-use crate::differences::Write;
 use crate::fault::SaveFault;
 use crate::meta::write_meta;
+use crate::standing::Write;
 use crate::statements::end;
 use desk_model::Meta;
 use sqlite::{Alter, Connection, Transaction};

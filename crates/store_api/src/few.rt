@@ -14,8 +14,10 @@ use crate::enough::{Needs, needs_of};
 use crate::fault::StorageFault;
 use crate::links::{add_bare_listed, add_each, add_lacking, add_linked, add_missing};
 use crate::look_ups::LookUps;
-use crate::named::{add_asked_names, named_in};
-use crate::touched::{Rows, add_asked, add_keyed, add_new_keyed, add_nonces, add_owner};
+use crate::named::{
+    add_asked, add_asked_names, add_keyed, add_new_keyed, add_nonces, add_owner, named_in,
+};
+use crate::touched::Rows;
 use desk_book::{Book, Table};
 use desk_model::{AccountRow, Ask, AuthorizationRow, AuthzStatus, OrderRow, OrderStatus, Policy};
 use identifiers::ParsedCall;

@@ -1,21 +1,26 @@
-//! What an ask names, by numbers and by the names of a new order.
-ghost use Rattle.std.specs.Prelude.{◌≡◌, ◌∷◌, [], option_to_list, IfOk, Err, IfErr, OnOk, option_map};
+//! What an ask names, by numbers and by the names of a new order, and the rows that it names.
+ghost use Rattle.std.specs.Prelude.{◌≡◌, ◌∷◌, [], option_to_list, IfOk, Err, IfErr, OnOk, option_map, if◌then◌else◌};
 ghost use Rattle.desk_model.specs.Asked.{asks_authorizations, asks_orders, target_authorizations, target_orders};
 ghost use Rattle.model_lives.specs.Loaded.{account_numbers, authorization_numbers, challenge_numbers, new_keys, of_key, order_numbers, serials};
 ghost use Rattle.model_lives.specs.Loaded.{target_accounts, target_authorization_numbers, target_challenge_numbers, target_order_numbers};
-ghost use Rattle.model_lives.specs.Loaded.{authorizations_asked_of, authorizations_for};
+ghost use Rattle.model_lives.specs.Loaded.{authorizations_asked_of, authorizations_for, found_nonces, keys as keys_of};
 ghost use Rattle.store_api.specs.Naming.{Names};
 ghost use Rattle.std.specs.List.{filter, flat_map};
 ghost use Rattle.model_laws.specs.Placing.{puts};
 ghost use Rattle.store_api.specs.Finding.{Finds, LacksMemory};
 ghost use Rattle.desk_model.specs.Name.{same_name};
+ghost use Rattle.desk_model.specs.{Touched.touched};
+ghost use Rattle.model_lives.specs.LookUps.{accounts_with_key, authorizations_numbered, owners_of};
 
 use crate::fault::StorageFault;
+use crate::links::{LeadsTo, add_each, add_found, add_linked};
 use crate::look_ups::{Found, LookUps};
-use desk_book::Table;
-use desk_model::{AccountRow, Ask, AuthorizationRow, DnsName, Jwk, OfficeAsk, Target};
+use desk_book::{Row, Table};
+use desk_model::{
+    AccountRow, Ask, AuthorizationRow, DnsName, Jwk, Nonce, OfficeAsk, Policy, Target,
+};
 use keys::{new_key, read_nonce};
-use model_lives::AuthorizationsWhere;
+use model_lives::{AccountsWhere, AuthorizationsWhere, NoncesWhere};
 use std::alloc::{AllocError, Global};
 
 /// What an ask names, by number.
@@ -220,5 +225,107 @@ pub(crate) fn add_asked_names<S: LookUps>(
     match names {
         Some(names) => add_each_named(alloc, source, authorizations, names, accounts),
         None => Ok(()),
+    }
+}
+
+// ---- the rows that an ask names
+
+/// Puts the nonces that are touched into a table: the one that is carried, and those past their life.
+pub(crate) fn add_nonces<S: LookUps>(
+    alloc: Global,
+    source: &mut S,
+    nonces: &mut Table<Nonce>,
+    policy: &Policy,
+    moment: u64,
+    ask: &Ask,
+) -> Result<(), StorageFault>
+    ensures { Finds S.sight source.old source.new result (λ T. policy.now ≡ T.meta.policy
+        → nonces.new ≡ puts (λ x. x.serial) (found_nonces T moment ask.now) nonces.old) }
+{
+    add_each(alloc, source, nonces, serial(ask).as_slice())?;
+    add_found(
+        nonces,
+        source.find_nonces(
+            alloc,
+            NoncesWhere::IssuedBefore(policy.first_lasting(moment)),
+        ),
+    )
+}
+
+/// Puts the account with the request's key into a table.
+pub(crate) fn add_keyed<S: LookUps>(
+    alloc: Global,
+    source: &mut S,
+    accounts: &mut Table<AccountRow>,
+    ask: &Ask,
+) -> Result<(), StorageFault>
+    ensures { Finds S.sight source.old source.new result (λ T.
+        accounts.new ≡ puts (λ x. x.number) (flat_map (accounts_with_key T) (keys_of ask.now)) accounts.old) }
+{
+    match ask {
+        Ask::Signed(request) => match &request.key {
+            Ok(key) => add_found(
+                accounts,
+                source.find_accounts(alloc, AccountsWhere::Key(key)),
+            ),
+            Err(_) => Ok(()),
+        },
+        _ => Ok(()),
+    }
+}
+
+/// Puts the account that has the key that a request asks for into a table.
+pub(crate) fn add_new_keyed<S: LookUps>(
+    alloc: Global,
+    source: &mut S,
+    accounts: &mut Table<AccountRow>,
+    ask: &Ask,
+) -> Result<(), StorageFault>
+    ensures { Finds S.sight source.old source.new result (λ T.
+        accounts.new ≡ puts (λ x. x.number) (flat_map (accounts_with_key T) (new_keys ask.now)) accounts.old) }
+{
+    match new_key_of(alloc, ask)? {
+        Some(key) => add_found(
+            accounts,
+            source.find_accounts(alloc, AccountsWhere::Key(&key)),
+        ),
+        None => Ok(()),
+    }
+}
+
+/// Puts the authorization of a challenge into a table, where one is named.
+pub(crate) fn add_owner<S: LookUps>(
+    alloc: Global,
+    source: &mut S,
+    authorizations: &mut Table<AuthorizationRow>,
+    challenge: Option<u64>,
+) -> Result<(), StorageFault>
+    ensures { Finds S.sight source.old source.new result (λ T. authorizations.new ≡ puts (λ r. r.number)
+        (flat_map (λ c. flat_map (authorizations_numbered T) (owners_of T c)) (option_to_list challenge)) authorizations.old) }
+{
+    match challenge {
+        Some(number) => {
+            let numbers = source.owners_of(alloc, number)?;
+            add_each(alloc, source, authorizations, numbers.as_slice())
+        }
+        None => Ok(()),
+    }
+}
+
+/// Puts the rows to which the rows of a table lead into another, where they are asked for.
+pub(crate) fn add_asked<S: LookUps, Q: Row + Drop + LeadsTo<R>, R: Row + Drop>(
+    alloc: Global,
+    source: &mut S,
+    table: &mut Table<R>,
+    others: &Table<Q>,
+    asked: bool,
+) -> Result<(), StorageFault>
+    ensures { Finds S.sight source.old source.new result (λ T.
+        table.new ≡ puts R.number (if asked then flat_map (Q.rows_of T) others.now else []) table.old) }
+{
+    if asked {
+        add_linked(alloc, source, table, others)
+    } else {
+        Ok(())
     }
 }

@@ -1,23 +1,24 @@
 //! The book of the rows that a call touches: its accounts, authorizations and orders, and what is past its end.
-ghost use Rattle.std.specs.Prelude.{◌≡◌, ◌++◌, [], IfOk, option_map, if◌then◌else◌, option_to_list};
+ghost use Rattle.std.specs.Prelude.{◌≡◌, ◌++◌, IfOk, option_map};
 ghost use Rattle.model_laws.specs.{Ordered.IsOrdered, Placing.puts};
 ghost use Rattle.store_api.specs.Finding.{AreNone, AreRowsOf, Finds};
 ghost use Rattle.desk_model.specs.{Asked.asked_names, Touched.touched};
-ghost use Rattle.model_lives.specs.Loaded.{found_nonces, loaded_at, loaded_rows, authorizations_asked_of, keys as keys_of, listed_authorizations};
-ghost use Rattle.model_lives.specs.Loaded.{listing_orders, new_keys};
+ghost use Rattle.model_lives.specs.Loaded.{loaded_at, loaded_rows, authorizations_asked_of, listed_authorizations, listing_orders};
 ghost use Rattle.store_api.specs.Sight.{ForTables, Reads};
 ghost use Rattle.store_api.specs.Storing.{Loads};
 ghost use Rattle.std.specs.List.{flat_map};
 ghost use Rattle.store_api.specs.Naming.{authorizations_first, orders_first};
-ghost use Rattle.model_lives.specs.LookUps.{accounts_numbered, accounts_with_key, authorizations_numbered, owners_of};
+ghost use Rattle.model_lives.specs.LookUps.{accounts_numbered};
 
 use crate::fault::StorageFault;
-use crate::links::{LeadsTo, add_each, add_found, add_linked};
+use crate::links::{add_each, add_found, add_linked};
 use crate::look_ups::LookUps;
-use crate::named::{Named, add_asked_names, named_in, new_key_of, serial};
-use desk_book::{Book, Row, Table};
+use crate::named::{
+    Named, add_asked, add_asked_names, add_keyed, add_new_keyed, add_nonces, add_owner, named_in,
+};
+use desk_book::{Book, Table};
 use desk_model::{
-    AccountRow, Ask, AuthorizationRow, AuthzStatus, DnsName, Meta, Nonce, OfficeAsk, OrderRow,
+    AccountRow, Ask, AuthorizationRow, AuthzStatus, DnsName, Nonce, OfficeAsk, OrderRow,
     OrderStatus, Policy,
 };
 use identifiers::ParsedCall;
@@ -31,28 +32,6 @@ pub(crate) struct Rows {
     pub(crate) accounts: Table<AccountRow>,
     pub(crate) authorizations: Table<AuthorizationRow>,
     pub(crate) orders: Table<OrderRow>,
-}
-
-/// Puts the nonces that are touched into a table: the one that is carried, and those past their life.
-pub(crate) fn add_nonces<S: LookUps>(
-    alloc: Global,
-    source: &mut S,
-    nonces: &mut Table<Nonce>,
-    policy: &Policy,
-    moment: u64,
-    ask: &Ask,
-) -> Result<(), StorageFault>
-    ensures { Finds S.sight source.old source.new result (λ T. policy.now ≡ T.meta.policy
-        → nonces.new ≡ puts (λ x. x.serial) (found_nonces T moment ask.now) nonces.old) }
-{
-    add_each(alloc, source, nonces, serial(ask).as_slice())?;
-    add_found(
-        nonces,
-        source.find_nonces(
-            alloc,
-            NoncesWhere::IssuedBefore(policy.first_lasting(moment)),
-        ),
-    )
 }
 
 // Puts the rows that an ask touches at a moment into empty tables, the directory and the work lists apart.
@@ -211,85 +190,7 @@ pub fn load_part<S: LookUps>(
 
 // ---- accounts
 
-/// Puts the account with the request's key into a table.
-pub(crate) fn add_keyed<S: LookUps>(
-    alloc: Global,
-    source: &mut S,
-    accounts: &mut Table<AccountRow>,
-    ask: &Ask,
-) -> Result<(), StorageFault>
-    ensures { Finds S.sight source.old source.new result (λ T.
-        accounts.new ≡ puts (λ x. x.number) (flat_map (accounts_with_key T) (keys_of ask.now)) accounts.old) }
-{
-    match ask {
-        Ask::Signed(request) => match &request.key {
-            Ok(key) => add_found(
-                accounts,
-                source.find_accounts(alloc, AccountsWhere::Key(key)),
-            ),
-            Err(_) => Ok(()),
-        },
-        _ => Ok(()),
-    }
-}
-
-/// Puts the account that has the key that a request asks for into a table.
-pub(crate) fn add_new_keyed<S: LookUps>(
-    alloc: Global,
-    source: &mut S,
-    accounts: &mut Table<AccountRow>,
-    ask: &Ask,
-) -> Result<(), StorageFault>
-    ensures { Finds S.sight source.old source.new result (λ T.
-        accounts.new ≡ puts (λ x. x.number) (flat_map (accounts_with_key T) (new_keys ask.now)) accounts.old) }
-{
-    match new_key_of(alloc, ask)? {
-        Some(key) => add_found(
-            accounts,
-            source.find_accounts(alloc, AccountsWhere::Key(&key)),
-        ),
-        None => Ok(()),
-    }
-}
-
 // ---- authorizations
-
-/// Puts the authorization of a challenge into a table, where one is named.
-pub(crate) fn add_owner<S: LookUps>(
-    alloc: Global,
-    source: &mut S,
-    authorizations: &mut Table<AuthorizationRow>,
-    challenge: Option<u64>,
-) -> Result<(), StorageFault>
-    ensures { Finds S.sight source.old source.new result (λ T. authorizations.new ≡ puts (λ r. r.number)
-        (flat_map (λ c. flat_map (authorizations_numbered T) (owners_of T c)) (option_to_list challenge)) authorizations.old) }
-{
-    match challenge {
-        Some(number) => {
-            let numbers = source.owners_of(alloc, number)?;
-            add_each(alloc, source, authorizations, numbers.as_slice())
-        }
-        None => Ok(()),
-    }
-}
-
-/// Puts the rows to which the rows of a table lead into another, where they are asked for.
-pub(crate) fn add_asked<S: LookUps, Q: Row + Drop + LeadsTo<R>, R: Row + Drop>(
-    alloc: Global,
-    source: &mut S,
-    table: &mut Table<R>,
-    others: &Table<Q>,
-    asked: bool,
-) -> Result<(), StorageFault>
-    ensures { Finds S.sight source.old source.new result (λ T.
-        table.new ≡ puts R.number (if asked then flat_map (Q.rows_of T) others.now else []) table.old) }
-{
-    if asked {
-        add_linked(alloc, source, table, others)
-    } else {
-        Ok(())
-    }
-}
 
 // Puts the authorizations from which orders are looked for into a table: those that are named, asked for, or pending or
 // valid and past their moment.

@@ -5,8 +5,8 @@ use Rattle.std.proofs.lemmas.Option.{same_Some}
 use Rattle.desk_model.specs.Document.{account_status_text, authorization_status_text, challenge_status_text, kind_text, order_status_text}
 use Rattle.desk_model.specs.declared.entry.Ending.TheVariants as ending
 use Rattle.desk_model.specs.declared.entry.Outcome.TheVariants as outcome
-use Rattle.desk_model.specs.declared.objects.EndKind.TheVariants as end
-use Rattle.desk_model.specs.declared.objects.Kind.TheVariants as kind
+use Rattle.desk_model.specs.declared.status.EndKind.TheVariants as end
+use Rattle.desk_model.specs.declared.status.Kind.TheVariants as kind
 use Rattle.desk_model.specs.declared.status.AccountStatus.TheVariants as account
 use Rattle.desk_model.specs.declared.status.AuthzStatus.TheVariants as authz
 use Rattle.desk_model.specs.declared.status.ChallengeStatus.TheVariants as chall

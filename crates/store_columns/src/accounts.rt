@@ -5,8 +5,8 @@ ghost use Rattle.store_columns.specs.{declared.columns.AccountColumns.AccountCol
 ghost use Rattle.store_columns.specs.Reading.{IsRead, Unlimited};
 ghost use Rattle.serde_json.specs.{Read.read, View.view};
 
-use crate::columns::{AccountColumns, Columns};
-use crate::facts::{is_compact, read_account_end, read_moment, read_number};
+use crate::columns::AccountColumns;
+use crate::facts::{Columns, is_compact, read_account_end, read_moment, read_number};
 use desk_model::{AccountEnd, AccountRow, AccountStatus, Jwk, Sequence, Text, is_same_text};
 use json_texts::{lone_text, texts_in, value_of};
 use serde_json::Value;

@@ -5,11 +5,11 @@ ghost use Rattle.store_columns.specs.Limits.{IsStoredAuthorization, IsStoredChal
 ghost use Rattle.store_columns.specs.{Reading.IsRead, RowHeads.IsAuthorizationHeadRead, declared.columns.AuthzColumns.AuthzColumns as ColumnsOf};
 
 use crate::columns::{
-    AnswerKey, AuthzColumns, BareChallenge, ChallColumns, ChallKeyColumns, Columns, Owned,
+    AnswerKey, AuthzColumns, BareChallenge, ChallColumns, ChallKeyColumns, Owned,
 };
 use crate::facts::{
-    read_answered, read_authorization_end, read_expiry, read_moment, read_number, read_report,
-    read_sixteen, read_thirty_two, read_wildcard,
+    Columns, read_answered, read_authorization_end, read_expiry, read_moment, read_number,
+    read_report, read_sixteen, read_thirty_two, read_wildcard,
 };
 use desk_model::{
     AuthorizationEnd, AuthorizationRow, AuthzStatus, ChallengeStatus, DnsName, Kind, Sequence, Text,

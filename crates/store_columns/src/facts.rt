@@ -1,12 +1,15 @@
-//! What columns hold: numbers, moments, marks, JSON values, and facts that several record together.
-ghost use Rattle.std.specs.Prelude.{◌≡◌, ◌↔◌, pos, option_map, IfOk, false, IsTrue};
-ghost use Rattle.store_columns.specs.Columns.{account_end_columns, authorization_end_columns, dated_bytes_columns, dated_problem_columns, report_columns};
+//! What columns hold: numbers, moments, marks, JSON values, and facts that several record together; and tables, read row by row.
+ghost use Rattle.std.specs.Prelude.{◌≡◌, ◌↔◌, pos, option_map, IfOk, false, IsTrue, map};
+ghost use Rattle.store_columns.specs.Columns.{account_end_columns, authorization_end_columns, dated_bytes_columns, dated_problem_columns};
+ghost use Rattle.store_columns.specs.Columns.{report_columns};
 ghost use Rattle.store_columns.specs.Columns.{wildcard_column};
-ghost use Rattle.store_columns.specs.Limits.{AreDatedBytes, IfRecorded, IsAccountEnd, IsAuthorizationEnd, IsDatedProblem, IsMoment, IsReport, IsSixteen};
+ghost use Rattle.store_columns.specs.Limits.{AreDatedBytes, IfRecorded, IsAccountEnd, IsAuthorizationEnd, IsDatedProblem, IsMoment, IsReport};
+ghost use Rattle.store_columns.specs.Limits.{IsSixteen};
 ghost use Rattle.store_columns.specs.Limits.{IsThirtyTwo, IsNumber, IsCounter, IsExpiry};
 ghost use Rattle.store_columns.specs.Reading.{IsRead, IsAtMost, IsFrom, Unlimited};
 ghost use Rattle.serde_json.specs.View.{view};
 ghost use Rattle.serde_json.specs.Written.{compact_text, has_float};
+ghost use Rattle.desk_model.specs.Kept.{EachOf};
 
 use crate::orders::read_problem;
 use desk_model::{
@@ -211,4 +214,46 @@ pub(crate) fn is_compact(alloc: Global, value: &Value, text: &str) -> Result<boo
 {
     let written = value.to_string(alloc)?;
     Ok(is_same_text(text, written.as_str()))
+}
+
+// ---- tables, read row by row
+
+/// Columns that spell the rows of a table.
+pub trait Columns: Drop {
+    type Row: Drop;
+
+    // The columns of a row.
+    ghost write: { Self.Row → Self };
+
+    // What a row keeps in the table.
+    ghost IsStored: { Self.Row → Type 0 };
+
+    /// The row with these columns, or `None` where none in its limits has them.
+    ///
+    /// # Errors
+    ///
+    /// Where there is no memory for it.
+    fn read(self, alloc: Global) -> Result<Option<Self::Row>, AllocError>
+        ensures { IfOk result (λ row. IsRead write IsStored self row) };
+}
+
+/// The rows with these columns, or `None` where no row in its limits has some of them.
+///
+/// # Errors
+///
+/// Where there is no memory for them.
+pub fn read_table<C: Columns>(
+    alloc: Global,
+    table: Sequence<C>,
+) -> Result<Option<Sequence<C::Row>>, AllocError>
+    ensures { IfOk result (λ rows. IsRead (map C.write) (EachOf C.IsStored) table rows) }
+{
+    let mut rows = Vec::new(alloc);
+    for columns in table.into_vec() {
+        let Some(row) = columns.read(alloc)? else {
+            return Ok(None);
+        };
+        rows.push(row)?;
+    }
+    Ok(Some(Sequence::new(rows)))
 }

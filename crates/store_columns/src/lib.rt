@@ -12,10 +12,11 @@ mod orders;
 mod stored;
 
 pub use columns::{
-    AccountColumns, AnswerKey, AuthzColumns, BareChallenge, ChallColumns, ChallKeyColumns, Columns,
+    AccountColumns, AnswerKey, AuthzColumns, BareChallenge, ChallColumns, ChallKeyColumns,
     FIRST_FORMAT, FORMAT, FlatRows, MetaColumns, NonceColumns, OrderAuthzColumns, OrderColumns,
-    Owned, StoredRows, read_table,
+    Owned, StoredRows,
 };
+pub use facts::{Columns, read_table};
 pub use laws::{columns_tell_rows_apart, texts_are_written};
 pub use orders::problem_text;
 pub use stored::read_rows;

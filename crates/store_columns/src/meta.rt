@@ -5,8 +5,8 @@ ghost use Rattle.store_columns.specs.Columns.{known_format, meta_columns};
 ghost use Rattle.store_columns.specs.{Limits.IsStoredMeta, Reading.IsRead};
 ghost use Rattle.store_columns.specs.MetaParts.{AreCounters, IsPolicy};
 
-use crate::columns::{Columns, FORMAT, MetaColumns};
-use crate::facts::{read_counter, read_moment, read_natural};
+use crate::columns::{FORMAT, MetaColumns};
+use crate::facts::{Columns, read_counter, read_moment, read_natural};
 use desk_model::{Clock, Counters, Meta, Policy};
 use std::alloc::{AllocError, Global};
 

@@ -1,8 +1,8 @@
 //! Rows of the table `nonce`.
 ghost use Rattle.store_columns.specs.{Columns.nonce_columns, Limits.IsStoredNonce, Reading.IsRead};
 
-use crate::columns::{Columns, NonceColumns};
-use crate::facts::{read_moment, read_number, read_sixteen};
+use crate::columns::NonceColumns;
+use crate::facts::{Columns, read_moment, read_number, read_sixteen};
 use desk_model::Nonce;
 use std::alloc::{AllocError, Global};
 

@@ -7,9 +7,10 @@ ghost use Rattle.store_columns.specs.{Reading.IsRead, RowHeads.IsOrderHead};
 ghost use Rattle.serde_json.specs.View.{view};
 ghost use Rattle.store_columns.specs.Spelling.{problem_document, problem_text};
 
-use crate::columns::{Columns, OrderAuthzColumns, OrderColumns, Owned};
+use crate::columns::{OrderAuthzColumns, OrderColumns, Owned};
 use crate::facts::{
-    read_dated_bytes, read_dated_problem, read_expiry, read_moment, read_number, read_place,
+    Columns, read_dated_bytes, read_dated_problem, read_expiry, read_moment, read_number,
+    read_place,
 };
 use desk_model::{
     DatedBytes, DatedProblem, Listed, OrderProblem, OrderRow, OrderStatus, Sequence, is_same_text,

@@ -3,7 +3,8 @@ ghost use Rattle.std.specs.Prelude.{IfOk, map};
 ghost use Rattle.desk_model.specs.Kept.{EachOf};
 ghost use Rattle.store_columns.specs.{Columns.rows_columns, Limits.AreStored, Reading.IsRead};
 
-use crate::columns::{Columns, FlatRows, StoredRows, read_table};
+use crate::columns::{FlatRows, StoredRows};
+use crate::facts::{Columns, read_table};
 use desk_model::Sequence;
 use std::alloc::{AllocError, Global};
 

@@ -7,7 +7,7 @@ use Rattle.sql_write.proofs.Written.{nothing_written, written_first, written_the
 use Rattle.sql_write.specs.Makes.{Lists, Writes, WritesListed, WritesOrder}
 use Rattle.sql_write.specs.Refusals.{HasWritten}
 use Rattle.sql_write.specs.Statements.{lists, order_writing, writes, writes_listed}
-use Rattle.sql_write.specs.declared.differences.Write.TheVariants.{Upsert, Insert, Update}
+use Rattle.sql_write.specs.declared.standing.Write.TheVariants.{Upsert, Insert, Update}
 use Rattle.sql_write.proofs.saving.write_with_listed.Goals as goal
 use Rattle.sql_tables.specs.{Images.order_kept, Layouts.order_layout}
 

@@ -8,12 +8,12 @@ returns-in-PutNonce c T known =
 pub returns-in-PutAuthorization : goal.returns-in-PutAuthorization
 returns-in-PutAuthorization c T known =
     followed_as _ _ _ T c.in-PutAuthorization.is
-    (authorization_followed c.args.self.now _ _ c.in-PutAuthorization.row c.authorization_place.ensures.code c.lower.ensures T known)
+    (authorization_followed c.args.self.now _ _ c.in-PutAuthorization.row c.place.ensures.place c.lower.ensures T known)
 
 pub returns-in-PutOrder : goal.returns-in-PutOrder
 returns-in-PutOrder c T known =
     followed_as _ _ _ T c.in-PutOrder.is
-    (order_followed c.args.self.now _ _ c.in-PutOrder.row c.order_place.ensures.code c.lower-in-PutOrder.ensures T known)
+    (order_followed c.args.self.now _ _ c.in-PutOrder.row c.place-in-PutOrder.ensures.place c.lower-in-PutOrder.ensures T known)
 
 pub returns-in-RemoveNonce : goal.returns-in-RemoveNonce
 returns-in-RemoveNonce c T known =
