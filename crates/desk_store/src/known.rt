@@ -2,6 +2,7 @@
 //! so of them.
 ghost use Rattle.std.specs.Prelude.{◌≡◌, ◌<◌, IfOk, IfSome, Some, slice_index, slice_set};
 ghost use Rattle.desk_model.specs.Change.{applied, applied_one};
+ghost use Rattle.desk_model.specs.Derived.{authz_code, order_code};
 ghost use Rattle.desk_model.specs.Tables.{Tables};
 ghost use Rattle.model_laws.specs.Ordered.{Ascends};
 ghost use Rattle.model_lives.specs.LookUps.{nonces_where};
