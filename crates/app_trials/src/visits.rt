@@ -146,7 +146,9 @@ fn touched_accounts<S: Alter>(alloc: Global, store: &mut Store<S>) -> Result<usi
         random: Sequence::new(Vec::new(alloc)),
         ask: Ask::Office(OfficeAsk::KeyOf(1)),
     };
-    let parsed = ParsedCall::read(alloc, &call)?;
+    let Ok(parsed) = ParsedCall::read(alloc, &call) else {
+        return Err(StorageFault::Memory);
+    };
     let part = store.load_part(alloc, &parsed);
     drop(parsed);
     drop(call);

@@ -1,6 +1,6 @@
 -- Verdicts that need no numbers and no random bytes.
 use Rattle.std.proofs.Common.{◌≡◌, ℕ, List, Bool, true, false, Option, Some, None, Result, Ok, Err, MatchResult, drop, sym, ap, subst, ◌∙◌}
-use Rattle.desk_model.specs.declared.{refusal.Refusal.Refusal, rows.AuthorizationRow.AuthorizationRow, rows.OrderRow.OrderRow, call.Target.Target}
+use Rattle.desk_model.specs.declared.{refusal.Refusal.Refusal, rows.AuthorizationRow.AuthorizationRow, rows.OrderRow.OrderRow, call.Signed.Signed, call.Target.Target}
 use Rattle.desk_model.specs.declared.{payload.AccountChange.AccountChange, payload.AuthorizationChange.AuthorizationChange, payload.KeyChange.KeyChange}
 use Rattle.desk_model.specs.declared.{rows.AccountRow.AccountRow, payload.ChallengeChange.ChallengeChange, rows.Counters.Counters, verdict.Verdict.Verdict}
 use Rattle.desk_model.specs.{Questions.account_with_key, Tables.Tables}
@@ -8,6 +8,8 @@ use Rattle.desk_model.specs.Rules.{key_change_verdict, rekey_verdict, account_ve
 use Rattle.desk_model.specs.Rules.{finalize_verdict, target_verdict}
 use Rattle.desk_model.specs.Verdict.{check, given, unless_fault, choose}
 use Rattle.desk_model.specs.declared.call.Target.TheVariants as to
+use Rattle.desk_model.specs.declared.refusal.Refusal.TheVariants as refusal
+use Rattle.identifiers.specs.ReadOnce.{target_key_change}
 use Rattle.desk_model.specs.declared.payload.AccountChange.TheVariants as account
 use Rattle.desk_model.specs.declared.payload.AuthorizationChange.TheVariants as authz
 use Rattle.desk_model.specs.declared.payload.ChallengeChange.TheVariants as chall
@@ -102,3 +104,16 @@ pub target-made : (T : Tables) (random : List ℕ) (n : ℕ) (p : List ℕ) (tar
 target-made T random n p target reading spares (Ok v) is e = target-spared T random n p target reading spares v is e
 target-made T random n p target reading spares (Err f) is e =
     subst (IsNeedFault T.meta.counters random (target_verdict T (drop 16 random) n p target)) (sym e) tt
+
+-- a request that is another's copy is sent to the other's target
+pub sent : {asked signed : Signed} {reading : Target} → asked ≡ signed → asked.target ≡ reading → signed.target ≡ reading
+sent same is = ap (λ (s : Signed). s.target) (sym same) ∙ is
+
+-- the verdict on a change of keys, by what was read in its payload
+pub asked-change : (T : Tables) (r : List ℕ) (n : ℕ) (p : List ℕ) (target : Target) (asked : Option KeyChange) (result : Result Verdict CoreFault) →
+    target ≡ to.KeyChange → asked ≡ target_key_change target p →
+    MatchResult result (λ v. v ≡ given asked refusal.Malformed (key_change_verdict T n)) (λ e. e ≡ fault.Memory) →
+    MatchResult result (λ v. v ≡ target_verdict T r n p to.KeyChange) (λ e. e ≡ fault.Memory)
+asked-change T r n p target asked result is read =
+    subst (λ o. MatchResult result (λ v. v ≡ given o refusal.Malformed (key_change_verdict T n)) (λ e. e ≡ fault.Memory))
+    (read ∙ ap (λ t. target_key_change t p) is)

@@ -32,7 +32,6 @@ abbrev pub IsNeedFault : Counters → List ℕ → Verdict → CoreFault → Typ
 IsNeedFault C random v fault.Memory = Unit {0}
 IsNeedFault C random v fault.Full = NumbersSpent C v
 IsNeedFault C random v fault.ShortRandom = NumbersLeft C v × (length random < 16 * (1 + count_pieces (entries_of v)))
-IsNeedFault C random v fault.Moment = ⊥
 
 -- what is said of the judgement of a request
 abbrev pub IsJudged : Counters → List ℕ → Result Verdict CoreFault → Verdict → Type 0

@@ -180,23 +180,18 @@ pub(crate) fn key_change_verdict(
     alloc: Global,
     at: &At,
     number: u64,
-    asked: KeyChange,
+    asked: &KeyChange,
 ) -> Result<Verdict, CoreFault>
-    ensures { MatchResult result (λ v. v ≡ key_change_verdict at.now number asked) (λ e. e ≡ Memory) }
+    ensures { MatchResult result (λ v. v ≡ key_change_verdict at.now number asked.now) (λ e. e ≡ Memory) }
 {
-    let KeyChange {
-        account,
-        new_key,
-        old_key,
-    } = asked;
-    if !is_account_url(alloc, at.policy(), number, account.as_str())? {
+    if !is_account_url(alloc, at.policy(), number, asked.account.as_str())? {
         return Ok(refused(alloc, Refusal::Malformed));
     }
-    if !has_old_key(at, number, &old_key) {
+    if !has_old_key(at, number, &asked.old_key) {
         return Ok(refused(alloc, Refusal::Malformed));
     }
-    match new_key {
-        Some(key) => Ok(rekey_verdict(at, number, key)),
+    match &asked.new_key {
+        Some(key) => Ok(rekey_verdict(at, number, key.clone()?)),
         None => Ok(refused(alloc, Refusal::BadPublicKey)),
     }
 }

@@ -1,4 +1,4 @@
-//! The faults of a call.
+//! Why a call that was read is not decided.
 ghost use Rattle.core_rules.specs.declared.fault.CoreFault.TheVariants.{Memory};
 ghost use Rattle.std.specs.Prelude.{◌≡◌};
 
@@ -9,8 +9,6 @@ use std::alloc::AllocError;
 pub enum CoreFault {
     /// A growth was refused (fault 20).
     Memory,
-    /// The call's moment is above the last one (fault 24).
-    Moment,
     /// The call needs more random bytes than it has (fault 25).
     ShortRandom,
     /// A number above the greatest would be needed (fault 26).

@@ -2,10 +2,10 @@
 ghost use Rattle.std.specs.Prelude.{◌≡◌, [], drop, option_map, IfOk, ◌+◌, ◌*◌, ◌<◌, ◌≤◌, length, take, MatchResult};
 ghost use Rattle.serde_json.specs.View.{view};
 ghost use Rattle.core_rules.specs.Needs.{IsJudged};
-ghost use Rattle.desk_model.specs.{Payload.object_in, Questions.account_with_key, Effect.swept, Tokens.nonce_in};
+ghost use Rattle.desk_model.specs.{Payload.object_in, Questions.account_with_key, Effect.swept};
 ghost use Rattle.desk_model.specs.{declared.verdict.Verdict.TheVariants.Refused as refused};
 ghost use Rattle.desk_model.specs.Rules.{key_verdict, signed_verdict, target_verdict, open_nonce, open_nonce_in};
-ghost use Rattle.identifiers.specs.AskedOrders.{target_order};
+ghost use Rattle.identifiers.specs.ReadOnce.{spelled_nonce};
 ghost use Rattle.model_laws.specs.Ordered.{IsOrdered};
 ghost use Rattle.desk_model.specs.Limits.{last_number};
 
@@ -18,9 +18,8 @@ use crate::targets::{
     key_change_target, new_account_target, order_target, orders_target,
 };
 use desk_book::{At, Book};
-use desk_model::{Jwk, LAST_NUMBER, Refusal, Sequence, Subproblem, Target, Text, Verdict};
-use identifiers::{AskedOrder, ParsedSigned};
-use keys::read_nonce;
+use desk_model::{Jwk, LAST_NUMBER, Refusal, Sequence, Subproblem, Target, Verdict};
+use identifiers::ParsedSigned;
 use std::alloc::{AllocError, Global};
 
 // A request of the holder of a valid account, by its target (RFC 8555, 7.3 to 7.5).
@@ -30,17 +29,17 @@ fn target_verdict(
     random: &[u8],
     sender: u64,
     payload: Payload,
-    order: &AskedOrder,
-    target: Target,
+    signed: &ParsedSigned,
 ) -> Result<Verdict, CoreFault>
     requires object { option_map (λ v. view v.now) payload.object ≡ object_in payload.text.now }
-    requires order { order.now ≡ target_order target payload.text.now }
-    ensures { IsJudged at.now.meta.counters random.now result (target_verdict at.now (drop 16 random.now) sender payload.entry.text.now target) }
+    requires text { payload.text.now ≡ signed.now.payload }
+    ensures { IsJudged at.now.meta.counters random.now result
+        (target_verdict at.now (drop 16 random.now) sender payload.entry.text.now signed.now.target) }
 {
-    match target {
+    match signed.request().target {
         Target::NewAccount => new_account_target(alloc, sender, payload),
-        Target::KeyChange => key_change_target(alloc, at, sender, payload),
-        Target::NewOrder => order_verdict(alloc, at, random, sender, order),
+        Target::KeyChange => key_change_target(alloc, at, sender, signed.key_change()),
+        Target::NewOrder => order_verdict(alloc, at, random, sender, signed.order()),
         Target::Account(number) => account_target(alloc, sender, number, payload),
         Target::Orders(number) => Ok(orders_target(alloc, sender, number, payload.text)),
         Target::Order(number) => Ok(order_target(alloc, at, sender, number, payload.text)),
@@ -58,21 +57,20 @@ fn key_verdict(
     random: &[u8],
     key: &Jwk,
     payload: Payload,
-    order: &AskedOrder,
-    target: Target,
+    signed: &ParsedSigned,
 ) -> Result<Verdict, CoreFault>
     requires object { option_map (λ v. view v.now) payload.object ≡ object_in payload.text.now }
-    requires order { order.now ≡ target_order target payload.text.now }
+    requires text { payload.text.now ≡ signed.now.payload }
     ensures { IsJudged at.now.meta.counters random.now result
-        (key_verdict at.now (drop 16 random.now) key.now payload.entry.text.now target (account_with_key at.now key.now)) }
+        (key_verdict at.now (drop 16 random.now) key.now payload.entry.text.now signed.now.target (account_with_key at.now key.now)) }
 {
     let Some(row) = at.account_with_key(key.canonical()) else {
-        return unknown_key_verdict(alloc, at, key, payload, target);
+        return unknown_key_verdict(alloc, at, key, payload, signed.request().target);
     };
     if !row.status.is_valid() {
         return Ok(refused(alloc, Refusal::Unauthorized));
     }
-    target_verdict(alloc, at, random, row.number, payload, order, target)
+    target_verdict(alloc, at, random, row.number, payload, signed)
 }
 
 /// The verdict on a signed request that has passed the test of its nonce, by what its payload says and the tables of a book at
@@ -95,24 +93,16 @@ pub fn judge_signed(
         return Ok(refused(alloc, Refusal::BadPublicKey));
     };
     let payload = Payload::new(request.payload.as_str(), signed.value());
-    key_verdict(
-        alloc,
-        at,
-        random,
-        key,
-        payload,
-        signed.order(),
-        request.target,
-    )
+    key_verdict(alloc, at, random, key, payload, signed)
 }
 
 // ---- the nonce (RFC 8555, 6.5)
 
-// The serial of a nonce's text that is spelled, and open: not past its life, and with these random bytes.
-fn open_serial(book: &Book, moment: u64, text: &str) -> Option<u64>
-    ensures { IsOrdered book.now → result ≡ open_nonce_in (swept moment book.now) (nonce_in text.now) }
+// The serial of a nonce that is spelled so, if it is open: not past its life, and with these random bytes.
+fn open_serial(book: &Book, moment: u64, spelled: Option<(u64, [u8; 16])>) -> Option<u64>
+    ensures { IsOrdered book.now → result ≡ open_nonce_in (swept moment book.now) (spelled_nonce spelled) }
 {
-    let (serial, random) = read_nonce(text)?;
+    let (serial, random) = spelled?;
     let nonce = book.nonce(serial)?;
     if book.meta().policy.lasts(moment, nonce) && nonce.random == random {
         Some(serial)
@@ -122,13 +112,10 @@ fn open_serial(book: &Book, moment: u64, text: &str) -> Option<u64>
 }
 
 /// The serial of the open nonce that a request carries.
-pub fn open_nonce(book: &Book, moment: u64, text: &Option<Text>) -> Option<u64>
-    ensures { IsOrdered book.now → result ≡ open_nonce (swept moment book.now) text.now }
+pub fn open_nonce(book: &Book, moment: u64, signed: &ParsedSigned) -> Option<u64>
+    ensures { IsOrdered book.now → result ≡ open_nonce (swept moment book.now) signed.now.nonce }
 {
-    match text {
-        Some(text) => open_serial(book, moment, text.as_str()),
-        None => None,
-    }
+    open_serial(book, moment, signed.nonce())
 }
 
 // ---- refusals as verdicts

@@ -1,15 +1,13 @@
 //! The payloads of signed requests: JSON texts in the forms that the routes read.
 ghost use Rattle.std.specs.Prelude.{◌≡◌, Some, Option, option_map, option_and_then, IfOk};
 ghost use Rattle.serde_json.specs.{View.view, Read.read};
-ghost use Rattle.desk_model.specs.Payload.{object_in, texts_in, optional, new_account, says_deactivated, account_change, key_change, authorization_change};
+ghost use Rattle.desk_model.specs.Payload.{object_in, texts_in, optional, new_account, account_change, authorization_change};
 ghost use Rattle.desk_model.specs.Payload.{challenge_change, finalize};
 ghost use Rattle.serde_json.specs.Find.{get, as_bool, as_str};
 
-use desk_model::{
-    AccountChange, AuthorizationChange, ChallengeChange, KeyChange, NewAccount, Sequence, Text,
-};
+use desk_model::{AccountChange, AuthorizationChange, ChallengeChange, NewAccount, Sequence, Text};
+use identifiers::says_deactivated;
 use json_texts::{text_of, texts_in};
-use keys::key_change_of;
 use serde_json::Value;
 use std::alloc::{AllocError, Global};
 
@@ -88,16 +86,6 @@ pub(crate) fn new_account(alloc: Global, payload: Payload) -> Result<Option<NewA
     }))
 }
 
-// Whether an object says that what it is sent to is to be deactivated.
-fn says_deactivated(value: &Value) -> bool
-    ensures { result ≡ says_deactivated (view value.now) }
-{
-    match text_of(value, "status") {
-        Some(text) => text == "deactivated",
-        None => false,
-    }
-}
-
 /// What a request to an account asks, `None` where the payload has another form (RFC 8555, 7.3.2).
 pub(crate) fn account_change(
     alloc: Global,
@@ -119,17 +107,6 @@ pub(crate) fn account_change(
         Some(contacts) => Ok(Some(AccountChange::Update(contacts))),
         None => Ok(None),
     }
-}
-
-/// What a keyChange payload asks, `None` where it has another form (RFC 8555, 7.3.5).
-pub(crate) fn key_change(alloc: Global, payload: Payload) -> Result<Option<KeyChange>, AllocError>
-    requires { option_map (λ v. view v.now) payload.object ≡ object_in payload.text.now }
-    ensures { IfOk result (λ o. o ≡ key_change payload.entry.text.now) }
-{
-    let Some(value) = payload.object else {
-        return Ok(None);
-    };
-    key_change_of(alloc, value)
 }
 
 /// What a request to an authorization asks, `None` where the payload has another form (RFC 8555, 7.5.2).

@@ -1,7 +1,7 @@
 //! Signed requests, by their targets (RFC 8555, 6.2, 6.3).
 ghost use Rattle.std.specs.Prelude.{◌≡◌, ◌==◌, MatchResult, option_map};
 ghost use Rattle.serde_json.specs.View.{view};
-ghost use Rattle.desk_model.specs.Payload.{account_change, authorization_change, challenge_change, finalize, key_change, new_account, object_in};
+ghost use Rattle.desk_model.specs.Payload.{account_change, authorization_change, challenge_change, finalize, new_account, object_in};
 ghost use Rattle.desk_model.specs.Questions.{authorization_on, order_on, owner_on};
 ghost use Rattle.desk_model.specs.Rules.{account_verdict, authorization_verdict, certificate_verdict, challenge_verdict};
 ghost use Rattle.desk_model.specs.Rules.{finalize_verdict, key_change_verdict, nothing, own};
@@ -17,13 +17,12 @@ use crate::fault::CoreFault;
 use crate::judging::refused;
 use crate::order_rules::finalize_verdict;
 use crate::payload::{
-    Payload, account_change, authorization_change, challenge_change, finalize, key_change,
-    new_account,
+    Payload, account_change, authorization_change, challenge_change, finalize, new_account,
 };
 use desk_book::At;
 use desk_model::{
-    AccountStatus, AuthorizationRow, AuthzStatus, Listing, OrderRow, OrderStatus, Refusal, Shows,
-    Signed, Target, Verdict,
+    AccountStatus, AuthorizationRow, AuthzStatus, KeyChange, Listing, OrderRow, OrderStatus,
+    Refusal, Shows, Signed, Target, Verdict,
 };
 use std::alloc::Global;
 
@@ -70,13 +69,12 @@ pub(crate) fn key_change_target(
     alloc: Global,
     at: &At,
     sender: u64,
-    payload: Payload,
+    asked: &Option<KeyChange>,
 ) -> Result<Verdict, CoreFault>
-    requires { option_map (λ v. view v.now) payload.object ≡ object_in payload.text.now }
     ensures { MatchResult result
-        (λ v. v ≡ given (key_change payload.entry.text.now) Refusal.Malformed (key_change_verdict at.now sender)) (λ e. e ≡ Memory) }
+        (λ v. v ≡ given asked.now Refusal.Malformed (key_change_verdict at.now sender)) (λ e. e ≡ Memory) }
 {
-    match key_change(alloc, payload)? {
+    match asked {
         Some(asked) => key_change_verdict(alloc, at, sender, asked),
         None => Ok(refused(alloc, Refusal::Malformed)),
     }

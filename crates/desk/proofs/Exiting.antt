@@ -1,8 +1,9 @@
 -- The exits of a call over an open store.
-use Rattle.std.proofs.Common.{◌≡◌, List, [], ◌∷◌, Option, refl, sym, subst, Result, Ok, Err, inl, inr, arith, true, false}
-use Rattle.std.proofs.lemmas.Bool.{eqb-true}
-use Rattle.std.specs.Prelude.{nat_eq, length, IfErr, IsErrAnd}
-use Rattle.desk_model.specs.{Entry.History, Legal.Legal, Change.applied, Decide.after, Run.IsFormedCall}
+use Rattle.std.proofs.Common.{◌≡◌, ◌<◌, ◌*◌, List, [], ◌∷◌, Option, Some, None, refl, sym, ap, subst, cond, not, Result, Ok, Err, inl, inr, arith, true, false}
+use Rattle.std.proofs.lemmas.Bool.{eqb-true, lt-ltb}
+use Rattle.std.specs.Prelude.{nat_eq, nat_lt, length, IfErr, IsErrAnd}
+use Rattle.desk_model.specs.{Entry.History, Change.applied, Limits.last_moment}
+use Rattle.desk_model.specs.{Decide.after, Decide.decide, Legal.Legal, Legal.numbers_fit, Run.IsFormedCall, Run.count_pieces, Run.fault}
 use Rattle.desk_model.specs.Tables.{Tables, picture}
 use Rattle.desk_model.specs.declared.{call.Call.Call, reply.Reply.Reply, rows.Change.Change}
 use Rattle.model_lives.specs.IsEnough.{IsEnoughFor}
@@ -11,14 +12,16 @@ use Rattle.store_laws.proofs.FlatTexts.{picture_is_stored_book}
 use Rattle.desk_core.specs.Decided.{IsDecision, IsFaultOf}
 use Rattle.core_rules.specs.declared.fault.CoreFault.{CoreFault}
 use Rattle.core_rules.specs.declared.fault.CoreFault.TheVariants as core
-use Rattle.store_api.proofs.Readings.{stands_both, stands_read}
+use Rattle.identifiers.specs.declared.parsed.CallFault.{CallFault}
+use Rattle.identifiers.specs.declared.parsed.CallFault.TheVariants as callfault
+use Rattle.store_api.proofs.Readings.{stands_both, stands_here, stands_read}
 use Rattle.store_api.specs.Sight.{Sight, Keeps, Stands}
 use Rattle.store_api.specs.Storing.{Causes, Fit, IsCutFrom, Loads, Saving, SavesFrom}
 use Rattle.store_api.specs.declared.fault.StorageFault.{StorageFault}
 use Rattle.store_api.specs.declared.fault.StorageFault.TheVariants as storagefault
 use Rattle.desk.proofs.Running.{declines}
 use Rattle.desk.specs.{Causes.IsCaused, declared.fault.DeskFault.DeskFault}
-use Rattle.desk.specs.Faults.{closes, core_fault, storage_fault}
+use Rattle.desk.specs.Faults.{call_fault, closes, core_fault, storage_fault}
 use Rattle.desk.specs.Answers.{Answers, ExitsBy, IsAnswered, IsBroken}
 use Rattle.desk.specs.declared.fault.DeskFault.TheVariants as deskfault
 
@@ -40,6 +43,22 @@ Faults result why = IsErrAnd result (λ w. w ≡ why)
 pub storage_result_in_time : (cause : StorageFault) (result : Result Reply DeskFault) → Faults result (storage_fault cause) →
     result ≡ Err deskfault.Moment → ⊥
 storage_result_in_time cause result is late = storage_in_time cause (subst (λ r. Faults r (storage_fault cause)) late is)
+
+-- nor is that of a decision
+core_in_time : (e : CoreFault) → deskfault.Moment ≡ core_fault e → ⊥
+core_in_time core.Memory is = cc is
+core_in_time core.ShortRandom is = cc is
+core_in_time core.Full is = cc is
+
+pub core_result_in_time : (e : CoreFault) (result : Result Reply DeskFault) → Faults result (core_fault e) → result ≡ Err deskfault.Moment → ⊥
+core_result_in_time e result is late = core_in_time e (subst (λ r. Faults r (core_fault e)) late is)
+
+-- a moment above the last is a fault of the call
+late_fault : (F : History) (call : Call) → last_moment < call.at → fault F call ≡ Some 24
+late_fault F call late =
+    ap (λ b. cond b (Some 24) (cond (not (numbers_fit (after F call))) (Some 26)
+    (cond (nat_lt (length call.random) (16 * count_pieces (decide F call).entries)) (Some 25) None)))
+    (lt-ltb last_moment call.at late)
 
 -- a call of the store that failed
 abbrev pub failed : (R : Type 0) → StorageFault → Result R StorageFault
@@ -77,7 +96,6 @@ module _ {S C : Type 0} (v : Sight S C) where
   -- the call is declined
   is_declined : (F : History) (call : Call) (new : S) (e : CoreFault) → IsFaultOf F call e → Keeps v new (picture F) → ExitsBy v F call (core_fault e) new
   is_declined F call new core.Memory is keeps = record { cause = tt; keeps = keeps }
-  is_declined F call new core.Moment is keeps = record { cause = is; keeps = keeps }
   is_declined F call new core.ShortRandom is keeps = record { cause = is; keeps = keeps }
   is_declined F call new core.Full is keeps = record { cause = is; keeps = keeps }
 
@@ -119,11 +137,23 @@ module _ {S C : Type 0} (v : Sight S C) where
   abbrev pub Refuses : Call → Tables → CoreFault → Type 0
   Refuses call book e = (F : History) → Legal F → IsEnoughFor call (picture F) book → IsFaultOf F call e
 
-  -- the payload is not read, out of memory
-  pub unread : (call : Call) (here : S) (result : Result Reply DeskFault) → IsFormedCall call → Faults result deskfault.Memory → Answers v call here here result
-  unread call here (Ok reply) formed is = absurd is
-  unread call here (Err why) formed is =
+  -- a call past the last moment
+  late_declines : (call : Call) (here : S) → IsFormedCall call → last_moment < call.at → Answers v call here here (Err deskfault.Moment)
+  late_declines call here formed late = record {
+    formed = formed;
+    honest = λ h. h;
+    unchanged = λ opened. stands_here;
+    exit = λ h F legal keeps. record { cause = late_fault F call late; keeps = keeps };
+  }
+
+  -- the call is not read: it is too late, or memory was refused
+  pub unread : (call : Call) (here : S) (e : CallFault) (result : Result Reply DeskFault) → IsFormedCall call →
+      (e ≡ callfault.Moment → last_moment < call.at) → Faults result (call_fault e) → Answers v call here here result
+  unread call here e (Ok reply) formed late is = absurd is
+  unread call here callfault.Memory (Err why) formed late is =
       subst (λ w. Answers v call here here (Err w)) (sym is) (declines v call here formed)
+  unread call here callfault.Moment (Err why) formed late is =
+      subst (λ w. Answers v call here here (Err w)) (sym is) (late_declines call here formed (late refl))
 
   -- the decision is a fault
   pub refused : (call : Call) (old new : S) (book : Tables) (e : CoreFault) (result : Result Reply DeskFault) → IsFormedCall call →
@@ -194,9 +224,13 @@ module _ {S C : Type 0} (v : Sight S C) where
     -- a fault of a decision comes of no store
     pub core_caused : (old new : S) (e : CoreFault) → IsCaused v causes old new (core_fault e)
     core_caused old new core.Memory = tt
-    core_caused old new core.Moment = tt
     core_caused old new core.ShortRandom = tt
     core_caused old new core.Full = tt
+
+    -- so it is with a call that was not read
+    pub call_caused : (old new : S) (e : CallFault) → IsCaused v causes old new (call_fault e)
+    call_caused old new callfault.Memory = tt
+    call_caused old new callfault.Moment = tt
 
     -- a fault of the store comes of it
     storage_caused : (old mid new : S) (saving : Option Saving) (cause : StorageFault) → Stands v old mid → causes saving mid new cause

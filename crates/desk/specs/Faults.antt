@@ -2,6 +2,8 @@
 use Rattle.std.specs.Prelude.{ℕ, ◌≡◌, Bool, true, false, Option, Some}
 use Rattle.core_rules.specs.declared.fault.CoreFault.{CoreFault}
 use Rattle.core_rules.specs.declared.fault.CoreFault.TheVariants as core
+use Rattle.identifiers.specs.declared.parsed.CallFault.{CallFault}
+use Rattle.identifiers.specs.declared.parsed.CallFault.TheVariants as callfault
 use Rattle.store_api.specs.declared.fault.StorageFault.{StorageFault}
 use Rattle.store_api.specs.declared.fault.StorageFault.TheVariants as storagefault
 use Rattle.desk.specs.declared.fault.DeskFault.{DeskFault}
@@ -18,10 +20,14 @@ number_of deskfault.ShortRandom = 25
 number_of deskfault.Full = 26
 number_of deskfault.NewerFormat = 27
 
+-- the fault of a call that is not read
+abbrev pub call_fault : CallFault → DeskFault
+call_fault callfault.Memory = deskfault.Memory
+call_fault callfault.Moment = deskfault.Moment
+
 -- the fault of a decision
 abbrev pub core_fault : CoreFault → DeskFault
 core_fault core.Memory = deskfault.Memory
-core_fault core.Moment = deskfault.Moment
 core_fault core.ShortRandom = deskfault.ShortRandom
 core_fault core.Full = deskfault.Full
 

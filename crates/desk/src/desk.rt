@@ -1,17 +1,17 @@
 //! One desk, which answers calls one after the other.
-ghost use Rattle.std.specs.Prelude.{◌≡◌, ◌<◌, ◌↔◌, IsTrue, true, false, drop, length, Err, IfErr, IfOk, IfSome, MatchResult, Ok, Some, []};
+ghost use Rattle.std.specs.Prelude.{◌≡◌, ◌≢◌, ◌<◌, ◌↔◌, IsTrue, true, false, drop, length, Err, IfErr, IfOk, IfSome, MatchResult, Ok, Some, []};
 ghost use Rattle.store_api.specs.Sight.{FailsToRead, ForTables, Stands};
 ghost use Rattle.store_api.specs.Storing.{Loads};
 ghost use Rattle.desk.specs.declared.fault.DeskFault.TheVariants as fault;
 ghost use Rattle.desk.specs.Answers.{Answers, is_closed_after};
 ghost use Rattle.desk.specs.Causes.{IsCaused};
 ghost use Rattle.desk.specs.Runs.{EndsCaused, Runs, RunsAs, TellsLate, is_closed_behind};
-ghost use Rattle.desk_model.specs.Limits.{last_moment};
+ghost use Rattle.desk_model.specs.{Limits.last_moment, Run.IsFormedCall};
 
 use crate::fault::DeskFault;
 use desk_book::Book;
 use desk_core::decide;
-use desk_model::{Call, LAST_MOMENT, Policy, Reply, keep_form};
+use desk_model::{Call, Policy, Reply, keep_form};
 use std::alloc::Global;
 use std::marker::Model;
 use store_api::{ParsedCall, Storage, StorageFault};
@@ -41,37 +41,40 @@ impl<K: Storage + Drop> Model for Desk<K> {
     ghost view = { λ desk. record { store = desk.store; policy = desk.policy; is_closed = desk.is_closed } };
 }
 
-// The reply to a call, over an open store from which a part for it was loaded.
+// The reply to a call that was read, over an open store from which a part for it was loaded.
 fn attempt_by<K: Storage + Drop>(
     alloc: Global,
     store: &mut K,
     part: &Book,
     call: &ParsedCall,
 ) -> Result<Reply, DeskFault>
-    ensures late { result ≡ Err fault.Moment → last_moment < call.now.at }
+    requires { IsFormedCall call.now }
+    ensures in_time { result ≢ Err fault.Moment }
     ensures caused { (was : K) → Stands K.Storage.sight was store.old → IfErr result (IsCaused K.Storage.sight K.Storage.causes was store.new) }
     ensures exit { (was : K) → Loads K.Storage.sight call.now was store.old (Ok part.now) → Answers K.Storage.sight call.now was store.new result }
 {
-    keep_form(call.call());
-    let outcome = decide(alloc, part, call)?;
-    let changes = outcome.changes.as_slice();
+    let decision = decide(alloc, part, call)?;
+    let changes = decision.changes.as_slice();
     if changes.is_empty() {
-        return Ok(outcome.reply);
+        return Ok(decision.reply);
     }
-    store.save(alloc, part, outcome.changes)?;
-    Ok(outcome.reply)
+    store.save(alloc, part, decision.changes)?;
+    Ok(decision.reply)
 }
 
-// The reply to a call, over an open store: its payload is read once, for the rows that are loaded and for the decision.
-fn attempt<K: Storage + Drop>(alloc: Global, store: &mut K, call: &Call) -> Result<Reply, DeskFault>
-    ensures late { result ≡ Err fault.Moment → last_moment < call.now.at }
+// The reply to a call that was read, over an open store.
+fn attempt<K: Storage + Drop>(
+    alloc: Global,
+    store: &mut K,
+    call: &ParsedCall,
+) -> Result<Reply, DeskFault>
+    requires { IsFormedCall call.now }
+    ensures in_time { result ≢ Err fault.Moment }
     ensures caused { IfErr result (IsCaused K.Storage.sight K.Storage.causes store.old store.new) }
     ensures exit { Answers K.Storage.sight call.now store.old store.new result }
 {
-    keep_form(call);
-    let parsed = ParsedCall::read(alloc, call)?;
-    let part = store.load_part(alloc, &parsed)?;
-    let attempted = attempt_by(alloc, store, &part, &parsed);
+    let part = store.load_part(alloc, call)?;
+    let attempted = attempt_by(alloc, store, &part, call);
     drop(part);
     attempted
 }
@@ -136,7 +139,8 @@ impl<K: Storage + Drop> Desk<K> {
         store
     }
 
-    /// The reply to a call, which is recorded before it is given.
+    /// The reply to a call, which is recorded before it is given. Its nonce and its payload are read once, for the rows that are
+    /// loaded and for the decision.
     ///
     /// # Errors
     ///
@@ -154,11 +158,8 @@ impl<K: Storage + Drop> Desk<K> {
         if self.is_closed {
             return Err(DeskFault::Reopen);
         }
-        if call.at > LAST_MOMENT {
-            keep_form(call);
-            return Err(DeskFault::Moment);
-        }
-        match attempt(alloc, &mut self.store, call) {
+        let parsed = ParsedCall::read(alloc, call)?;
+        match attempt(alloc, &mut self.store, &parsed) {
             Ok(reply) => Ok(reply),
             Err(fault) => {
                 self.is_closed = fault.closes();

@@ -1,10 +1,9 @@
 //! Why a call is not answered, or a desk not opened.
 ghost use Rattle.std.specs.Prelude.{◌≡◌};
-ghost use Rattle.desk.specs.Faults.{closes, number_of, core_fault, storage_fault};
-ghost use Rattle.desk.specs.declared.fault.DeskFault.TheVariants.{Memory};
+ghost use Rattle.desk.specs.Faults.{closes, number_of, call_fault, core_fault, storage_fault};
 
 use desk_core::CoreFault;
-use std::alloc::AllocError;
+use identifiers::CallFault;
 use std::error::Error;
 use std::fmt;
 use store_api::StorageFault;
@@ -79,18 +78,20 @@ impl From<CoreFault> for DeskFault {
     fn from(fault: CoreFault) -> DeskFault {
         match fault {
             CoreFault::Memory => DeskFault::Memory,
-            CoreFault::Moment => DeskFault::Moment,
             CoreFault::ShortRandom => DeskFault::ShortRandom,
             CoreFault::Full => DeskFault::Full,
         }
     }
 }
 
-impl From<AllocError> for DeskFault {
-    ghost from_gives = { λ _ e. e ≡ Memory };
+impl From<CallFault> for DeskFault {
+    ghost from_gives = { λ fault e. e ≡ call_fault fault };
 
-    fn from(_refused: AllocError) -> DeskFault {
-        DeskFault::Memory
+    fn from(fault: CallFault) -> DeskFault {
+        match fault {
+            CallFault::Memory => DeskFault::Memory,
+            CallFault::Moment => DeskFault::Moment,
+        }
     }
 }
 

@@ -57,18 +57,10 @@ is_short F call es at is fits short =
     (cond (not ((ap (λ l. numbers_fit (record_all (moment_of call.at F) l F)) is ∙ fits) i)) (Some 26)
     (cond ((ap (λ l. nat_lt (length call.random) (16 * count_pieces l)) is ∙ lt-ltb (length call.random) (16 * count_pieces es) short) i) (Some 25) None))
 
--- a moment above the last
-pub is_late : (F : History) (call : Call) → last_moment < call.at → fault F call ≡ Some 24
-is_late F call late =
-    ap (λ b. cond b (Some 24) (cond (not (numbers_fit (after F call))) (Some 26)
-    (cond (nat_lt (length call.random) (16 * count_pieces (decide F call).entries)) (Some 25) None)))
-    (lt-ltb last_moment call.at late)
-
 -- a nonce that is issued and nothing else
 issue_faults : (F : History) (call : Call) (e : CoreFault) → Legal F → call.at ≤ last_moment → (decide F call).entries ≡ issued (take 16 call.random) ∷ [] →
     IsIssueFault (picture F) call.random e → IsFaultOf F call e
 issue_faults F call core.Memory legal at is h = tt
-issue_faults F call core.Moment legal at is h = absurd h
 issue_faults F call core.Full legal at is h =
     is_full F call (issued (take 16 call.random) ∷ []) at is
     (nonces_over (record { date = moment_of call.at F; entry = issued (take 16 call.random) } ∷ F)
@@ -99,7 +91,6 @@ passed_faults : (F : History) (call : Call) (s : Signed) (serial : ℕ) (e : Cor
     (decide F call).entries ≡ nonce_entries serial call.random ++ entries_of (judged F call s) →
     IsPassedFault (picture F) call.random (judged F call s) e → IsFaultOf F call e
 passed_faults F call s serial core.Memory legal at is h = tt
-passed_faults F call s serial core.Moment legal at is h = absurd h
 passed_faults F call s serial core.Full legal at is h = is_full F call _ at is (over h)
   where
     over : NumbersSpent (picture F).meta.counters (judged F call s) ⊎ (last_number ≤ length (nonces F)) →

@@ -1,15 +1,11 @@
 -- Which faults come, and when.
-use Rattle.std.proofs.Common.{◌≡◌, ℕ, ◌<◌, ◌≤◌, List, arith, subst, Result, Ok, Err, IfOk}
-use Rattle.std.specs.Prelude.{IfErr, MatchResult, ◌↔◌}
-use Rattle.desk_model.specs.Limits.{last_moment, last_number}
+use Rattle.std.proofs.Common.{ℕ, ◌<◌, List, arith, Result, Ok, Err, IfOk}
+use Rattle.std.specs.Prelude.{IfErr, MatchResult}
+use Rattle.desk_model.specs.Limits.{last_number}
 use Rattle.desk_model.specs.{Tables.Tables, declared.verdict.Verdict.Verdict}
-use Rattle.desk_core.specs.Outcomes.{IsLater, IsPassedFault, IsShort}
+use Rattle.desk_core.specs.Outcomes.{IsPassedFault, IsShort}
 use Rattle.core_rules.specs.{Needs.NumbersLeft, declared.fault.CoreFault.CoreFault}
 use Rattle.core_rules.specs.declared.fault.CoreFault.TheVariants as fault
-
--- where no other call gives it, it comes exactly past the last one
-pub late_only : {T : Type 0} (r : Result T CoreFault) (at : ℕ) → IfErr r IsLater → at ≤ last_moment → (r ≡ Err fault.Moment) ↔ (last_moment < at)
-late_only r at later in_time = (λ e. absurd (subst (λ x. IfErr x IsLater) e later), λ late. absurd (omega arith))
 
 -- too few random bytes for a nonce are too few for the tokens behind it
 pub passed_fault : (B : Tables) (random : List ℕ) (v : Verdict) → B.meta.counters.nonces < last_number → NumbersLeft B.meta.counters v
@@ -17,7 +13,6 @@ pub passed_fault : (B : Tables) (random : List ℕ) (v : Verdict) → B.meta.cou
 passed_fault B random v nonces numbers fault.Memory short = tt
 passed_fault B random v nonces numbers fault.ShortRandom short = (nonces, numbers, omega (arith, short))
 passed_fault B random v nonces numbers fault.Full short = absurd short
-passed_fault B random v nonces numbers fault.Moment short = absurd short
 
 -- what follows where it ended in a fault
 pub fault_so : {X E : Type 0} {F G : E → Type 0} (r : Result X E) → ((e : E) → F e → G e) → IfErr r F → IfErr r G

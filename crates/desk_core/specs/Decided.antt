@@ -25,6 +25,5 @@ pub record IsDecision (F : History) (call : Call) (changes : List Change) (reply
 -- the fault is the model's; out of memory is the code's own
 abbrev pub IsFaultOf : History → Call → CoreFault → Type 0
 IsFaultOf F call core.Memory = Unit {0}
-IsFaultOf F call core.Moment = fault F call ≡ Some 24
 IsFaultOf F call core.Full = fault F call ≡ Some 26
 IsFaultOf F call core.ShortRandom = fault F call ≡ Some 25

@@ -46,11 +46,6 @@ MeetsAsk m B random (ask.NewNonce head) changes reply = Issues m B random (nonce
 MeetsAsk m B random (ask.Signed s) changes reply = MeetsSigned m B random s (open_nonce (swept m B) s.nonce) changes reply
 MeetsAsk m B random (ask.Office a) changes reply = Settles m B (office_verdict (swept m B) a) changes reply
 
--- any fault but that of the call's moment
-abbrev pub IsLater : CoreFault → Type 0
-IsLater fault.Moment = ⊥
-IsLater _ = Unit {0}
-
 -- out of memory, or too few random bytes for the fresh nonce
 abbrev pub IsShort : List ℕ → CoreFault → Type 0
 IsShort random fault.Memory = Unit {0}
@@ -63,7 +58,6 @@ IsPassedFault B random v fault.Memory = Unit {0}
 IsPassedFault B random v fault.Full = NumbersSpent B.meta.counters v ⊎ (last_number ≤ B.meta.counters.nonces)
 IsPassedFault B random v fault.ShortRandom = (B.meta.counters.nonces < last_number) × NumbersLeft B.meta.counters v
     × (length random < 16 * (1 + count_pieces (entries_of v)))
-IsPassedFault B random v fault.Moment = ⊥
 
 abbrev pub IsSignedFault : ℕ → Tables → List ℕ → Signed → Option ℕ → CoreFault → Type 0
 IsSignedFault m B random s None e = IsIssueFault B random e

@@ -9,4 +9,3 @@ abbrev pub IsIssueFault : Tables → List ℕ → CoreFault → Type 0
 IsIssueFault T random fault.Memory = Unit {0}
 IsIssueFault T random fault.Full = last_number ≤ T.meta.counters.nonces
 IsIssueFault T random fault.ShortRandom = (T.meta.counters.nonces < last_number) × (length random < 16)
-IsIssueFault T random fault.Moment = ⊥

@@ -1,5 +1,5 @@
 //! The decision on a call: what changes in the book, and what is answered.
-ghost use Rattle.std.specs.Prelude.{◌≡◌, ◌↔◌, ◌<◌, ◌≤◌, ◌+◌, ◌++◌, ◌∷◌, [], ℕ, List, true, false, length, take, drop, IfOk, IfErr, MatchResult, Ok, OnOk};
+ghost use Rattle.std.specs.Prelude.{◌≡◌, ◌<◌, ◌≤◌, ◌+◌, ◌++◌, ◌∷◌, [], ℕ, List, true, false, length, take, drop, IfOk, IfErr, MatchResult, Ok, OnOk};
 ghost use Rattle.desk_model.specs.Decide.{entries_of, nonce_entries, verdict_reply};
 ghost use Rattle.desk_model.specs.Effect.{effects, swept};
 ghost use Rattle.desk_model.specs.Limits.{last_moment, last_number};
@@ -15,7 +15,7 @@ ghost use Rattle.desk_core.specs.Decided.{IsDecision, IsFaultOf};
 ghost use Rattle.identifiers.specs.Parsed.{ask_of};
 ghost use Rattle.model_lives.specs.IsEnough.{IsEnoughFor};
 ghost use Rattle.core_rules.specs.Needs.{IsJudged, NumbersLeft};
-ghost use Rattle.desk_core.specs.Outcomes.{IsAskFault, IsLater, IsPassedFault, IsShort, IsSignedFault, MeetsAsk, MeetsSigned, Passes, Settles};
+ghost use Rattle.desk_core.specs.Outcomes.{IsAskFault, IsPassedFault, IsShort, IsSignedFault, MeetsAsk, MeetsSigned, Passes, Settles};
 ghost use Rattle.core_changes.specs.Recorded.{GoesOn, IsAt, IsRecorded, IsUntouched};
 
 use crate::acts::{act, show};
@@ -23,13 +23,13 @@ use core_changes::Recording;
 use core_replies::{nonce_reply, refusal_reply, taken_reply, with_nonce};
 use core_rules::{CoreFault, first_random, has_room, judge_office, judge_signed, open_nonce};
 use desk_book::{At, Book};
-use desk_model::{Change, LAST_MOMENT, OfficeAsk, Refusal, Reply, Sequence, Verdict, keep_form};
+use desk_model::{Change, OfficeAsk, Refusal, Reply, Sequence, Verdict};
 use identifiers::{ParsedAsk, ParsedCall, ParsedSigned};
 use std::alloc::{AllocError, Global};
 
 /// What a call does: the changes that it makes, none where nothing is recorded, and the reply.
 #[derive(Drop)]
-pub struct Outcome {
+pub struct Decision {
     /// In their order: the sweep's, then those of each entry, and the meta row.
     pub changes: Vec<Change>,
     /// What is given once the changes are made.
@@ -47,11 +47,11 @@ fn fresh_random(book: &Book, random: &[u8]) -> Result<[u8; 16], CoreFault>
 }
 
 // What a recording gives in the end, with the reply; where there is no reply, its error.
-fn outcome_of(
+fn decision_of(
     book: &Book,
     recording: Recording,
     reply: Result<Reply, AllocError>,
-) -> Result<Outcome, CoreFault>
+) -> Result<Decision, CoreFault>
     ensures changes { IfOk result (λ o. (m : ℕ) (e : EntryOf) (es : List EntryOf)
         → IsRecorded m book.now (e ∷ es) recording.changes.items recording.counters → o.changes.items ≡ recorded_changes m book.now (e ∷ es)) }
     ensures reply { IfOk result (λ o. reply ≡ Ok o.reply) }
@@ -59,7 +59,7 @@ fn outcome_of(
 {
     let reply = reply?;
     let changes = recording.finish(&book.meta().policy)?;
-    Ok(Outcome { changes, reply })
+    Ok(Decision { changes, reply })
 }
 
 // Issues a nonce with these random bytes and nothing else, with a reply, if that could be made.
@@ -69,7 +69,7 @@ fn issue(
     moment: u64,
     random: [u8; 16],
     reply: Result<Reply, AllocError>,
-) -> Result<Outcome, CoreFault>
+) -> Result<Decision, CoreFault>
     requires moment { moment ≤ last_moment }
     requires nonces { book.now.meta.counters.nonces < last_number }
     ensures changes { IfOk result (λ o. o.changes.items ≡ recorded_changes moment book.now (issued_entry random ∷ [])) }
@@ -78,7 +78,7 @@ fn issue(
 {
     let mut recording = Recording::begin(alloc, book, moment)?;
     let issued = recording.issue(random);
-    outcome_of(book, recording, issued.and(reply))
+    decision_of(book, recording, issued.and(reply))
 }
 
 // Issues a nonce and nothing else, with this reply.
@@ -88,7 +88,7 @@ fn issued(
     moment: u64,
     random: &[u8],
     reply: Reply,
-) -> Result<Outcome, CoreFault>
+) -> Result<Decision, CoreFault>
     requires { moment ≤ last_moment }
     ensures changes { IfOk result (λ o. o.changes.items ≡ recorded_changes moment book.now (issued_entry (take 16 random.now) ∷ [])) }
     ensures reply { IfOk result (λ o. o.reply ≡ with_nonce (fresh_nonce book.now random.now) reply) }
@@ -153,7 +153,7 @@ fn act_with_fresh_nonce(
     random: &[u8],
     serial: u64,
     verdict: Verdict,
-) -> Result<Outcome, CoreFault>
+) -> Result<Decision, CoreFault>
     requires moment { moment ≤ last_moment }
     requires nonces { book.now.meta.counters.nonces < last_number }
     requires numbers { NumbersLeft book.now.meta.counters verdict }
@@ -167,7 +167,7 @@ fn act_with_fresh_nonce(
 {
     let (mut recording, bytes) = begin_signed(alloc, book, moment, serial, random)?;
     let reply = act_with_nonce(alloc, book, &mut recording, verdict, bytes);
-    outcome_of(book, recording, reply)
+    decision_of(book, recording, reply)
 }
 
 // The verdict on a signed request at a moment.
@@ -193,7 +193,7 @@ fn spend_and_act(
     random: &[u8],
     serial: u64,
     signed: &ParsedSigned,
-) -> Result<Outcome, CoreFault>
+) -> Result<Decision, CoreFault>
     requires { moment ≤ last_moment }
     ensures { let v = verdict_of (swept moment book.now) (drop 16 random.now) signed.now in
         MatchResult result
@@ -212,15 +212,14 @@ fn signed(
     moment: u64,
     random: &[u8],
     signed: &ParsedSigned,
-) -> Result<Outcome, CoreFault>
+) -> Result<Decision, CoreFault>
     requires { moment ≤ last_moment }
-    ensures later { IfErr result (λ e. IsLater e) }
-    ensures meets { IsOrdered book.now → (let found = open_nonce (swept moment book.now) signed.now.nonce in
+    ensures { IsOrdered book.now → (let found = open_nonce (swept moment book.now) signed.now.nonce in
         MatchResult result
         (λ o. MeetsSigned moment book.now random.now signed.now found o.changes.items o.reply)
         (λ e. IsSignedFault moment book.now random.now signed.now found e)) }
 {
-    match open_nonce(book, moment, &signed.request().nonce) {
+    match open_nonce(book, moment, signed) {
         Some(serial) => spend_and_act(alloc, book, moment, random, serial, signed),
         None => {
             let refusal = refusal_reply(Refusal::BadNonce, Sequence::new(Vec::new(alloc)), true);
@@ -230,7 +229,12 @@ fn signed(
 }
 
 // A request without a nonce that records an entry.
-fn recorded(alloc: Global, book: &Book, moment: u64, verdict: Verdict) -> Result<Outcome, CoreFault>
+fn recorded(
+    alloc: Global,
+    book: &Book,
+    moment: u64,
+    verdict: Verdict,
+) -> Result<Decision, CoreFault>
     requires moment { moment ≤ last_moment }
     requires numbers { NumbersLeft book.now.meta.counters verdict }
     requires there { NamesRows (swept moment book.now) verdict }
@@ -243,15 +247,15 @@ fn recorded(alloc: Global, book: &Book, moment: u64, verdict: Verdict) -> Result
 {
     let mut recording = Recording::begin(alloc, book, moment)?;
     let reply = act(alloc, book, &mut recording, verdict);
-    outcome_of(book, recording, reply)
+    decision_of(book, recording, reply)
 }
 
 // A reply to a request that records nothing.
-fn unrecorded(alloc: Global, reply: Reply) -> Outcome
+fn unrecorded(alloc: Global, reply: Reply) -> Decision
     ensures changes { result.changes.items ≡ [] }
     ensures reply { result.reply ≡ reply }
 {
-    Outcome {
+    Decision {
         changes: Vec::new(alloc),
         reply,
     }
@@ -263,7 +267,7 @@ fn act_without_nonce(
     book: &Book,
     moment: u64,
     verdict: Verdict,
-) -> Result<Outcome, CoreFault>
+) -> Result<Decision, CoreFault>
     requires moment { moment ≤ last_moment }
     requires numbers { NumbersLeft book.now.meta.counters verdict }
     requires there { NamesRows (swept moment book.now) verdict }
@@ -301,7 +305,7 @@ fn office_verdict(
 }
 
 // A request of the validator, the signing office or the operator, or for the directory.
-fn office(alloc: Global, book: &Book, moment: u64, ask: &OfficeAsk) -> Result<Outcome, CoreFault>
+fn office(alloc: Global, book: &Book, moment: u64, ask: &OfficeAsk) -> Result<Decision, CoreFault>
     requires { moment ≤ last_moment }
     ensures { MatchResult result
         (λ o. Settles moment book.now (office_verdict (swept moment book.now) ask.now) o.changes.items o.reply)
@@ -318,10 +322,9 @@ fn decide_at(
     moment: u64,
     random: &[u8],
     ask: &ParsedAsk,
-) -> Result<Outcome, CoreFault>
+) -> Result<Decision, CoreFault>
     requires { moment ≤ last_moment }
-    ensures later { IfErr result (λ e. IsLater e) }
-    ensures meets { IsOrdered book.now → MatchResult result
+    ensures { IsOrdered book.now → MatchResult result
         (λ o. MeetsAsk moment book.now random.now (ask_of ask.now) o.changes.items o.reply)
         (λ e. IsAskFault moment book.now random.now (ask_of ask.now) e) }
 {
@@ -337,20 +340,15 @@ fn decide_at(
 ///
 /// # Errors
 ///
-/// `Moment`, `Full` and `ShortRandom` are the faults 24, 26 and 25 of the call, tested in this order; `Memory` comes
-/// where a growth was refused. The book stays as it was.
-pub fn decide(alloc: Global, book: &Book, call: &ParsedCall) -> Result<Outcome, CoreFault>
-    ensures late { (result ≡ Err CoreFault.Moment) ↔ (last_moment < call.now.at) }
+/// `Full` and `ShortRandom` are the faults 26 and 25 of the call, tested in this order; `Memory` comes where a growth was
+/// refused. The book stays as it was. That the call is not too late, fault 24, was tested as it was read.
+pub fn decide(alloc: Global, book: &Book, call: &ParsedCall) -> Result<Decision, CoreFault>
     ensures decided { IfOk result (λ o. (F : History) → Legal F → IsEnoughFor call.now (picture F) book.now
         → IsDecision F call.now o.changes.items o.reply) }
     ensures faulty { IfErr result (λ e. (F : History) → Legal F → IsEnoughFor call.now (picture F) book.now
         → IsFaultOf F call.now e) }
 {
     let whole = call.call();
-    if whole.at > LAST_MOMENT {
-        return Err(CoreFault::Moment);
-    }
-    keep_form(whole);
-    let moment = whole.at.max(book.meta().counters.clock.moment());
+    let moment = book.meta().counters.clock.moment_of(whole.at);
     decide_at(alloc, book, moment, whole.random.as_slice(), call.ask())
 }

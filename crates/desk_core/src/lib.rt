@@ -5,4 +5,4 @@ mod acts;
 mod decisions;
 
 pub use core_rules::CoreFault;
-pub use decisions::{Outcome, decide};
+pub use decisions::{Decision, decide};

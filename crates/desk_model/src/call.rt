@@ -179,7 +179,9 @@ fn status_of_kind(kind: &str) -> u16
     }
 }
 
-/// What the types of a call keep, as a fact: an accepted key has its canonical text, and texts are UTF-8.
+/// What the types of a call keep, as a fact: an accepted key has its canonical text, and texts are UTF-8. It does nothing, and
+/// is for proofs alone: `ParsedCall::read` keeps the fact for all that is done with a call, and only a call that is not read
+/// needs it again.
 pub fn keep_form(call: &Call)
     ensures { IsFormedCall call.now }
 {

@@ -1,5 +1,5 @@
 //! The rows of a desk's tables, and changes of them.
-ghost use Rattle.std.specs.Prelude.{◌≡◌, ◌<◌, ◌≤◌, MatchOption};
+ghost use Rattle.std.specs.Prelude.{◌≡◌, ◌<◌, ◌≤◌, MatchOption, max};
 ghost use Rattle.desk_model.specs.Document.{answer_thumb};
 ghost use Rattle.desk_model.specs.Limits.{last_moment};
 
@@ -344,5 +344,12 @@ impl Clock {
         ensures in_time { result ≤ last_moment }
     {
         self.moment
+    }
+
+    /// The moment, in seconds since 1970, of a call that is made at `at`: never before the last call's.
+    pub fn moment_of(self, at: u64) -> u64
+        ensures { result ≡ max at self }
+    {
+        at.max(self.moment)
     }
 }

@@ -98,7 +98,7 @@ fn touched_by(
     target: Target,
 ) -> Result<[usize; 4], Fail> {
     let asked = reading(rt, alloc, target)?;
-    let parsed = ParsedCall::read(alloc, &asked)?;
+    let parsed = ParsedCall::read(alloc, &asked).ok().expect(rt, "a call");
     let part = load_part(alloc, book, &parsed).ok().expect(rt, "rows");
     Ok(counts(&part))
 }
@@ -141,7 +141,7 @@ fn loaded_for(
     target: Target,
 ) -> Result<[usize; 4], Fail> {
     let asked = reading(rt, alloc, target)?;
-    let parsed = ParsedCall::read(alloc, &asked)?;
+    let parsed = ParsedCall::read(alloc, &asked).ok().expect(rt, "a call");
     let part = store.load_part(alloc, &parsed).ok().expect(rt, "rows");
     Ok(counts(&part))
 }

@@ -1,3 +1,4 @@
 pub mod AskedOrders
 pub mod NameLaws
 pub mod Parsed
+pub mod ReadOnce

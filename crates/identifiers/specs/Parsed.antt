@@ -1,4 +1,4 @@
--- What a call asks, behind what was read in its payload.
+-- What a call asks, behind what was read in its nonce and its payload.
 use Rattle.desk_model.specs.declared.call.Ask.{Ask}
 use Rattle.desk_model.specs.declared.call.Ask.TheVariants as ask
 use Rattle.identifiers.specs.declared.parsed.ParsedAsk.{ParsedAsk}

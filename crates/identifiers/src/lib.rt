@@ -6,4 +6,4 @@ mod parsed;
 
 pub use desk_model::DnsName;
 pub use names::{NameFault, names_are_unique, read_name};
-pub use parsed::{AskedOrder, ParsedAsk, ParsedCall, ParsedSigned};
+pub use parsed::{AskedOrder, CallFault, ParsedAsk, ParsedCall, ParsedSigned, says_deactivated};

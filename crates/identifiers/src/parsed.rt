@@ -1,41 +1,59 @@
-//! A call with what its payload says, which is read once for all that the call does.
-ghost use Rattle.std.specs.Prelude.{◌≡◌, option_map, IfOk};
+//! A call with what its nonce and its payload say, which are read once for all that the call does.
+ghost use Rattle.std.specs.Prelude.{◌≡◌, ◌↔◌, ◌<◌, ◌≤◌, option_map, option_and_then, Err, IfOk};
 ghost use Rattle.desk_model.specs.Asked.{asked_names, target_names};
+ghost use Rattle.desk_model.specs.{Limits.last_moment, Run.IsFormedCall, Tokens.nonce_in};
 ghost use Rattle.identifiers.specs.AskedOrders.{target_order, asked_order, order_names, order_of};
-ghost use Rattle.identifiers.specs.Parsed.{ask_of};
+ghost use Rattle.identifiers.specs.{Parsed.ask_of, ReadOnce.spelled_nonce, ReadOnce.target_key_change};
+ghost use Rattle.identifiers.specs.declared.parsed.CallFault.TheVariants.{Memory as memory, Moment as moment};
 ghost use Rattle.serde_json.specs.Read.{read};
 ghost use Rattle.serde_json.specs.View.{view, items_view};
-ghost use Rattle.desk_model.specs.Payload.{each_in, identifier_in, new_order_in, object_in};
+ghost use Rattle.desk_model.specs.Payload.{each_in, identifier_in, key_change, new_order_in, object_in, says_deactivated};
 
 use crate::names::{Identified, identify};
 use desk_model::{
-    Ask, Call, DnsName, Identifier, MOST_NAMES, OfficeAsk, Refusal, Sequence, Signed, Subproblem,
-    Target,
+    Ask, Call, DnsName, Identifier, KeyChange, LAST_MOMENT, MOST_NAMES, OfficeAsk, Refusal,
+    Sequence, Signed, Subproblem, Target, keep_form,
 };
-use json_texts::{texts_of, value_of};
+use json_texts::{text_of, texts_of, value_of};
+use keys::{key_change_of, read_nonce};
 use serde_json::Value;
 use std::alloc::{AllocError, Global};
 use std::marker::Model;
 
-/// A signed request with what its payload says, which contracts see as the request.
+/// A signed request with what its nonce and its payload say, which contracts see as the request.
 #[derive(Drop)]
 pub struct ParsedSigned<'a> {
     request: &'a Signed,
+    nonce: Option<(u64, [u8; 16])>,
     value: Option<Value>,
     order: AskedOrder,
+    key_change: Option<KeyChange>,
 }
 
 impl<'a> Model for ParsedSigned<'a> {
-    ghost use Rattle.std.specs.Prelude.{◌≡◌};
-    ghost use Rattle.desk_model.specs.declared.call.Signed.{Signed};
+    ghost use Rattle.std.specs.Prelude.{◌≡◌, option_and_then};
+    ghost use Rattle.desk_model.specs.{Tokens.nonce_in, declared.call.Signed.Signed};
     ghost use Rattle.identifiers.specs.AskedOrders.{IsValueOf, target_order};
+    ghost use Rattle.identifiers.specs.ReadOnce.{spelled_nonce, target_key_change};
 
     ghost Value = { Signed };
 
     ghost view = { λ s. s.request.now };
 
     ghost invariant = { λ s. IsValueOf s.request.now.payload s.value
-        × (s.order ≡ target_order s.request.now.target s.request.now.payload) };
+        × (spelled_nonce s.nonce ≡ option_and_then nonce_in s.request.now.nonce)
+        × (s.order ≡ target_order s.request.now.target s.request.now.payload)
+        × (s.key_change ≡ target_key_change s.request.now.target s.request.now.payload) };
+}
+
+// The serial and the random bytes that the text of a request's nonce spells, if it spells some.
+fn nonce_of(request: &Signed) -> Option<(u64, [u8; 16])>
+    ensures { spelled_nonce result ≡ option_and_then nonce_in request.now.nonce }
+{
+    match &request.nonce {
+        Some(text) => read_nonce(text.as_str()),
+        None => None,
+    }
 }
 
 // What a request with this value in its payload asks for, if it is for a new order.
@@ -53,17 +71,35 @@ fn order_in(
     }
 }
 
+// What a request with this value in its payload asks, if it is for another key.
+fn key_change_in(
+    alloc: Global,
+    request: &Signed,
+    value: &Option<Value>,
+) -> Result<Option<KeyChange>, AllocError>
+    requires { option_map (λ v. view v) value.now ≡ read request.now.payload }
+    ensures { IfOk result (λ o. o ≡ target_key_change request.now.target request.now.payload) }
+{
+    match request.target {
+        Target::KeyChange => asked_key_change(alloc, request.payload.as_str(), value),
+        _ => Ok(None),
+    }
+}
+
 impl<'a> ParsedSigned<'a> {
-    // A request, whose payload is read; where it is for a new order, its identifiers, too.
+    // A request, whose nonce and payload are read: the identifiers of a new order, and the keys of a change of keys, too.
     fn read(alloc: Global, request: &'a Signed) -> Result<ParsedSigned<'a>, AllocError>
         ensures { IfOk result (λ s. s ≡ request.now) }
     {
         let value = value_of(alloc, request.payload.as_str())?;
         let order = order_in(alloc, request, &value)?;
+        let key_change = key_change_in(alloc, request, &value)?;
         Ok(ParsedSigned {
             request,
+            nonce: nonce_of(request),
             value,
             order,
+            key_change,
         })
     }
 
@@ -72,6 +108,13 @@ impl<'a> ParsedSigned<'a> {
         ensures { result.now ≡ self.now }
     {
         self.request
+    }
+
+    /// The serial and the random bytes of its nonce, `None` where it has none, or one of another form (RFC 8555, 6.5).
+    pub fn nonce(&self) -> Option<(u64, [u8; 16])>
+        ensures { spelled_nonce result ≡ option_and_then nonce_in self.now.nonce }
+    {
+        self.nonce
     }
 
     /// The JSON value of the payload, `None` where it is no JSON text.
@@ -86,6 +129,13 @@ impl<'a> ParsedSigned<'a> {
         ensures { result.now ≡ target_order self.now.target self.now.payload }
     {
         &self.order
+    }
+
+    /// What it asks, if it is for another key and has the form of that (RFC 8555, 7.3.5); `None` for any other.
+    pub fn key_change(&self) -> &Option<KeyChange>
+        ensures { result.now ≡ target_key_change self.now.target self.now.payload }
+    {
+        &self.key_change
     }
 
     // The names that it asks for, if it is for a new order that may be made.
@@ -130,7 +180,24 @@ impl<'a> ParsedAsk<'a> {
     }
 }
 
-/// A call with what its payload says, which contracts see as the call.
+/// Why a call is not read; whoever it is for stays as they were.
+#[derive(Clone, Copy, Debug, PartialEq, Eq)]
+pub enum CallFault {
+    /// A growth was refused (fault 20).
+    Memory,
+    /// The call's moment is above the last one (fault 24).
+    Moment,
+}
+
+impl From<AllocError> for CallFault {
+    ghost from_gives = { λ _ e. e ≡ memory };
+
+    fn from(_refused: AllocError) -> CallFault {
+        CallFault::Memory
+    }
+}
+
+/// A call that is not too late, with what its nonce and its payload say, which contracts see as the call.
 #[derive(Drop)]
 pub struct ParsedCall<'a> {
     call: &'a Call,
@@ -138,33 +205,41 @@ pub struct ParsedCall<'a> {
 }
 
 impl<'a> Model for ParsedCall<'a> {
-    ghost use Rattle.std.specs.Prelude.{◌≡◌};
-    ghost use Rattle.desk_model.specs.declared.call.Call.{Call};
+    ghost use Rattle.std.specs.Prelude.{◌≡◌, ◌≤◌};
+    ghost use Rattle.desk_model.specs.{Limits.last_moment, Run.IsFormedCall, declared.call.Call.Call};
     ghost use Rattle.identifiers.specs.Parsed.{ask_of};
 
     ghost Value = { Call };
 
     ghost view = { λ c. c.call.now };
 
-    ghost invariant = { λ c. ask_of c.ask ≡ c.call.now.ask };
+    ghost invariant = { λ c. (ask_of c.ask ≡ c.call.now.ask) × IsFormedCall c.call.now × (c.call.now.at ≤ last_moment) };
 }
 
 impl<'a> ParsedCall<'a> {
-    /// A call, whose payload is read; where it asks for a new order, its identifiers, too.
+    /// A call, whose nonce and payload are read: the identifiers of a new order, and the keys of a change of keys, too.
     ///
     /// # Errors
     ///
-    /// Where there is no memory for them.
-    pub fn read(alloc: Global, call: &'a Call) -> Result<ParsedCall<'a>, AllocError>
-        ensures { IfOk result (λ c. c ≡ call.now) }
+    /// `Moment` is the fault 24 of the call, and `Memory` comes where a growth was refused.
+    pub fn read(alloc: Global, call: &'a Call) -> Result<ParsedCall<'a>, CallFault>
+        ensures formed { IsFormedCall call.now }
+        ensures late { (result ≡ Err moment) ↔ (last_moment < call.now.at) }
+        ensures read { IfOk result (λ c. c ≡ call.now) }
     {
+        keep_form(call);
+        if call.at > LAST_MOMENT {
+            return Err(CallFault::Moment);
+        }
         let ask = ParsedAsk::read(alloc, &call.ask)?;
         Ok(ParsedCall { call, ask })
     }
 
     /// The call.
     pub fn call(&self) -> &'a Call
-        ensures { result.now ≡ self.now }
+        ensures call { result.now ≡ self.now }
+        ensures formed { IsFormedCall self.now }
+        ensures in_time { self.now.at ≤ last_moment }
     {
         self.call
     }
@@ -249,7 +324,7 @@ fn asked_order(alloc: Global, text: &str, value: &Option<Value>) -> Result<Asked
     }
 }
 
-// ---- that payload: a JSON text
+// ---- payloads: JSON texts
 
 // The object that was read in a text, if it is one.
 #[tactic(auto, unfolding(desk_model::specs::Payload::object_in))]
@@ -260,6 +335,35 @@ fn object_of<'a>(text: &str, value: &'a Option<Value>) -> Option<&'a Value>
     match value {
         Some(value) if value.is_object() => Some(value),
         _ => None,
+    }
+}
+
+/// Whether an object says that what it is sent to is to be deactivated (RFC 8555, 7.3.6 and 7.5.2).
+pub fn says_deactivated(value: &Value) -> bool
+    ensures { result ≡ says_deactivated (view value.now) }
+{
+    match text_of(value, "status") {
+        Some(text) => text == "deactivated",
+        None => false,
+    }
+}
+
+// What the payload of a keyChange asks, by the value that was read in its text (RFC 8555, 7.3.5).
+//
+// # Errors
+//
+// Where there is no memory for it.
+fn asked_key_change(
+    alloc: Global,
+    text: &str,
+    value: &Option<Value>,
+) -> Result<Option<KeyChange>, AllocError>
+    requires { option_map (λ v. view v) value.now ≡ read text.now }
+    ensures { IfOk result (λ o. o ≡ key_change text.now) }
+{
+    match object_of(text, value) {
+        Some(object) => key_change_of(alloc, object),
+        None => Ok(None),
     }
 }
 

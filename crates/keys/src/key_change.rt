@@ -1,11 +1,11 @@
 //! The payload of a request for another key (RFC 8555, 7.3.5).
-ghost use Rattle.std.specs.Prelude.{◌≡◌, option_and_then, option_map, IfOk};
+ghost use Rattle.std.specs.Prelude.{◌≡◌, option_map, IfOk};
 ghost use Rattle.serde_json.specs.View.{view};
-ghost use Rattle.desk_model.specs.Payload.{key_change, key_change_in, key_text_in, object_member};
+ghost use Rattle.desk_model.specs.Payload.{key_change_in, key_text_in, object_member};
 
 use crate::jwk::key_of;
 use desk_model::{Jwk, KeyChange, Text};
-use json_texts::{text_of, value_of};
+use json_texts::text_of;
 use serde_json::Value;
 use std::alloc::{AllocError, Global};
 
@@ -40,18 +40,4 @@ pub fn key_change_of(alloc: Global, value: &Value) -> Result<Option<KeyChange>, 
         new_key,
         old_key,
     }))
-}
-
-/// The key that a keyChange payload asks for, if it has its form and the key is one.
-#[tactic(auto, unfolding(desk_model::specs::Payload::object_in))]
-pub fn new_key(alloc: Global, payload: &str) -> Result<Option<Jwk>, AllocError>
-    ensures { IfOk result (λ o. o ≡ option_and_then (λ c. c.new_key) (key_change payload.now)) }
-{
-    match value_of(alloc, payload)? {
-        Some(value) if value.is_object() => match key_change_of(alloc, &value)? {
-            Some(change) => Ok(change.new_key),
-            None => Ok(None),
-        },
-        _ => Ok(None),
-    }
 }

@@ -35,7 +35,7 @@ use Rattle.model_laws.proofs.Plain.{covers_issued, covers_spent, issued_closed, 
 use Rattle.model_laws.proofs.SweptParts.{swept_account, swept_closed, touches_swept}
 use Rattle.model_lives.proofs.Steps.{check_keeps, either_keeps, given_keeps}
 use Rattle.model_lives.specs.AnswersAs.{CarriesOutAs, PassesAs}
-use Rattle.model_lives.specs.Few.{IsStated, IsStatedFor, IsStatedTo}
+use Rattle.model_lives.specs.MinimalPart.{IsStated, IsStatedFor, IsStatedTo}
 use Rattle.model_lives.proofs.{Between.bare, Enough.carried_by, Lists.filtered_each, Ready.swept_names, Walks.sent}
 use Rattle.model_lives.proofs.Grown.{KeepsNamed, KeepsRestated, keeps_falling, target_answers}
 use Rattle.model_lives.proofs.Replies.{client_challenge_shown, owner_after}

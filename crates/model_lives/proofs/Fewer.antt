@@ -16,8 +16,8 @@ use Rattle.desk_model.specs.declared.call.Target.TheVariants as to
 use Rattle.model_laws.specs.Ordered.{IsOrdered}
 use Rattle.model_laws.proofs.Basics.{each, each_all, each_both}
 use Rattle.model_lives.specs.AnswersAs.{IssuesAs, PassesAs, SettlesAs}
-use Rattle.model_lives.specs.Few.{few_rows, is_few_account, is_few_authorization, is_few_order, is_moved_authorization, is_opened_order, IsStatedFor}
-use Rattle.model_lives.specs.Few.{is_restated_authorization, is_wanted_authorization, needs_holders, needs_listed, restates, target_needs_listed}
+use Rattle.model_lives.specs.MinimalPart.{minimal_rows, is_needed_account, is_needed_authorization, is_needed_order, is_moved_authorization, is_opened_order, IsStatedFor}
+use Rattle.model_lives.specs.MinimalPart.{is_restated_authorization, is_wanted_authorization, needs_holders, needs_listed, changes_statuses, target_needs_listed}
 use Rattle.model_lives.proofs.{Answering.passes_answer, Listed.KeepsListed, Ready.IsReady, Unlisted.passes_open, Walks.IsNoWork}
 use Rattle.model_lives.specs.IsPart.{Keeps}
 use Rattle.model_lives.proofs.Cut.{at_number, numbered}
@@ -29,49 +29,49 @@ use Rattle.model_lives.proofs.Unheld.{IsOfAuthorization, settles_unheld, unheld}
 
 -- ---- by their numbers
 
-abbrev pub few_kept : Tables → ℕ → Ask → Kept
-few_kept T m a =
+abbrev pub minimal_kept : Tables → ℕ → Ask → Kept
+minimal_kept T m a =
     record {
       nonces = at_number (λ (x : Nonce). x.serial) (is_touched_nonce T m a) T.nonces;
-      accounts = at_number (λ (x : AccountRow). x.number) (is_few_account T a) T.accounts;
+      accounts = at_number (λ (x : AccountRow). x.number) (is_needed_account T a) T.accounts;
       authorizations = λ n.
           (at_number (λ (r : AuthorizationRow). r.number) (is_restated_authorization T m a) T.authorizations n
           || list_any (λ o. is_opened_order T m a o && lists o n) T.orders)
           || at_number (λ (r : AuthorizationRow). r.number) (λ r. is_moved_authorization T a r || is_wanted_authorization T a r) T.authorizations n;
-      orders = at_number (λ (o : OrderRow). o.number) (is_few_order T m a) T.orders;
+      orders = at_number (λ (o : OrderRow). o.number) (is_needed_order T m a) T.orders;
     }
 
-few_authorizations : (T : Tables) (m : ℕ) (a : Ask) → IsOrdered T →
-    EachOf (λ r. (few_kept T m a).authorizations r.number ≡ is_few_authorization T m a r) T.authorizations
-few_authorizations T m a h =
+minimal_authorizations : (T : Tables) (m : ℕ) (a : Ask) → IsOrdered T →
+    EachOf (λ r. (minimal_kept T m a).authorizations r.number ≡ is_needed_authorization T m a r) T.authorizations
+minimal_authorizations T m a h =
     each _ _ T.authorizations (λ r e i. (e.0 i || list_any (λ o. is_opened_order T m a o && lists o r.number) T.orders) || e.1 i)
     (each_both _ _ T.authorizations (numbered (λ (r : AuthorizationRow). r.number) (is_restated_authorization T m a) 1 T.authorizations h.authorizations.0)
     (numbered (λ (r : AuthorizationRow). r.number) (λ r. is_moved_authorization T a r || is_wanted_authorization T a r) 1 T.authorizations
     h.authorizations.0))
 
-pub few_cut : (T : Tables) (m : ℕ) (a : Ask) → IsOrdered T → few_rows T m a ≡ restricted (few_kept T m a) T
-few_cut T m a h =
+pub minimal_cut : (T : Tables) (m : ℕ) (a : Ask) → IsOrdered T → minimal_rows T m a ≡ restricted (minimal_kept T m a) T
+minimal_cut T m a h =
     λ i. record {
       meta = T.meta;
       nonces = filter_same _ _ T.nonces (each _ _ T.nonces (λ x e. sym e)
           (numbered (λ (x : Nonce). x.serial) (is_touched_nonce T m a) 1 T.nonces h.nonces.0)) i;
       accounts = filter_same _ _ T.accounts (each _ _ T.accounts (λ x e. sym e)
-          (numbered (λ (x : AccountRow). x.number) (is_few_account T a) 1 T.accounts h.accounts.0)) i;
-      authorizations = filter_same _ _ T.authorizations (each _ _ T.authorizations (λ r e. sym e) (few_authorizations T m a h)) i;
-      orders = filter_same _ _ T.orders (each _ _ T.orders (λ o e. sym e) (numbered (λ (o : OrderRow). o.number) (is_few_order T m a) 1 T.orders h.orders.0)) i;
+          (numbered (λ (x : AccountRow). x.number) (is_needed_account T a) 1 T.accounts h.accounts.0)) i;
+      authorizations = filter_same _ _ T.authorizations (each _ _ T.authorizations (λ r e. sym e) (minimal_authorizations T m a h)) i;
+      orders = filter_same _ _ T.orders (each _ _ T.orders (λ o e. sym e) (numbered (λ (o : OrderRow). o.number) (is_needed_order T m a) 1 T.orders h.orders.0)) i;
     }
 
-pub few_hold : (T : Tables) (m : ℕ) (a : Ask) → IsOrdered T → Keeps (few_kept T m a) (few_rows T m a)
-few_hold T m a h =
+pub minimal_hold : (T : Tables) (m : ℕ) (a : Ask) → IsOrdered T → Keeps (minimal_kept T m a) (minimal_rows T m a)
+minimal_hold T m a h =
     record {
       nonces = filtered_each _ (is_touched_nonce T m a) T.nonces
           (each _ _ T.nonces (λ x e so. e ∙ so) (numbered (λ (x : Nonce). x.serial) (is_touched_nonce T m a) 1 T.nonces h.nonces.0));
-      accounts = filtered_each _ (is_few_account T a) T.accounts
-          (each _ _ T.accounts (λ x e so. e ∙ so) (numbered (λ (x : AccountRow). x.number) (is_few_account T a) 1 T.accounts h.accounts.0));
-      authorizations = filtered_each _ (is_few_authorization T m a) T.authorizations
-          (each _ _ T.authorizations (λ r e so. e ∙ so) (few_authorizations T m a h));
-      orders = filtered_each _ (is_few_order T m a) T.orders
-          (each _ _ T.orders (λ o e so. e ∙ so) (numbered (λ (o : OrderRow). o.number) (is_few_order T m a) 1 T.orders h.orders.0));
+      accounts = filtered_each _ (is_needed_account T a) T.accounts
+          (each _ _ T.accounts (λ x e so. e ∙ so) (numbered (λ (x : AccountRow). x.number) (is_needed_account T a) 1 T.accounts h.accounts.0));
+      authorizations = filtered_each _ (is_needed_authorization T m a) T.authorizations
+          (each _ _ T.authorizations (λ r e so. e ∙ so) (minimal_authorizations T m a h));
+      orders = filtered_each _ (is_needed_order T m a) T.orders
+          (each _ _ T.orders (λ o e so. e ∙ so) (numbered (λ (o : OrderRow). o.number) (is_needed_order T m a) 1 T.orders h.orders.0));
     }
 
 -- where what orders list is needed, no list of orders is asked for
@@ -84,22 +84,22 @@ no_list (ask.Signed s) h = by s.target h
 no_list _ h = refl
 
 -- and each order is opened
-all_opened : (T : Tables) (m : ℕ) (a : Ask) (o : OrderRow) → needs_listed a ≡ true → is_few_order T m a o ≡ true → is_opened_order T m a o ≡ true
+all_opened : (T : Tables) (m : ℕ) (a : Ask) (o : OrderRow) → needs_listed a ≡ true → is_needed_order T m a o ≡ true → is_opened_order T m a o ≡ true
 all_opened T m a o all h =
     or_cases (is_opened_order T m a o) _ h (λ opens. opens)
     (λ e. or_cases (is_named_order a o) _ e (λ named. or_right _ _ (and_from _ _ all named))
     (λ own. let no : asks_orders a ≡ false = no_list a all in let asked : asks_orders a ≡ true = (and_parts (asks_orders a) _ own).0 in cc))
 
 -- so what it lists is kept
-few_listed : (T : Tables) (m : ℕ) (a : Ask) → IsOrdered T → needs_listed a ≡ true → KeepsListed (few_kept T m a) T
-few_listed T m a h all =
+minimal_listed : (T : Tables) (m : ℕ) (a : Ask) → IsOrdered T → needs_listed a ≡ true → KeepsListed (minimal_kept T m a) T
+minimal_listed T m a h all =
     each _ _ T.orders (λ o p kept.
     let opens : is_opened_order T m a o ≡ true = all_opened T m a o all (sym p.0 ∙ kept) in
     each _ _ (numbers_of o.listed) (λ n member. or_left _ _
     (or_right (at_number (λ (r : AuthorizationRow). r.number) (is_restated_authorization T m a) T.authorizations n) _
     (p.1 (λ y. is_opened_order T m a y && lists y n) (and_from _ _ opens (member (λ j. j == n) (same_number n))))))
     (each_member (numbers_of o.listed)))
-    (each_both _ _ T.orders (numbered (λ (o : OrderRow). o.number) (is_few_order T m a) 1 T.orders h.orders.0) (each_member T.orders))
+    (each_both _ _ T.orders (numbered (λ (o : OrderRow). o.number) (is_needed_order T m a) 1 T.orders h.orders.0) (each_member T.orders))
 
 -- ---- what they have
 
@@ -107,44 +107,44 @@ few_listed T m a h all =
 abbrev pub KeepsHolders : Kept → Tables → Ask → Type 0
 KeepsHolders k T a = EachOf (λ r. is_moved_authorization T a r ≡ true → k.accounts r.account ≡ true) T.authorizations
 
-few_accounts : (k : Kept) (T : Tables) (m : ℕ) (a : Ask) → Keeps k (few_rows T m a) →
-    EachOf (λ x. is_few_account T a x ≡ true → (grown k T).accounts x.number ≡ true) T.accounts
-few_accounts k T m a h = each _ _ T.accounts (λ x f so. or_left _ _ (f so)) (each_filtered _ (is_few_account T a) T.accounts h.accounts)
+minimal_accounts : (k : Kept) (T : Tables) (m : ℕ) (a : Ask) → Keeps k (minimal_rows T m a) →
+    EachOf (λ x. is_needed_account T a x ≡ true → (grown k T).accounts x.number ≡ true) T.accounts
+minimal_accounts k T m a h = each _ _ T.accounts (λ x f so. or_left _ _ (f so)) (each_filtered _ (is_needed_account T a) T.accounts h.accounts)
 
-pub few_holders : (k : Kept) (T : Tables) (m : ℕ) (a : Ask) → needs_holders a ≡ true → Keeps k (few_rows T m a) → KeepsHolders (grown k T) T a
-few_holders k T m a needed h =
+pub minimal_holders : (k : Kept) (T : Tables) (m : ℕ) (a : Ask) → needs_holders a ≡ true → Keeps k (minimal_rows T m a) → KeepsHolders (grown k T) T a
+minimal_holders k T m a needed h =
     each _ _ T.authorizations
     (λ r member so. kept_number (λ (x : AccountRow). x.number) T.accounts k.accounts (λ n. r.account == n)
     (each _ _ T.accounts (λ x f same. f (or_right (is_named_account a x) _ (and_from (needs_holders a) _ needed
-    (member (λ y. is_moved_authorization T a y && (y.account == x.number)) (and_from _ _ so same))))) (few_accounts k T m a h))
+    (member (λ y. is_moved_authorization T a y && (y.account == x.number)) (and_from _ _ so same))))) (minimal_accounts k T m a h))
     r.account (same_number r.account)) (each_member T.authorizations)
 
-pub few_restated : (k : Kept) (T : Tables) (m : ℕ) (a : Ask) → KeepsHolders (grown k T) T a → Keeps k (few_rows T m a) →
-    KeepsRestated (restates a) (grown k T) T m a
-few_restated k T m a holders h =
+pub minimal_restated : (k : Kept) (T : Tables) (m : ℕ) (a : Ask) → KeepsHolders (grown k T) T a → Keeps k (minimal_rows T m a) →
+    KeepsRestated (changes_statuses a) (grown k T) T m a
+minimal_restated k T m a holders h =
     record {
       nonces = each _ _ T.nonces (λ x f so. or_left _ _ (f so)) (each_filtered _ (is_touched_nonce T m a) T.nonces h.nonces);
-      accounts = each _ _ T.accounts (λ x f so. f (or_left _ _ so)) (few_accounts k T m a h);
+      accounts = each _ _ T.accounts (λ x f so. f (or_left _ _ so)) (minimal_accounts k T m a h);
       authorizations = each _ _ T.authorizations (λ r f so. or_left _ _ (f (or_left _ _ (or_left _ _ so))))
-          (each_filtered _ (is_few_authorization T m a) T.authorizations h.authorizations);
-      orders = each _ _ T.orders (λ o f so. or_left _ _ (f (or_left _ _ so))) (each_filtered _ (is_few_order T m a) T.orders h.orders);
+          (each_filtered _ (is_needed_authorization T m a) T.authorizations h.authorizations);
+      orders = each _ _ T.orders (λ o f so. or_left _ _ (f (or_left _ _ so))) (each_filtered _ (is_needed_order T m a) T.orders h.orders);
       named = each _ _ T.orders (λ o f so. or_left _ _ (f (or_right (is_opened_order T m a o) _ (or_left _ _ so))))
-          (each_filtered _ (is_few_order T m a) T.orders h.orders);
+          (each_filtered _ (is_needed_order T m a) T.orders h.orders);
       holders = holders;
     }
 
 -- what is an account's by the named accounts is so by these
 wider_holder : (T : Tables) (a : Ask) (n : ℕ) → list_any (λ x. is_named_account a x && (n == x.number)) T.accounts ≡ true →
-    list_any (λ x. is_few_account T a x && (n == x.number)) T.accounts ≡ true
+    list_any (λ x. is_needed_account T a x && (n == x.number)) T.accounts ≡ true
 wider_holder T a n h =
-    any_wider (λ x. is_named_account a x && (n == x.number)) (λ x. is_few_account T a x && (n == x.number)) T.accounts
+    any_wider (λ x. is_named_account a x && (n == x.number)) (λ x. is_needed_account T a x && (n == x.number)) T.accounts
     (λ x so. let p = and_parts (is_named_account a x) _ so in and_from _ _ (or_left _ _ p.0) p.1) h
 
-few_named : (k : Kept) (T : Tables) (m : ℕ) (a : Ask) → Keeps k (few_rows T m a) → KeepsRows (grown k T) T a
-few_named k T m a h =
+minimal_named : (k : Kept) (T : Tables) (m : ℕ) (a : Ask) → Keeps k (minimal_rows T m a) → KeepsRows (grown k T) T a
+minimal_named k T m a h =
     record {
       nonces = each _ _ T.nonces (λ x f so. or_left _ _ (f (or_left _ _ so))) (each_filtered _ (is_touched_nonce T m a) T.nonces h.nonces);
-      accounts = each _ _ T.accounts (λ x f so. or_left _ _ (f (or_left _ _ so))) (each_filtered _ (is_few_account T a) T.accounts h.accounts);
+      accounts = each _ _ T.accounts (λ x f so. or_left _ _ (f (or_left _ _ so))) (each_filtered _ (is_needed_account T a) T.accounts h.accounts);
       authorizations = each _ _ T.authorizations (λ r f so. or_left _ _ (f (or_right _ _ (or_left _ _ (or_left _ _ so))))) authorizations;
       asked = each _ _ T.authorizations (λ r f so.
           let p = and_parts (asks_name a r.name) _ so in
@@ -155,60 +155,60 @@ few_named k T m a h =
           or_left _ _ (f (or_right (is_opened_order T m a o) _ (or_right (is_named_order a o) _ (and_from _ _ p.0 (wider_holder T a o.account p.1)))))) orders;
     }
   where
-    authorizations : EachOf (λ r. is_few_authorization T m a r ≡ true → k.authorizations r.number ≡ true) T.authorizations
-    authorizations = each_filtered _ (is_few_authorization T m a) T.authorizations h.authorizations
+    authorizations : EachOf (λ r. is_needed_authorization T m a r ≡ true → k.authorizations r.number ≡ true) T.authorizations
+    authorizations = each_filtered _ (is_needed_authorization T m a) T.authorizations h.authorizations
 
-    orders : EachOf (λ o. is_few_order T m a o ≡ true → k.orders o.number ≡ true) T.orders
-    orders = each_filtered _ (is_few_order T m a) T.orders h.orders
+    orders : EachOf (λ o. is_needed_order T m a o ≡ true → k.orders o.number ≡ true) T.orders
+    orders = each_filtered _ (is_needed_order T m a) T.orders h.orders
 
 -- ---- they are enough
 
 ready_with : (k : Kept) (T : Tables) (m : ℕ) (a : Ask) → IsOrdered T → KeepsListed k T → answers_challenge a ≡ false → KeepsHolders (grown k T) T a →
-    Keeps k (few_rows T m a) → IsReady (grown k T) T m a
+    Keeps k (minimal_rows T m a) → IsReady (grown k T) T m a
 ready_with k T m a h listed none holders holds =
     record {
       closed = grown_closed k T h listed;
-      restated = subst (λ b. KeepsRestated b (grown k T) T m a) (sym (ap (λ b. restates a || b) none ∙ or-false (restates a)))
-          (few_restated k T m a holders holds);
-      named = keeps_named k T a (few_named k T m a holds);
+      restated = subst (λ b. KeepsRestated b (grown k T) T m a) (sym (ap (λ b. changes_statuses a || b) none ∙ or-false (changes_statuses a)))
+          (minimal_restated k T m a holders holds);
+      named = keeps_named k T a (minimal_named k T m a holds);
     }
 
-few_ready : (T : Tables) (m : ℕ) (a : Ask) → IsOrdered T → needs_listed a ≡ true → needs_holders a ≡ true → answers_challenge a ≡ false →
-    IsReady (grown (few_kept T m a) T) T m a
-few_ready T m a h all needed none =
-    let k : Kept = few_kept T m a in
-    ready_with k T m a h (few_listed T m a h all) none (few_holders k T m a needed (few_hold T m a h)) (few_hold T m a h)
+minimal_ready : (T : Tables) (m : ℕ) (a : Ask) → IsOrdered T → needs_listed a ≡ true → needs_holders a ≡ true → answers_challenge a ≡ false →
+    IsReady (grown (minimal_kept T m a) T) T m a
+minimal_ready T m a h all needed none =
+    let k : Kept = minimal_kept T m a in
+    ready_with k T m a h (minimal_listed T m a h all) none (minimal_holders k T m a needed (minimal_hold T m a h)) (minimal_hold T m a h)
 
-pub few_issue : (T : Tables) (m : ℕ) (a : Ask) → IsOrdered T → needs_listed a ≡ true → needs_holders a ≡ true → answers_challenge a ≡ false →
-    IssuesAs m T (restricted (few_kept T m a) T)
-few_issue T m a h all needed none =
-    let k : Kept = few_kept T m a in
-    subst (IssuesAs m T) (grown_part k T) (issues_as (grown k T) T m a (few_ready T m a h all needed none))
+pub minimal_issue : (T : Tables) (m : ℕ) (a : Ask) → IsOrdered T → needs_listed a ≡ true → needs_holders a ≡ true → answers_challenge a ≡ false →
+    IssuesAs m T (restricted (minimal_kept T m a) T)
+minimal_issue T m a h all needed none =
+    let k : Kept = minimal_kept T m a in
+    subst (IssuesAs m T) (grown_part k T) (issues_as (grown k T) T m a (minimal_ready T m a h all needed none))
 
 -- where no account is named, and none is needed: they answer with all accounts, and so without
-few_unheld : (T : Tables) (m : ℕ) (a : OfficeAsk) → IsNoWork a → IsOrdered T → IsOfAuthorization a →
-    ((x : AccountRow) → is_few_account T (ask.Office a) x ≡ false) → SettlesAs m a T (restricted (few_kept T m (ask.Office a)) T)
-few_unheld T m a none h of no_account =
+minimal_unheld : (T : Tables) (m : ℕ) (a : OfficeAsk) → IsNoWork a → IsOrdered T → IsOfAuthorization a →
+    ((x : AccountRow) → is_needed_account T (ask.Office a) x ≡ false) → SettlesAs m a T (restricted (minimal_kept T m (ask.Office a)) T)
+minimal_unheld T m a none h of no_account =
     subst (SettlesAs m a T) without
     (settles_unheld T (restricted with_all T) m a of
     (subst (SettlesAs m a T) (grown_part with_all T)
     (settles_as (grown with_all T) T m a none
-    (ready_with with_all T m (ask.Office a) h (few_listed T m (ask.Office a) h refl) refl (each_all _ T.authorizations (λ r so. refl)) holds))))
+    (ready_with with_all T m (ask.Office a) h (minimal_listed T m (ask.Office a) h refl) refl (each_all _ T.authorizations (λ r so. refl)) holds))))
   where
     k : Kept
-    k = few_kept T m (ask.Office a)
+    k = minimal_kept T m (ask.Office a)
 
     with_all : Kept
     with_all = record k { accounts = λ n. true }
 
-    held : Keeps k (few_rows T m (ask.Office a))
-    held = few_hold T m (ask.Office a) h
+    held : Keeps k (minimal_rows T m (ask.Office a))
+    held = minimal_hold T m (ask.Office a) h
 
-    holds : Keeps with_all (few_rows T m (ask.Office a))
+    holds : Keeps with_all (minimal_rows T m (ask.Office a))
     holds =
         record {
           nonces = held.nonces;
-          accounts = each_all _ (few_rows T m (ask.Office a)).accounts (λ x. refl);
+          accounts = each_all _ (minimal_rows T m (ask.Office a)).accounts (λ x. refl);
           authorizations = held.authorizations;
           orders = held.orders;
         }
@@ -218,38 +218,38 @@ few_unheld T m a none h of no_account =
       accounts = (filter_nothing T.accounts
           ∙ sym (filter_same (λ (x : AccountRow). k.accounts x.number) (λ x. false) T.accounts
           (each _ _ T.accounts (λ x e. e ∙ no_account x)
-          (numbered (λ (x : AccountRow). x.number) (is_few_account T (ask.Office a)) 1 T.accounts h.accounts.0)))) i;
+          (numbered (λ (x : AccountRow). x.number) (is_needed_account T (ask.Office a)) 1 T.accounts h.accounts.0)))) i;
     }
 
-few_held : (T : Tables) (m : ℕ) (a : OfficeAsk) → IsNoWork a → IsOrdered T → needs_holders (ask.Office a) ≡ true →
-    SettlesAs m a T (restricted (few_kept T m (ask.Office a)) T)
-few_held T m a none h needed =
-    let k : Kept = few_kept T m (ask.Office a) in
-    subst (SettlesAs m a T) (grown_part k T) (settles_as (grown k T) T m a none (few_ready T m (ask.Office a) h refl needed refl))
+minimal_held : (T : Tables) (m : ℕ) (a : OfficeAsk) → IsNoWork a → IsOrdered T → needs_holders (ask.Office a) ≡ true →
+    SettlesAs m a T (restricted (minimal_kept T m (ask.Office a)) T)
+minimal_held T m a none h needed =
+    let k : Kept = minimal_kept T m (ask.Office a) in
+    subst (SettlesAs m a T) (grown_part k T) (settles_as (grown k T) T m a none (minimal_ready T m (ask.Office a) h refl needed refl))
 
-pub few_settle : (T : Tables) (m : ℕ) (a : OfficeAsk) → IsNoWork a → IsOrdered T → SettlesAs m a T (restricted (few_kept T m (ask.Office a)) T)
-few_settle T m (office.Report n finding) none h = few_unheld T m (office.Report n finding) none h tt (λ x. refl)
-few_settle T m (office.RevokeAuthz n) none h = few_unheld T m (office.RevokeAuthz n) none h tt (λ x. refl)
-few_settle T m office.ChallengeWork none h = absurd none
-few_settle T m office.OrderWork none h = absurd none
-few_settle T m a none h = few_held T m a none h refl
+pub minimal_settle : (T : Tables) (m : ℕ) (a : OfficeAsk) → IsNoWork a → IsOrdered T → SettlesAs m a T (restricted (minimal_kept T m (ask.Office a)) T)
+minimal_settle T m (office.Report n finding) none h = minimal_unheld T m (office.Report n finding) none h tt (λ x. refl)
+minimal_settle T m (office.RevokeAuthz n) none h = minimal_unheld T m (office.RevokeAuthz n) none h tt (λ x. refl)
+minimal_settle T m office.ChallengeWork none h = absurd none
+minimal_settle T m office.OrderWork none h = absurd none
+minimal_settle T m a none h = minimal_held T m a none h refl
 
-pub few_pass : (T : Tables) (m : ℕ) (s : Signed) → IsOrdered T → IsStatedFor (ask.Signed s) m T → PassesAs m s T (restricted (few_kept T m (ask.Signed s)) T)
-few_pass T m s h stated =
+pub minimal_pass : (T : Tables) (m : ℕ) (s : Signed) → IsOrdered T → IsStatedFor (ask.Signed s) m T → PassesAs m s T (restricted (minimal_kept T m (ask.Signed s)) T)
+minimal_pass T m s h stated =
     subst (PassesAs m s T) (grown_part k T) (by (target_answers s.target s.payload) refl (target_needs_listed s.target) refl)
   where
     k : Kept
-    k = few_kept T m (ask.Signed s)
+    k = minimal_kept T m (ask.Signed s)
 
-    restated : KeepsRestated (restates (ask.Signed s)) (grown k T) T m (ask.Signed s)
-    restated = few_restated k T m (ask.Signed s) (few_holders k T m (ask.Signed s) refl (few_hold T m (ask.Signed s) h)) (few_hold T m (ask.Signed s) h)
+    restated : KeepsRestated (changes_statuses (ask.Signed s)) (grown k T) T m (ask.Signed s)
+    restated = minimal_restated k T m (ask.Signed s) (minimal_holders k T m (ask.Signed s) refl (minimal_hold T m (ask.Signed s) h)) (minimal_hold T m (ask.Signed s) h)
 
     named : KeepsNamed (grown k T) T (ask.Signed s)
-    named = keeps_named k T (ask.Signed s) (few_named k T m (ask.Signed s) (few_hold T m (ask.Signed s) h))
+    named = keeps_named k T (ask.Signed s) (minimal_named k T m (ask.Signed s) (minimal_hold T m (ask.Signed s) h))
 
     by : (b : Bool) → target_answers s.target s.payload ≡ b → (c : Bool) → target_needs_listed s.target ≡ c → PassesAs m s T (restricted (grown k T) T)
     by true answers true all =
-        passes_answer (restates (ask.Signed s)) (grown k T) T m s s.target answers stated (grown_closed k T h (few_listed T m (ask.Signed s) h all))
+        passes_answer (changes_statuses (ask.Signed s)) (grown k T) T m s s.target answers stated (grown_closed k T h (minimal_listed T m (ask.Signed s) h all))
         restated named
-    by false none true all = passes_as (grown k T) T m s (few_ready T m (ask.Signed s) h all refl none)
-    by b answers false alone = passes_open (grown k T) T m s h alone (keeps_falling (restates (ask.Signed s)) (grown k T) T m (ask.Signed s) restated) named
+    by false none true all = passes_as (grown k T) T m s (minimal_ready T m (ask.Signed s) h all refl none)
+    by b answers false alone = passes_open (grown k T) T m s h alone (keeps_falling (changes_statuses (ask.Signed s)) (grown k T) T m (ask.Signed s) restated) named

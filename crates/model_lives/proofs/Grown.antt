@@ -16,7 +16,7 @@ use Rattle.desk_model.specs.Asked.{carries, has_key, has_new_key, names_account,
 use Rattle.desk_model.specs.Touched.{is_touched_nonce, is_touched_account, is_touched_authorization, is_touched_order, is_named_account, is_named_order}
 use Rattle.desk_model.specs.Touched.{is_named_authorization, is_own_order, is_own_authorization, is_asked_authorization, is_first_authorization, is_past_order}
 use Rattle.desk_model.specs.Touched.{lists, touched_rows}
-use Rattle.model_lives.specs.Few.{is_moved_authorization, needs_listed, restates}
+use Rattle.model_lives.specs.MinimalPart.{is_moved_authorization, needs_listed, changes_statuses}
 use Rattle.desk_model.specs.declared.call.Ask.TheVariants as ask
 use Rattle.desk_model.specs.declared.call.Target.TheVariants as to
 use Rattle.model_lives.specs.IsPart.{Keeps}
@@ -206,7 +206,7 @@ answers_challenge _ = false
 
 -- a row may move
 abbrev pub may_restate : Ask → Bool
-may_restate a = restates a || answers_challenge a
+may_restate a = changes_statuses a || answers_challenge a
 
 -- an authorization past its moment, and one that moves, where such may
 abbrev pub is_restated_by : Bool → Tables → ℕ → Ask → AuthorizationRow → Bool
@@ -237,7 +237,7 @@ wider p q o rows f h =
 moved_first : (T : Tables) (m : ℕ) (a : Ask) (r : AuthorizationRow) → is_moved_authorization T a r ≡ true → is_first_authorization T m a r ≡ true
 moved_first T m a r h =
     or_cases (is_named_authorization a r) _ h (λ named. or_left _ _ named)
-    (λ own. or_right (is_named_authorization a r) _ (or_left _ _ (and_parts (restates a) _ own).1))
+    (λ own. or_right (is_named_authorization a r) _ (or_left _ _ (and_parts (changes_statuses a) _ own).1))
 
 -- and so is what may change its status
 restated_first : (b : Bool) (T : Tables) (m : ℕ) (a : Ask) (r : AuthorizationRow) → is_restated_by b T m a r ≡ true → is_first_authorization T m a r ≡ true

@@ -1,3 +1,4 @@
+mod KeyPayloads
 pub mod Answering
 pub mod Bared
 pub mod Between
@@ -7,18 +8,17 @@ pub mod EndedOrders
 pub mod EndedRows
 pub mod Enough
 pub mod Extends
-pub mod FewLoading
 pub mod Fewer
 pub mod Found
 pub mod Grown
 pub mod JsonContent
 pub mod JsonTexts
 pub mod JsonTokens
-mod KeyPayloads
 pub mod Listed
 pub mod ListedAlone
 pub mod Lists
 pub mod Loading
+pub mod MinimalPartLoading
 pub mod Names
 pub mod Needed
 pub mod Nonces

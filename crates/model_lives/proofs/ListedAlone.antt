@@ -27,11 +27,11 @@ use Rattle.desk_model.specs.declared.verdict.Verdict.TheVariants.{Refused as ref
 use Rattle.model_laws.specs.Ordered.{IsOrdered}
 use Rattle.model_laws.proofs.Basics.{each, each_both}
 use Rattle.model_lives.specs.AnswersAs.{CarriesOutAs, PassesAs}
-use Rattle.model_lives.specs.Few.{is_few_order, is_opened_order, is_whole_order, needs_holders, restates}
+use Rattle.model_lives.specs.MinimalPart.{is_needed_order, is_opened_order, is_whole_order, needs_holders, changes_statuses}
 use Rattle.model_lives.specs.Thinned.{Thinning, all_challenges, thin, thinned, with_listed}
 use Rattle.model_lives.proofs.{Between.bare, Steps.check_keeps, Verdicts.verdict_by}
 use Rattle.model_lives.proofs.Cut.{at_number, numbered}
-use Rattle.model_lives.proofs.Fewer.{few_hold, few_holders, few_kept, few_restated}
+use Rattle.model_lives.proofs.Fewer.{minimal_hold, minimal_holders, minimal_kept, minimal_restated}
 use Rattle.model_lives.proofs.Grown.{KeepsRestated, grown, grown_part, keeps_falling}
 use Rattle.model_lives.proofs.Lists.{filtered_each, or_cases}
 use Rattle.model_lives.proofs.Thin.{ListsFalling, carries_thin, falls_thin, swept_thin, whole_authorizations}
@@ -198,23 +198,23 @@ needed_listed T m a = at_number (λ (o : OrderRow). o.number) (is_whole_order T 
 
 -- the rows, of which orders alone lack what they list
 abbrev pub unlisted : Tables → ℕ → Ask → Thinning
-unlisted T m a = record { rows = few_kept T m a; challenges = all_challenges; listed = needed_listed T m a }
+unlisted T m a = record { rows = minimal_kept T m a; challenges = all_challenges; listed = needed_listed T m a }
 
 pub needed_same : (T : Tables) (m : ℕ) (a : Ask) → IsOrdered T → EachOf (λ o. needed_listed T m a o.number ≡ is_whole_order T m a o) T.orders
 needed_same T m a h = numbered (λ (o : OrderRow). o.number) (is_whole_order T m a) 1 T.orders h.orders.0
 
 -- where no list of orders is asked for, each order is needed in whole
-pub all_needed : (T : Tables) (m : ℕ) (a : Ask) → IsOrdered T → asks_orders a ≡ false → thinned (unlisted T m a) T ≡ restricted (few_kept T m a) T
+pub all_needed : (T : Tables) (m : ℕ) (a : Ask) → IsOrdered T → asks_orders a ≡ false → thinned (unlisted T m a) T ≡ restricted (minimal_kept T m a) T
 all_needed T m a h none =
-    λ i. record (restricted (few_kept T m a) T) {
-      authorizations = whole_authorizations (restricted (few_kept T m a) T).authorizations i;
-      orders = orders_whole (needed_listed T m a) (restricted (few_kept T m a) T).orders
-          (filtered_each _ (λ (o : OrderRow). (few_kept T m a).orders o.number) T.orders
+    λ i. record (restricted (minimal_kept T m a) T) {
+      authorizations = whole_authorizations (restricted (minimal_kept T m a) T).authorizations i;
+      orders = orders_whole (needed_listed T m a) (restricted (minimal_kept T m a) T).orders
+          (filtered_each _ (λ (o : OrderRow). (minimal_kept T m a).orders o.number) T.orders
           (each _ _ T.orders (λ o e kept. e.0 ∙ whole o (sym e.1 ∙ kept))
-          (each_both _ _ T.orders (needed_same T m a h) (numbered (λ (o : OrderRow). o.number) (is_few_order T m a) 1 T.orders h.orders.0)))) i;
+          (each_both _ _ T.orders (needed_same T m a h) (numbered (λ (o : OrderRow). o.number) (is_needed_order T m a) 1 T.orders h.orders.0)))) i;
     }
   where
-    whole : (o : OrderRow) → is_few_order T m a o ≡ true → is_whole_order T m a o ≡ true
+    whole : (o : OrderRow) → is_needed_order T m a o ≡ true → is_whole_order T m a o ≡ true
     whole o few =
         or_cases (is_opened_order T m a o) _ few (λ opens. or_left _ _ opens)
         (λ e. or_cases (is_named_order a o) _ e (λ named. or_right (is_opened_order T m a o) _ named)
@@ -222,23 +222,23 @@ all_needed T m a h none =
 
 -- what falls is needed with what it lists
 pub falling_needed : (T : Tables) (m : ℕ) (a : Ask) → IsOrdered T → needs_holders a ≡ true →
-    ListsFalling (needed_listed T m a) m (restricted (few_kept T m a) T)
+    ListsFalling (needed_listed T m a) m (restricted (minimal_kept T m a) T)
 falling_needed T m a h holders =
-    subst (ListsFalling (needed_listed T m a) m) (grown_part (few_kept T m a) T)
+    subst (ListsFalling (needed_listed T m a) m) (grown_part (minimal_kept T m a) T)
     (filtered_each _ (λ (o : OrderRow). k.orders o.number) T.orders
-    (each _ _ T.orders (λ o f kept so. f (sym (falls_open k T m (keeps_falling (restates a) k T m a few) o) ∙ so))
-    (keeps_falling (restates a) opens T m a restated).orders))
+    (each _ _ T.orders (λ o f kept so. f (sym (falls_open k T m (keeps_falling (changes_statuses a) k T m a few) o) ∙ so))
+    (keeps_falling (changes_statuses a) opens T m a restated).orders))
   where
     k : Kept
-    k = grown (few_kept T m a) T
+    k = grown (minimal_kept T m a) T
 
-    few : KeepsRestated (restates a) k T m a
-    few = few_restated (few_kept T m a) T m a (few_holders (few_kept T m a) T m a holders (few_hold T m a h)) (few_hold T m a h)
+    few : KeepsRestated (changes_statuses a) k T m a
+    few = minimal_restated (minimal_kept T m a) T m a (minimal_holders (minimal_kept T m a) T m a holders (minimal_hold T m a h)) (minimal_hold T m a h)
 
     opens : Kept
     opens = record k { orders = needed_listed T m a }
 
-    restated : KeepsRestated (restates a) opens T m a
+    restated : KeepsRestated (changes_statuses a) opens T m a
     restated =
         record {
           nonces = few.nonces;
@@ -250,12 +250,12 @@ falling_needed T m a h holders =
         }
 
 -- a signed request is answered so
-pub needed_pass : (T : Tables) (m : ℕ) (s : Signed) → IsOrdered T → PassesAs m s T (restricted (few_kept T m (ask.Signed s)) T) →
+pub needed_pass : (T : Tables) (m : ℕ) (s : Signed) → IsOrdered T → PassesAs m s T (restricted (minimal_kept T m (ask.Signed s)) T) →
     PassesAs m s T (thinned (unlisted T m (ask.Signed s)) T)
 needed_pass T m s h passes = by s.target (falling_needed T m (ask.Signed s) h refl) passes (all_needed T m (ask.Signed s) h)
   where
     P : Tables
-    P = restricted (few_kept T m (ask.Signed s)) T
+    P = restricted (minimal_kept T m (ask.Signed s)) T
 
     l : ℕ → Bool
     l = needed_listed T m (ask.Signed s)

@@ -10,12 +10,12 @@ use Rattle.model_laws.specs.Ordered.{IsOrdered}
 use Rattle.model_laws.proofs.Basics.{each, each_all, each_both, map-each}
 use Rattle.model_laws.proofs.Local.{filter_all}
 use Rattle.model_lives.specs.AnswersAs.{AnswersAs}
-use Rattle.model_lives.specs.Few.{as_needed, authorization_as_needed, few_rows, is_few_authorization, is_few_order, is_moved_authorization}
-use Rattle.model_lives.specs.Few.{is_restated_authorization, is_whole_authorization, needed_rows, restates}
+use Rattle.model_lives.specs.MinimalPart.{as_needed, authorization_as_needed, minimal_rows, is_needed_authorization, is_needed_order, is_moved_authorization}
+use Rattle.model_lives.specs.MinimalPart.{is_restated_authorization, is_whole_authorization, needed_rows, changes_statuses}
 use Rattle.model_lives.specs.Thinned.{Thinning, thin, thinned, with_challenges, with_listed}
 use Rattle.model_lives.proofs.Bared.{AreWhole, bared, those}
 use Rattle.model_lives.proofs.Cut.{at_number, numbered}
-use Rattle.model_lives.proofs.Fewer.{few_cut, few_kept}
+use Rattle.model_lives.proofs.Fewer.{minimal_cut, minimal_kept}
 use Rattle.model_lives.proofs.Grown.{kept_number, new_kept, same_kept, with_others}
 use Rattle.model_lives.proofs.ListedAlone.{needed_listed, needed_same, unlisted}
 use Rattle.model_lives.proofs.Lists.{each_member, filter_nothing, filtered_each, turned}
@@ -31,7 +31,7 @@ needed_whole T m a = with_others number T.authorizations (at_number number (is_w
 
 -- these rows, which lack other challenges, and what orders list that is not needed
 abbrev pub needed : Tables → ℕ → Ask → Thinning
-needed T m a = record { rows = few_kept T m a; challenges = those (needed_whole T m a); listed = needed_listed T m a }
+needed T m a = record { rows = minimal_kept T m a; challenges = those (needed_whole T m a); listed = needed_listed T m a }
 
 whole_same : (T : Tables) (m : ℕ) (a : Ask) → IsOrdered T → EachOf (λ r. needed_whole T m a r.number ≡ is_whole_authorization T m a r) T.authorizations
 whole_same T m a h =
@@ -42,7 +42,7 @@ whole_same T m a h =
 -- ---- the cut
 
 pub needed_cut : (T : Tables) (m : ℕ) (a : Ask) → IsOrdered T → needed_rows T m a ≡ thinned (needed T m a) T
-needed_cut T m a h = start ∙ ap (thin (those (needed_whole T m a)) (needed_listed T m a)) (few_cut T m a h)
+needed_cut T m a h = start ∙ ap (thin (those (needed_whole T m a)) (needed_listed T m a)) (minimal_cut T m a h)
   where
     lacks : (r : AuthorizationRow) (b : Bool) → needed_whole T m a r.number ≡ b → is_whole_authorization T m a r ≡ b →
         authorization_as_needed T m a r ≡ with_challenges (those (needed_whole T m a)) r
@@ -58,14 +58,14 @@ needed_cut T m a h = start ∙ ap (thin (those (needed_whole T m a)) (needed_lis
               ∙ sym (ap (λ b. filter (λ (c : ChallengeRow). b) r.challenges) is)) i;
         }
 
-    start : needed_rows T m a ≡ thin (those (needed_whole T m a)) (needed_listed T m a) (few_rows T m a)
-    start = λ i. record (few_rows T m a) {
+    start : needed_rows T m a ≡ thin (those (needed_whole T m a)) (needed_listed T m a) (minimal_rows T m a)
+    start = λ i. record (minimal_rows T m a) {
       authorizations = map-each (authorization_as_needed T m a) (with_challenges (those (needed_whole T m a)))
-          (filter (is_few_authorization T m a) T.authorizations)
-          (filtered_each _ (is_few_authorization T m a) T.authorizations
+          (filter (is_needed_authorization T m a) T.authorizations)
+          (filtered_each _ (is_needed_authorization T m a) T.authorizations
           (each _ _ T.authorizations (λ r e few. lacks r (is_whole_authorization T m a r) e refl) (whole_same T m a h))) i;
-      orders = map-each (as_needed T m a) (with_listed (needed_listed T m a)) (filter (is_few_order T m a) T.orders)
-          (filtered_each _ (is_few_order T m a) T.orders
+      orders = map-each (as_needed T m a) (with_listed (needed_listed T m a)) (filter (is_needed_order T m a) T.orders)
+          (filtered_each _ (is_needed_order T m a) T.orders
           (each _ _ T.orders (λ o e few i. record o { listed = if sym e i then o.listed else [] }) (needed_same T m a h))) i;
     }
 
@@ -79,8 +79,8 @@ module _ (T : Tables) (m : ℕ) (a : Ask) (h : IsOrdered T) where
   -- what holds of each authorization holds of those that are kept
   kept_each : (P : AuthorizationRow → Type 0) → EachOf P T.authorizations → EachOf P rows.authorizations
   kept_each P each_one =
-      subst (EachOf P) (sym (whole_authorizations (restricted (few_kept T m a) T).authorizations))
-      (filtered_each P (λ (r : AuthorizationRow). (few_kept T m a).authorizations r.number) T.authorizations
+      subst (EachOf P) (sym (whole_authorizations (restricted (minimal_kept T m a) T).authorizations))
+      (filtered_each P (λ (r : AuthorizationRow). (minimal_kept T m a).authorizations r.number) T.authorizations
       (each _ _ T.authorizations (λ r so kept. so) each_one))
 
   whole_each : (test : AuthorizationRow → Bool) → ((r : AuthorizationRow) → test r ≡ true → is_whole_authorization T m a r ≡ true) →
@@ -96,9 +96,9 @@ module _ (T : Tables) (m : ℕ) (a : Ask) (h : IsOrdered T) where
         authorization = kept_number number T.authorizations (at_number number (is_whole_authorization T m a) T.authorizations) (names_authorization a)
             (whole_each (λ r. names_authorization a r.number) (λ r so. moved_whole r (or_left _ _ (or_left _ _ so))));
         owner = kept_each _ (whole_each (names_owner a) (λ r so. moved_whole r (or_left _ _ (or_right (names_authorization a r.number) _ so))));
-        own = filtered_each _ (λ (x : AccountRow). (few_kept T m a).accounts x.number) T.accounts
+        own = filtered_each _ (λ (x : AccountRow). (minimal_kept T m a).accounts x.number) T.accounts
             (each _ _ T.accounts (λ x member kept named ends asks.
-            kept_each _ (whole_each (λ r. x.number == r.account) (λ r own. moved_whole r (or_right _ _ (and_from (restates a) _ ends
+            kept_each _ (whole_each (λ r. x.number == r.account) (λ r own. moved_whole r (or_right _ _ (and_from (changes_statuses a) _ ends
             (and_from (asks_authorizations a) _ asks
             (member (λ y. is_named_account a y && (r.account == y.number)) (and_from _ _ named (turned x.number r.account own)))))))))
             (each_member T.accounts));
@@ -114,6 +114,6 @@ module _ (T : Tables) (m : ℕ) (a : Ask) (h : IsOrdered T) where
     where
       same : bared (needed_whole T m a) rows ≡ thinned (needed T m a) T
       same = λ i. record (thinned (needed T m a) T) {
-        authorizations = map (with_challenges (those (needed_whole T m a))) (whole_authorizations (restricted (few_kept T m a) T).authorizations i);
+        authorizations = map (with_challenges (those (needed_whole T m a))) (whole_authorizations (restricted (minimal_kept T m a) T).authorizations i);
         orders = whole_orders rows.orders i;
       }

@@ -31,7 +31,7 @@ use Rattle.model_laws.proofs.Local.{filter_part, find_kept, swept_alike}
 use Rattle.model_laws.proofs.Plain.{covers_issued, nonces_covered, nothing_touched}
 use Rattle.model_lives.proofs.Steps.{check_keeps, given_keeps}
 use Rattle.model_lives.specs.AnswersAs.{CarriesOutAs, PassesAs}
-use Rattle.model_lives.specs.Few.{target_needs_listed}
+use Rattle.model_lives.specs.MinimalPart.{target_needs_listed}
 use Rattle.model_lives.proofs.Between.{bare, bare_ordered, carries_by, open_kept, swept_bare}
 use Rattle.model_lives.proofs.Grown.{KeepsNamed, grown_closed}
 use Rattle.model_lives.proofs.Lists.{filter_same, same_number}

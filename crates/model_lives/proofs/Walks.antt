@@ -38,7 +38,7 @@ use Rattle.model_laws.proofs.Basics.{each, each_all}
 use Rattle.model_laws.proofs.SweptParts.{swept_closed}
 use Rattle.desk_model.specs.Asked.{asks_authorizations, asks_orders, names_account, names_authorization, names_order, names_owner, target_names}
 use Rattle.desk_model.specs.Touched.{is_named_account, is_named_authorization, is_own_authorization}
-use Rattle.model_lives.specs.Few.{is_end, restates}
+use Rattle.model_lives.specs.MinimalPart.{is_end, changes_statuses}
 use Rattle.model_lives.proofs.Steps.{check_keeps, either_keeps, given_keeps, no_fault_keeps}
 use Rattle.model_lives.proofs.Listed.{KeepsListed}
 use Rattle.model_lives.proofs.Grown.{IsNamedBy, answers_challenge}
@@ -70,7 +70,7 @@ contacts_named T a n contacts named =
     }
 
 -- an account that is there, with its authorizations
-ended_named : (T : Tables) (a : Ask) (n : ℕ) (ending : Ending) → names_account a n ≡ true → restates a ≡ true →
+ended_named : (T : Tables) (a : Ask) (n : ℕ) (ending : Ending) → names_account a n ≡ true → changes_statuses a ≡ true →
     ((r : AuthorizationRow) → (n == r.account) ≡ true → is_own_authorization T a r ≡ true) → IsNamedBy T a (account_ended n ending)
 ended_named T a n ending named ends owned =
     record {
@@ -80,7 +80,7 @@ ended_named T a n ending named ends owned =
       order = λ j h. cc;
     }
 
-authorization_named : (T : Tables) (a : Ask) (n : ℕ) (ending : Ending) → names_authorization a n ≡ true → restates a ≡ true →
+authorization_named : (T : Tables) (a : Ask) (n : ℕ) (ending : Ending) → names_authorization a n ≡ true → changes_statuses a ≡ true →
     IsNamedBy T a (authorization_ended n ending)
 authorization_named T a n ending named ends =
     record {
@@ -96,11 +96,11 @@ answered_named T a n named moves =
     record {
       account = λ x h. cc;
       authorization = λ r h. or_left _ _ (or_right (names_authorization a r.number) _ (named r h));
-      restated = λ r h. or_right (restates a) _ moves;
+      restated = λ r h. or_right (changes_statuses a) _ moves;
       order = λ j h. cc;
     }
 
-reported_named : (T : Tables) (a : Ask) (n : ℕ) (o : Outcome) → ((r : AuthorizationRow) → has_row n r ≡ true → names_owner a r ≡ true) → restates a ≡ true →
+reported_named : (T : Tables) (a : Ask) (n : ℕ) (o : Outcome) → ((r : AuthorizationRow) → has_row n r ≡ true → names_owner a r ≡ true) → changes_statuses a ≡ true →
     IsNamedBy T a (reported n o)
 reported_named T a n o named moves =
     record {

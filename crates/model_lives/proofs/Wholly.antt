@@ -46,7 +46,7 @@ use Rattle.model_laws.proofs.{SweptParts.swept_account, Local.swept_number}
 use Rattle.model_laws.proofs.Finds.{each_found, found_passes}
 use Rattle.model_laws.proofs.Plain.{issued_effect, spent_effect}
 use Rattle.model_lives.specs.AnswersAs.{AnswersAs, CarriesOutAs, IssuesAs, PassesAs, SettlesAs}
-use Rattle.model_lives.specs.Few.{is_end, restates}
+use Rattle.model_lives.specs.MinimalPart.{is_end, changes_statuses}
 use Rattle.model_lives.specs.Thinned.{all_listed, with_challenges}
 use Rattle.model_lives.proofs.{Replies.owner_then, Lists.same_number, Ready.swept_named}
 use Rattle.model_lives.proofs.Bared.{AllWhole, AreWhole, NewWhole, bared, effects_bared, find_changed, recorded_bared, row_whole, swept_bared, those}
@@ -62,7 +62,7 @@ use Rattle.model_lives.proofs.Walks.{IsNoWork, sent}
 pub record KeepsWhole (w : ℕ → Bool) (S : Tables) (a : Ask) : Type 0 where
   pub authorization : (n : ℕ) → names_authorization a n ≡ true → w n ≡ true
   pub owner : AreWhole w (names_owner a) S.authorizations
-  pub own : EachOf (λ x. is_named_account a x ≡ true → restates a ≡ true → asks_authorizations a ≡ true →
+  pub own : EachOf (λ x. is_named_account a x ≡ true → changes_statuses a ≡ true → asks_authorizations a ≡ true →
       AreWhole w (λ r. x.number == r.account) S.authorizations) S.accounts
 
 -- so is what is shown
@@ -347,7 +347,7 @@ office_wholly w S (office.KeyOf n) none h = given_keeps (IsWholly w S) (account_
 
 -- an account that is the key's ends with its authorizations
 account_wholly : (w : ℕ → Bool) (S : Tables) (s : Signed) (j : ℕ) (x : AccountRow) (p : AccountChange) → account_change s.payload ≡ Some p →
-    (restates (sent s (to.Account j)) ≡ true → AreWhole w (λ r. x.number == r.account) S.authorizations) → IsWholly w S (account_verdict x.number p)
+    (changes_statuses (sent s (to.Account j)) ≡ true → AreWhole w (λ r. x.number == r.account) S.authorizations) → IsWholly w S (account_verdict x.number p)
 account_wholly w S s j x change.Read is own_whole = tt
 account_wholly w S s j x change.Deactivate is own_whole = own_whole (ap (holds is_end) is)
 account_wholly w S s j x (change.Update None) is own_whole = tt
@@ -372,7 +372,7 @@ order_wholly w S r n ids [] = tt
 order_wholly w S r n ids (s ∷ ss) = tt
 
 target_wholly : (w : ℕ → Bool) (S : Tables) (r : List ℕ) (x : AccountRow) (s : Signed) (t : Target) → KeepsWhole w S (sent s t) →
-    (restates (sent s t) ≡ true → asks_authorizations (sent s t) ≡ true → AreWhole w (λ r. x.number == r.account) S.authorizations) →
+    (changes_statuses (sent s t) ≡ true → asks_authorizations (sent s t) ≡ true → AreWhole w (λ r. x.number == r.account) S.authorizations) →
     IsWholly w S (target_verdict S r x.number s.payload t)
 target_wholly w S r x s to.NewAccount h own_whole = given_keeps (IsWholly w S) (new_account s.payload) refusal.Malformed _ tt (λ q is. tt)
 target_wholly w S r x s to.KeyChange h own_whole =

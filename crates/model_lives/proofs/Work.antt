@@ -25,14 +25,14 @@ use Rattle.model_laws.proofs.Basics.{each, each_all, each_both, each-map, map-ea
 use Rattle.model_laws.proofs.Local.{filter_part, swept_order_number, swept_part}
 use Rattle.model_laws.proofs.SweptParts.{swept_closed}
 use Rattle.model_lives.specs.AnswersAs.{AnswersAs, CarriesOutAs, SettlesAs}
-use Rattle.model_lives.specs.Few.{IsStatedFor, needed_rows}
+use Rattle.model_lives.specs.MinimalPart.{IsStatedFor, needed_rows}
 use Rattle.model_lives.specs.IsEnough.{IsEnoughFor, challenge_work_rows, enough, enough_at, has_work, is_worked_on, order_work_rows}
 use Rattle.model_lives.specs.IsPart.{IsPartFor}
 use Rattle.model_lives.specs.Thinned.{Thinning, all_listed, in_whole, no_challenges, thin, thinned, waiting_challenges, with_challenges}
 use Rattle.model_lives.proofs.Between.{carries_by, none_listed, parts_answer}
 use Rattle.model_lives.proofs.Cut.{at_number, no_part, no_rows, numbered}
 use Rattle.model_lives.proofs.Enough.{answers_at, restricted_ordered}
-use Rattle.model_lives.proofs.Fewer.{few_issue, few_kept, few_pass, few_settle}
+use Rattle.model_lives.proofs.Fewer.{minimal_issue, minimal_kept, minimal_pass, minimal_settle}
 use Rattle.model_lives.proofs.Grown.{grown, grown_closed, grown_part}
 use Rattle.model_lives.proofs.{Listed.KeepsListed, Replies.rows_same, Walks.IsNoWork, Wholly.IsNoList}
 use Rattle.model_lives.proofs.ListedAlone.{all_needed, needed_pass}
@@ -318,21 +318,21 @@ enough_by T call a k is cut settles =
 -- so are the few rows, as they are needed, where no list of orders is asked for
 needed_by : (T : Tables) (call : Call) (a : Ask) → IsNoList a → IsOrdered T → call.ask ≡ a → asks_orders a ≡ false →
     enough_at T (max call.at T.meta.counters.clock) a ≡ needed_rows T (max call.at T.meta.counters.clock) a →
-    AnswersAs (max call.at T.meta.counters.clock) a T (restricted (few_kept T (max call.at T.meta.counters.clock) a) T) → IsEnoughFor call T (enough T call)
+    AnswersAs (max call.at T.meta.counters.clock) a T (restricted (minimal_kept T (max call.at T.meta.counters.clock) a) T) → IsEnoughFor call T (enough T call)
 needed_by T call a no_list h is none here settles =
     let m : ℕ = max call.at T.meta.counters.clock in
     thinned_by T call a (needed T m a) is (here ∙ needed_cut T m a h)
     (needed_answers T m a h no_list (subst (AnswersAs m a T) (sym (all_needed T m a h none)) settles))
 
-pub few_enough : (T : Tables) (call : Call) → IsOrdered T → IsStatedFor call.ask (max call.at T.meta.counters.clock) T → IsEnoughFor call T (enough T call)
-few_enough T call h stated = by call.ask refl
+pub minimal_enough : (T : Tables) (call : Call) → IsOrdered T → IsStatedFor call.ask (max call.at T.meta.counters.clock) T → IsEnoughFor call T (enough T call)
+minimal_enough T call h stated = by call.ask refl
   where
     m : ℕ
     m = max call.at T.meta.counters.clock
 
     few : (a : OfficeAsk) → IsNoWork a → call.ask ≡ ask.Office a → enough_at T m (ask.Office a) ≡ needed_rows T m (ask.Office a) →
         IsEnoughFor call T (enough T call)
-    few a none is here = needed_by T call (ask.Office a) none h is refl here (few_settle T m a none h)
+    few a none is here = needed_by T call (ask.Office a) none h is refl here (minimal_settle T m a none h)
 
     by : (a : Ask) → call.ask ≡ a → IsEnoughFor call T (enough T call)
     by (ask.Office office.ChallengeWork) is =
@@ -343,8 +343,8 @@ few_enough T call h stated = by call.ask refl
     by (ask.Office office.Directory) is =
         enough_by T call (ask.Office office.Directory) no_rows is (no_part T)
         (answers_at no_rows T m (ask.Office office.Directory) h (none_listed T) (record { nonces = tt; accounts = tt; authorizations = tt; orders = tt }))
-    by (ask.NewNonce head) is = needed_by T call (ask.NewNonce head) tt h is refl refl (few_issue T m (ask.NewNonce head) h refl refl refl)
+    by (ask.NewNonce head) is = needed_by T call (ask.NewNonce head) tt h is refl refl (minimal_issue T m (ask.NewNonce head) h refl refl refl)
     by (ask.Signed s) is =
         thinned_by T call (ask.Signed s) (needed T m (ask.Signed s)) is (needed_cut T m (ask.Signed s) h)
-        (needed_answers T m (ask.Signed s) h tt (needed_pass T m s h (few_pass T m s h (subst (λ a. IsStatedFor a m T) is stated))))
+        (needed_answers T m (ask.Signed s) h tt (needed_pass T m s h (minimal_pass T m s h (subst (λ a. IsStatedFor a m T) is stated))))
     by (ask.Office a) is = few a tt is refl

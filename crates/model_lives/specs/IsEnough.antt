@@ -6,7 +6,7 @@ use Rattle.desk_model.specs.Touched.{lists, only_meta}
 use Rattle.desk_model.specs.declared.{call.Ask.Ask, call.Call.Call, rows.AuthorizationRow.AuthorizationRow}
 use Rattle.desk_model.specs.declared.call.Ask.TheVariants as ask
 use Rattle.desk_model.specs.declared.call.OfficeAsk.TheVariants as office
-use Rattle.model_lives.specs.{AnswersAs.AnswersAs, Few.needed_rows}
+use Rattle.model_lives.specs.{AnswersAs.AnswersAs, MinimalPart.needed_rows}
 use Rattle.model_lives.specs.Thinned.{Thinning, thinned, waiting_challenges, with_challenges, without_challenges}
 
 -- the part is cut from the whole, of whose rows it may lack what belongs to them, and answers the call as the whole does

@@ -5,7 +5,7 @@ use Rattle.desk_model.specs.Tables.{Tables, picture}
 use Rattle.desk_model.specs.declared.call.Call.{Call}
 use Rattle.model_laws.specs.Ordered.{IsOrdered}
 use Rattle.model_lives.specs.{AnswersAs.AnswersAs, IsPart.IsPartFor, Loaded.loaded}
-use Rattle.model_lives.specs.Few.{IsStated, IsStatedFor}
+use Rattle.model_lives.specs.MinimalPart.{IsStated, IsStatedFor}
 use Rattle.model_lives.specs.IsEnough.{IsEnoughFor, enough}
 
 -- a part of the tables that holds the rows which a call touches answers it as the whole does
@@ -23,7 +23,7 @@ pub record TouchedRowsAreEnough : Type 0 where
   -- so it is enough for it
   pub parts : (T P : Tables) (call : Call) → IsOrdered T → IsPartFor call T P → IsEnoughFor call T P
   -- and so are fewer rows: what is named, listed or falls, and what decides a status that may change or is shown
-  pub few : (T : Tables) (call : Call) → IsOrdered T → IsStatedFor call.ask (max call.at T.meta.counters.clock) T → IsEnoughFor call T (enough T call)
+  pub minimal : (T : Tables) (call : Call) → IsOrdered T → IsStatedFor call.ask (max call.at T.meta.counters.clock) T → IsEnoughFor call T (enough T call)
   -- the statuses of a picture are at each later moment those that the rows give
   pub stated : (F : History) (m : ℕ) → EachFollows F → clock F ≤ m → IsStated m (swept m (picture F))
   -- rows that are enough for a call, of tables that stand by number, stand by number

@@ -12,13 +12,13 @@ use Rattle.model_laws.proofs.Basics.{each, find-map, map-each, more_differs}
 use Rattle.model_laws.proofs.RowLists.{ascends_above, ascends_found, puts_append}
 use Rattle.model_laws.specs.Ordered.{Ascends, IsOrdered}
 use Rattle.model_laws.specs.Placing.{puts}
-use Rattle.model_lives.specs.Few.{as_needed, authorization_as_needed, is_whole_authorization, is_whole_order, needed_rows, needs_listed}
-use Rattle.model_lives.specs.FewLoaded.{few_accounts, listed_orders, moved_authorizations, opened_orders, restated_authorizations}
-use Rattle.model_lives.specs.FewLoaded.{whole_authorizations}
+use Rattle.model_lives.specs.MinimalPart.{as_needed, authorization_as_needed, is_whole_authorization, is_whole_order, needed_rows, needs_listed}
+use Rattle.model_lives.specs.MinimalPartLoaded.{minimal_accounts, listed_orders, moved_authorizations, opened_orders, restated_authorizations}
+use Rattle.model_lives.specs.MinimalPartLoaded.{whole_authorizations}
 use Rattle.model_lives.specs.Loaded.{accounts_once, authorizations_asked_of, authorizations_once, listed_authorizations, named_orders, orders_once}
 use Rattle.model_lives.specs.LookUps.{authorizations_numbered, bare_authorizations, bare_orders_of, orders_of}
 use Rattle.model_lives.specs.Thinned.{without_challenges, without_listed}
-use Rattle.model_lives.proofs.FewLoading.{listed_orders_found, loaded_few, whole_authorizations_found, whole_found}
+use Rattle.model_lives.proofs.MinimalPartLoading.{listed_orders_found, loaded_minimal, whole_authorizations_found, whole_found}
 use Rattle.model_lives.proofs.Found.{found_table}
 use Rattle.model_lives.proofs.Lists.{filter_nothing, filter_same, filtered_each}
 use Rattle.model_lives.proofs.Loading.{of_authorization, of_order}
@@ -172,7 +172,7 @@ bare_own T (x ∷ xs) =
 
 -- the orders that are opened or named, and those of the accounts, which lack what they list, are the orders as they are needed
 pub needed_orders : (T : Tables) (m : ℕ) (a : Ask) → IsOrdered T →
-    lacking of_order (if asks_orders a then flat_map (λ (x : AccountRow). bare_orders_of T x.number) (accounts_once (few_accounts T a)) else [])
+    lacking of_order (if asks_orders a then flat_map (λ (x : AccountRow). bare_orders_of T x.number) (accounts_once (minimal_accounts T a)) else [])
     (puts of_order (if not (needs_listed a) then named_orders T a else []) (orders_once (opened_orders T m a)))
     ≡ (needed_rows T m a).orders
 needed_orders T m a h =
@@ -186,7 +186,7 @@ needed_orders T m a h =
     (ap (puts of_order (listed_orders T a)) (sym whole)
     ∙ sym (puts_append of_order (opened_orders T m a ++ named) (listed_orders T a) [])
     ∙ ap (λ rows. puts of_order rows []) (append_assoc (opened_orders T m a) named (listed_orders T a))
-    ∙ ap (λ (B : Tables). B.orders) (loaded_few T m a h))
+    ∙ ap (λ (B : Tables). B.orders) (loaded_minimal T m a h))
   where
     named : List OrderRow
     named = if not (needs_listed a) then named_orders T a else []
@@ -194,9 +194,9 @@ needed_orders T m a h =
     whole : puts of_order (opened_orders T m a ++ named) [] ≡ filter (is_whole_order T m a) T.orders
     whole = found_table of_order (is_whole_order T m a) 1 T.orders (opened_orders T m a ++ named) h.orders.0 (whole_found T m a h)
 
-    own : (b : Bool) → (if b then flat_map (λ (x : AccountRow). bare_orders_of T x.number) (accounts_once (few_accounts T a)) else [])
-        ≡ map without_listed (if b then flat_map (λ (x : AccountRow). orders_of T x.number) (accounts_once (few_accounts T a)) else [])
-    own true = bare_own T (accounts_once (few_accounts T a))
+    own : (b : Bool) → (if b then flat_map (λ (x : AccountRow). bare_orders_of T x.number) (accounts_once (minimal_accounts T a)) else [])
+        ≡ map without_listed (if b then flat_map (λ (x : AccountRow). orders_of T x.number) (accounts_once (minimal_accounts T a)) else [])
+    own true = bare_own T (accounts_once (minimal_accounts T a))
     own false = refl
 
 -- those that are whole are needed so
@@ -217,13 +217,13 @@ whole_challenges T m a (r ∷ rs) = by (is_whole_authorization T m a r) refl (wh
 pub needed_authorizations : (T : Tables) (m : ℕ) (a : Ask) → IsOrdered T →
     missings of_authorization (bare_authorizations T) (flat_map (λ (o : OrderRow). numbers_of o.listed) (orders_once (opened_orders T m a)))
     (puts of_authorization
-    (authorizations_once (moved_authorizations T a) ++ authorizations_asked_of T (asked_names a) (accounts_once (few_accounts T a)))
+    (authorizations_once (moved_authorizations T a) ++ authorizations_asked_of T (asked_names a) (accounts_once (minimal_accounts T a)))
     (authorizations_once (restated_authorizations T m a)))
     ≡ (needed_rows T m a).authorizations
 needed_authorizations T m a h =
     ap (missings of_authorization (bare_authorizations T) listed)
     (sym (puts_append of_authorization (restated_authorizations T m a)
-    (authorizations_once (moved_authorizations T a) ++ authorizations_asked_of T (asked_names a) (accounts_once (few_accounts T a))) [])
+    (authorizations_once (moved_authorizations T a) ++ authorizations_asked_of T (asked_names a) (accounts_once (minimal_accounts T a))) [])
     ∙ whole ∙ sym (whole_challenges T m a T.authorizations))
     ∙ bares_put of_authorization without_challenges (authorization_as_needed T m a) (λ r. refl) (λ r. refl) (is_whole_authorization T m a)
     (λ r no i. record r { challenges = if sym no i then r.challenges else [] }) T.authorizations h.authorizations.0 listed
@@ -232,7 +232,7 @@ needed_authorizations T m a h =
     (ap (puts of_authorization (flat_map (authorizations_numbered T) listed)) (sym whole)
     ∙ ap (λ rows. puts of_authorization rows (puts of_authorization (whole_authorizations T m a) [])) (nested T (orders_once (opened_orders T m a)))
     ∙ sym (puts_append of_authorization (whole_authorizations T m a) (listed_authorizations T (orders_once (opened_orders T m a))) [])
-    ∙ ap (λ (B : Tables). B.authorizations) (loaded_few T m a h))
+    ∙ ap (λ (B : Tables). B.authorizations) (loaded_minimal T m a h))
   where
     listed : List ℕ
     listed = flat_map (λ (o : OrderRow). numbers_of o.listed) (orders_once (opened_orders T m a))

@@ -10,7 +10,7 @@ use Rattle.model_laws.proofs.Recorded.{tables_ordered}
 use Rattle.model_lives.specs.IsEnough.{IsEnoughFor, enough}
 use Rattle.model_lives.proofs.Answering.{pictures_stated, stated_for}
 use Rattle.model_lives.proofs.Cut.{touched_part}
-use Rattle.model_lives.proofs.Work.{few_enough, part_enough}
+use Rattle.model_lives.proofs.Work.{minimal_enough, part_enough}
 use Rattle.store_api.specs.Sight.{ForTables, Reads, Sight}
 use Rattle.store_api.specs.Storing.{IsPartOf, Loads}
 use Rattle.store_api.specs.declared.fault.StorageFault.{StorageFault}
@@ -40,6 +40,6 @@ module _ {S C : Type 0} (v : Sight S C) where
         let ordered = tables_ordered F (clock F) in
         let m : ℕ = max call.at (clock F) in
         subst (IsEnoughFor call (picture F)) (sym (found honest (picture F) held ordered))
-        (few_enough (picture F) call ordered (stated_for call.ask m (picture F) (pictures_stated F m legal.each (le-max_right call.at (clock F)))));
+        (minimal_enough (picture F) call ordered (stated_for call.ask m (picture F) (pictures_stated F m legal.each (le-max_right call.at (clock F)))));
   }
   loads_enough call old new (Err why) reads found = record { reads = reads; part = λ honest. tt }

@@ -5,19 +5,19 @@ use Rattle.std.specs.List.{flat_map}
 use Rattle.desk_model.specs.Asked.{asked_names, asks_authorizations, asks_orders}
 use Rattle.desk_model.specs.Tables.{Tables}
 use Rattle.desk_model.specs.declared.{call.Ask.Ask, rows.AccountRow.AccountRow, rows.AuthorizationRow.AuthorizationRow, rows.OrderRow.OrderRow}
-use Rattle.model_lives.specs.Few.{needs_holders, needs_listed, restates}
+use Rattle.model_lives.specs.MinimalPart.{needs_holders, needs_listed, changes_statuses}
 use Rattle.model_lives.specs.Loaded.{account_numbers, authorization_numbers, challenge_numbers, keys, listing_orders, new_keys, order_numbers}
 use Rattle.model_lives.specs.Loaded.{past_authorizations, past_orders}
 use Rattle.model_lives.specs.LookUps.{accounts_numbered, accounts_with_key, authorizations_numbered, authorizations_of, bare_orders_of, orders_numbered}
 use Rattle.model_lives.specs.LookUps.{owners_of}
 use Rattle.store_api.specs.Naming.{Names}
-use Rattle.store_api.specs.declared.enough.Needs.{Needs}
+use Rattle.store_api.specs.declared.enough.RowsNeeded.{RowsNeeded}
 
 -- these are needed for the ask at the moment
-pub record NeedsFor (a : Ask) (m : ℕ) (needs : Needs) : Type 0 where
+pub record NeedsFor (a : Ask) (m : ℕ) (needs : RowsNeeded) : Type 0 where
   pub named : Names (account_numbers a) (order_numbers a) (authorization_numbers a) (challenge_numbers a) (asks_orders a) (asks_authorizations a) needs.named
   pub moment : needs.moment ≡ m
-  pub restated : needs.restates ≡ restates a
+  pub restated : needs.changes_statuses ≡ changes_statuses a
   pub listed : needs.needs_listed ≡ needs_listed a
   pub holders : needs.needs_holders ≡ needs_holders a
   pub names : option_map (λ v. v.now) needs.names ≡ asked_names a
@@ -45,32 +45,32 @@ abbrev pub with_named : Tables → Ask → List AccountRow → List AccountRow
 with_named T a table = missings (λ x. x.number) (accounts_numbered T) (account_numbers a) (puts (λ x. x.number) (keyed_accounts T a) table)
 
 -- the authorizations that are named, and those of these accounts, where an account ends
-abbrev pub moved_by : Tables → Needs → List AccountRow → List AuthorizationRow
+abbrev pub moved_by : Tables → RowsNeeded → List AccountRow → List AuthorizationRow
 moved_by T needs accounts =
     (flat_map (authorizations_numbered T) (option_to_list needs.named.authorization)
     ++ flat_map (λ c. flat_map (authorizations_numbered T) (owners_of T c)) (option_to_list needs.named.challenge))
-    ++ (if needs.restates && needs.named.asks_authorizations then flat_map (λ x. authorizations_of T x.number) accounts else [])
+    ++ (if needs.changes_statuses && needs.named.asks_authorizations then flat_map (λ x. authorizations_of T x.number) accounts else [])
 
 -- the numbers of their accounts, where these are needed
-abbrev pub holders_by : Needs → List AuthorizationRow → List ℕ
+abbrev pub holders_by : RowsNeeded → List AuthorizationRow → List ℕ
 holders_by needs moved = if needs.needs_holders then map (λ r. r.account) moved else []
 
 -- those past their moment, and these, where their statuses may change
-abbrev pub restated_by : Tables → Needs → List AuthorizationRow → List AuthorizationRow
-restated_by T needs moved = past_authorizations T needs.moment ++ (if needs.restates then moved else [])
+abbrev pub restated_by : Tables → RowsNeeded → List AuthorizationRow → List AuthorizationRow
+restated_by T needs moved = past_authorizations T needs.moment ++ (if needs.changes_statuses then moved else [])
 
 -- the orders that are named, with or without what they list
-abbrev pub orders_by : Tables → Needs → List OrderRow
+abbrev pub orders_by : Tables → RowsNeeded → List OrderRow
 orders_by T needs = flat_map (orders_numbered T) (option_to_list needs.named.order)
 
 -- the orders past their moment, those that list these authorizations, and the named one, where what it lists is needed
-abbrev pub opened_with : Tables → Needs → List AuthorizationRow → List OrderRow
+abbrev pub opened_with : Tables → RowsNeeded → List AuthorizationRow → List OrderRow
 opened_with T needs rows = (past_orders T needs.moment ++ listing_orders T rows) ++ (if needs.needs_listed then orders_by T needs else [])
 
 -- the named order, where it is not
-abbrev pub named_alone : Tables → Needs → List OrderRow
+abbrev pub named_alone : Tables → RowsNeeded → List OrderRow
 named_alone T needs = if not needs.needs_listed then orders_by T needs else []
 
 -- the orders of these accounts, where they are asked for, without what they list
-abbrev pub listed_with : Tables → Needs → List AccountRow → List OrderRow
+abbrev pub listed_with : Tables → RowsNeeded → List AccountRow → List OrderRow
 listed_with T needs accounts = if needs.named.asks_orders then flat_map (λ x. bare_orders_of T x.number) accounts else []

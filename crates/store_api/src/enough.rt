@@ -6,23 +6,20 @@ ghost use Rattle.store_api.specs.{Finding.Finds, Storing.Loads, Needing.NeedsFor
 ghost use Rattle.model_lives.specs.IsEnough.{challenge_work_rows, enough, is_worked_on, order_work_rows};
 ghost use Rattle.model_lives.specs.{LookUps.orders_processing, Thinned.without_challenges};
 ghost use Rattle.store_api.specs.Sight.{ForTables, Reads};
-ghost use Rattle.desk_model.specs.Payload.{account_change, says_deactivated};
+ghost use Rattle.desk_model.specs.Payload.{account_change};
 ghost use Rattle.identifiers.specs.Parsed.{ask_of};
-ghost use Rattle.model_lives.specs.Few.{is_end, needs_holders, needs_listed, restates, target_restates};
-ghost use Rattle.serde_json.specs.View.{view};
+ghost use Rattle.model_lives.specs.MinimalPart.{is_end, needs_holders, needs_listed, changes_statuses, target_changes_statuses};
 
 use crate::fault::StorageFault;
-use crate::few::few_book;
 use crate::links::{add_bare_listed, add_found};
 use crate::look_ups::LookUps;
+use crate::minimal_part::minimal_book;
 use crate::named::{Named, named_in};
 use crate::waiting::add_working;
 use desk_book::{Book, Table};
 use desk_model::{Ask, AuthorizationRow, DnsName, OfficeAsk, OrderRow, Target};
-use identifiers::{ParsedAsk, ParsedCall, ParsedSigned};
-use json_texts::text_of;
+use identifiers::{ParsedAsk, ParsedCall, ParsedSigned, says_deactivated};
 use model_lives::OrdersWhere;
-use serde_json::Value;
 use std::alloc::Global;
 
 // ---- the work of the validator
@@ -109,7 +106,7 @@ fn enough_book<S: LookUps>(
         Ask::Office(OfficeAsk::ChallengeWork) => challenge_work_book(alloc, source),
         Ask::Office(OfficeAsk::OrderWork) => order_work_book(alloc, source),
         Ask::Office(OfficeAsk::Directory) => directory_book(alloc, source),
-        _ => few_book(alloc, source, call),
+        _ => minimal_book(alloc, source, call),
     }
 }
 
@@ -134,12 +131,12 @@ pub fn load_enough<S: LookUps>(
 
 /// What is enough for an ask: what it names, and what leads to more.
 #[derive(Drop)]
-pub(crate) struct Needs<'a> {
+pub(crate) struct RowsNeeded<'a> {
     pub(crate) named: Named,
     /// When the call acts.
     pub(crate) moment: u64,
     /// Whether statuses of authorizations may change, and with them those of orders.
-    pub(crate) restates: bool,
+    pub(crate) changes_statuses: bool,
     /// Whether what the orders that are named list is needed.
     pub(crate) needs_listed: bool,
     /// Whether the accounts of the authorizations that are named are needed.
@@ -148,22 +145,12 @@ pub(crate) struct Needs<'a> {
     pub(crate) names: Option<&'a [DnsName]>,
 }
 
-impl<'a> Needs<'a> {
+impl<'a> RowsNeeded<'a> {
     /// Whether an account that is named ends, and its authorizations with it.
     pub(crate) fn ends_account(&self) -> bool
-        ensures { result ≡ (self.now.restates && self.now.named.asks_authorizations) }
+        ensures { result ≡ (self.now.changes_statuses && self.now.named.asks_authorizations) }
     {
-        self.restates && self.named.asks_authorizations
-    }
-}
-
-// Whether an object says that what it is sent to is to be deactivated.
-fn says_deactivated(value: &Value) -> bool
-    ensures { result ≡ says_deactivated (view value.now) }
-{
-    match text_of(value, "status") {
-        Some(text) => text == "deactivated",
-        None => false,
+        self.changes_statuses && self.named.asks_authorizations
     }
 }
 
@@ -182,8 +169,8 @@ fn ends_account(request: &ParsedSigned) -> bool
 }
 
 // Whether a request may change statuses of authorizations.
-fn target_restates(request: &ParsedSigned) -> bool
-    ensures { result ≡ target_restates request.now.target request.now.payload }
+fn target_changes_statuses(request: &ParsedSigned) -> bool
+    ensures { result ≡ target_changes_statuses request.now.target request.now.payload }
 {
     let signed = request.request();
     match &signed.target {
@@ -194,11 +181,11 @@ fn target_restates(request: &ParsedSigned) -> bool
 }
 
 // Whether an ask may change statuses of authorizations.
-fn restates(ask: &ParsedAsk) -> bool
-    ensures { result ≡ restates (ask_of ask.now) }
+fn changes_statuses(ask: &ParsedAsk) -> bool
+    ensures { result ≡ changes_statuses (ask_of ask.now) }
 {
     match ask {
-        ParsedAsk::Signed(request) => target_restates(request),
+        ParsedAsk::Signed(request) => target_changes_statuses(request),
         ParsedAsk::Office(OfficeAsk::Report { .. }) => true,
         ParsedAsk::Office(OfficeAsk::RevokeAuthz(_)) => true,
         ParsedAsk::Office(OfficeAsk::RevokeAccount(_)) => true,
@@ -231,14 +218,14 @@ fn needs_holders(ask: &Ask) -> bool
 }
 
 /// What is enough for a call that acts at a moment, by what its payload says.
-pub(crate) fn needs_of<'a>(call: &'a ParsedCall, moment: u64) -> Needs<'a>
+pub(crate) fn rows_needed<'a>(call: &'a ParsedCall, moment: u64) -> RowsNeeded<'a>
     ensures { NeedsFor call.now.ask moment result }
 {
     let ask = &call.call().ask;
-    Needs {
-        named: named_in(ask),
+    RowsNeeded {
+        named: named_in(call.ask()),
         moment,
-        restates: restates(call.ask()),
+        changes_statuses: changes_statuses(call.ask()),
         needs_listed: needs_listed(ask),
         needs_holders: needs_holders(ask),
         names: call.names(),

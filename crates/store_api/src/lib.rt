@@ -4,10 +4,10 @@
 mod book_source;
 mod enough;
 mod fault;
-mod few;
 mod laws;
 mod links;
 mod look_ups;
+mod minimal_part;
 mod named;
 mod storage;
 mod touched;
@@ -15,7 +15,7 @@ mod waiting;
 
 pub use enough::load_enough;
 pub use fault::StorageFault;
-pub use identifiers::ParsedCall;
+pub use identifiers::{CallFault, ParsedCall};
 pub use laws::touched_rows_are_a_book;
 pub use look_ups::{Found, LookUps, RowsAbove};
 pub use storage::Storage;

@@ -9,17 +9,15 @@ ghost use Rattle.std.specs.List.{filter, flat_map};
 ghost use Rattle.model_laws.specs.Placing.{puts};
 ghost use Rattle.store_api.specs.Finding.{Finds, LacksMemory};
 ghost use Rattle.desk_model.specs.Name.{same_name};
-ghost use Rattle.desk_model.specs.{Touched.touched};
+ghost use Rattle.identifiers.specs.Parsed.{ask_of};
 ghost use Rattle.model_lives.specs.LookUps.{accounts_with_key, authorizations_numbered, owners_of};
 
 use crate::fault::StorageFault;
 use crate::links::{LeadsTo, add_each, add_found, add_linked};
 use crate::look_ups::{Found, LookUps};
 use desk_book::{Row, Table};
-use desk_model::{
-    AccountRow, Ask, AuthorizationRow, DnsName, Jwk, Nonce, OfficeAsk, Policy, Target,
-};
-use keys::{new_key, read_nonce};
+use desk_model::{AccountRow, AuthorizationRow, DnsName, Jwk, Nonce, OfficeAsk, Policy, Target};
+use identifiers::ParsedAsk;
 use model_lives::{AccountsWhere, AuthorizationsWhere, NoncesWhere};
 use std::alloc::{AllocError, Global};
 
@@ -46,31 +44,28 @@ const NOTHING: Named = Named {
 };
 
 /// The serial of the nonce that a request carries.
-pub(crate) fn serial(ask: &Ask) -> Option<u64>
-    ensures { option_to_list result ≡ serials ask.now }
+pub(crate) fn serial(ask: &ParsedAsk) -> Option<u64>
+    ensures { option_to_list result ≡ serials (ask_of ask.now) }
 {
-    let Ask::Signed(request) = ask else {
+    let ParsedAsk::Signed(request) = ask else {
         return None;
     };
-    let Some(text) = &request.nonce else {
-        return None;
-    };
-    match read_nonce(text.as_str()) {
+    match request.nonce() {
         Some((serial, _)) => Some(serial),
         None => None,
     }
 }
 
 /// The key that a request asks for.
-pub(crate) fn new_key_of(alloc: Global, ask: &Ask) -> Result<Option<Jwk>, AllocError>
-    ensures { IfOk result (λ key. of_key key ≡ new_keys ask.now) }
+pub(crate) fn new_key<'a>(ask: &'a ParsedAsk) -> Option<&'a Jwk>
+    ensures { of_key (option_map (λ k. k.now) result) ≡ new_keys (ask_of ask.now) }
 {
-    match ask {
-        Ask::Signed(request) => match request.target {
-            Target::KeyChange => new_key(alloc, request.payload.as_str()),
-            _ => Ok(None),
-        },
-        _ => Ok(None),
+    let ParsedAsk::Signed(request) = ask else {
+        return None;
+    };
+    match request.key_change() {
+        Some(change) => change.new_key.as_ref(),
+        None => None,
     }
 }
 
@@ -107,21 +102,23 @@ fn named_by(target: &Target) -> Named
 }
 
 /// What an ask names.
-pub(crate) fn named_in(ask: &Ask) -> Named
-    ensures { Names (account_numbers ask.now) (order_numbers ask.now) (authorization_numbers ask.now)
-        (challenge_numbers ask.now) (asks_orders ask.now) (asks_authorizations ask.now) result }
+pub(crate) fn named_in(ask: &ParsedAsk) -> Named
+    ensures { let a = ask_of ask.now in Names (account_numbers a) (order_numbers a) (authorization_numbers a)
+        (challenge_numbers a) (asks_orders a) (asks_authorizations a) result }
 {
     match ask {
-        Ask::Signed(request) => named_by(&request.target),
-        Ask::Office(OfficeAsk::RevokeAccount(number)) => named_by(&Target::Account(*number)),
-        Ask::Office(OfficeAsk::KeyOf(number)) => Named {
+        ParsedAsk::Signed(request) => named_by(&request.request().target),
+        ParsedAsk::Office(OfficeAsk::RevokeAccount(number)) => named_by(&Target::Account(*number)),
+        ParsedAsk::Office(OfficeAsk::KeyOf(number)) => Named {
             account: Some(*number),
             ..NOTHING
         },
-        Ask::Office(OfficeAsk::Certify { order, .. }) => named_by(&Target::Order(*order)),
-        Ask::Office(OfficeAsk::FailOrder { order, .. }) => named_by(&Target::Order(*order)),
-        Ask::Office(OfficeAsk::RevokeAuthz(number)) => named_by(&Target::Authz(*number)),
-        Ask::Office(OfficeAsk::Report { challenge, .. }) => named_by(&Target::Chall(*challenge)),
+        ParsedAsk::Office(OfficeAsk::Certify { order, .. }) => named_by(&Target::Order(*order)),
+        ParsedAsk::Office(OfficeAsk::FailOrder { order, .. }) => named_by(&Target::Order(*order)),
+        ParsedAsk::Office(OfficeAsk::RevokeAuthz(number)) => named_by(&Target::Authz(*number)),
+        ParsedAsk::Office(OfficeAsk::Report { challenge, .. }) => {
+            named_by(&Target::Chall(*challenge))
+        }
         _ => NOTHING,
     }
 }
@@ -237,10 +234,10 @@ pub(crate) fn add_nonces<S: LookUps>(
     nonces: &mut Table<Nonce>,
     policy: &Policy,
     moment: u64,
-    ask: &Ask,
+    ask: &ParsedAsk,
 ) -> Result<(), StorageFault>
     ensures { Finds S.sight source.old source.new result (λ T. policy.now ≡ T.meta.policy
-        → nonces.new ≡ puts (λ x. x.serial) (found_nonces T moment ask.now) nonces.old) }
+        → nonces.new ≡ puts (λ x. x.serial) (found_nonces T moment (ask_of ask.now)) nonces.old) }
 {
     add_each(alloc, source, nonces, serial(ask).as_slice())?;
     add_found(
@@ -257,13 +254,13 @@ pub(crate) fn add_keyed<S: LookUps>(
     alloc: Global,
     source: &mut S,
     accounts: &mut Table<AccountRow>,
-    ask: &Ask,
+    ask: &ParsedAsk,
 ) -> Result<(), StorageFault>
     ensures { Finds S.sight source.old source.new result (λ T.
-        accounts.new ≡ puts (λ x. x.number) (flat_map (accounts_with_key T) (keys_of ask.now)) accounts.old) }
+        accounts.new ≡ puts (λ x. x.number) (flat_map (accounts_with_key T) (keys_of (ask_of ask.now))) accounts.old) }
 {
     match ask {
-        Ask::Signed(request) => match &request.key {
+        ParsedAsk::Signed(request) => match &request.request().key {
             Ok(key) => add_found(
                 accounts,
                 source.find_accounts(alloc, AccountsWhere::Key(key)),
@@ -279,15 +276,15 @@ pub(crate) fn add_new_keyed<S: LookUps>(
     alloc: Global,
     source: &mut S,
     accounts: &mut Table<AccountRow>,
-    ask: &Ask,
+    ask: &ParsedAsk,
 ) -> Result<(), StorageFault>
     ensures { Finds S.sight source.old source.new result (λ T.
-        accounts.new ≡ puts (λ x. x.number) (flat_map (accounts_with_key T) (new_keys ask.now)) accounts.old) }
+        accounts.new ≡ puts (λ x. x.number) (flat_map (accounts_with_key T) (new_keys (ask_of ask.now))) accounts.old) }
 {
-    match new_key_of(alloc, ask)? {
+    match new_key(ask) {
         Some(key) => add_found(
             accounts,
-            source.find_accounts(alloc, AccountsWhere::Key(&key)),
+            source.find_accounts(alloc, AccountsWhere::Key(key)),
         ),
         None => Ok(()),
     }

@@ -4,6 +4,7 @@ ghost use Rattle.model_laws.specs.{Ordered.IsOrdered, Placing.puts};
 ghost use Rattle.store_api.specs.Finding.{AreNone, AreRowsOf, Finds};
 ghost use Rattle.desk_model.specs.{Asked.asked_names, Touched.touched};
 ghost use Rattle.model_lives.specs.Loaded.{loaded_at, loaded_rows, authorizations_asked_of, listed_authorizations, listing_orders};
+ghost use Rattle.identifiers.specs.Parsed.{ask_of};
 ghost use Rattle.store_api.specs.Sight.{ForTables, Reads};
 ghost use Rattle.store_api.specs.Storing.{Loads};
 ghost use Rattle.std.specs.List.{flat_map};
@@ -18,10 +19,10 @@ use crate::named::{
 };
 use desk_book::{Book, Table};
 use desk_model::{
-    AccountRow, Ask, AuthorizationRow, AuthzStatus, DnsName, Nonce, OfficeAsk, OrderRow,
-    OrderStatus, Policy,
+    AccountRow, AuthorizationRow, AuthzStatus, DnsName, Nonce, OfficeAsk, OrderRow, OrderStatus,
+    Policy,
 };
-use identifiers::ParsedCall;
+use identifiers::{ParsedAsk, ParsedCall};
 use model_lives::{AccountsWhere, AuthorizationsWhere, NoncesWhere, OrdersWhere};
 use std::alloc::Global;
 
@@ -41,12 +42,12 @@ fn add_touched<S: LookUps>(
     rows: &mut Rows,
     policy: &Policy,
     moment: u64,
-    ask: &Ask,
+    ask: &ParsedAsk,
     names: Option<&[DnsName]>,
 ) -> Result<(), StorageFault>
-    requires { option_map (λ v. v.now) names ≡ asked_names ask.now }
+    requires { option_map (λ v. v.now) names ≡ asked_names (ask_of ask.now) }
     ensures { Finds S.sight source.old source.new result (λ T. policy.now ≡ T.meta.policy → AreNone rows.old
-        → AreRowsOf (loaded_rows T moment ask.now) rows.new) }
+        → AreRowsOf (loaded_rows T moment (ask_of ask.now)) rows.new) }
 {
     let named = named_in(ask);
     add_nonces(alloc, source, &mut rows.nonces, policy, moment, ask)?;
@@ -112,17 +113,17 @@ fn add_rows_at<S: LookUps>(
     rows: &mut Rows,
     policy: &Policy,
     moment: u64,
-    ask: &Ask,
+    ask: &ParsedAsk,
     names: Option<&[DnsName]>,
 ) -> Result<(), StorageFault>
-    requires { option_map (λ v. v.now) names ≡ asked_names ask.now }
+    requires { option_map (λ v. v.now) names ≡ asked_names (ask_of ask.now) }
     ensures { Finds S.sight source.old source.new result (λ T. policy.now ≡ T.meta.policy → IsOrdered T → AreNone rows.old
-        → AreRowsOf (loaded_at T moment ask.now) rows.new) }
+        → AreRowsOf (loaded_at T moment (ask_of ask.now)) rows.new) }
 {
     match ask {
-        Ask::Office(OfficeAsk::Directory) => Ok(()),
-        Ask::Office(OfficeAsk::ChallengeWork) => add_all_rows(alloc, source, rows),
-        Ask::Office(OfficeAsk::OrderWork) => add_all_rows(alloc, source, rows),
+        ParsedAsk::Office(OfficeAsk::Directory) => Ok(()),
+        ParsedAsk::Office(OfficeAsk::ChallengeWork) => add_all_rows(alloc, source, rows),
+        ParsedAsk::Office(OfficeAsk::OrderWork) => add_all_rows(alloc, source, rows),
         _ => add_touched(alloc, source, rows, policy, moment, ask, names),
     }
 }
@@ -142,10 +143,8 @@ pub fn touched_book<S: LookUps>(
     ensures reads { Reads S.sight source.old source.new result }
     ensures touched { ForTables S.sight source.old source.new (λ T. IsOrdered T → IfOk result (λ book. book ≡ touched T call.now)) }
 {
-    let whole = call.call();
     let meta = source.meta_row(alloc)?;
-    let counters = meta.counters;
-    let moment = whole.at.max(counters.clock.moment());
+    let moment = meta.counters.clock.moment_of(call.call().at);
     let mut rows = Rows {
         nonces: Table::new(alloc),
         accounts: Table::new(alloc),
@@ -158,7 +157,7 @@ pub fn touched_book<S: LookUps>(
         &mut rows,
         &meta.policy,
         moment,
-        &whole.ask,
+        call.ask(),
         call.names(),
     )
     .and(Ok(Book::of_tables(
@@ -185,10 +184,6 @@ pub fn load_part<S: LookUps>(
 {
     touched_book(alloc, source, call)
 }
-
-// ---- the accounts, authorizations and orders
-
-// ---- accounts
 
 // ---- authorizations
 

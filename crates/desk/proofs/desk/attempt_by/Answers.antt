@@ -1,48 +1,50 @@
-use Rattle.std.proofs.Common.{◌≡◌, [], Some, sym, ap, subst, ◌∙◌, length}
-use Rattle.desk_model.specs.Run.{IsFormedCall}
+use Rattle.std.proofs.Common.{◌≡◌, [], Some, sym, ap, ◌∙◌, length}
 use Rattle.std.specs.Prelude.{nat_eq}
 use Rattle.desk.specs.Faults.{core_fault}
-use Rattle.desk.proofs.Exiting.{answered_alone, core_caused, nothing, refused, result_caused, saved, storage_result_caused, storage_result_in_time, unsaved}
+use Rattle.desk.proofs.Exiting.{answered_alone, core_caused, core_result_in_time, nothing, refused, result_caused, saved, storage_result_caused, storage_result_in_time, unsaved}
 use Rattle.desk.proofs.desk.attempt_by.Goals as goal
 
-pub returns-in_err-outcome-clause-caused : goal.returns-in_err-outcome-clause-caused
-returns-in_err-outcome-clause-caused g c was stood =
-    result_caused g.K.Storage.sight g.K.Storage.causes was c.args.store.now (core_fault c.in_err-outcome.field-0.0) _
-    (core_caused g.K.Storage.sight g.K.Storage.causes was c.args.store.now c.in_err-outcome.field-0.0) c.from_residual.ensures.1
+pub returns-in_err-decision-clause-caused : goal.returns-in_err-decision-clause-caused
+returns-in_err-decision-clause-caused g c was stood =
+    result_caused g.K.Storage.sight g.K.Storage.causes was c.args.store.now (core_fault c.in_err-decision.field-0.0) _
+    (core_caused g.K.Storage.sight g.K.Storage.causes was c.args.store.now c.in_err-decision.field-0.0) c.from_residual.ensures.1
 
-pub returns-in_err-outcome-clause-exit : goal.returns-in_err-outcome-clause-exit
-returns-in_err-outcome-clause-exit g c was loads =
-    refused g.K.Storage.sight c.args.call.now was c.args.store.now c.args.part.now c.in_err-outcome.field-0.0 _
-    (subst IsFormedCall c.call.ensures c.keep_form.ensures) loads c.in_err-outcome.ensures.faulty c.from_residual.ensures.1
+pub returns-in_err-decision-clause-exit : goal.returns-in_err-decision-clause-exit
+returns-in_err-decision-clause-exit g c was loads =
+    refused g.K.Storage.sight c.args.call.now was c.args.store.now c.args.part.now c.in_err-decision.field-0.0 _
+    c.requires loads c.in_err-decision.ensures.faulty c.from_residual.ensures.1
 
 pub returns-then-is_empty-clause-exit : goal.returns-then-is_empty-clause-exit
 returns-then-is_empty-clause-exit g c was loads =
-    let outcome = c.in_ok-outcome.outcome in
-    let none : outcome.changes.items ≡ [] = nothing outcome.changes.items
+    let decision = c.in_ok-decision.decision in
+    let none : decision.changes.items ≡ [] = nothing decision.changes.items
     (ap (λ l. nat_eq (length l) 0) (sym c.as_slice-changes.ensures.value) ∙ sym c.is_empty.ensures ∙ c.if-is_empty.true) in
-    answered_alone g.K.Storage.sight c.args.call.now was c.args.store.now c.args.part.now outcome.changes.items outcome.reply
-    (subst IsFormedCall c.call.ensures c.keep_form.ensures) loads c.in_ok-outcome.ensures.decided none
+    answered_alone g.K.Storage.sight c.args.call.now was c.args.store.now c.args.part.now decision.changes.items decision.reply
+    c.requires loads c.in_ok-decision.ensures.decided none
 
-pub returns-in_err-save-clause-late : goal.returns-in_err-save-clause-late
-returns-in_err-save-clause-late g c late = absurd (storage_result_in_time c.in_err-save.field-0.0 _ c.from_residual-in_err-save.ensures.1 late)
+pub returns-in_err-decision-clause-in_time : goal.returns-in_err-decision-clause-in_time
+returns-in_err-decision-clause-in_time g c = core_result_in_time c.in_err-decision.field-0.0 _ c.from_residual.ensures.1
+
+pub returns-in_err-save-clause-in_time : goal.returns-in_err-save-clause-in_time
+returns-in_err-save-clause-in_time g c = storage_result_in_time c.in_err-save.field-0.0 _ c.from_residual-in_err-save.ensures.1
 
 pub returns-in_err-save-clause-caused : goal.returns-in_err-save-clause-caused
 returns-in_err-save-clause-caused g c was stood =
     storage_result_caused g.K.Storage.sight g.K.Storage.causes was c.args.store.now c.save.new.self
-    (Some (record { part = c.args.part.now; changes = c.in_ok-outcome.outcome.changes.items })) c.in_err-save.field-0.0 _ stood
+    (Some (record { part = c.args.part.now; changes = c.in_ok-decision.decision.changes.items })) c.in_err-save.field-0.0 _ stood
     c.in_err-save.ensures.caused c.from_residual-in_err-save.ensures.1
 
 pub returns-in_err-save-clause-exit : goal.returns-in_err-save-clause-exit
 returns-in_err-save-clause-exit g c was loads =
-    let outcome = c.in_ok-outcome.outcome in
-    unsaved g.K.Storage.sight _ c.args.call.now was c.args.store.now c.save.new.self c.args.part.now outcome.changes.items outcome.reply
+    let decision = c.in_ok-decision.decision in
+    unsaved g.K.Storage.sight _ c.args.call.now was c.args.store.now c.save.new.self c.args.part.now decision.changes.items decision.reply
     c.in_err-save.field-0.0 _
-    (subst IsFormedCall c.call.ensures c.keep_form.ensures) loads c.in_ok-outcome.ensures.decided c.in_err-save.ensures.saves
+    c.requires loads c.in_ok-decision.ensures.decided c.in_err-save.ensures.saves
     c.from_residual-in_err-save.ensures.1
 
 pub returns-clause-exit : goal.returns-clause-exit
 returns-clause-exit g c was loads =
-    let outcome = c.in_ok-outcome.outcome in
-    saved g.K.Storage.sight c.args.call.now was c.args.store.now c.save.new.self c.args.part.now outcome.changes.items outcome.reply
+    let decision = c.in_ok-decision.decision in
+    saved g.K.Storage.sight c.args.call.now was c.args.store.now c.save.new.self c.args.part.now decision.changes.items decision.reply
     c.in_ok-save.field-0
-    (subst IsFormedCall c.call.ensures c.keep_form.ensures) loads c.in_ok-outcome.ensures.decided c.in_ok-save.ensures.saves
+    c.requires loads c.in_ok-decision.ensures.decided c.in_ok-save.ensures.saves

@@ -1,6 +1,6 @@
 use Rattle.model_lives.proofs.{Answering.pictures_stated, Cut.touched_part, Between.parts_answer, Loading.loaded_touched}
 use Rattle.model_lives.proofs.Enough.{parts_ordered, whole_part}
-use Rattle.model_lives.proofs.Work.{enough_ordered, few_enough, part_enough}
+use Rattle.model_lives.proofs.Work.{enough_ordered, minimal_enough, part_enough}
 use Rattle.model_lives.proofs.parts.touched_rows_are_enough.Goals as goal
 
 pub returns : goal.returns
@@ -12,7 +12,7 @@ returns c =
       ordered = parts_ordered;
       answer = parts_answer;
       parts = part_enough;
-      few = few_enough;
+      minimal = minimal_enough;
       stated = pictures_stated;
       enough = enough_ordered;
     }

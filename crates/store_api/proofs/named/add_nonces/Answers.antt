@@ -1,5 +1,6 @@
 use Rattle.std.proofs.Common.{◌-◌, ap, ◌∙◌}
 use Rattle.std.specs.List.{flat_map}
+use Rattle.identifiers.specs.Parsed.{ask_of}
 use Rattle.store_api.proofs.Found.{finds_failing, finds_put, finds_then, listed_as}
 use Rattle.store_api.proofs.Gathered.{put_by, put_then}
 use Rattle.store_api.proofs.named.add_nonces.Goals as goal
@@ -14,7 +15,7 @@ returns g c =
     (finds_put number (λ rows. rows.items) (λ T. nonces_before T c.first_lasting.result) _ _
     c.find_nonces.ensures c.add_found.ensures.put c.add_found.ensures.lacks c.add_found.ensures.fails)
     (λ T carried past same.
-    put_then number (flat_map (nonces_numbered T) (serials c.args.ask.now)) (nonces_before T (c.args.moment - T.meta.policy.nonce_life)) _ _ _
+    put_then number (flat_map (nonces_numbered T) (serials (ask_of c.args.ask.now))) (nonces_before T (c.args.moment - T.meta.policy.nonce_life)) _ _ _
     (put_by number (flat_map (nonces_numbered T)) _ _ _ _ carried (listed_as _ _ _ c.as_slice.ensures c.serial.ensures))
     (put_by number (nonces_before T) _ _ _ _ past (c.first_lasting.ensures ∙ ap (λ policy. c.args.moment - policy.nonce_life) same)))
 

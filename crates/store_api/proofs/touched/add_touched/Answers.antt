@@ -1,6 +1,7 @@
 use Rattle.std.proofs.Common.{List, [], ◌++◌, ap, ◌∙◌}
 use Rattle.std.specs.List.{flat_map}
 use Rattle.model_laws.specs.Placing.{puts}
+use Rattle.identifiers.specs.Parsed.{ask_of}
 use Rattle.store_api.proofs.Found.{fails_behind, finds_both, finds_failing, finds_fourth, listed_as}
 use Rattle.store_api.proofs.Gathered.{put_by, put_by_both, put_into_none, put_then}
 use Rattle.store_api.proofs.NamedRows.{authorizations_are, orders_are}
@@ -18,7 +19,7 @@ returns g c =
     (finds_both _ (finds_both _ (finds_both _ c.in_ok-add_nonces.ensures c.in_ok-add_keyed.ensures) c.in_ok-add_new_keyed.ensures) c.in_ok-add_each.ensures)
     c.in_ok-add_first_authorizations.ensures c.in_ok-add_first_orders.ensures c.add_further.ensures
     (λ T so_far authorizations_put orders_put further same none.
-    let ask = c.args.ask.now in
+    let ask = ask_of c.args.ask.now in
     let moment = c.args.moment in
     let named = c.named_in-named.result in
     let account = λ (x : AccountRow). x.number in

@@ -7,6 +7,7 @@ use Rattle.desk_model.specs.declared.call.Call.{Call}
 use Rattle.desk_model.specs.declared.call.OfficeAsk.TheVariants as office
 use Rattle.desk_model.specs.declared.rows.Meta.{Meta}
 use Rattle.model_lives.proofs.Loading.{loaded_touched}
+use Rattle.identifiers.specs.Parsed.{ask_of}
 use Rattle.model_lives.specs.Loaded.{loaded_at}
 use Rattle.store_api.proofs.{Gathered.made_of, Tabled.book_are}
 use Rattle.store_api.proofs.Readings.{reads_and, reads_failing, reads_then, stands_read}
@@ -27,7 +28,7 @@ loaded_meta T m (ask.Office (office.RevokeAccount n)) = refl
 loaded_meta T m (ask.Office (office.KeyOf n)) = refl
 
 pub add_rows_at-requires : goal.add_rows_at-requires
-add_rows_at-requires g c = c.names.ensures ∙ ap (λ (k : Call). asked_names k.ask) (sym c.call-whole.ensures)
+add_rows_at-requires g c = c.names.ensures ∙ ap asked_names (sym c.ask.ensures)
 
 pub returns-clause-reads : goal.returns-clause-reads
 returns-clause-reads g c =
@@ -43,12 +44,14 @@ returns-clause-touched g c = λ honest T held ordered.
     let are = put_now (λ i. (same i).policy) ordered
     (record { nonces = c.new.ensures; accounts = c.new-2.ensures; authorizations = c.new-3.ensures; orders = c.new-4.ensures }) in
     c.of_tables.ensures
-    ∙ book_are c.in_ok-meta.meta _ (loaded_at T c.max-moment.result c.call-whole.result.now.ask)
-    (same ∙ sym (loaded_meta T c.max-moment.result c.call-whole.result.now.ask)) are
-    ∙ ap (λ m. loaded_at T m c.call-whole.result.now.ask)
-    (c.max-moment.ensures ∙ ap (max c.call-whole.result.now.at) (c.moment.ensures.same ∙ ap (λ (m : Meta). m.counters.clock) same))
-    ∙ loaded_touched T c.call-whole.result.now ordered
-    ∙ ap (touched T) c.call-whole.ensures)
+    ∙ book_are c.in_ok-meta.meta _ (loaded_at T c.moment_of-moment.result (ask_of c.ask.result.now))
+    (same ∙ sym (loaded_meta T c.moment_of-moment.result (ask_of c.ask.result.now))) are
+    ∙ ap (loaded_at T c.moment_of-moment.result) c.ask.ensures
+    ∙ ap (λ m. loaded_at T m c.args.call.now.ask)
+    (c.moment_of-moment.ensures
+    ∙ ap (λ (m : Meta). max c.call.result.now.at m.counters.clock) same
+    ∙ ap (λ (k : Call). max k.at T.meta.counters.clock) c.call.ensures.call)
+    ∙ loaded_touched T c.args.call.now ordered)
 
 pub returns-in_err-meta-clause-reads : goal.returns-in_err-meta-clause-reads
 returns-in_err-meta-clause-reads g c = reads_failing _ c.in_err-meta.ensures.reads c.from_residual.ensures.1
