@@ -1,8 +1,8 @@
 //! The rules on new orders (RFC 8555, 7.4).
-ghost use Rattle.std.specs.Prelude.{◌≡◌, ◌+◌, ◌*◌, ◌<◌, ◌≤◌, ◌⊎◌, length, drop, sum_by, IfOk, MatchResult};
+ghost use Rattle.std.specs.Prelude.{◌≡◌, ◌+◌, ◌*◌, ◌<◌, ◌≤◌, ◌⊎◌, length, drop, map, sum_by, IfOk, MatchResult};
 ghost use Rattle.core_rules.specs.Needs.{IsJudged};
-ghost use Rattle.desk_model.specs.{Authorization.kinds_of, Limits.last_number, Run.count_tokens, declared.verdict.Verdict.TheVariants.Orders as orders};
-ghost use Rattle.core_rules.specs.Making.{drawn_for, made_for};
+ghost use Rattle.desk_model.specs.{Authorization.kinds_of, Limits.last_number, declared.verdict.Verdict.TheVariants.Orders as orders};
+ghost use Rattle.core_rules.specs.Making.{drawn_for, made_for, served_name, wanted_for};
 ghost use Rattle.core_rules.specs.OrderVerdicts.{order_verdict};
 ghost use Rattle.desk_model.specs.Rules.{pieces, wanted};
 
@@ -15,26 +15,54 @@ use desk_model::{Counters, DnsName, Refusal, Sequence, Verdict, Wanted};
 use identifiers::AskedOrder;
 use std::alloc::{AllocError, Global};
 
-// How many authorizations an order of the account makes for a name, and how many challenges they have, each with a token.
-fn made_for(at: &At, account: u64, name: &DnsName) -> (usize, usize)
-    ensures made { result.0 ≡ made_for at.now account name.now }
-    ensures drawn { result.1 ≡ drawn_for at.now account name.now }
+// A name of a new order, with the authorization that serves it, if one does.
+#[derive(Drop)]
+struct ServedName {
+    name: DnsName,
+    authorization: Option<u64>,
+}
+
+// The names of an order of the account, each with the authorization that serves it.
+fn served_names(
+    alloc: Global,
+    at: &At,
+    account: u64,
+    names: &[DnsName],
+) -> Result<Vec<ServedName>, AllocError>
+    ensures { IfOk result (λ v. v.items ≡ map (served_name at.now account) names.now) }
 {
-    match at.serving(account, name) {
+    let mut served = Vec::new(alloc);
+    for name in names {
+        let authorization = at.serving(account, name);
+        let name = name.clone()?;
+        served.push(ServedName {
+            name,
+            authorization,
+        })?;
+    }
+    Ok(served)
+}
+
+// How many authorizations an order makes for a name, and how many challenges they have, each with a token.
+fn made_for(served: &ServedName) -> (usize, usize)
+    ensures made { result.0 ≡ made_for served.now }
+    ensures drawn { result.1 ≡ drawn_for served.now }
+{
+    match served.authorization {
         Some(_) => (0, 0),
-        None => (1, name.kinds().len()),
+        None => (1, served.name.kinds().len()),
     }
 }
 
-// How many authorizations an order of the account makes for some names, and how many tokens it takes for them.
-fn count_made(at: &At, account: u64, names: &[DnsName]) -> (usize, usize)
-    ensures made { result.0 ≡ sum_by (made_for at.now account) names.now }
-    ensures drawn { result.1 ≡ sum_by (drawn_for at.now account) names.now }
+// How many authorizations an order makes for some names, and how many tokens it takes for them.
+fn count_made(served: &[ServedName]) -> (usize, usize)
+    ensures made { result.0 ≡ sum_by made_for served.now }
+    ensures drawn { result.1 ≡ sum_by drawn_for served.now }
 {
     let mut made = 0;
     let mut drawn = 0;
-    for name in names {
-        let (authorizations, challenges) = made_for(at, account, name);
+    for one in served {
+        let (authorizations, challenges) = made_for(one);
         made += authorizations;
         drawn += challenges;
     }
@@ -53,21 +81,19 @@ fn tokens_of(alloc: Global, name: &DnsName, random: &[u8]) -> Result<Vec<[u8; 16
     Ok(tokens)
 }
 
-// Each name with the authorization that it gets in an order of the account, the tokens taken in turn.
-fn wanted(
-    alloc: Global,
-    at: &At,
-    account: u64,
-    names: Vec<DnsName>,
-    random: &[u8],
-) -> Result<Vec<Wanted>, AllocError>
-    requires { 16 * count_tokens (wanted at.now account names.items random.now) ≤ length random.now }
-    ensures { IfOk result (λ v. v.items ≡ wanted at.now account names.items random.now) }
+// Each name with the authorization that it gets, the tokens taken in turn.
+fn wanted(alloc: Global, served: Vec<ServedName>, random: &[u8]) -> Result<Vec<Wanted>, AllocError>
+    requires { 16 * sum_by drawn_for served.items ≤ length random.now }
+    ensures { IfOk result (λ v. v.items ≡ wanted_for served.items random.now) }
 {
     let mut found = Vec::new(alloc);
     let mut rest = random;
-    for name in names {
-        if let Some(authorization) = at.serving(account, &name) {
+    for one in served {
+        let ServedName {
+            name,
+            authorization,
+        } = one;
+        if let Some(authorization) = authorization {
             found.push(Wanted::Reused {
                 name,
                 authorization,
@@ -104,29 +130,17 @@ fn order_for(
     at: &At,
     random: &[u8],
     account: u64,
-    names: Vec<DnsName>,
-) -> Result<Verdict, CoreFault>
-    ensures { IsJudged at.now.meta.counters random.now result (orders account (wanted at.now account names.items (drop 16 random.now))) }
-{
-    let counters = at.counters();
-    let (made, drawn) = count_made(at, account, names.as_slice());
-    has_numbers(counters, made, drawn)?;
-    has_tokens(random, drawn)?;
-    let wanted = wanted(alloc, at, account, names, later_random(random, 1))?;
-    Ok(Verdict::Orders(account, Sequence::new(wanted)))
-}
-
-// An order for the names that were read, which the verdict has as its own.
-fn order_of_names(
-    alloc: Global,
-    at: &At,
-    random: &[u8],
-    account: u64,
-    names: &Sequence<DnsName>,
+    names: &[DnsName],
 ) -> Result<Verdict, CoreFault>
     ensures { IsJudged at.now.meta.counters random.now result (orders account (wanted at.now account names.now (drop 16 random.now))) }
 {
-    order_for(alloc, at, random, account, names.clone()?.into_vec())
+    let counters = at.counters();
+    let served = served_names(alloc, at, account, names)?;
+    let (made, drawn) = count_made(&served);
+    has_numbers(counters, made, drawn)?;
+    has_tokens(random, drawn)?;
+    let wanted = wanted(alloc, served, later_random(random, 1))?;
+    Ok(Verdict::Orders(account, Sequence::new(wanted)))
 }
 
 /// The verdict on what a newOrder request of a valid account asks for: refused by the first faulty identifier, with all of them
@@ -146,6 +160,6 @@ pub(crate) fn order_verdict(
             refusal,
             subproblems,
         } => Ok(refused_by(alloc, *refusal, subproblems.as_slice())?),
-        AskedOrder::Names(names) => order_of_names(alloc, at, random, account, names),
+        AskedOrder::Names(names) => order_for(alloc, at, random, account, names.as_slice()),
     }
 }

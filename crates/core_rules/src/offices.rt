@@ -1,5 +1,5 @@
 //! The rules on what the validator, the signing office and the operator ask (RFC 8555, 7.1.6, 7.4, 8).
-ghost use Rattle.std.specs.Prelude.{◌≡◌, ◌&&◌, IfOk, bytes_eq};
+ghost use Rattle.std.specs.Prelude.{◌≡◌, IfOk, bytes_eq};
 ghost use Rattle.desk_model.specs.{Lookup.holds, Verdict.given};
 ghost use Rattle.desk_model.specs.Questions.{account_on, authorization_on, order_on};
 ghost use Rattle.desk_model.specs.Rules.{certify_verdict, fail_verdict, is_revoked, office_verdict};

@@ -1,9 +1,9 @@
 //! The payloads of signed requests: JSON texts in the forms that the routes read.
-ghost use Rattle.std.specs.Prelude.{◌≡◌, Some, Option, option_map, option_and_then, IfOk};
+ghost use Rattle.std.specs.Prelude.{◌≡◌, option_map, IfOk};
 ghost use Rattle.serde_json.specs.{View.view, Read.read};
 ghost use Rattle.desk_model.specs.Payload.{object_in, texts_in, optional, new_account, account_change, authorization_change};
 ghost use Rattle.desk_model.specs.Payload.{challenge_change, finalize};
-ghost use Rattle.serde_json.specs.Find.{get, as_bool, as_str};
+ghost use Rattle.serde_json.specs.Find.{as_bool};
 
 use desk_model::{AccountChange, AuthorizationChange, ChallengeChange, NewAccount, Sequence, Text};
 use identifiers::says_deactivated;

@@ -5,22 +5,22 @@ use Rattle.core_rules.proofs.new_orders.count_made.Goals as goal
 
 pub overflow_add-made : goal.overflow_add-made
 overflow_add-made c =
-    let fits : c.loop-name.made + c.made_for-authorizations.result.0 < 2 ^ 64 =
+    let fits : c.loop-one.made + c.made_for-authorizations.result.0 < 2 ^ 64 =
     omega (
       arith,
-      count-fits (made_for c.args.at.now c.args.account) c.args.names.now c.loop-name.name-index c.name-item.result c.loop-name.made
-          (made-le c.args.at.now c.args.account) c.loop-name-test.true c.name-item.is c.loop-name.invariant.made,
+      count-fits made_for c.args.served.now c.loop-one.one-index c.one-item.result c.loop-one.made
+          made-le c.loop-one-test.true c.one-item.is c.loop-one.invariant.made,
       c.made_for-authorizations.ensures.made,
     ) in
     search (rules, fits)
 
 pub overflow_add-drawn : goal.overflow_add-drawn
 overflow_add-drawn c =
-    let fits : c.loop-name.drawn + c.made_for-authorizations.result.1 < 2 ^ 64 =
+    let fits : c.loop-one.drawn + c.made_for-authorizations.result.1 < 2 ^ 64 =
     omega (
       arith,
-      count-fits (drawn_for c.args.at.now c.args.account) c.args.names.now c.loop-name.name-index c.name-item.result c.loop-name.drawn
-          (drawn-le c.args.at.now c.args.account) c.loop-name-test.true c.name-item.is c.loop-name.invariant.drawn,
+      count-fits drawn_for c.args.served.now c.loop-one.one-index c.one-item.result c.loop-one.drawn
+          drawn-le c.loop-one-test.true c.one-item.is c.loop-one.invariant.drawn,
       c.made_for-authorizations.ensures.drawn,
     ) in
     search (rules, fits)
