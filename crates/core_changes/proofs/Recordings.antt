@@ -1,14 +1,15 @@
 -- What is recorded, entry by entry.
-use Rattle.std.proofs.Common.{◌≡◌, ℕ, ◌+◌, List, [], ◌∷◌, ◌++◌, None, refl, sym, subst, ap, ◌∙◌, append-nil, append_assoc, Result, Ok, Err, IfOk, OnOk}
-use Rattle.std.specs.Result.{result_and}
+use Rattle.std.proofs.Common.{◌≡◌, ℕ, ◌+◌, ◌-◌, List, [], ◌∷◌, ◌++◌, length, None, Some, refl, sym, ap, ◌∙◌, append-nil, append_assoc, arith, Result, Ok, Err, OnOk}
+use Rattle.std.specs.Prelude.{option_and_then, slice_get}
+use Rattle.std.proofs.lemmas.List.{length-append}
 use Rattle.desk_model.specs.{Tables.Tables, Terms.Terms}
 use Rattle.desk_model.specs.Effect.{effect, effects, swept}
 use Rattle.desk_model.specs.Change.{changes, all_changes, recorded_changes, sweep_changes}
-use Rattle.desk_model.specs.declared.{rows.AccountRow.AccountRow, rows.Change.Change, rows.Counters.Counters, objects.Nonce.Nonce, entry.Entry.Entry}
-use Rattle.desk_model.specs.declared.rows.Change.TheVariants.{PutMeta, PutNonce, RemoveNonce, PutAccount}
+use Rattle.desk_model.specs.declared.{rows.AccountRow.AccountRow, rows.OrderRow.OrderRow, rows.Change.Change, rows.Counters.Counters, objects.Nonce.Nonce, entry.Entry.Entry}
+use Rattle.desk_model.specs.declared.rows.Change.TheVariants.{PutMeta, PutNonce, RemoveNonce, PutAccount, PutOrder}
 use Rattle.desk_model.specs.declared.status.AccountStatus.TheVariants as account
 use Rattle.desk_model.specs.declared.entry.Entry.TheVariants.{Issued as issued, Spent as spent, Opened as opened}
-use Rattle.core_changes.specs.Recorded.{IsRecorded}
+use Rattle.core_changes.specs.Recorded.{IsRecorded, account_put, last_account, last_change, last_order, order_put}
 use Rattle.core_changes.proofs.QuietEntries.{spent_counters, spent_changes, issued_counters, issued_changes, opened_counters, opened_changes}
 
 all_changes-last : (m : ℕ) (T : Tables) (es : List Entry) (e : Entry) → all_changes m T (es ++ e ∷ []) ≡ all_changes m T es ++ changes m (effects m T es) e
@@ -120,14 +121,23 @@ pub both_ok : {T E : Type 0} {P Q S : Type 0} (r : Result T E) → OnOk r P → 
 both_ok (Ok x) p q k = k p q
 both_ok (Err e) p q k = tt
 
--- a step, and then a value: what the step gives where it went well
-pub and_ok : {T U E : Type 0} {P : Type 0} (Q : Type 0) (r : Result T E) (x : U) (s : Result U E) → s ≡ result_and r (Ok x)
-    → OnOk r P → (P → Q) → OnOk s Q
-and_ok Q (Ok y) x s is p k = subst (λ t. OnOk t Q) (sym is) (k p)
-and_ok Q (Err e) x s is p k = subst (λ t. OnOk t Q) (sym is) tt
+-- ---- the row that the last change puts
 
--- and what is then so of the value
-pub and_gives : {T U E : Type 0} {P : Type 0} (F : U → Type 0) (r : Result T E) (x : U) (s : Result U E) → s ≡ result_and r (Ok x)
-    → OnOk r P → (P → F x) → IfOk s F
-and_gives F (Ok y) x s is p k = subst (λ t. IfOk t F) (sym is) (k p)
-and_gives F (Err e) x s is p k = subst (λ t. IfOk t F) (sym is) tt
+slice_get-end : (done : List Change) (c : Change) → slice_get (done ++ c ∷ []) (length done) ≡ Some c
+slice_get-end [] c = refl
+slice_get-end (d ∷ done) c = slice_get-end done c
+
+-- what was pushed is the last change
+last-pushed : (done : List Change) (c : Change) → last_change (done ++ c ∷ []) ≡ Some c
+last-pushed done c =
+    let before : length (done ++ c ∷ []) - 1 ≡ length done = omega (arith, length-append done (c ∷ [])) in
+    ap (slice_get (done ++ c ∷ [])) before ∙ slice_get-end done c
+
+-- so an account or an order that was put is found there
+pub last_account-pushed : (done all : List Change) (row : AccountRow) → all ≡ done ++ PutAccount row ∷ [] → last_account all ≡ Some row
+last_account-pushed done all row pushed =
+    ap last_account pushed ∙ ap (option_and_then account_put) (last-pushed done (PutAccount row))
+
+pub last_order-pushed : (done all : List Change) (row : OrderRow) → all ≡ done ++ PutOrder row ∷ [] → last_order all ≡ Some row
+last_order-pushed done all row pushed =
+    ap last_order pushed ∙ ap (option_and_then order_put) (last-pushed done (PutOrder row))

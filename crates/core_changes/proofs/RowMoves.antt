@@ -101,18 +101,6 @@ touches-step touched move x xs before after whole row pushed is kept =
     ∙ ap (λ l. before ++ l) (sym (touched-one touched move x xs))
     ∙ kept
 
--- the same of what a step gives, which went well
-pub touches-given : {X E : Type 0} (touched : X → Bool) (move : X → X) (x : X) (xs before after whole : List X) (row : Result (Option X) E) →
-    IsOkAnd row (λ o. after ≡ before ++ row_of o) → IfOk row (λ o. o ≡ touched_one touched move x)
-    → before ++ map move (filter touched (x ∷ xs)) ≡ whole → after ++ map move (filter touched xs) ≡ whole
-touches-given touched move x xs before after whole (Ok row) pushed is kept = touches-step touched move x xs before after whole row pushed is kept
-touches-given touched move x xs before after whole (Err e) pushed is kept = absurd pushed
-
--- what a step gives that went well
-pub went : {T E P : Type 0} (Q : T → Type 0) (r : Result T E) → IsOkAnd r Q → OnOk r P → P
-went Q (Ok x) is p = p
-went Q (Err e) is p = absurd is
-
 -- a test finds among the touched rows, moved, what it finds among all rows then, where it passes none but touched ones
 pub find-touched : {X : Type 0} (test touched : X → Bool) (move : X → X) → ((x : X) → test x ≡ true → touched x ≡ true) →
     (xs : List X) → find test (map move (filter touched xs)) ≡ find test (map (λ x. cond (touched x) (move x) x) xs)

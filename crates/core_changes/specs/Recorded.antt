@@ -1,6 +1,7 @@
 -- What is recorded of some entries: the passing of time first, then entry by entry.
-use Rattle.std.specs.Prelude.{ℕ, ◌≡◌, List, ◌++◌, map}
+use Rattle.std.specs.Prelude.{ℕ, ◌≡◌, ◌-◌, List, ◌++◌, Option, Some, None, length, map, option_and_then, slice_get}
 use Rattle.desk_model.specs.{Tables.Tables, declared.rows.Change.Change, declared.rows.Counters.Counters, declared.entry.Entry.Entry}
+use Rattle.desk_model.specs.declared.rows.{AccountRow.AccountRow, OrderRow.OrderRow}
 use Rattle.desk_model.specs.Effect.{effects, swept, swept_order, noted_account, touches_account, touches_authorization, touches_order}
 use Rattle.desk_model.specs.Change.{all_changes, sweep_changes, moved_rows, account_differs, authorization_differs, order_differs}
 use Rattle.desk_model.specs.declared.rows.Change.TheVariants.{PutAccount, PutAuthorization, PutOrder}
@@ -36,3 +37,22 @@ book_moves m B e =
     (standing_rows m B.authorizations))
     ++ map PutOrder (moved_rows (touches_order e (standing_rows m B.authorizations)) order_differs (stated_order e m B.accounts B.authorizations)
     (map (swept_order m B.authorizations) B.orders)))
+
+-- ---- what the last change puts
+
+abbrev pub account_put : Change → Option AccountRow
+account_put (PutAccount row) = Some row
+account_put _ = None
+
+abbrev pub order_put : Change → Option OrderRow
+order_put (PutOrder row) = Some row
+order_put _ = None
+
+abbrev pub last_change : List Change → Option Change
+last_change cs = slice_get cs (length cs - 1)
+
+abbrev pub last_account : List Change → Option AccountRow
+last_account cs = option_and_then account_put (last_change cs)
+
+abbrev pub last_order : List Change → Option OrderRow
+last_order cs = option_and_then order_put (last_change cs)

@@ -1,5 +1,5 @@
 //! Rows as a move leaves them, and the changes that this makes.
-ghost use Rattle.std.specs.Prelude.{◌≡◌, ◌==◌, ◌++◌, ◌∷◌, [], ⊤, Bool, List, cond, map, find, option_copied, option_map, IfOk, IsOkAnd, OnOk};
+ghost use Rattle.std.specs.Prelude.{◌≡◌, ◌==◌, ◌++◌, ◌∷◌, [], ⊤, Bool, List, cond, map, find, option_copied, option_map, IfOk, OnOk};
 ghost use Rattle.std.specs.List.{filter};
 ghost use Rattle.desk_model.specs.Derived.{authorization_numbered, numbers_of, stored_statuses};
 ghost use Rattle.desk_model.specs.Entry.{entry_of};
@@ -87,16 +87,6 @@ fn push_row<R: Drop>(rows: &mut Vec<R>, row: Option<R>) -> Result<(), AllocError
     Ok(())
 }
 
-// Adds the row that a step leaves, if it touches one.
-fn push_moved<R: Drop>(
-    rows: &mut Vec<R>,
-    moved: Result<Option<R>, AllocError>,
-) -> Result<(), AllocError>
-    ensures { OnOk result (IsOkAnd moved (λ row. rows.new.items ≡ rows.old.items ++ row_of row)) }
-{
-    push_row(rows, moved?)
-}
-
 // ---- rows of any table
 
 /// A move of the rows of a book at a moment.
@@ -150,17 +140,16 @@ trait Movable: Row {
         ensures { result ≡ puts self };
 }
 
-// Puts the row in which a move was noted, where it differs from the one before it.
+// Puts the row in which a move was noted, where it differs from the one before it. The change has a row of its own, since the
+// row itself stays among those that the move touches: statuses of orders and the reply are read there.
 fn record_noted<R: Movable + Drop>(
     changes: &mut Vec<Change>,
     before: &R,
     after: &R,
-    noted: Result<(), AllocError>,
 ) -> Result<(), AllocError>
-    ensures { OnOk result (IsOkAnd noted (λ _. changes.new.items ≡ changes.old.items
-        ++ map R.puts (cond (R.differs before.now after.now) (after.now ∷ []) []))) }
+    ensures { OnOk result (changes.new.items ≡ changes.old.items
+        ++ map R.puts (cond (R.differs before.now after.now) (after.now ∷ []) [])) }
 {
-    noted?;
     if !before.differs(after) {
         return Ok(());
     }
@@ -180,8 +169,9 @@ fn restate_row<R: Movable + Drop>(
     ensures row { IfOk result (λ r. r ≡ R.stated step.now standing.now) }
 {
     let mut next = standing.clone()?;
-    let noted = next.note(step, after);
-    record_noted(changes, standing, &next, noted).and(Ok(next))
+    next.note(step, after)?;
+    record_noted(changes, standing, &next)?;
+    Ok(next)
 }
 
 // The row as a step leaves it, if it touches it, with the change that this makes.
@@ -201,9 +191,8 @@ fn move_row<R: Movable + Drop>(
     }
     let mut standing = row.clone()?;
     standing.stand(step);
-    let next = restate_row(changes, step, after, &standing);
-    drop(standing);
-    Ok(Some(next?))
+    let next = restate_row(changes, step, after, &standing)?;
+    Ok(Some(next))
 }
 
 // Puts the rows of a table that a step changes, and adds those that it touches to the rows.
@@ -221,8 +210,8 @@ fn record_moved<R: Movable + Drop>(
         ++ map (R.stated step.now) (filter (R.touched step.now) (map (R.standing step.now) table.now))) }
 {
     for row in table.iter() {
-        let next = move_row(changes, step, after, row);
-        push_moved(rows, next)?;
+        let next = move_row(changes, step, after, row)?;
+        push_row(rows, next)?;
     }
     Ok(())
 }

@@ -4,12 +4,11 @@ ghost use Rattle.desk_model.specs.{Change.recorded_changes, Effect.swept, Entry.
 ghost use Rattle.desk_model.specs.Limits.{last_moment, last_number};
 ghost use Rattle.desk_model.specs.Run.{count_new, count_tokens};
 ghost use Rattle.core_changes.specs.Made.{AreStanding, next_account, next_order, next_rows, ordered_counters};
-ghost use Rattle.std.specs.Prelude.{◌≡◌, ◌<◌, ◌≤◌, map, ◌+◌, ◌++◌, ◌∷◌, [], None, IfOk, OnOk, ℕ, List};
+ghost use Rattle.std.specs.Prelude.{◌≡◌, ◌<◌, ◌≤◌, map, ◌+◌, ◌++◌, ◌∷◌, [], IfOk, OnOk, ℕ, List, option_copied};
 ghost use Rattle.core_changes.specs.Moved.{AreMoved};
-ghost use Rattle.core_changes.specs.Recorded.{GoesOn, IsRecorded, IsUntouched, book_moves};
+ghost use Rattle.core_changes.specs.Recorded.{GoesOn, IsRecorded, IsUntouched, book_moves, last_account, last_order};
 ghost use Rattle.desk_model.specs.declared.entry.Entry.TheVariants.{Issued as issued, Spent as spent, Opened as opened, Ordered as ordered};
 ghost use Rattle.desk_model.specs.declared.rows.Change.TheVariants.{PutMeta, PutNonce, RemoveNonce, PutAccount, PutAuthorization, PutOrder};
-ghost use Rattle.desk_model.specs.declared.status.AccountStatus.TheVariants as account;
 
 use crate::moved::{MovedRows, record_rows};
 use crate::orders::{Making, made_order, push_authorizations};
@@ -61,7 +60,8 @@ impl Recording {
             counters,
         } = self;
         let policy = policy.clone()?;
-        push_change(&mut changes, Change::PutMeta(Meta { policy, counters })).and(Ok(changes))
+        push_change(&mut changes, Change::PutMeta(Meta { policy, counters }))?;
+        Ok(changes)
     }
 
     // Records a change.
@@ -106,14 +106,15 @@ impl Recording {
         self.push(Change::PutNonce(nonce))
     }
 
-    /// Opens the next account, and gives its row.
+    /// Opens the next account, whose row the last change then puts.
     ///
     /// # Errors
     ///
     /// Where there is no memory for the change; what was recorded is then of no use.
-    pub fn open(&mut self, key: Jwk, contacts: Sequence<Text>) -> Result<AccountRow, AllocError>
+    pub fn open(&mut self, key: Jwk, contacts: Sequence<Text>) -> Result<(), AllocError>
         requires { self.old.counters.accounts < last_number }
-        ensures account { IfOk result (λ r. r ≡ next_account self.old.counters key contacts) }
+        ensures changes { OnOk result (self.new.changes.items ≡ self.old.changes.items ++ PutAccount (next_account self.old.counters key contacts) ∷ []) }
+        ensures counters { OnOk result (self.new.counters ≡ record self.old.counters { accounts = self.old.counters.accounts + 1 }) }
         ensures recorded { OnOk result ((m : ℕ) (B : Tables) (es : List EntryOf) → GoesOn m B es (opened key contacts ∷ []) self.old self.new) }
     {
         self.counters.accounts += 1;
@@ -125,7 +126,17 @@ impl Recording {
             ended: None,
             status: AccountStatus::Valid,
         };
-        self.push(Change::PutAccount(row.clone()?)).and(Ok(row))
+        self.push(Change::PutAccount(row))
+    }
+
+    /// The account that the last change puts.
+    pub fn last_account(&self) -> Option<&AccountRow>
+        ensures { option_copied result ≡ last_account self.now.changes.items }
+    {
+        match self.changes.last()? {
+            Change::PutAccount(row) => Some(row),
+            _ => None,
+        }
     }
 
     /// Records a move of rows of a book, as they stand at the moment, and gives the rows that it touches, as it leaves them.
@@ -152,10 +163,12 @@ impl Recording {
             authorizations: Vec::new(alloc),
             orders: Vec::new(alloc),
         };
-        record_rows(&mut self.changes, alloc, &mut rows, book, moved, moment).and(Ok(rows))
+        record_rows(&mut self.changes, alloc, &mut rows, book, moved, moment)?;
+        Ok(rows)
     }
 
-    /// Makes the next order of an account, with an authorization for each of these names that gets a new one, and gives its row.
+    /// Makes the next order of an account, with an authorization for each of these names that gets a new one. The last change
+    /// then puts the row of the order.
     ///
     /// # Errors
     ///
@@ -166,7 +179,7 @@ impl Recording {
         policy: &Policy,
         account: u64,
         wanted: &[Wanted],
-    ) -> Result<OrderRow, AllocError>
+    ) -> Result<(), AllocError>
         requires orders { self.old.counters.orders < last_number }
         requires authorizations { self.old.counters.authorizations + count_new wanted.now ≤ last_number }
         requires challenges { self.old.counters.challenges + count_tokens wanted.now ≤ last_number }
@@ -174,15 +187,25 @@ impl Recording {
             ++ (map PutAuthorization (next_rows policy.now self.old.counters account wanted.now)
             ++ PutOrder (next_order policy.now self.old.counters account wanted.now) ∷ [])) }
         ensures counters { OnOk result (self.new.counters ≡ ordered_counters policy.now self.old.counters account wanted.now) }
-        ensures order { IfOk result (λ o. o ≡ next_order policy.now self.old.counters account wanted.now) }
         ensures recorded { OnOk result ((m : ℕ) (B : Tables) (es : List EntryOf) → B.meta.policy ≡ policy.now → IsOrdered B → IsUntouched m B es
             → AreStanding (swept m B).authorizations wanted.now → GoesOn m B es (ordered account wanted.now ∷ []) self.old self.new) }
     {
         let first = self.counters.authorizations + 1;
         let rows = self.make_rows(alloc, policy, account, wanted)?;
+        record_authorizations(&mut self.changes, rows)?;
         let order = made_order(alloc, policy, &self.counters, account, wanted, first)?;
         self.counters.orders += 1;
-        record_made(&mut self.changes, rows, &order).and(Ok(order))
+        self.push(Change::PutOrder(order))
+    }
+
+    /// The order that the last change puts.
+    pub fn last_order(&self) -> Option<&OrderRow>
+        ensures { option_copied result ≡ last_order self.now.changes.items }
+    {
+        match self.changes.last()? {
+            Change::PutOrder(row) => Some(row),
+            _ => None,
+        }
     }
 
     // The authorizations of the next order, which are counted.
@@ -222,18 +245,17 @@ impl Recording {
     }
 }
 
-// Puts the authorizations of a new order, and the order.
-fn record_made(
+// Puts the authorizations of a new order.
+fn record_authorizations(
     changes: &mut Vec<Change>,
     rows: Vec<AuthorizationRow>,
-    order: &OrderRow,
 ) -> Result<(), AllocError>
-    ensures { OnOk result (changes.new.items ≡ changes.old.items ++ (map PutAuthorization rows.items ++ PutOrder order.now ∷ [])) }
+    ensures { OnOk result (changes.new.items ≡ changes.old.items ++ map PutAuthorization rows.items) }
 {
     for row in rows {
         push_change(changes, Change::PutAuthorization(row))?;
     }
-    push_change(changes, Change::PutOrder(order.clone()?))
+    Ok(())
 }
 
 /// Adds a change to the changes.

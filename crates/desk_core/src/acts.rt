@@ -1,5 +1,5 @@
 //! What a verdict records, and what it shows.
-ghost use Rattle.std.specs.Prelude.{◌≡◌, ◌++◌, ◌∷◌, [], ◌<◌, ◌≤◌, ◌+◌, ℕ, List, true, map, IfOk, OnOk, IsSome, IsSomeAnd, Some};
+ghost use Rattle.std.specs.Prelude.{◌≡◌, ◌∷◌, [], ◌<◌, ◌≤◌, ◌+◌, ℕ, List, true, map, IfOk, OnOk, IsSome, IsSomeAnd, Some};
 ghost use Rattle.desk_model.specs.Limits.{last_end, last_number};
 ghost use Rattle.model_laws.specs.Ordered.{IsOrdered};
 ghost use Rattle.desk_model.specs.Decide.{entries_of, verdict_reply};
@@ -62,8 +62,9 @@ fn act_on_account(
     ensures reply { IfOk result (λ r. (m : ℕ) → IsAt m book.now recording.old.counters → IsOrdered book.now
         → r ≡ made_account (effects m (swept m book.now) (opened key contacts ∷ []))) }
 {
-    let row = recording.open(key, contacts)?;
-    located_account(alloc, &book.meta().policy, 201, &row)
+    recording.open(key, contacts)?;
+    let row = recording.last_account().unwrap();
+    located_account(alloc, &book.meta().policy, 201, row)
 }
 
 // The names of a new order.
@@ -110,8 +111,9 @@ fn act_on_order(
         → r ≡ made_order (effects m (swept m book.now) (ordered account wanted.now ∷ []))) }
 {
     let policy = &book.meta().policy;
-    let row = recording.order(alloc, policy, account, wanted)?;
-    made_order_reply(alloc, policy, &row, wanted)
+    recording.order(alloc, policy, account, wanted)?;
+    let row = recording.last_order().unwrap();
+    made_order_reply(alloc, policy, row, wanted)
 }
 
 /// What a verdict records, and its reply without a nonce; a refusal has the link to the directory.

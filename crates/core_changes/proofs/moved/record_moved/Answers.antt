@@ -1,6 +1,6 @@
 use Rattle.std.proofs.Common.{◌++◌, map, filter, ap, sym, ◌∙◌}
 use Rattle.desk_model.specs.Change.{moved_rows}
-use Rattle.core_changes.proofs.RowMoves.{puts-step, touches-given, went}
+use Rattle.core_changes.proofs.RowMoves.{puts-step, touches-step}
 use Rattle.core_changes.proofs.moved.record_moved.Goals as goal
 
 pub loop-row-preserved : goal.loop-row-preserved
@@ -9,10 +9,10 @@ loop-row-preserved g c =
     let stated = g.R.Movable.stated c.args.step.now in
     let standing = g.R.Movable.standing c.args.step.now in (
       puts-step g.R.Movable.puts touched g.R.Movable.differs stated (standing c.in-Some.row.now) (map standing c.next.new.self) c.loop-row.changes.items
-          c.move_row-next.new.changes.items _ (went _ c.move_row-next.result c.in_ok-push_moved.ensures c.move_row-next.ensures.changes)
+          c.move_row.new.changes.items _ c.in_ok-next.ensures.changes
           (ap (λ rows. c.loop-row.changes.items ++ map g.R.Movable.puts (moved_rows touched g.R.Movable.differs stated (map standing rows)))
           (sym c.in-Some.ensures.steps) ∙ c.loop-row.invariant.0),
-      touches-given touched stated (standing c.in-Some.row.now) (map standing c.next.new.self) c.loop-row.rows.items c.push_moved.new.rows.items _
-          c.move_row-next.result c.in_ok-push_moved.ensures c.move_row-next.ensures.row
+      touches-step touched stated (standing c.in-Some.row.now) (map standing c.next.new.self) c.loop-row.rows.items c.push_row.new.rows.items _
+          c.in_ok-next.next c.in_ok-push_row.ensures c.in_ok-next.ensures.row
           (ap (λ rows. c.loop-row.rows.items ++ map stated (filter touched (map standing rows))) (sym c.in-Some.ensures.steps) ∙ c.loop-row.invariant.1),
     )

@@ -1,10 +1,13 @@
-use Rattle.std.proofs.Common.{◌≡◌, ◌≤◌, ◌∙◌, ap, subst, sym, map, Some}
+use Rattle.std.proofs.Common.{◌≡◌, ◌≤◌, ◌++◌, ◌∙◌, ap, append_assoc, subst, sym, map, Some}
+use Rattle.std.specs.Prelude.{option_copied, unwrap_or}
 use Rattle.desk_model.specs.{Limits.last_end, Document.listed_rows, Tables.Tables, Terms.Terms}
 use Rattle.desk_model.specs.Effect.{effect, swept}
 use Rattle.desk_model.specs.Shown.{located_order, shown}
 use Rattle.desk_model.specs.declared.{entry.Entry.TheVariants.Ordered as ordered, rows.Meta.Meta, rows.OrderRow.OrderRow}
-use Rattle.core_changes.specs.Made.{next_order}
-use Rattle.core_changes.proofs.{MadeRows.wanted_standing, Recordings.clock_is}
+use Rattle.desk_model.specs.declared.rows.Change.TheVariants.{PutAuthorization}
+use Rattle.core_changes.specs.Made.{next_order, next_rows}
+use Rattle.core_changes.proofs.MadeRows.{wanted_standing}
+use Rattle.core_changes.proofs.Recordings.{clock_is, last_order-pushed}
 use Rattle.desk_core.proofs.Acting.{clock_at, where_answered}
 use Rattle.desk_core.proofs.ActingRows.{may_be_wanted, ordered_found, ordered_names, ordered_text}
 use Rattle.core_replies.proofs.Results.{ok_so}
@@ -13,7 +16,7 @@ use Rattle.desk_core.proofs.acts.act_on_order.Goals as goal
 pub returns-clause-recorded : goal.returns-clause-recorded
 returns-clause-recorded c =
     where_answered c.made_order_reply.result
-    (λ m es is untouched h. c.in_ok-row.ensures.recorded m c.args.book.now es (ap (λ (x : Meta). x.policy) (sym c.meta.ensures)) is untouched
+    (λ m es is untouched h. c.in_ok-order.ensures.recorded m c.args.book.now es (ap (λ (x : Meta). x.policy) (sym c.meta.ensures)) is untouched
     (wanted_standing (swept m c.args.book.now) c.args.account c.args.wanted.now
     (may_be_wanted m _ c.args.book.now c.args.account c.args.wanted.now
     (clock_is m c.args.book.now es c.args.recording.now.changes.items c.args.recording.now.counters h) is c.requires.there)) h)
@@ -23,8 +26,14 @@ returns-clause-reply c =
     ok_so c.made_order_reply.result (λ r said m at is texts.
     let policy : c.args.book.now.meta.policy ≡ c.meta.result.now.policy = ap (λ (x : Meta). x.policy) (sym c.meta.ensures) in
     let T : Tables = effect m (swept m c.args.book.now) (ordered c.args.account c.args.wanted.now) in
-    let row : c.in_ok-row.row ≡ next_order c.args.book.now.meta.policy c.args.recording.now.counters c.args.account c.args.wanted.now =
-    c.in_ok-row.ensures.order ∙ ap (λ (p : Terms). next_order p c.args.recording.now.counters c.args.account c.args.wanted.now) (sym policy) in
+    let found : Some c.unwrap-row.result.now ≡ Some (next_order c.args.book.now.meta.policy c.args.recording.now.counters c.args.account c.args.wanted.now) =
+    ap option_copied (sym c.unwrap-row.ensures) ∙ c.last_order.ensures
+    ∙ last_order-pushed (c.args.recording.now.changes.items
+    ++ map PutAuthorization (next_rows c.meta.result.now.policy c.args.recording.now.counters c.args.account c.args.wanted.now)) _ _
+    (c.in_ok-order.ensures.changes ∙ sym (append_assoc c.args.recording.now.changes.items _ _))
+    ∙ ap (λ (p : Terms). Some (next_order p c.args.recording.now.counters c.args.account c.args.wanted.now)) (sym policy) in
+    let row : c.unwrap-row.result.now ≡ next_order c.args.book.now.meta.policy c.args.recording.now.counters c.args.account c.args.wanted.now =
+    ap (λ o. unwrap_or o c.unwrap-row.result.now) found in
     let may = may_be_wanted m _ c.args.book.now c.args.account c.args.wanted.now (clock_at m c.args.book.now c.args.recording.now.counters at) is
     c.requires.there in
     let standing = wanted_standing (swept m c.args.book.now) c.args.account c.args.wanted.now may in
@@ -33,6 +42,6 @@ returns-clause-reply c =
     ∙ ordered_names m c.args.book.now c.args.recording.now.counters c.args.account c.args.wanted.now at is may)
     (subst (λ (r : OrderRow). r.expires ≤ last_end) (sym row)
     (ordered_text m c.args.book.now c.args.recording.now.counters c.args.account c.args.wanted.now at is standing texts))
-    ∙ ap (shown (located_order 201 T)) (ap (λ r. Some r) row
+    ∙ ap (shown (located_order 201 T)) (found
     ∙ sym (ordered_found m c.args.book.now c.args.recording.now.counters c.args.account c.args.wanted.now at is standing)))
     c.made_order_reply.ensures
