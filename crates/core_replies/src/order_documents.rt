@@ -108,7 +108,8 @@ pub fn order_names(alloc: Global, book: &Book, row: &OrderRow) -> Result<Vec<Dns
     ensures swept { IfOk result (λ v. (moment : ℕ) → v.items ≡ map (λ a. a.name) (listed_rows (swept moment book.now) row.now)) }
 {
     let mut names = Vec::new(alloc);
-    push_names(&mut names, book.authorizations(), row.listed.as_slice()).and(Ok(names))
+    push_names(&mut names, book.authorizations(), row.listed.as_slice())?;
+    Ok(names)
 }
 
 // Whether an order of a book is an account's and not invalid at a moment.

@@ -1,9 +1,8 @@
 //! Replies (RFC 8555, 6.5, 6.7, 7): refusals, nonces, objects and lists, with the URLs that they show.
-ghost use Rattle.std.specs.Prelude.{◌≡◌, ◌<◌, ◌++◌, ℕ, List, string_bytes, IfOk, OnOk, decimal, ◌≤◌, map, Some};
+ghost use Rattle.std.specs.Prelude.{◌≡◌, ◌++◌, string_bytes, IfOk, OnOk, decimal, ◌≤◌, map, Some};
 ghost use Rattle.desk_model.specs.{Tokens.nonce_text, declared.reply.Body.TheVariants.Empty, Document.url};
 ghost use Rattle.desk_model.specs.Shown.{refusal_reply, nonce_reply, with_nonce, plain, list_reply};
 ghost use Rattle.core_replies.specs.Shown.{numbered_url, HasDatedReport, HasMoments};
-ghost use Rattle.serde_json.specs.Data.{Data};
 ghost use Rattle.desk_model.specs.Limits.{last_end};
 ghost use Rattle.desk_model.specs.Tables.{Tables};
 ghost use Rattle.desk_model.specs.Document.{authorization_url, key_document, listed_rows};
@@ -46,16 +45,11 @@ pub fn with_nonce(
 ) -> Result<Reply, AllocError>
     ensures { IfOk result (λ r. r ≡ with_nonce (nonce_text serial random) reply) }
 {
-    let mut reply = reply;
-    set_nonce(&mut reply, keys::nonce_text(alloc, serial, random)).and(Ok(reply))
-}
-
-// Writes a nonce into a reply, if its text could be made.
-fn set_nonce(reply: &mut Reply, text: Result<String, AllocError>) -> Result<(), AllocError>
-    ensures { OnOk result ((bytes : List ℕ) → IfOk text (λ t. string_bytes t ≡ bytes) → reply.new ≡ with_nonce bytes reply.old) }
-{
-    reply.nonce = Some(Text::new(text?));
-    Ok(())
+    let nonce = keys::nonce_text(alloc, serial, random)?;
+    Ok(Reply {
+        nonce: Some(Text::new(nonce)),
+        ..reply
+    })
 }
 
 // A reply without a body.
@@ -95,8 +89,9 @@ fn url_with_room(
     let base = policy.base();
     let len = base.len().saturating_add(path.len()).saturating_add(room);
     let mut url = String::with_capacity(alloc, len)?;
-    let put = url.push_str(base).and(url.push_str(path));
-    put.and(Ok(url))
+    url.push_str(base)?;
+    url.push_str(path)?;
+    Ok(url)
 }
 
 // Adds the digits of a number to a text.
@@ -116,7 +111,8 @@ pub(crate) fn numbered_url(
     ensures { IfOk result (λ s. string_bytes s ≡ numbered_url policy.now path.now number) }
 {
     let mut url = url_with_room(alloc, policy, path, MOST_DIGITS)?;
-    push_number(&mut url, number).and(Ok(url))
+    push_number(&mut url, number)?;
+    Ok(url)
 }
 
 /// The URL of a resource of the object of a number, whose path goes on by `rest`.
@@ -131,44 +127,37 @@ pub(crate) fn url_below(
 {
     let room = rest.len().saturating_add(MOST_DIGITS);
     let mut url = url_with_room(alloc, policy, path, room)?;
-    let put = push_number(&mut url, number).and(url.push_str(rest));
-    put.and(Ok(url))
+    push_number(&mut url, number)?;
+    url.push_str(rest)?;
+    Ok(url)
 }
 
 // ---- replies with one object, by its row (RFC 8555, 7)
 
-/// A reply with a document, if that could be made.
-pub(crate) fn json_reply(document: Result<Document, AllocError>) -> Result<Reply, AllocError>
-    ensures { (shown : Data) → IfOk document (λ d. d ≡ shown) → IfOk result (λ r. r ≡ ok 200 shown) }
+// A reply with a document.
+fn json_reply(document: Document) -> Reply
+    ensures { result ≡ ok 200 document }
 {
-    let document = document?;
-    Ok(Reply {
+    Reply {
         status: 200,
         location: None,
         up: None,
         nonce: None,
         body: Body::Json(document),
-    })
+    }
 }
 
-// A reply with a status, the URL of its object and a document, if these could be made.
-fn located_reply(
-    status: u16,
-    url: Result<String, AllocError>,
-    document: Result<Document, AllocError>,
-) -> Result<Reply, AllocError>
-    ensures { (location : List ℕ) (shown : Data) → IfOk url (λ s. string_bytes s ≡ location) → IfOk document (λ d. d ≡ shown)
-        → IfOk result (λ r. r ≡ at location (ok status shown)) }
+// A reply with a status, the URL of its object and a document.
+fn located_reply(status: u16, url: String, document: Document) -> Reply
+    ensures { result ≡ at (string_bytes url) (ok status document) }
 {
-    let location = Text::new(url?);
-    let document = document?;
-    Ok(Reply {
+    Reply {
         status,
-        location: Some(location),
+        location: Some(Text::new(url)),
         up: None,
         nonce: None,
         body: Body::Json(document),
-    })
+    }
 }
 
 /// The reply with an account (RFC 8555, 7.1.2).
@@ -179,8 +168,8 @@ fn located_reply(
 pub fn account_reply(alloc: Global, policy: &Policy, row: &AccountRow) -> Result<Reply, AllocError>
     ensures { IfOk result (λ r. (T : Tables) → T.meta.policy ≡ policy.now → r ≡ account_reply 200 T row.now) }
 {
-    let account = shown_document(alloc, row, policy);
-    json_reply(account)
+    let account = shown_document(alloc, row, policy)?;
+    Ok(json_reply(account))
 }
 
 /// The reply with an account and its Location (RFC 8555, 7.3).
@@ -196,9 +185,9 @@ pub fn located_account(
 ) -> Result<Reply, AllocError>
     ensures { IfOk result (λ r. (T : Tables) → T.meta.policy ≡ policy.now → r ≡ located_account status T row.now) }
 {
-    let url = numbered_url(alloc, policy, "/account/", row.number);
-    let account = shown_document(alloc, row, policy);
-    located_reply(status, url, account)
+    let url = numbered_url(alloc, policy, "/account/", row.number)?;
+    let account = shown_document(alloc, row, policy)?;
+    Ok(located_reply(status, url, account))
 }
 
 /// The refusal of a key that an account has, with the Location of that account (RFC 8555, 7.3.5).
@@ -235,8 +224,8 @@ pub fn order_reply(
     ensures { IfOk result (λ r. (T : Tables) → T.meta.policy ≡ policy.now → map (λ a. a.name) (listed_rows T row.now) ≡ names.now
         → row.now.expires ≤ last_end → r ≡ order_reply 200 T row.now) }
 {
-    let order = shown_document(alloc, row, &(policy, names));
-    json_reply(order)
+    let order = shown_document(alloc, row, &(policy, names))?;
+    Ok(json_reply(order))
 }
 
 /// The reply with an order and its Location (RFC 8555, 7.4).
@@ -254,9 +243,9 @@ pub fn located_order(
     ensures { IfOk result (λ r. (T : Tables) → T.meta.policy ≡ policy.now → map (λ a. a.name) (listed_rows T row.now) ≡ names.now
         → row.now.expires ≤ last_end → r ≡ located_order status T row.now) }
 {
-    let url = numbered_url(alloc, policy, "/order/", row.number);
-    let order = shown_document(alloc, row, &(policy, names));
-    located_reply(status, url, order)
+    let url = numbered_url(alloc, policy, "/order/", row.number)?;
+    let order = shown_document(alloc, row, &(policy, names))?;
+    Ok(located_reply(status, url, order))
 }
 
 /// The reply with a certificate (RFC 8555, 7.4.2).
@@ -289,8 +278,8 @@ pub fn authorization_reply(
 ) -> Result<Reply, AllocError>
     ensures { IfOk result (λ r. (T : Tables) → T.meta.policy ≡ policy.now → HasMoments row.now → r ≡ authorization_reply T row.now) }
 {
-    let authorization = shown_document(alloc, row, policy);
-    json_reply(authorization)
+    let authorization = shown_document(alloc, row, policy)?;
+    Ok(json_reply(authorization))
 }
 
 /// The reply with a challenge (RFC 8555, 8).
@@ -305,8 +294,8 @@ pub fn challenge_reply(
 ) -> Result<Reply, AllocError>
     ensures { IfOk result (λ r. (T : Tables) → T.meta.policy ≡ policy.now → HasDatedReport row.now.reported → r ≡ challenge_reply T row.now) }
 {
-    let challenge = shown_document(alloc, row, policy);
-    json_reply(challenge)
+    let challenge = shown_document(alloc, row, policy)?;
+    Ok(json_reply(challenge))
 }
 
 /// The reply with a challenge to its client, which names the authorization of this number (RFC 8555, 7.5.1).
@@ -339,8 +328,8 @@ pub fn client_challenge_reply(
 pub fn key_reply(alloc: Global, row: &AccountRow) -> Result<Reply, AllocError>
     ensures { IfOk result (λ r. r ≡ ok 200 (key_document row.now.key)) }
 {
-    let key = shown_document(alloc, &row.key, &());
-    json_reply(key)
+    let key = shown_document(alloc, &row.key, &())?;
+    Ok(json_reply(key))
 }
 
 // ---- replies with lists, and with the directory (RFC 8555, 7.1.1, 7.1.2.1)
@@ -355,19 +344,22 @@ pub fn list_reply(alloc: Global, at: &At, listing: Listing) -> Result<Reply, All
 {
     let (book, moment) = at.parts();
     match listing {
-        Listing::Directory => json_reply(shown_document(alloc, at.policy(), &())),
+        Listing::Directory => {
+            let directory = shown_document(alloc, at.policy(), &())?;
+            Ok(json_reply(directory))
+        }
         Listing::Orders(number) => {
             let by = (book, moment, number);
-            let orders = listing_document(alloc, "orders", book.orders(), &by);
-            json_reply(orders)
+            let orders = listing_document(alloc, "orders", book.orders(), &by)?;
+            Ok(json_reply(orders))
         }
         Listing::ChallengeWork => {
-            let work = listing_document(alloc, "challenges", book.authorizations(), &moment);
-            json_reply(work)
+            let work = listing_document(alloc, "challenges", book.authorizations(), &moment)?;
+            Ok(json_reply(work))
         }
         Listing::OrderWork => {
-            let waiting = listing_document(alloc, "orders", book.orders(), &(book, moment));
-            json_reply(waiting)
+            let waiting = listing_document(alloc, "orders", book.orders(), &(book, moment))?;
+            Ok(json_reply(waiting))
         }
     }
 }
