@@ -1,5 +1,5 @@
 //! A book at a moment, as rules read it, and the changes that the passing of time makes (RFC 8555, 7.1.6).
-ghost use Rattle.std.specs.Prelude.{◌≡◌, ◌+◌, ◌==◌, ◌++◌, option_copied, option_map, Some, None, MatchOption, find, nat_le, map, IfOk, OnOk};
+ghost use Rattle.std.specs.Prelude.{◌≡◌, ◌+◌, ◌++◌, option_copied, option_map, Some, None, MatchOption, find, nat_le, map, IfOk, OnOk};
 ghost use Rattle.desk_model.specs.Effect.{swept, swept_authorization, swept_order, is_overdue, falls, lists_one};
 ghost use Rattle.desk_model.specs.Questions.{account_on, account_with_key, authorization_on, challenge_of, order_on, owner_on, serving_on, serves};
 ghost use Rattle.std.specs.List.{list_any};

@@ -1,5 +1,5 @@
 //! The book of a desk: its rows in memory.
-ghost use Rattle.std.specs.Prelude.{◌≡◌, ◌==◌, List, find, bytes_eq, IfOk, OnOk, OnErr, option_copied};
+ghost use Rattle.std.specs.Prelude.{◌≡◌, find, bytes_eq, IfOk, OnOk, OnErr, option_copied};
 ghost use Rattle.desk_model.specs.{History.first_history, Legal.Legal};
 ghost use Rattle.desk_model.specs.Tables.{Tables, picture};
 ghost use Rattle.desk_model.specs.Questions.{nonce_on, account_on, account_with_key, order_on, authorization_on, owner_on};
@@ -183,7 +183,8 @@ impl Book {
         ensures { IfOk result (λ book. book ≡ applied changes.items self.now) }
     {
         let mut next = self.clone()?;
-        next.apply_all(changes).and(Ok(next))
+        next.apply_all(changes)?;
+        Ok(next)
     }
 
     fn apply_all(&mut self, changes: Vec<Change>) -> Result<(), AllocError>

@@ -1,8 +1,8 @@
 //! The statuses that rows ought to have, by their dated columns (RFC 8555, 7.1.6).
-ghost use Rattle.std.specs.Prelude.{◌≡◌, ◌||◌, ℕ, List, Option, Some, None, is_some, nat_lt};
+ghost use Rattle.std.specs.Prelude.{◌≡◌, ◌||◌, List, Some, None, is_some, nat_lt};
 ghost use Rattle.std.specs.List.{list_all, list_any};
 ghost use Rattle.desk_model.specs.Authorization.{is_good, is_over, is_valid, authorization_status_by, challenge_status_by};
-ghost use Rattle.desk_model.specs.{Order.order_status_by, Lookup.holds, declared.rows.AuthorizationRow.AuthorizationRow as Row};
+ghost use Rattle.desk_model.specs.{Lookup.holds, declared.rows.AuthorizationRow.AuthorizationRow as Row};
 ghost use Rattle.desk_model.specs.Derived.{derived_account, derived_authorization, derived_challenge, derived_order, is_proved, numbers_of, stored_statuses};
 
 use desk_model::{

@@ -1,5 +1,5 @@
 //! Tables: rows in the order of their numbers, each under its own.
-ghost use Rattle.std.specs.Prelude.{◌≡◌, ◌==◌, ◌^◌, ◌<◌, [], List, length, map, find, IfOk, OnOk, OnErr, IfSome, option_map, option_copied, ℕ};
+ghost use Rattle.std.specs.Prelude.{◌≡◌, ◌==◌, [], List, find, OnOk, OnErr, option_copied, ℕ};
 ghost use Rattle.std.specs.Map.Iter.{ShowsInOrder, deref};
 ghost use Rattle.desk_model.specs.Change.{put, remove};
 
