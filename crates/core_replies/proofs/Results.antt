@@ -1,6 +1,5 @@
 -- What follows of a result where a step went well.
-use Rattle.std.proofs.Common.{◌≡◌, Result, Ok, Err, IfOk, OnOk, sym, subst}
-use Rattle.std.specs.Result.{result_and}
+use Rattle.std.proofs.Common.{Result, Ok, Err, IfOk, OnOk}
 
 -- what follows of what is given
 pub ok_so : {X E : Type 0} {P Q : X → Type 0} (r : Result X E) → ((x : X) → P x → Q x) → IfOk r P → IfOk r Q
@@ -11,9 +10,3 @@ ok_so (Err e) f h = tt
 pub on_ok : {X E : Type 0} {P Q : Type 0} (r : Result X E) → (P → Q) → OnOk r P → OnOk r Q
 on_ok (Ok x) f h = f h
 on_ok (Err e) f h = tt
-
--- a step, and then a value
-pub and_so : {T U E : Type 0} {P : Type 0} (F : U → Type 0) (r : Result T E) (x : U) (s : Result U E) → s ≡ result_and r (Ok x)
-    → (P → F x) → OnOk r P → IfOk s F
-and_so F (Ok t) x s is f h = subst (λ o. IfOk o F) (sym is) (f h)
-and_so F (Err e) x s is f h = subst (λ o. IfOk o F) (sym is) tt

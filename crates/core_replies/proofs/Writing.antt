@@ -1,6 +1,6 @@
 -- What is written of documents, one part behind the other, and that it is read as they are.
 use Rattle.std.proofs.Common.{◌≡◌, ◌≤◌, ◌<◌, ◌^◌, ◌∙◌, ℕ, suc, max, true, List, [], ◌∷◌, ◌++◌, Option, Some, option_map, option_and_then, refl, sym, ap, subst}
-use Rattle.std.proofs.Common.{append-nil, append_assoc, OnOk, Result}
+use Rattle.std.proofs.Common.{append-nil, append_assoc}
 use Rattle.std.specs.List.{flat_map}
 use Rattle.std.proofs.lemmas.Grind.{flat_map-append}
 use Rattle.json.specs.Json as json
@@ -20,7 +20,6 @@ use Rattle.desk_model.specs.{Kept.EachOf, Plain.is_document}
 use Rattle.model_laws.proofs.Basics.{each-append}
 use Rattle.core_replies.specs.Shown.{with_members}
 use Rattle.core_replies.specs.Texts.{AreInOrder, HasMembers, HasValues, IsText, ReadsBack, member_tokens, tokens_of}
-use Rattle.core_replies.proofs.Results.{on_ok}
 
 -- ---- members and values, one behind the other
 
@@ -37,10 +36,8 @@ pub nothing_written : (a : List Token) → HasValues a a []
 nothing_written a = record { text = sym (append-nil a); back = tt }
 
 -- what was written alone is the text of its document
-pub written_text : {U E : Type 0} (r : Result U E) (before after : List Token) (d : Data) → before ≡ [] → is_document d ≡ true →
-    OnOk r (HasValues before after (d ∷ [])) → OnOk r (IsText after d)
-written_text r before after d none plain =
-    on_ok r (λ has. record { values = subst (λ b. HasValues b after (d ∷ [])) none has; plain = plain })
+pub written_text : (before after : List Token) (d : Data) → before ≡ [] → is_document d ≡ true → HasValues before after (d ∷ []) → IsText after d
+written_text before after d none plain has = record { values = subst (λ b. HasValues b after (d ∷ [])) none has; plain = plain }
 
 pub members_then : {a b c : List Token} {ms ns : List (List ℕ × Data)} → HasMembers a b ms → HasMembers b c ns → HasMembers a c (ms ++ ns)
 members_then {a} {b} {c} {ms} {ns} p q = record {

@@ -44,8 +44,8 @@ fn write_date(text: &mut JsonText, report: Report) -> Result<(), AllocError>
     if !report.outcome.is_good() {
         return Ok(());
     }
-    let date = capped_moment_text(text.alloc(), report.date);
-    text.made_member("validated", date)
+    let date = capped_moment_text(text.alloc(), report.date)?;
+    text.member("validated", &date)
 }
 
 // Writes when a challenge was validated, if it was.
@@ -66,9 +66,9 @@ impl ShowsObject<Policy> for ChallengeRow {
         let alloc = text.alloc();
         write_reported(text, self.reported)?;
         text.member("status", self.status.as_str())?;
-        text.made_member("token", token_text(alloc, self.token))?;
+        text.member("token", &token_text(alloc, self.token)?)?;
         text.member("type", self.kind.as_str())?;
-        text.made_member("url", numbered_url(alloc, by, "/chall/", self.number))?;
+        text.member("url", &numbered_url(alloc, by, "/chall/", self.number)?)?;
         write_validated(text, self.reported)
     }
 }
@@ -113,8 +113,8 @@ impl ShowsObject<Policy> for AuthorizationRow {
         let challenges = self.challenges.as_slice();
         let told = (by, is_reported(challenges));
         write_list(text, "challenges", challenges, &told)?;
-        let expires = capped_moment_text(text.alloc(), self.expires);
-        text.made_member("expires", expires)?;
+        let expires = capped_moment_text(text.alloc(), self.expires)?;
+        text.member("expires", &expires)?;
         text.name("identifier")?;
         write_identifier(text, self.name.base())?;
         text.member("status", self.status.as_str())?;

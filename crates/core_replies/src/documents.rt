@@ -24,10 +24,10 @@ impl ShowsObject<()> for Policy {
 
     fn write_members(&self, text: &mut JsonText, _by: &()) -> Result<(), AllocError> {
         let alloc = text.alloc();
-        text.made_member("keyChange", url(alloc, self, "/key-change"))?;
-        text.made_member("newAccount", url(alloc, self, "/new-account"))?;
-        text.made_member("newNonce", url(alloc, self, "/new-nonce"))?;
-        text.made_member("newOrder", url(alloc, self, "/new-order"))
+        text.member("keyChange", &url(alloc, self, "/key-change")?)?;
+        text.member("newAccount", &url(alloc, self, "/new-account")?)?;
+        text.member("newNonce", &url(alloc, self, "/new-nonce")?)?;
+        text.member("newOrder", &url(alloc, self, "/new-order")?)
     }
 }
 
@@ -47,8 +47,8 @@ impl ShowsObject<Policy> for AccountRow {
     fn write_members(&self, text: &mut JsonText, by: &Policy) -> Result<(), AllocError> {
         write_list(text, "contact", self.contacts.as_slice(), &())?;
         let alloc = text.alloc();
-        let orders = url_below(alloc, by, "/account/", self.number, "/orders");
-        text.made_member("orders", orders)?;
+        let orders = url_below(alloc, by, "/account/", self.number, "/orders")?;
+        text.member("orders", &orders)?;
         text.member("status", self.status.as_str())
     }
 }
@@ -94,10 +94,10 @@ impl ShowsObject<AuthorizationRow> for ChallengeRow {
     fn write_members(&self, text: &mut JsonText, by: &AuthorizationRow) -> Result<(), AllocError> {
         let alloc = text.alloc();
         text.number_member("challenge", self.number)?;
-        let expected = expected_text(alloc, self.kind, self.token, self.answer_thumb());
-        text.made_member("expected", expected)?;
+        let expected = expected_text(alloc, self.kind, self.token, self.answer_thumb())?;
+        text.member("expected", &expected)?;
         text.member("name", by.name.base())?;
-        text.made_member("token", token_text(alloc, self.token))?;
+        text.member("token", &token_text(alloc, self.token)?)?;
         text.member("type", self.kind.as_str())
     }
 }
@@ -134,8 +134,8 @@ impl ListItem<Book> for Listed {
         let Some(row) = by.authorizations().get(self.authorization) else {
             return Ok(());
         };
-        let name = row.name.shown(text.alloc());
-        text.made_string(name)
+        let name = row.name.shown(text.alloc())?;
+        text.string(&name)
     }
 }
 
@@ -158,8 +158,8 @@ impl ShowsObject<Book> for OrderRow {
     ghost members = { order_work_members };
 
     fn write_members(&self, text: &mut JsonText, by: &Book) -> Result<(), AllocError> {
-        let csr = csr_text(text.alloc(), &self.finalized);
-        text.made_member("csr", csr)?;
+        let csr = csr_text(text.alloc(), &self.finalized)?;
+        text.member("csr", &csr)?;
         write_list(text, "names", self.listed.as_slice(), by)?;
         text.number_member("order", self.number)
     }

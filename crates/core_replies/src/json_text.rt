@@ -131,33 +131,12 @@ impl JsonText {
         self.string_token(text)
     }
 
-    /// Writes a string, if it could be made.
-    pub(crate) fn made_string(&mut self, text: Result<String, AllocError>) -> Result<(), AllocError>
-        ensures { OnOk result ((bytes : List ℕ) → IfOk text (λ t. string_bytes t ≡ bytes) → HasValues self.old self.new (string bytes ∷ [])) }
-    {
-        let text = text?;
-        self.string(text.as_str())
-    }
-
     /// Writes a member that is a string.
     pub(crate) fn member(&mut self, name: &str, text: &str) -> Result<(), AllocError>
         ensures { OnOk result (HasMembers self.old self.new ((name.now, string text.now) ∷ [])) }
     {
         self.name(name)?;
         self.string_token(text)
-    }
-
-    /// Writes a member that is a string, if that could be made.
-    pub(crate) fn made_member(
-        &mut self,
-        name: &str,
-        text: Result<String, AllocError>,
-    ) -> Result<(), AllocError>
-        ensures { OnOk result ((bytes : List ℕ) → IfOk text (λ t. string_bytes t ≡ bytes)
-            → HasMembers self.old self.new ((name.now, string bytes) ∷ [])) }
-    {
-        let text = text?;
-        self.member(name, text.as_str())
     }
 
     /// Writes a member that is a number.
@@ -213,17 +192,16 @@ pub(crate) fn shown_document<C, T: ShowsObject<C>>(
     ensures { IfOk result (λ d. d ≡ document (T.members by.now shown.now)) }
 {
     let mut text = JsonText::new(alloc)?;
-    let written = write_object(&mut text, shown, by);
-    document_of(text, written)
+    write_object(&mut text, shown, by)?;
+    Ok(document_of(text))
 }
 
-// The document of a text, if the whole of it was written.
-fn document_of(text: JsonText, written: Result<(), AllocError>) -> Result<Document, AllocError>
-    requires { OnOk written ((d : Data) × IsText text d) }
-    ensures { (d : Data) → OnOk written (IsText text d) → IfOk result (λ shown. shown ≡ d) }
+// The document of a text that was written as a whole.
+fn document_of(text: JsonText) -> Document
+    requires { (d : Data) × IsText text d }
+    ensures { (d : Data) → IsText text d → result ≡ d }
 {
-    written?;
-    Ok(Document::of_text(text.into_string()))
+    Document::of_text(text.into_string())
 }
 
 /// Writes an identifier with its text (RFC 8555, 7.1.3).
@@ -262,8 +240,8 @@ fn write_error_members(
 {
     text.member("detail", detail)?;
     text.number_member("status", u64::from(status))?;
-    let kind = type_text(text.alloc(), kind);
-    text.made_member("type", kind)
+    let kind = type_text(text.alloc(), kind)?;
+    text.member("type", &kind)
 }
 
 // ---- lists of what the items of a slice, or the rows of a table, show
@@ -349,6 +327,6 @@ pub(crate) fn listing_document<C, R: Row + Drop + ListItem<C>>(
     ensures { IfOk result (λ d. d ≡ document ((name.now, list (flat_map (R.values by.now) rows.now)) ∷ [])) }
 {
     let mut text = JsonText::new(alloc)?;
-    let written = write_listing(&mut text, name, rows, by);
-    document_of(text, written)
+    write_listing(&mut text, name, rows, by)?;
+    Ok(document_of(text))
 }

@@ -21,8 +21,8 @@ impl ListItem<Policy> for Listed {
     ghost values = { λ t l. string (authorization_url t l.authorization) ∷ [] };
 
     fn write_shown(&self, text: &mut JsonText, by: &Policy) -> Result<(), AllocError> {
-        let url = numbered_url(text.alloc(), by, "/authz/", self.authorization);
-        text.made_string(url)
+        let url = numbered_url(text.alloc(), by, "/authz/", self.authorization)?;
+        text.string(&url)
     }
 }
 
@@ -44,8 +44,8 @@ fn write_certificate(text: &mut JsonText, policy: &Policy, row: &OrderRow) -> Re
     let Some(_certified) = &row.certified else {
         return Ok(());
     };
-    let url = numbered_url(text.alloc(), policy, "/cert/", row.number);
-    text.made_member("certificate", url)
+    let url = numbered_url(text.alloc(), policy, "/cert/", row.number)?;
+    text.member("certificate", &url)
 }
 
 // Writes why the order failed, where the signing office failed it.
@@ -74,9 +74,9 @@ impl<'a> ShowsObject<(&'a Policy, &'a [DnsName])> for OrderRow {
         write_list(text, "authorizations", self.listed.as_slice(), policy)?;
         write_certificate(text, policy, self)?;
         write_problem(text, &self.failed)?;
-        text.made_member("expires", capped_moment_text(alloc, self.expires))?;
-        let finalize = url_below(alloc, policy, "/order/", self.number, "/finalize");
-        text.made_member("finalize", finalize)?;
+        text.member("expires", &capped_moment_text(alloc, self.expires)?)?;
+        let finalize = url_below(alloc, policy, "/order/", self.number, "/finalize")?;
+        text.member("finalize", &finalize)?;
         write_list(text, "identifiers", names, &())?;
         text.member("status", self.status.as_str())
     }
@@ -133,7 +133,7 @@ impl<'a> ListItem<(&'a Book, u64, u64)> for OrderRow {
             return Ok(());
         }
         let policy = &book.meta().policy;
-        let url = numbered_url(text.alloc(), policy, "/order/", self.number);
-        text.made_string(url)
+        let url = numbered_url(text.alloc(), policy, "/order/", self.number)?;
+        text.string(&url)
     }
 }

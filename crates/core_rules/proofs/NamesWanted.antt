@@ -1,12 +1,12 @@
 -- How many authorizations and tokens a new order asks for.
 use Rattle.std.proofs.Common.{◌≡◌, ℕ, zero, suc, ◌+◌, ◌*◌, ◌<◌, ◌≤◌, List, [], ◌∷◌, ◌++◌, length, take, drop, get_or, map, Bool, true, false, cond, Option, Some}
-use Rattle.std.proofs.Common.{None, refl, arith, sym, ap, subst, ◌∙◌, append_assoc, length-drop}
+use Rattle.std.proofs.Common.{None, refl, arith, sym, ap, ◌∙◌}
 use Rattle.std.specs.Prelude.{option_map, sum_by}
 use Rattle.std.proofs.lemmas.List.{at_drop_more, drop-drop}
 use Rattle.std.proofs.lemmas.List.Sums.{sum_by-cons}
 use Rattle.desk_model.specs.{Authorization.kinds_of, Name.Name, Questions.serving_on, Tables.Tables}
 use Rattle.desk_model.specs.declared.status.Kind.TheVariants.{Http01 as http_01, Dns01 as dns_01}
-use Rattle.desk_model.specs.declared.{entry.Wanted.Wanted, rows.AuthorizationRow.AuthorizationRow, entry.Wanted.TheVariants.New as new}
+use Rattle.desk_model.specs.declared.{rows.AuthorizationRow.AuthorizationRow, entry.Wanted.TheVariants.New as new}
 use Rattle.desk_model.specs.declared.entry.Wanted.TheVariants.{Reused as reused}
 use Rattle.desk_model.specs.Rules.{left_by, pieces, wanted, wanted_by}
 use Rattle.desk_model.specs.Run.{count_new, count_tokens}

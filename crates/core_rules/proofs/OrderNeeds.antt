@@ -2,7 +2,7 @@
 use Rattle.std.proofs.Common.{◌≡◌, ℕ, ◌+◌, ◌*◌, ◌<◌, ◌≤◌, List, length, drop, map, sym, ap, subst, ◌∙◌, arith}
 use Rattle.std.specs.Prelude.{◌⊎◌, sum_by}
 use Rattle.desk_model.specs.{Limits.last_number, Name.Name, Rules.wanted, Tables.Tables}
-use Rattle.desk_model.specs.Run.{count_new, count_tokens}
+use Rattle.desk_model.specs.Run.{count_new}
 use Rattle.desk_model.specs.declared.{verdict.Verdict.TheVariants.Orders as orders, verdict.Verdict.Verdict, rows.Counters.Counters, entry.Wanted.Wanted}
 use Rattle.core_rules.specs.Needs.{NumbersLeft, BytesLeft, IsNeedFault}
 use Rattle.core_rules.specs.declared.fault.CoreFault.{CoreFault}

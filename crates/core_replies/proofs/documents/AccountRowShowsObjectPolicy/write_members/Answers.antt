@@ -6,6 +6,7 @@ use Rattle.core_replies.proofs.documents.AccountRowShowsObjectPolicy.write_membe
 
 pub returns-clause-written : goal.returns-clause-written
 returns-clause-written c =
-    on_ok c.member.result (λ status.
+    on_ok c.member-2.result (λ status.
     members_then (list_is (each-shows-one string c.as_slice.result.now ∙ ap (map string) c.as_slice.ensures) c.in_ok-write_list.ensures)
-    (members_then (c.in_ok-made_member.ensures _ c.url_below-orders.ensures) (member_is c.as_str.ensures status))) c.member.ensures
+    (members_then (member_is (c.deref.ensures ∙ c.in_ok-orders.ensures) c.in_ok-member.ensures) (member_is c.as_str.ensures status)))
+    c.member-2.ensures

@@ -1,5 +1,4 @@
-use Rattle.std.proofs.Common.{IfOk, subst}
-use Rattle.std.specs.Prelude.{string_bytes, ◌≡◌}
+use Rattle.std.proofs.Common.{◌∙◌, ap}
 use Rattle.desk_model.specs.Document.{expected_by}
 use Rattle.desk_model.specs.Tokens.{authorization_of, token_text}
 use Rattle.core_replies.proofs.Results.{on_ok}
@@ -8,10 +7,11 @@ use Rattle.core_replies.proofs.documents.ChallengeRowShowsObjectAuthorizationRow
 
 pub returns-clause-written : goal.returns-clause-written
 returns-clause-written c =
-    on_ok c.member-2.result (λ kind. members_then c.in_ok-number_member.ensures
-    (members_then (c.in_ok-made_member.ensures _
-    (subst (λ thumb. IfOk c.expected_text-expected.result
-    (λ t. string_bytes t ≡ expected_by c.args.self.now.kind (authorization_of (token_text c.args.self.now.token) thumb)))
-    c.answer_thumb.ensures c.expected_text-expected.ensures))
-    (members_then (member_is c.base.ensures.base c.in_ok-member.ensures)
-    (members_then (c.in_ok-made_member-2.ensures _ c.token_text.ensures) (member_is c.as_str.ensures kind))))) c.member-2.ensures
+    on_ok c.member-4.result (λ kind. members_then c.in_ok-number_member.ensures
+    (members_then (member_is (c.deref.ensures
+    ∙ c.in_ok-expected.ensures
+    ∙ ap (λ thumb. expected_by c.args.self.now.kind (authorization_of (token_text c.args.self.now.token) thumb)) c.answer_thumb.ensures)
+    c.in_ok-member.ensures)
+    (members_then (member_is c.base.ensures.base c.in_ok-member-2.ensures)
+    (members_then (member_is (c.deref-2.ensures ∙ c.in_ok-token_text.ensures) c.in_ok-member-3.ensures)
+    (member_is c.as_str.ensures kind))))) c.member-4.ensures

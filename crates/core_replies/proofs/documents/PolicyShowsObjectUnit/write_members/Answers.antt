@@ -1,8 +1,11 @@
-use Rattle.core_replies.proofs.{Results.on_ok, Writing.members_then}
+use Rattle.std.proofs.Common.{◌∙◌}
+use Rattle.core_replies.proofs.Results.{on_ok}
+use Rattle.core_replies.proofs.Writing.{member_is, members_then}
 use Rattle.core_replies.proofs.documents.PolicyShowsObjectUnit.write_members.Goals as goal
 
 pub returns-clause-written : goal.returns-clause-written
 returns-clause-written c =
-    on_ok c.made_member-4.result (λ order. members_then (c.in_ok-made_member.ensures _ c.url.ensures)
-    (members_then (c.in_ok-made_member-2.ensures _ c.url-2.ensures)
-    (members_then (c.in_ok-made_member-3.ensures _ c.url-3.ensures) (order _ c.url-4.ensures)))) c.made_member-4.ensures
+    on_ok c.member-4.result (λ order. members_then (member_is (c.deref.ensures ∙ c.in_ok-url.ensures) c.in_ok-member.ensures)
+    (members_then (member_is (c.deref-2.ensures ∙ c.in_ok-url-2.ensures) c.in_ok-member-2.ensures)
+    (members_then (member_is (c.deref-3.ensures ∙ c.in_ok-url-3.ensures) c.in_ok-member-3.ensures)
+    (member_is (c.deref-4.ensures ∙ c.in_ok-url-4.ensures) order)))) c.member-4.ensures
