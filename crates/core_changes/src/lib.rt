@@ -1,4 +1,4 @@
-//! The changes of rows that the entries of a call make, and the rows as they then stand.
+//! The changes of rows that the entries of a call make, and the rows as they then stand. `desk_core` stands on it.
 #![tactic(auto)]
 
 mod moved;

@@ -1,4 +1,4 @@
-//! The replies of the desk and their documents, by the rows that they show (RFC 8555, 6.7, 7.1).
+//! The replies of the desk and their documents, by the rows that they show (RFC 8555, 6.7, 7.1). `desk_core` stands on it.
 #![tactic(auto)]
 
 mod authorization_documents;

@@ -1,4 +1,5 @@
-//! The rules of the desk: the verdict on each request, by the tables as they stand at its moment (RFC 8555, 6, 7).
+//! The rules of the desk: the verdict on each request, by the tables as they stand at its moment (RFC 8555, 6, 7). `desk_core`
+//! stands on it.
 #![tactic(auto)]
 
 mod accounts;

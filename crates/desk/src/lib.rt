@@ -1,4 +1,4 @@
-//! One desk over a store: calls from tables to tables.
+//! One desk over a store: calls from tables to tables. `desk_files`, `desk_http`, `app_batch` and `app_commands` stand on it.
 #![tactic(auto)]
 
 mod desk;

@@ -1,4 +1,5 @@
-//! The rows of a desk in memory, changes of them, and what the passing of time makes of them (RFC 8555, 7.1.6).
+//! The rows of a desk in memory, changes of them, and what the passing of time makes of them (RFC 8555, 7.1.6). The families core,
+//! store, sql and desk stand on it.
 #![tactic(auto)]
 
 mod at_moment;

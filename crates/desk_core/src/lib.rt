@@ -1,4 +1,4 @@
-//! What a call does to a book, and what is answered.
+//! What a call does to a book, and what is answered. `desk` stands on it.
 #![tactic(auto)]
 
 mod acts;

@@ -1,4 +1,5 @@
-//! The types and definitions of the desk.
+//! The types and definitions of a desk: its history, its tables, its rules and its replies (RFC 8555). Every crate of the desk
+//! stands on it, but for `sql_schema` and `app_words`.
 #![tactic(auto)]
 
 mod call;

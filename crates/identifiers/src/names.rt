@@ -180,5 +180,6 @@ pub(crate) fn identify(alloc: Global, identifiers: &[Identifier]) -> Result<Iden
         names: Vec::new(alloc),
         faulty: Vec::new(alloc),
     };
-    read_each(alloc, identifiers, &mut read).and(Ok(read))
+    read_each(alloc, identifiers, &mut read)?;
+    Ok(read)
 }

@@ -1,4 +1,5 @@
-//! JSON texts: values, members, lists of strings, problems of orders, and refusals with their replies and documents (RFC 7807; RFC 8555, 6.7).
+//! JSON texts: values, members, lists of strings, problems of orders, and refusals with their replies and documents (RFC 7807;
+//! RFC 8555, 6.7). What reads or writes JSON stands on it.
 #![tactic(auto)]
 
 mod refused;

@@ -1,4 +1,4 @@
-//! Worked examples of the desk, computed on its definitions.
+//! Worked examples of the desk, computed on its definitions. Nothing stands on it.
 #![tactic(auto, unfolding(crate::proofs::Computing::computing, crate::proofs::Hashing::hashing))]
 
 mod histories;

@@ -1,4 +1,4 @@
-//! The laws that tie the tables of a desk to its history.
+//! The laws that tie the tables of a desk to its history. The crates of the families core, store, sql and desk stand on it.
 #![tactic(auto)]
 
 ghost use Rattle.model_laws.specs.{ChangeLaws.ChangesMakePictures, LegalLaws.LegalHistoriesKeep, PartLaws.PartsAreEnough};

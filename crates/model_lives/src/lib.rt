@@ -1,4 +1,5 @@
-//! The laws of calls and of all lives of a desk, and that the rows which a call touches are enough for it.
+//! The laws of calls and of all lives of a desk, what is looked up in its tables, and that the rows which a call touches are
+//! enough for it. `desk_core`, `desk` and the families store and sql stand on it.
 #![tactic(auto)]
 
 mod lives;

@@ -1,4 +1,5 @@
-//! What a store of a desk's tables is, what is looked up in it, and the rows that a call touches.
+//! What a store of a desk's tables is, what is looked up in it, and the rows that a call needs. `desk`, `desk_store` and what works
+//! on a desk over any store stand on it.
 #![tactic(auto)]
 
 mod book_source;

@@ -1,4 +1,5 @@
-//! The tables of a desk's history as rows of a file: a book, in the limits of the columns, which the columns tell.
+//! The tables of a desk's history as rows of a file: a book, in the limits of the columns, which the columns tell. `sql_read`,
+//! `sql_upgrade`, `desk_store` and `desk` stand on it.
 #![tactic(auto)]
 
 ghost use Rattle.store_laws.specs.Laws.{PicturesAreBooks};
