@@ -25,25 +25,24 @@ struct AccountHead {
 fn account_with(
     head: Option<AccountHead>,
     jwk: Text,
-    contacts: Result<Option<Sequence<Text>>, AllocError>,
-) -> Result<Option<AccountRow>, AllocError>
+    contacts: Option<Sequence<Text>>,
+) -> Option<AccountRow>
     ensures { (columns : ColumnsOf) → IsAccountHeadRead columns head → columns.jwk ≡ jwk
-        → IfOk contacts (λ found. IsRead contacts_text Unlimited columns.contacts found)
-        → IfOk result (λ row. IsRead account_columns IsStoredAccount columns row) }
+        → IsRead contacts_text Unlimited columns.contacts contacts → IsRead account_columns IsStoredAccount columns result }
 {
-    let (Some(head), Some(contacts)) = (head, contacts?) else {
-        return Ok(None);
+    let (Some(head), Some(contacts)) = (head, contacts) else {
+        return None;
     };
     match Jwk::from_canonical(jwk.into_string()) {
-        Some(key) => Ok(Some(AccountRow {
+        Some(key) => Some(AccountRow {
             number: head.number,
             key,
             contacts,
             opened: head.opened,
             ended: head.ended,
             status: head.status,
-        })),
-        None => Ok(None),
+        }),
+        None => None,
     }
 }
 
@@ -68,8 +67,8 @@ impl Columns for AccountColumns {
 
     fn read(self, alloc: Global) -> Result<Option<AccountRow>, AllocError> {
         let head = read_head(&self);
-        let contacts = read_contacts(alloc, self.contacts.as_str());
-        account_with(head, self.jwk, contacts)
+        let contacts = read_contacts(alloc, self.contacts.as_str())?;
+        Ok(account_with(head, self.jwk, contacts))
     }
 }
 
