@@ -1,5 +1,4 @@
 pub mod BookRows
-pub mod Both
 pub mod FaultNumbers
 pub mod IsBook
 pub mod Joined

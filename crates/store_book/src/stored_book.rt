@@ -3,7 +3,6 @@ ghost use Rattle.std.specs.Prelude.{◌≡◌, [], ◌∷◌, IfOk, IfErr, Match
 ghost use Rattle.desk_model.specs.Tables.{Tables};
 ghost use Rattle.store_columns.specs.{Columns.rows_columns, Limits.AreStored};
 ghost use Rattle.store_columns.specs.declared.columns.FlatRows.{FlatRows as Rows};
-ghost use Rattle.store_book.specs.Both.{both};
 ghost use Rattle.store_book.specs.IsBook.{AreInOrder, IsBookOf, IsBookOfStored, IsSound};
 ghost use Rattle.store_book.specs.Joined.{AreFlat, AreMoved, IsBookOfJoined, JoinsRows, joined};
 ghost use Rattle.store_book.specs.declared.rows_fault.RowsFault.TheVariants.{NotABook};
@@ -70,7 +69,8 @@ fn book_of_rows(alloc: Global, rows: JoinedRows) -> Result<Book, RowsFault>
         (λ fault. fault ≡ NotABook → (T : Tables) → IsBookOfJoined rows T → ⊥) }
 {
     let book = book_in_order(alloc, rows)?;
-    check_soundness(alloc, &book).and(Ok(book))
+    check_soundness(alloc, &book)?;
+    Ok(book)
 }
 
 // Refuses a book that is not sound.
@@ -95,20 +95,6 @@ fn only_row(rows: Sequence<Meta>) -> Result<Meta, RowsFault>
     rows.pop().ok_or(RowsFault::NotABook)
 }
 
-// Both of two, or why the first is missing, or else the second.
-fn both<A: Drop, B: Drop>(
-    first: Result<A, RowsFault>,
-    second: Result<B, RowsFault>,
-) -> Result<(A, B), RowsFault>
-    ensures { result ≡ both first second }
-{
-    match (first, second) {
-        (Ok(first), Ok(second)) => Ok((first, second)),
-        (Ok(_), Err(fault)) => Err(fault),
-        (Err(fault), _) => Err(fault),
-    }
-}
-
 // The book whose rows stand by number, with those that belong to them.
 fn book_in_order(alloc: Global, rows: JoinedRows) -> Result<Book, RowsFault>
     requires { AreFlat rows }
@@ -116,15 +102,10 @@ fn book_in_order(alloc: Global, rows: JoinedRows) -> Result<Book, RowsFault>
         (λ book. AreInOrder book × AreMoved rows (joined book))
         (λ fault. fault ≡ NotABook → (T : Tables) → AreInOrder T → AreMoved rows (joined T) → ⊥) }
 {
-    let meta = only_row(rows.metas);
-    let numbered = both(table_of(alloc, rows.nonces), table_of(alloc, rows.accounts));
-    let nested = both(
-        nested_table_of(alloc, rows.authorizations, rows.challenges),
-        nested_table_of(alloc, rows.orders, rows.listed),
-    );
-    let (meta, ((nonces, accounts), (authorizations, orders))) = both(
-        meta,
-        both(numbered, nested),
-    )?;
+    let meta = only_row(rows.metas)?;
+    let nonces = table_of(alloc, rows.nonces)?;
+    let accounts = table_of(alloc, rows.accounts)?;
+    let authorizations = nested_table_of(alloc, rows.authorizations, rows.challenges)?;
+    let orders = nested_table_of(alloc, rows.orders, rows.listed)?;
     Ok(Book::of_tables(meta, nonces, accounts, authorizations, orders))
 }
