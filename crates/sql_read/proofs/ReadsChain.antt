@@ -1,20 +1,24 @@
 -- Tables that are read one after the other.
-use Rattle.std.proofs.Common.{◌≡◌, ◌⊎◌, inl, inr, ℕ, List, [], Result, Ok, Err, refl, subst, arith, ◌∙◌}
-use Rattle.std.specs.Prelude.{IfErr, IfOk, IsOk, OnOk}
+use Rattle.std.proofs.Common.{◌≡◌, ◌⊎◌, inr, ℕ, List, [], Result, Ok, Err, IsErrAnd, refl, subst, sym, arith}
 use Rattle.sqlite.specs.Held.{Held, state}
 use Rattle.sqlite.specs.{Order.Row, Store.Ghosts}
-use Rattle.sqlite.specs.State.{HasCleanDisk, IsUnchanged}
+use Rattle.sqlite.specs.State.{HasCleanDisk}
 use Rattle.sqlite.specs.declared.error.Error.{Error}
 use Rattle.sqlite.proofs.Callers.{unchanged_then}
+use Rattle.sql_schema.specs.{Failing.IsFailure, Stays.Asks}
 use Rattle.sql_schema.proofs.StaysLemmas.{asks_then}
-use Rattle.sql_read.specs.Failures.{FailsHere, IsMet, IsReadable, MayRead}
-use Rattle.sql_read.specs.{Reads.Reads, Reads.ReadsColumns, Reads.ThenReads, Shown.IsShown}
+use Rattle.sql_read.specs.Failures.{FailsHere, IsMet, IsReadable}
+use Rattle.sql_read.specs.{Reads.Reads, Reads.ReadsColumns, Shown.IsShown}
 use Rattle.sql_read.proofs.Failing.{may_read_still}
-use Rattle.sql_read.proofs.MetFaults.{met_behind, met_on}
+use Rattle.sql_read.proofs.MetFaults.{met_behind}
 use Rattle.sql_read.proofs.Results.{fails_then, read_then}
 use Rattle.sql_read.proofs.ShownRows.{shown_now, shown_still}
 
 module _ {S : Type 0} (g : Ghosts S) where
+  -- the disk was honest before, where it is now
+  honest : (mid now : Held S) → Asks (state g mid) (state g now) → HasCleanDisk (state g now) → HasCleanDisk (state g mid)
+  honest mid now asks clean = omega (arith, clean, asks.survives.clean)
+
   -- the first table
   pub reads_first : {C : Type 0} {text : List ℕ} {spelled : Row → C} {Fits : Row → Type 0} {first now : Held S} {read : Result (List C) Error}
       → ReadsColumns g spelled Fits (text, []) first now read
@@ -28,55 +32,64 @@ module _ {S : Type 0} (g : Ghosts S) where
     asks = columns.asks;
   }
 
-  -- a table after those
-  pub reads_more : {A C : Type 0} {P : A → Type 0} {Readable : Type 0} {Fails : Error → Type 0} {text : List ℕ} {spelled : Row → C}
-      {Fits : Row → Type 0} {first mid now : Held S} {earlier : Result A Error} {read : Result (A × List C) Error}
-      → Reads g first mid P Readable Fails earlier → ThenReads g text spelled Fits mid now earlier read
-      → Reads g first now (λ both. P both.0 × IsShown g text spelled first both.1) (Readable × IsReadable g first text Fits)
+  -- a table after those that were read
+  pub reads_next : {A C : Type 0} {P : A → Type 0} {Readable : Type 0} {Fails : Error → Type 0} {text : List ℕ} {spelled : Row → C}
+      {Fits : Row → Type 0} {first mid now : Held S} {earlier : A} {read : Result (List C) Error}
+      → Reads g first mid P Readable Fails (Ok earlier) → ReadsColumns g spelled Fits (text, []) mid now read
+      → Reads g first now (λ all. P earlier × IsShown g text spelled first all) (Readable × IsReadable g first text Fits)
       (λ e. Fails e ⊎ FailsHere g first text Fits e) read
-  reads_more {A} {C} {P} {Readable} {Fails} {text} {spelled} {Fits} {first} {mid} {now} {earlier} {read} before next = record {
-    shown = λ clean. read_then read (next.shown clean) (λ both it. (
-      subst (λ r. IfOk r P) it.0 (before.shown (honest clean)),
-      shown_still g text spelled first mid both.1 (subst (λ r. OnOk r (IsUnchanged (state g first) (state g mid))) it.0
-          (before.unchanged (honest clean))).0.now_is it.1,
-    ));
-    fails = λ clean may readable. next.fails clean (before.fails (honest clean) may readable.0)
-        (read_on earlier (before.unchanged (honest clean)) may readable.1);
-    refused = λ clean. fails_then read (next.refused clean) (λ e h. elim h [
-      | inl was ↦ inl (subst (λ (r : Result A Error). IfErr r Fails) was (before.refused (honest clean)))
-      | inr is ↦ inr (record {
-        before = mid;
-        after = now;
-        same = still_now earlier is.0 (before.unchanged (honest clean));
-        fails = is.1;
-      })
-    ]);
-    met = λ clean. fails_then read (next.met clean) (λ e h. elim h [
-      | inl was ↦ met_on (state g first) (state g mid) (state g now) e next.asks
-          (subst (λ (r : Result A Error). IfErr r (IsMet (state g first) (state g mid))) was (before.met (honest clean)))
-      | inr is ↦ met_behind (state g first) (state g mid) (state g now) e before.asks is
-    ]);
-    unchanged = λ clean. both_unchanged read (next.shown clean) (before.unchanged (honest clean)) (next.unchanged clean);
+  reads_next {text = text} {spelled = spelled} {first = first} {mid = mid} {now = now} {read = Ok all} before next = record {
+    shown = λ clean.
+        let it = next.shown clean in
+        let still = before.unchanged (honest mid now next.asks clean) in (
+          before.shown (honest mid now next.asks clean),
+          shown_still g text spelled first mid all still.0.now_is (shown_now g text spelled mid now it.0 all it.1 it.2),
+        );
+    fails = λ clean may readable. tt;
+    refused = λ clean. tt;
+    met = λ clean. tt;
+    unchanged = λ clean.
+        unchanged_then (state g first) (state g mid) (state g now) (before.unchanged (honest mid now next.asks clean)) (next.unchanged clean);
     asks = asks_then (state g first) (state g mid) (state g now) before.asks next.asks;
   }
-    where
-      honest : HasCleanDisk (state g now) → HasCleanDisk (state g mid)
-      honest clean = omega (arith, clean, next.asks.survives.clean)
+  reads_next {first = first} {mid = mid} {now = now} {read = Err e} before next = record {
+    shown = λ clean. tt;
+    fails = λ clean may readable.
+        let still = before.unchanged (honest mid now next.asks clean) in
+        readable.1 mid now e still.0.now_is (may_read_still (state g first) (state g mid) still before.asks may) (next.fails clean);
+    refused = λ clean. inr (record {
+      before = mid;
+      after = now;
+      same = (before.unchanged (honest mid now next.asks clean)).0.now_is;
+      fails = next.fails clean;
+    });
+    met = λ clean. met_behind (state g first) (state g mid) (state g now) e before.asks (next.met clean);
+    unchanged = λ clean. tt;
+    asks = asks_then (state g first) (state g mid) (state g now) before.asks next.asks;
+  }
 
-      still_now : (r : Result A Error) → IsOk r → OnOk r (IsUnchanged (state g first) (state g mid)) → (state g mid).now ≡ (state g first).now
-      still_now (Ok a) is still = still.0.now_is
-      still_now (Err e) is still = absurd (let never = is in cc)
+  -- what was made of what was read
+  pub reads_made : {A B : Type 0} {P : A → Type 0} {Q : B → Type 0} {Readable : Type 0} {Fails : Error → Type 0} {first now : Held S} {a : A} {b : B}
+      → Reads g first now P Readable Fails (Ok a) → (P a → Q b) → Reads g first now Q Readable Fails (Ok b)
+  reads_made read so = record {
+    shown = λ clean. so (read.shown clean);
+    fails = λ clean may readable. tt;
+    refused = λ clean. tt;
+    met = λ clean. tt;
+    unchanged = read.unchanged;
+    asks = read.asks;
+  }
 
-      read_on : (r : Result A Error) → OnOk r (IsUnchanged (state g first) (state g mid)) → MayRead (state g first) → IsReadable g first text Fits
-          → OnOk r (MayRead (state g mid) × IsReadable g mid text Fits)
-      read_on (Ok a) still may readable =
-          (may_read_still (state g first) (state g mid) still before.asks may, λ one two e is. readable one two e (is ∙ still.0.now_is))
-      read_on (Err e) still may readable = tt
-
-      both_unchanged : (r : Result (A × List C) Error) → IfOk r (λ both. (earlier ≡ Ok both.0) × IsShown g text spelled mid both.1)
-          → OnOk earlier (IsUnchanged (state g first) (state g mid)) → OnOk r (IsUnchanged (state g mid) (state g now))
-          → OnOk r (IsUnchanged (state g first) (state g now))
-      both_unchanged (Ok both) it was is =
-          unchanged_then (state g first) (state g mid) (state g now)
-          (subst (λ r. OnOk r (IsUnchanged (state g first) (state g mid))) it.0 was) is
-      both_unchanged (Err e) it was is = tt
+  -- a failure that is handed on by readings of more tables
+  pub reads_failed : {A B : Type 0} {P : A → Type 0} {Q : B → Type 0} {Here All : Type 0} {One Any : Error → Type 0} {first now : Held S} {e : Error}
+      {r : Result B Error}
+      → Reads g first now P Here One (Err e) → (All → Here) → ((e : Error) → One e → Any e) → IsErrAnd r (λ x. x ≡ e) → Reads g first now Q All Any r
+  reads_failed {r = Ok b} read so any same = absurd same
+  reads_failed {Any = Any} {first = first} {now = now} {e = e} {r = Err x} read so any same = record {
+    shown = λ clean. tt;
+    fails = λ clean may all. subst IsFailure (sym same) (read.fails clean may (so all));
+    refused = λ clean. subst Any (sym same) (any e (read.refused clean));
+    met = λ clean. subst (IsMet (state g first) (state g now)) (sym same) (read.met clean);
+    unchanged = λ clean. tt;
+    asks = read.asks;
+  }

@@ -1,5 +1,5 @@
 -- Results, and tests.
-use Rattle.std.proofs.Common.{◌≡◌, Bool, true, false, IsTrue, IfErr, IfOk, IfSome, IsErrAnd, OnOk, Option, Some, None, Result, Ok, Err, refl, subst, sym}
+use Rattle.std.proofs.Common.{◌≡◌, Bool, true, false, IsTrue, IfErr, IfOk, IfSome, IsErrAnd, OnOk, Option, Some, None, Result, Ok, Err, ap, refl, subst, sym}
 use Rattle.sqlite.specs.State.{State, IsUnchanged}
 use Rattle.sqlite.proofs.Callers.{unchanged_then}
 
@@ -27,6 +27,11 @@ fails_under (Err e) Q h = h
 pub failed_as : {A E : Type 0} (r : Result A E) (e : E) (Q : E → Type 0) → Q e → IsErrAnd r (λ x. x ≡ e) → IfErr r Q
 failed_as (Ok a) e Q h same = tt
 failed_as (Err x) e Q h same = subst Q (sym same) h
+
+-- a result that is an error is that of it
+pub refused_with : {A E : Type 0} (r : Result A E) {e : E} → IsErrAnd r (λ x. x ≡ e) → r ≡ Err e
+refused_with (Ok a) same = absurd same
+refused_with (Err x) same = ap (λ y. Err y) same
 
 -- one call after another that was answered changed nothing
 pub unchanged_after : {A E : Type 0} (r : Result A E) (a b c : State) → IsUnchanged a b → (IsTrue b.is_open → OnOk r (IsUnchanged b c)) → OnOk r

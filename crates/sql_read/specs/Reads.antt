@@ -1,12 +1,11 @@
 -- What a reading leaves, and what readings one after the other do.
-use Rattle.std.specs.Prelude.{◌≡◌, ◌⊎◌, ℕ, List, [], Result, Ok, Err, IfErr, IfOk, IsOk, OnOk, map}
+use Rattle.std.specs.Prelude.{◌≡◌, ℕ, List, Result, IfErr, IfOk, OnOk, map}
 use Rattle.sqlite.specs.Held.{Held, state}
 use Rattle.sqlite.specs.{Order.Row, Store.Ghosts}
 use Rattle.sqlite.specs.State.{FailsToQuery, HasCleanDisk, IsUnchanged, Shown}
 use Rattle.sqlite.specs.declared.error.Error.{Error}
 use Rattle.sql_schema.specs.{Failing.IsFailure, Stays.Asks}
-use Rattle.sql_read.specs.Failures.{FailsToRead, IsMet, IsReadable, MayRead}
-use Rattle.sql_read.specs.Shown.{IsShown}
+use Rattle.sql_read.specs.Failures.{FailsToRead, IsMet, MayRead}
 
 module _ {S : Type 0} (g : Ghosts S) where
   -- this is what was read, or the reading failed so; it changed nothing
@@ -27,18 +26,6 @@ module _ {S : Type 0} (g : Ghosts S) where
   ReadsColumns spelled Fits ask old new read =
       Queried old new (λ all. (rows : List Row) × Shown ask.0 ask.1 (state g old) (state g new) rows × (all ≡ map spelled rows))
       (FailsToRead ask.0 ask.1 (state g old) (state g new) Fits) read
-
-  -- the columns of a table were read behind what was read earlier, if that did not fail
-  pub record ThenReads {A C : Type 0} (text : List ℕ) (spelled : Row → C) (Fits : Row → Type 0) (old new : Held S) (earlier : Result A Error)
-      (read : Result (A × List C) Error) : Type 0 where
-    pub shown : HasCleanDisk (state g new) → IfOk read (λ both. (earlier ≡ Ok both.0) × IsShown g text spelled old both.1)
-    pub fails : HasCleanDisk (state g new) → IfErr earlier IsFailure → OnOk earlier (MayRead (state g old) × IsReadable g old text Fits)
-        → IfErr read IsFailure
-    pub refused : HasCleanDisk (state g new) → IfErr read (λ e. (earlier ≡ Err e)
-        ⊎ (IsOk earlier × FailsToRead text [] (state g old) (state g new) Fits e))
-    pub met : HasCleanDisk (state g new) → IfErr read (λ e. (earlier ≡ Err e) ⊎ IsMet (state g old) (state g new) e)
-    pub unchanged : HasCleanDisk (state g new) → OnOk read (IsUnchanged (state g old) (state g new))
-    pub asks : Asks (state g old) (state g new)
 
   -- what was read so far is this, or the readings failed, one of them so; they fail for memory or the disk alone, where that is known of each
   pub record Reads {A : Type 0} (first now : Held S) (P : A → Type 0) (Readable : Type 0) (Fails : Error → Type 0) (read : Result A Error)

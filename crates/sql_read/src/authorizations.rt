@@ -12,7 +12,7 @@ ghost use Rattle.sql_read.specs.Spelled.{FitsAuthorization, FitsChallenge, autho
 use crate::answers::with_answers;
 use crate::fault::ReadFault;
 use crate::rows::{
-    Parent, Query, Selected, earliest, find_parents, find_rows, owners, without_owners,
+    HasChildren, Query, Selected, earliest, find_parents, find_rows, owners, without_owners,
 };
 use crate::values::{both, bytes, number_or_none, numbers, numbers_or_none, text, text_or_none};
 use desk_model::{AuthorizationRow, AuthzStatus, ChallengeRow, ChallengeStatus, Sequence};
@@ -88,7 +88,7 @@ fn find_challenges<S: Alter>(
     with_answers(alloc, conn, &heads)
 }
 
-impl Parent for AuthorizationRow {
+impl HasChildren for AuthorizationRow {
     ghost bare = { without_challenges };
 
     ghost HasItsOwn = { λ T. HasItsChallenges T.authorizations };

@@ -80,7 +80,7 @@ fn check_each<S: Alter, C: Selected, K: RowCheck<C>>(
     ensures asks { Asks (state S.Store conn.old) (state S.Store conn.new) }
 {
     let mut rows = conn.query(text, &[])?;
-    'rows: for _ in 0..u64::MAX {
+    for _ in 0..u64::MAX {
         let Some(row) = rows.next()? else {
             return Ok(true);
         };

@@ -18,7 +18,6 @@ use crate::checked::check_nonces;
 use crate::formats::Format;
 use crate::rows::{Query, read_query};
 use crate::stored::read_first_tables;
-use crate::values::both;
 use desk_model::{Meta, Sequence};
 use sql_schema::meta;
 use sqlite::{Alter, Connection, Error};
@@ -201,20 +200,17 @@ pub fn load_first<S: Alter>(alloc: Global, conn: &mut Connection<S>) -> Result<S
     ensures unchanged { HasCleanDisk (state S.Store conn.new) → OnOk result (IsUnchanged (state S.Store conn.old) (state S.Store conn.new)) }
     ensures asks { Asks (state S.Store conn.old) (state S.Store conn.new) }
 {
-    let ((((((read, nonces), accounts), orders), order_authzs), authzs), challs) =
-        read_first_tables(alloc, conn)?;
-    let (metas, chall_keys) = both(
-        raised_metas(alloc, read),
-        blank_keys(alloc, challs.as_slice()),
-    )?;
+    let first = read_first_tables(alloc, conn)?;
+    let metas = raised_metas(alloc, first.metas)?;
+    let chall_keys = blank_keys(alloc, first.challs.as_slice())?;
     Ok(StoredRows {
         metas,
-        nonces,
-        accounts,
-        orders,
-        authzs,
-        order_authzs,
-        challs,
+        nonces: first.nonces,
+        accounts: first.accounts,
+        orders: first.orders,
+        authzs: first.authzs,
+        order_authzs: first.order_authzs,
+        challs: first.challs,
         chall_keys,
     })
 }

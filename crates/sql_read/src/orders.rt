@@ -9,7 +9,7 @@ ghost use Rattle.sql_read.specs.Spelled.{FitsListed, FitsOrder, listed_in, order
 
 use crate::fault::ReadFault;
 use crate::rows::{
-    Parent, Query, Selected, earliest, find_parents, find_rows, owners, without_owners,
+    HasChildren, Query, Selected, earliest, find_parents, find_rows, owners, without_owners,
 };
 use crate::values::{both, bytes_or_none, numbers, numbers_or_none, text, text_or_none};
 use desk_model::{OrderRow, OrderStatus, Sequence};
@@ -58,7 +58,7 @@ impl Selected for OrderAuthzColumns {
     }
 }
 
-impl Parent for OrderRow {
+impl HasChildren for OrderRow {
     ghost bare = { without_listed };
 
     ghost HasItsOwn = { λ T. HasItsListed T.orders };

@@ -1,5 +1,5 @@
 //! Queries with their parameters, and the rows of a desk that their answers spell: by columns, with children, and under owners.
-ghost use Rattle.std.specs.Prelude.{◌≡◌, [], ◌∷◌, ◌≢◌, pos, ℕ, List, option_map, IfErr, IfOk, All, map, Err, MatchResult};
+ghost use Rattle.std.specs.Prelude.{◌≡◌, [], ◌∷◌, ◌≢◌, pos, ℕ, List, option_map, IfErr, IfOk, All, map, MatchResult};
 ghost use Rattle.sqlite.specs.declared.types.Value.TheVariants.{Int, Text as SqlText};
 ghost use Rattle.sql_read.specs.{Bounded.bounded, Queries.asked, Selecting.IsQuery};
 ghost use Rattle.sqlite.specs.{Values.bound, Held.state, Order.Row as SqlRow};
@@ -10,7 +10,7 @@ ghost use Rattle.sql_read.specs.LookUpFaults.{BeginWithMoment, IsOfMemory, IsOfM
 ghost use Rattle.sql_tables.specs.Holds.{Holds};
 ghost use Rattle.sql_read.specs.Failures.{IsOfNoDevice, IsOutOfMemory};
 ghost use Rattle.sql_read.specs.Looking.{Finds, LooksFor};
-ghost use Rattle.sql_read.specs.declared.fault.ReadFault.TheVariants.{Engine, NotARow};
+ghost use Rattle.sql_read.specs.declared.fault.ReadFault.TheVariants.{NotARow};
 
 use crate::fault::ReadFault;
 use crate::values::numbers;
@@ -238,22 +238,18 @@ fn read_all<C: Selected>(alloc: Global, rows: &[Row]) -> Result<Sequence<C>, Err
 
 // ---- the rows
 
-// The rows of these columns, where they were read.
+// The rows of these columns.
 //
 // # Errors
 //
-// The reading's, and `NotARow` where no row in its limits has some of them.
-fn rows_of<C: Columns>(
-    alloc: Global,
-    read: Result<Sequence<C>, Error>,
-) -> Result<Vec<C::Row>, ReadFault>
-    ensures rows { IfOk read (λ all. MatchResult result
-        (λ rows. EachOf C.IsStored rows.items × (all ≡ map C.write rows.items))
-        (λ fault. fault ≡ NotARow → (rows : List C.Row) → EachOf C.IsStored rows → all ≢ map C.write rows)) }
-    ensures fault { IfOk read (λ _. IfErr result IsOfMemoryOrRows) }
-    ensures passed { IfErr read (λ error. result ≡ Err (Engine error)) }
+// `NotARow` where no row in its limits has some of them.
+fn rows_of<C: Columns>(alloc: Global, columns: Sequence<C>) -> Result<Vec<C::Row>, ReadFault>
+    ensures rows { MatchResult result
+        (λ rows. EachOf C.IsStored rows.items × (columns ≡ map C.write rows.items))
+        (λ fault. fault ≡ NotARow → (rows : List C.Row) → EachOf C.IsStored rows → columns ≢ map C.write rows) }
+    ensures fault { IfErr result IsOfMemoryOrRows }
 {
-    match read_table(alloc, read?)? {
+    match read_table(alloc, columns)? {
         Some(rows) => Ok(rows.into_vec()),
         None => Err(ReadFault::NotARow),
     }
@@ -274,13 +270,14 @@ pub(crate) fn find_rows<S: Alter, C: Selected>(
         (λ _ rows. Finds S.Store C.spelled C.Fits C.Columns.write C.Columns.IsStored (asked query.entry) conn.old rows)
         (λ rows found. found.items ≡ rows) result }
 {
-    rows_of(alloc, read_query::<S, C>(alloc, conn, query))
+    let columns = read_query::<S, C>(alloc, conn, query)?;
+    rows_of(alloc, columns)
 }
 
 // ---- rows that are looked up, each with its children
 
 /// A row that has children in a table of their own.
-pub(crate) trait Parent: Drop {
+pub(crate) trait HasChildren: Drop {
     // The row without its children.
     ghost bare: { Self → Self };
 
@@ -293,7 +290,7 @@ pub(crate) trait Parent: Drop {
 }
 
 /// The rows that a query shows, each with its children. It fails as `find_rows` does.
-pub(crate) fn find_parents<S: Alter, C: Selected<Row = R>, R: Parent>(
+pub(crate) fn find_parents<S: Alter, C: Selected<Row = R>, R: HasChildren>(
     alloc: Global,
     conn: &mut Connection<S>,
     query: Query<'_>,

@@ -136,7 +136,7 @@ pub(crate) fn bytes_or_none(row: &Row, at: usize) -> Result<Option<Sequence<u8>>
     }
 }
 
-/// Two values, where neither fails: a row that owns several has one exit so, not one for each.
+/// Two values, where neither fails. It takes both results for the proof: a row that owns several has one exit so, not one for each.
 pub(crate) fn both<A: Drop, B: Drop>(
     first: Result<A, Error>,
     second: Result<B, Error>,

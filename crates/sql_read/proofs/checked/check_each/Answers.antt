@@ -14,8 +14,8 @@ returns-in_err-rows-clause-asks g c =
     asks_refused g.S.Store c.args.text.now c.requires c.query.result c.args.conn.now c.query.follows.lender-at-none _ c.in_err-rows.was
     c.query.follows.holds-at-none
 
-pub rows-init : goal.rows-init
-rows-init g c =
+pub loop-init : goal.loop-init
+loop-init g c =
     let made = c.in_ok-rows.ensures in
     let store = g.S.Store in
     let text = c.args.text.now in (
@@ -30,16 +30,16 @@ returns-in_default-clause-passed g c clean _ =
     let moved = c.next.follows.holds-at-none in
     let now = c.next.follows.lender-at-none.conn.now in
     let late : HasCleanDisk (state g.S.Store now) = search rules in
-    let was = c.rows.invariant.2 (omega (arith, moved.survives.clean)) in
+    let was = c.loop.invariant.2 (omega (arith, moved.survives.clean)) in
     let shown = (rw (c.in_ok-row.was, c.in_default.is) at (moved.ok late)) c.args.text.now [] was.given was.gives in
-    given_all g.S.Store c.args.text.now g.C.Selected.spelled g.C.Columns.write g.C.Columns.IsStored g.K.RowCheck.Passed c.args.conn.now c.rows.rows.conn.now now
-    c.args.check.now c.rows.check was shown
+    given_all g.S.Store c.args.text.now g.C.Selected.spelled g.C.Columns.write g.C.Columns.IsStored g.K.RowCheck.Passed c.args.conn.now c.loop.rows.conn.now now
+    c.args.check.now c.loop.check was shown
 
-pub rows-preserved : goal.rows-preserved
-rows-preserved g c =
+pub loop-preserved : goal.loop-preserved
+loop-preserved g c =
     let store = g.S.Store in
     let moved = c.next.follows.holds-at-none in
-    let mid = c.rows.rows.conn.now in
+    let mid = c.loop.rows.conn.now in
     let now = c.next.follows.lender-at-none.conn.now in
     let asks : Asks (state store mid) (state store now) =
     record {
@@ -47,13 +47,13 @@ rows-preserved g c =
       stays = λ clean. stays_unchanged (state store mid) (state store now) (rw c.in_ok-row.was at (moved.same clean));
       idle = moved.mode;
     } in (
-      moved.same_reference ∙ c.rows.invariant.0,
-      asks_then (state store c.args.conn.now) (state store mid) (state store now) c.rows.invariant.1 asks,
+      moved.same_reference ∙ c.loop.invariant.0,
+      asks_then (state store c.args.conn.now) (state store mid) (state store now) c.loop.invariant.1 asks,
       λ clean.
-          let was = c.rows.invariant.2 (omega (arith, moved.survives.clean)) in
+          let was = c.loop.invariant.2 (omega (arith, moved.survives.clean)) in
           let gives = (rw (c.in_ok-row.was, c.in-Some.is) at (moved.ok clean)) c.args.text.now [] was.given was.gives in
           given_more store c.args.text.now g.C.Selected.spelled g.C.Columns.write g.C.Columns.IsStored g.K.RowCheck.Passed c.args.conn.now mid now
-          c.args.check.now c.rows.check c.check_row.new.check c.in-Some.row.now was gives (rw c.in_ok-row.was at (moved.same clean))
+          c.args.check.now c.loop.check c.check_row.new.check c.in-Some.row.now was gives (rw c.in_ok-row.was at (moved.same clean))
           (c.in_ok-check_row.ensures.passed c.if-not-branch.false),
     )
 
@@ -71,14 +71,14 @@ returns-in_err-row-clause-met g c =
     let store = g.S.Store in
     let moved = c.next.follows.holds-at-none in
     let old = state store c.args.conn.now in
-    let mid = state store c.rows.rows.conn.now in
+    let mid = state store c.loop.rows.conn.now in
     let now = state store c.next.follows.lender-at-none.conn.now in
     let e = c.in_err-row.field-0.0 in
     let whole : HasCleanDisk now → IfErr c.from_residual-in_err-row.result (IsMet old now) = λ clean.
-    let was = c.rows.invariant.2 (omega (arith, clean, moved.survives.clean)) in
+    let was = c.loop.invariant.2 (omega (arith, clean, moved.survives.clean)) in
     let fails = (rw c.in_err-row.was at (moved.err clean)) c.args.text.now [] was.given was.gives in
     failed_as c.from_residual-in_err-row.result e (IsMet old now)
-    (met_behind old mid now e c.rows.invariant.1 (query_met c.args.text.now [] mid now e c.requires fails)) c.from_residual-in_err-row.ensures.1 in
+    (met_behind old mid now e c.loop.invariant.1 (query_met c.args.text.now [] mid now e c.requires fails)) c.from_residual-in_err-row.ensures.1 in
     search (rules, whole)
 
 pub returns-in_err-rows-clause-refused : goal.returns-in_err-rows-clause-refused
@@ -101,12 +101,12 @@ returns-in_err-row-clause-refused g c =
     let store = g.S.Store in
     let moved = c.next.follows.holds-at-none in
     let old = c.args.conn.now in
-    let mid = c.rows.rows.conn.now in
+    let mid = c.loop.rows.conn.now in
     let now = c.next.follows.lender-at-none.conn.now in
     let e = c.in_err-row.field-0.0 in
     let whole : HasCleanDisk (state store now)
     → IfErr c.from_residual-in_err-row.result (λ e. IsOutOfMemory e ⊎ FailsHere store old c.args.text.now g.C.Selected.Fits e) = λ clean.
-    let was = c.rows.invariant.2 (omega (arith, clean, moved.survives.clean)) in
+    let was = c.loop.invariant.2 (omega (arith, clean, moved.survives.clean)) in
     let fails = (rw c.in_err-row.was at (moved.err clean)) c.args.text.now [] was.given was.gives in
     failed_as c.from_residual-in_err-row.result e (λ e. IsOutOfMemory e ⊎ FailsHere store old c.args.text.now g.C.Selected.Fits e)
     (inr (record { before = mid; after = now; same = was.same.0.now_is; fails = inl fails })) c.from_residual-in_err-row.ensures.1 in

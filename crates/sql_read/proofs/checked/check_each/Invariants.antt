@@ -4,8 +4,8 @@ use Rattle.sql_schema.specs.Stays.{Asks}
 use Rattle.sql_read.specs.Checking.{GoesOn, HasGivenRows}
 use Rattle.sql_read.proofs.checked.check_each.Given as goal
 
-abbrev pub invariant-rows : goal.invariant-rows
-invariant-rows g l =
+abbrev pub invariant-loop : goal.invariant-loop
+invariant-loop g l =
     let old = state g.S.Store l.fn.conn in
     let now = state g.S.Store l.rows.conn.now in
     (l.rows.conn.ghost_name ≡ l.initial.rows.conn.ghost_name) × Asks old now

@@ -12,7 +12,7 @@ find_rows-requires g c = c.requires
 
 pub loop-row-init : goal.loop-row-init
 loop-row-init g c =
-    record { size = refl; left = refl; filled = filled_first g.R.Parent.HasItsOwn g.R.Parent.bare (state g.S.Store c.find_rows.new.conn) [] refl }
+    record { size = refl; left = refl; filled = filled_first g.R.HasChildren.HasItsOwn g.R.HasChildren.bare (state g.S.Store c.find_rows.new.conn) [] refl }
 
 pub loop-row-preserved : goal.loop-row-preserved
 loop-row-preserved g c =
@@ -26,7 +26,7 @@ loop-row-preserved g c =
       size = length-set items index _ ∙ before.size;
       left = left_next items heads index c.row-item.result _ low before.size before.left;
       filled = filled_on before.filled after.asks (λ clean is_open. after.unchanged clean) (λ clean T has book is_open so_far.
-          filled_next (g.R.Parent.HasItsOwn T) g.R.Parent.bare items heads index c.row-item.result _ low before.size before.left so_far
+          filled_next (g.R.HasChildren.HasItsOwn T) g.R.HasChildren.bare items heads index c.row-item.result _ low before.size before.left so_far
           (λ whole own bare. after.found clean T has book whole (own, bare)));
     }
 
@@ -39,8 +39,8 @@ returns g c =
     let items = c.loop-row.row-items in
     let size = c.loop-row.invariant.size in
     let all : length items ≤ index = omega (arith, c.loop-row-test.false) in
-    step_then {Suits = λ T rows. EachOf (g.R.Parent.HasItsOwn T) rows × (take index heads ≡ map g.R.Parent.bare rows)}
-    (λ T rows. map g.R.Parent.bare rows) (λ T has book rows it. it.1)
+    step_then {Suits = λ T rows. EachOf (g.R.HasChildren.HasItsOwn T) rows × (take index heads ≡ map g.R.HasChildren.bare rows)}
+    (λ T rows. map g.R.HasChildren.bare rows) (λ T has book rows it. it.1)
     (λ T rows it are. (it.0, take_all index heads (omega (arith, all, size)) ∙ c.deref_mut-row-items.ensures.value ∙ are)) c.in_ok-rows.ensures filled.asks
     (λ is_open. record {
       found = λ clean T has book rows it.
@@ -53,7 +53,7 @@ returns g c =
     })
 
 pub returns-in_err-rows : goal.returns-in_err-rows
-returns-in_err-rows g c = step_failed (λ T rows. map g.R.Parent.bare rows) (λ T has book rows it. it.1) c.in_err-rows.ensures c.from_residual.ensures.1
+returns-in_err-rows g c = step_failed (λ T rows. map g.R.HasChildren.bare rows) (λ T has book rows it. it.1) c.in_err-rows.ensures c.from_residual.ensures.1
 
 pub returns-in_err-nest : goal.returns-in_err-nest
 returns-in_err-nest g c =
@@ -64,8 +64,8 @@ returns-in_err-nest g c =
     let index = c.loop-row.row-index in
     let low : index < length items = omega (arith, c.loop-row-test.true) in
     let here = (same_next items heads index c.row-item.result low loop.size loop.left).0 in
-    step_then {Suits = λ T rows. EachOf (g.R.Parent.HasItsOwn T) rows × (heads ≡ map g.R.Parent.bare rows)}
-    (λ T rows. map g.R.Parent.bare rows) (λ T has book rows it. it.1)
+    step_then {Suits = λ T rows. EachOf (g.R.HasChildren.HasItsOwn T) rows × (heads ≡ map g.R.HasChildren.bare rows)}
+    (λ T rows. map g.R.HasChildren.bare rows) (λ T has book rows it. it.1)
     (λ T rows it are. (it.0, c.deref_mut-row-items.ensures.value ∙ are)) c.in_ok-rows.ensures (asks_then _ _ _ loop.filled.asks after.asks)
     (λ is_open. stopped c.from_residual-in_err-nest.ensures.0 (λ clean T has book may rows it.
     filled_failed loop.filled after.asks clean T has may heads rows index c.row-item.result it.1 it.0 (omega (arith, low, loop.size))

@@ -5,7 +5,7 @@ use Rattle.desk_model.specs.declared.rows.AuthorizationRow.{AuthorizationRow}
 use Rattle.sql_read.specs.{LookUpFaults.IsOfMemory, Under.rows_under}
 use Rattle.sql_read.proofs.{KeyRows.keys_under, LookUpRows.challenges_of_find, LookUpReadings.challenges_of_reading, Results.failed_as}
 use Rattle.sql_read.proofs.Looking.{finds_as, query_as, step_failed, step_made}
-use Rattle.sql_read.proofs.authorizations.AuthorizationRowParent.nest.Goals as goal
+use Rattle.sql_read.proofs.authorizations.AuthorizationRowHasChildren.nest.Goals as goal
 
 pub find_challenges-requires : goal.find_challenges-requires
 find_challenges-requires g c = query_as c.number-query.ensures (challenges_of_reading c.args.self.now.number).selecting

@@ -5,7 +5,7 @@ use Rattle.desk_model.specs.declared.rows.OrderRow.{OrderRow}
 use Rattle.sql_read.specs.{LookUpFaults.IsOfMemory, Under.rows_under}
 use Rattle.sql_read.proofs.{ListedOrder.listed_by_find, LookUpReadings.listed_by_reading, Results.failed_as}
 use Rattle.sql_read.proofs.Looking.{finds_as, query_as, step_failed, step_made}
-use Rattle.sql_read.proofs.orders.OrderRowParent.nest.Goals as goal
+use Rattle.sql_read.proofs.orders.OrderRowHasChildren.nest.Goals as goal
 
 pub find_rows-requires : goal.find_rows-requires
 find_rows-requires g c = query_as c.number-query.ensures (listed_by_reading c.args.self.now.number).selecting
