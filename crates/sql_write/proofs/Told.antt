@@ -2,7 +2,7 @@
 use Rattle.std.proofs.Common.{◌≡◌, ℕ, zero, suc, ◌+◌, ◌-◌, ◌<◌, List, [], ◌∷◌, ◌++◌, Result, Ok, Err, IfErr, IsOk, refl, sym, ap, subst, ◌∙◌, arith}
 use Rattle.std.proofs.Common.{◌⊎◌, inl, inr, add-one, append-nil, drop, get_or, length, take}
 use Rattle.std.specs.Prelude.{IsErrAnd, MatchResult}
-use Rattle.std.specs.{List.flat_map, Result.result_and}
+use Rattle.std.specs.{List.flat_map}
 use Rattle.std.proofs.{Math.Seq.take-suc, lemmas.Grind.flat_map-append}
 use Rattle.std.proofs.lemmas.List.{append_assoc, take-append-drop}
 use Rattle.sqlite.specs.Held.{Held, state}
@@ -12,15 +12,11 @@ use Rattle.sqlite.specs.declared.error.Error.{Error}
 use Rattle.sql_schema.specs.Definitions.{definition_at}
 use Rattle.sql_schema.proofs.StaysLemmas.{asks_nothing}
 use Rattle.sql_write.proofs.Exits.{survives_both}
-use Rattle.sql_write.specs.Refusals.{FailedCommit, HaveBegun, HaveRun, IsCause, IsRun, Ran, Refuses, Runs, Stops, begun}
+use Rattle.sql_write.specs.Refusals.{FailedCommit, HaveBegun, HaveRun, IsCause, Ran, Refuses, Runs, Stops, begun}
 use Rattle.sql_write.specs.{Committing.IsBeforeCommit, Numbers.IsNotTooLarge}
 use Rattle.sql_write.specs.Statements.{Sql, defines, defines_before}
 use Rattle.sql_write.specs.declared.fault.SaveFault.{SaveFault}
 use Rattle.sql_write.specs.declared.fault.SaveFault.TheVariants as save
-
--- a result with a fault in the place of its error
-abbrev pub IsTold : Result (Unit {0}) SaveFault → Result (Unit {0}) Error → Type 0
-IsTold q s = MatchResult s (λ x. q ≡ Ok x) (λ e. IsErrAnd q (λ why. why ≡ save.Statement e))
 
 -- a result with a fault of the commit in the place of its error
 abbrev IsCommitted : Result (Unit {0}) SaveFault → Result (Unit {0}) Error → Type 0
@@ -47,13 +43,6 @@ module _ {S : Type 0} (g : Ghosts S) where
   pub runs_with : (text : List ℕ) (old new : Held S) (answer : Result ℕ Error) (params wanted : Row) → params ≡ wanted
       → Runs g (record { text = text; params = params }) old new answer → Runs g (record { text = text; params = wanted }) old new answer
   runs_with text old new answer params wanted same = subst (λ row. Runs g (record { text = text; params = row }) old new answer) same
-
-  -- the answer of a statement that a call keeps
-  pub is_run : (sql : Sql) (old new : Held S) (r : Result ℕ Error) (u : Unit {0}) (s : Result (Unit {0}) Error) (q : Result (Unit {0}) SaveFault)
-      → s ≡ result_and r (Ok u) → IsTold q s → Runs g sql old new r → IsRun g sql old new q
-  is_run sql old new (Ok count) u s q is told ran = subst (IsRun g sql old new) (sym (subst (IsTold q) is told)) (count, ran)
-  is_run sql old new (Err error) u s (Ok v) is told ran = absurd (subst (IsTold (Ok v)) is told)
-  is_run sql old new (Err error) u s (Err why) is told ran = (error, subst (IsTold (Err why)) is told, ran)
 
   -- none was run
   pub none_begun : (all : List Sql) (now : Held S) → HaveBegun g all now now

@@ -5,7 +5,7 @@ ghost use Rattle.std.specs.Option.{option_or};
 ghost use Rattle.desk_model.specs.{Change.applied_one, Kept.EachOf, Tables.Tables};
 ghost use Rattle.desk_model.specs.Questions.{account_on, authorization_on, order_on};
 ghost use Rattle.desk_model.specs.declared.rows.Change.{Change};
-ghost use Rattle.sql_write.specs.Highest.{IsAbove, PutsNone};
+ghost use Rattle.sql_write.specs.Highest.{IsAbove};
 ghost use Rattle.sql_write.specs.Standing.{known_after, known_challenge, last_given};
 ghost use Rattle.sql_write.specs.Write.{difference, write};
 ghost use Rattle.sql_write.specs.Differences.{account_difference, authorization_difference, challenge_difference, is_same_authorization};

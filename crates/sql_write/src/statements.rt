@@ -53,9 +53,10 @@ pub(crate) fn run<S: Alter>(
     ensures ran { IsRun S.Store (record { text = text.now; params = bound params.now }) tx.old.conn.now tx.new.conn.now result }
     ensures fits { IfErr result IsNotTooLarge }
 {
-    perform(tx, text, params)
-        .and(Ok(()))
-        .map_err(SaveFault::Statement)
+    match perform(tx, text, params) {
+        Ok(_) => Ok(()),
+        Err(error) => Err(SaveFault::Statement(error)),
+    }
 }
 
 /// Runs the statement by which a row is written so, with all its parameters, or with those that renew it.
@@ -81,7 +82,8 @@ pub(crate) fn write_row<S: Alter>(
 
 // ---- the end of a transaction
 
-/// Commits what was done in the transaction, or undoes it where it failed.
+/// Commits what was done in the transaction, or undoes it where it failed. It takes the result for the proof: each of its callers
+/// has one exit so.
 pub(crate) fn end<S: Alter>(
     tx: Transaction<'_, S>,
     done: Result<(), SaveFault>,

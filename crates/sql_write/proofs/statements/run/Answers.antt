@@ -1,6 +1,8 @@
-use Rattle.sql_write.proofs.Told.{is_run}
+use Rattle.std.proofs.Common.{refl}
 use Rattle.sql_write.proofs.statements.run.Goals as goal
 
-pub returns-clause-ran : goal.returns-clause-ran
-returns-clause-ran g c =
-    is_run g.S.Store _ _ _ c.perform.result _ c.and.result c.map_err.result c.and.ensures c.map_err.ensures.cases c.perform.ensures.told
+pub returns-in-Ok-clause-ran : goal.returns-in-Ok-clause-ran
+returns-in-Ok-clause-ran g c = (c.in-Ok.field-0, c.in-Ok.ensures.told)
+
+pub returns-in-Err-clause-ran : goal.returns-in-Err-clause-ran
+returns-in-Err-clause-ran g c = (c.in-Err.error, refl, c.in-Err.ensures.told)
