@@ -19,10 +19,3 @@ pub not_refused : {A B X Y : Type 0} (items : A → List Y) (firsts : List X →
 not_refused items firsts xs (Ok rows) (Ok b) orderly are = tt
 not_refused items firsts xs (Ok rows) (Err why) orderly are = absurd (orderly xs are)
 not_refused items firsts xs (Err e) r orderly are = tt
-
--- what is never refused lacks no memory
-pub never_lacks : {A B : Type 0} (found : Result A StorageFault) (r : Result B StorageFault) → IfOk found (λ read. IfErr r (λ why. ⊥))
-    → IfOk found (λ read. IfErr r LacksMemory)
-never_lacks (Ok a) (Ok b) never = tt
-never_lacks (Ok a) (Err why) never = absurd never
-never_lacks (Err e) r never = tt

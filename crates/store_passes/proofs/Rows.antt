@@ -1,7 +1,7 @@
 -- The rows above a number, one after the other.
 use Rattle.std.proofs.Common.{◌≡◌, ◌<◌, ◌≤◌, ℕ, ◌+◌, List, [], ◌∷◌, ◌++◌, Bool, true, false, cond, refl, sym, ap, subst, ◌∙◌, arith, ltb}
-use Rattle.std.proofs.Common.{Option, None, Some, Result, Ok, Err, IfErr, IfOk}
-use Rattle.std.proofs.lemmas.Result.{IfOk-at_ok, IfOk-weaker}
+use Rattle.std.proofs.Common.{Option, None, Some, Result, IfOk}
+use Rattle.std.proofs.lemmas.Result.{IfOk-weaker}
 use Rattle.std.specs.List.{flat_map}
 use Rattle.std.proofs.lemmas.Bool.{ltb-true, lt-ltb, le-ltb, ltb-false}
 use Rattle.model_laws.specs.Ordered.{Ascends}
@@ -77,19 +77,6 @@ pub nothing_left : {X F : Type 0} (found_at : X → List F) (rows : List X) → 
 nothing_left found_at [] e = refl
 nothing_left found_at (x ∷ xs) e = absurd (cc e)
 
--- what was answered of what was found, where there was no fault
-pub answer_when_found : {V A F Z : Type 0} (P : V → A → Type 0) (Q : V → Type 0) (found : Result V F) (r : Result A F) (a : A) →
-    IfOk found (λ v. IfOk r (P v)) → IfErr found (λ why. r ≡ Err why) → IfOk found Q → r ≡ Ok a → ((v : V) → P v a → Q v → Z) →
-    Z
-answer_when_found P Q (Ok v) r a told passed looked was so = so v (IfOk-at_ok (P v) was told) looked
-answer_when_found P Q (Err why) r a told passed looked was so = absurd (let e = sym passed ∙ was in cc)
-
--- what a look-up told of its first row
-pub first_at : {V X F : Type 0} (items : V → List X) (vs : V) (r : Result (Option X) F) (row : Option X) (all : List X) →
-    IfOk r (λ o. (xs : List X) → items vs ≡ first_of xs → IsFirst o xs) → r ≡ Ok row → items vs ≡ first_of all →
-    IsFirst row all
-first_at {X = X} items vs r row all told was is = IfOk-at_ok (λ o. (xs : List X) → items vs ≡ first_of xs → IsFirst o xs) was told all is
-
 -- where no row is first, there is none
 none_first : {X : Type 0} (rows : List X) → first_of rows ≡ [] → rows ≡ []
 none_first [] e = refl
@@ -110,10 +97,3 @@ pub row_is_after : {X F : Type 0} (number : X → ℕ) (n : ℕ) (all found : Li
     → IfOk r (λ row. (rows : List X) → found ≡ first_of rows → IsFirst row rows) → found ≡ first_of (above number n all)
     → IfOk r (IsRowAfter number all n)
 row_is_after number n all found r ascends told are = IfOk-weaker r _ _ (λ row first. is_after number n all row ascends (first (above number n all) are)) told
-
--- what was made of what was found, where there was no fault
-pub made_when_found : {V A F : Type 0} (P : A → Type 0) (Q Z : V → Type 0) (found : Result V F) (r : Result A F) →
-    IfOk found Z → IfErr found (λ why. r ≡ Err why) → IfOk found Q → ((v : V) → Z v → Q v → IfOk r P) →
-    IfOk r P
-made_when_found P Q Z (Ok v) r told passed looked so = so v told looked
-made_when_found P Q Z (Err why) r told passed looked so = subst (λ q. IfOk q P) (sym passed) tt

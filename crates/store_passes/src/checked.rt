@@ -1,20 +1,17 @@
 //! One step of a pass through the objects of a kind.
-ghost use Rattle.std.specs.Prelude.{◌≡◌, ◌<◌, ℕ, List, Err, IfErr, IfOk, IfSome};
+ghost use Rattle.std.specs.Prelude.{◌≡◌, ◌<◌, ℕ, List, IfOk, IfSome};
 ghost use Rattle.std.specs.List.{flat_map};
-ghost use Rattle.model_laws.specs.Ordered.{Ascends};
-ghost use Rattle.desk_model.specs.Derived.{account_faults, authorization_faults, challenge_faults, numbers_of, order_faults, stored_statuses};
-ghost use Rattle.desk_model.specs.declared.rows.{AuthorizationRow.AuthorizationRow as Authorization, StatusFault.StatusFault as Fault};
-ghost use Rattle.model_lives.specs.Above.{above as rows_above, first_of};
+ghost use Rattle.desk_model.specs.Derived.{account_faults, authorization_faults, challenge_faults};
+ghost use Rattle.desk_model.specs.declared.rows.StatusFault.{StatusFault as Fault};
+ghost use Rattle.model_lives.specs.Above.{above as rows_above};
 ghost use Rattle.store_api.specs.Sight.{ForTables, Reads};
 ghost use Rattle.store_passes.specs.{InOrder.IsInOrder, Left.faults_above, Stepping.Steps};
 ghost use Rattle.store_book.specs.RowFaults.{listed_fault};
 
 use crate::fault_kind::FaultKind;
-use crate::first::first_above;
 use crate::listed::listed_statuses;
-use crate::passed::row_after;
-use desk_book::Row;
-use desk_model::{AccountRow, AuthorizationRow, AuthzStatus, ChallengeRow, OrderRow, StatusFault};
+use crate::passed::{PassedRow, row_after};
+use desk_model::{AccountRow, AuthorizationRow, ChallengeRow, OrderRow, StatusFault};
 use std::alloc::Global;
 use store_api::{RowsAbove, StorageFault};
 use store_book::{account_fault, authorization_fault, challenge_fault, order_fault};
@@ -27,7 +24,7 @@ pub(crate) struct Checked {
 }
 
 /// A row whose status fault its own columns tell.
-trait Faulty: Row {
+trait Faulty: PassedRow {
     // Its faults at a moment.
     ghost faults: { ℕ → Self → List Fault };
 
@@ -60,19 +57,19 @@ impl Faulty for ChallengeRow {
     }
 }
 
-// Checks the row that was found above a number, if one was.
-fn check_first<R: Faulty + Drop>(
-    found: Result<Vec<R>, StorageFault>,
+// Checks the row of the least number above this one, by its own columns.
+fn check_row<R: Faulty + Drop, S: RowsAbove>(
+    alloc: Global,
+    source: &mut S,
     moment: u64,
     above: u64,
 ) -> Result<Option<Checked>, StorageFault>
-    ensures steps { IfOk found (λ rows. (all : List R) (least : ℕ) → Ascends R.number least all → rows.items ≡ first_of (rows_above R.number above all)
-        → IfOk result (λ checked. Steps checked (λ n. flat_map (R.faults moment) (rows_above R.number n all)) above)) }
+    ensures reads { Reads S.sight source.old source.new result }
+    ensures steps { ForTables S.sight source.old source.new (λ T. IsInOrder T →
+        IfOk result (λ checked. Steps checked (λ n. flat_map (R.faults moment) (rows_above R.number n (R.rows T))) above)) }
     ensures onward { IfOk result (λ checked. IfSome checked (λ c. above < c.number)) }
-    ensures orderly { IfOk found (λ rows. (all : List R) → rows.items ≡ first_of (rows_above R.number above all) → IfErr result (λ why. ⊥)) }
-    ensures fails { IfErr found (λ why. result ≡ Err why) }
 {
-    let Some(row) = first_above(found, above)? else {
+    let Some(row) = row_after::<R, S>(alloc, source, above)? else {
         return Ok(None);
     };
     Ok(Some(Checked {
@@ -96,28 +93,11 @@ fn check_order<S: RowsAbove>(
     let Some(row) = row_after::<OrderRow, S>(alloc, source, above)? else {
         return Ok(None);
     };
-    let number = row.number;
-    let statuses = listed_statuses(alloc, source, row.listed.as_slice());
-    let fault = order_fault_by(moment, &row, statuses);
-    drop(row);
+    let statuses = listed_statuses(alloc, source, row.listed.as_slice())?;
     Ok(Some(Checked {
-        number,
-        fault: fault?,
+        number: row.number,
+        fault: order_fault(moment, &row, &statuses),
     }))
-}
-
-// The fault of an order by the stored statuses of the authorizations that it lists, if these were read.
-fn order_fault_by(
-    moment: u64,
-    row: &OrderRow,
-    statuses: Result<Vec<AuthzStatus>, StorageFault>,
-) -> Result<Option<StatusFault>, StorageFault>
-    ensures fault { IfOk statuses (λ read. IfOk result (λ fault. (rows : List Authorization) → stored_statuses rows (numbers_of row.now.listed) ≡ read.items
-        → listed_fault fault ≡ order_faults moment rows row.now)) }
-    ensures told { IfOk statuses (λ read. IfErr result (λ why. ⊥)) }
-    ensures fails { IfErr statuses (λ why. result ≡ Err why) }
-{
-    Ok(order_fault(moment, row, &statuses?))
 }
 
 /// Checks the object of a kind that has the least number above this one, at a moment.
@@ -134,11 +114,9 @@ pub(crate) fn check_after<S: RowsAbove>(
     ensures onward { IfOk result (λ checked. IfSome checked (λ c. above < c.number)) }
 {
     match kind {
-        FaultKind::Account => check_first(source.account_above(alloc, above), moment, above),
+        FaultKind::Account => check_row::<AccountRow, S>(alloc, source, moment, above),
         FaultKind::Order => check_order(alloc, source, moment, above),
-        FaultKind::Authorization => {
-            check_first(source.authorization_above(alloc, above), moment, above)
-        }
-        FaultKind::Challenge => { check_first(source.challenge_above(alloc, above), moment, above) }
+        FaultKind::Authorization => check_row::<AuthorizationRow, S>(alloc, source, moment, above),
+        FaultKind::Challenge => check_row::<ChallengeRow, S>(alloc, source, moment, above),
     }
 }

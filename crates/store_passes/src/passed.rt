@@ -88,5 +88,6 @@ pub fn row_after<R: PassedRow + Drop, S: RowsAbove>(
     ensures next { ForTables S.sight source.old source.new (λ T. IfOk result (IsRowAfter R.number (R.rows T) above)) }
     ensures onward { IfOk result (λ row. IfSome row (λ r. above < R.number r)) }
 {
-    first_above(R::found_above(alloc, source, above), above)
+    let rows = R::found_above(alloc, source, above)?;
+    first_above(rows, above)
 }
