@@ -13,17 +13,18 @@ use Rattle.desk_model.specs.Tables.{Tables, picture}
 use Rattle.desk_model.specs.{History.first_history, Terms.Terms}
 use Rattle.sql_schema.specs.Names.{uses_names}
 use Rattle.store_api.specs.Sight.{Keeps, Opens}
-use Rattle.desk_store.specs.{Causes.cause_of, Desks.AreOfDesk, declared.faults.Cause.Cause, declared.open_fault.OpenFault.OpenFault, declared.store.Store.Store}
+use Rattle.desk_store.specs.{Causes.cause_of, Desks.AreOfDesk}
+use Rattle.desk_store.specs.declared.{faults.EngineCause.EngineCause, open_fault.OpenFault.OpenFault, store.Store.Store}
 use Rattle.desk_store.specs.Making.{FailedToMake, IsOfStorage}
 use Rattle.desk_store.specs.Opening.{FailedToOpen, ShowsNewerFormat}
 use Rattle.store_api.specs.declared.fault.StorageFault.{StorageFault}
 use Rattle.store_api.specs.declared.fault.StorageFault.TheVariants as fault
-use Rattle.desk_store.specs.declared.faults.Cause.TheVariants as cause
+use Rattle.desk_store.specs.declared.faults.EngineCause.TheVariants as cause
 use Rattle.desk_store.specs.declared.open_fault.OpenFault.TheVariants.{NewerFormat, NotADesk, Storage}
 use Rattle.desk_files.specs.LeftFiles.{AreOfOpening, LeftFiles, file_sight, schema_in}
 
 -- memory was refused, or the disk failed
-abbrev pub fault_of_files : Cause → StorageFault
+abbrev pub fault_of_files : EngineCause → StorageFault
 fault_of_files cause.Memory = fault.Memory
 fault_of_files _ = fault.Device
 

@@ -1,7 +1,7 @@
 //! The end of a desk over two files.
-ghost use Rattle.std.specs.Prelude.{◌≡◌, IfErr, IfOk};
-ghost use Rattle.sqlite.specs.FileStore.{recovers, view};
-ghost use Rattle.sqlite.specs.{Tree.Trees, View.IsClean};
+ghost use Rattle.std.specs.Prelude.{IfErr, IfOk};
+ghost use Rattle.sqlite.specs.FileStore.{recovers};
+ghost use Rattle.sqlite.specs.Tree.{Trees};
 ghost use Rattle.desk_files.specs.Closing.{EndsAsStop, FailedToCloseBy, KeepsInFile, LeavesAsStop, WasHonest};
 ghost use Rattle.desk_store.specs.Making.{IsOfStorage};
 

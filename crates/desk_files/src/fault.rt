@@ -3,7 +3,7 @@ ghost use Rattle.std.specs.Prelude.{◌≡◌};
 ghost use Rattle.desk_store.specs.Causes.{cause_of};
 ghost use Rattle.desk_files.specs.Opening.{fault_of_close, fault_of_files, fault_of_refusal};
 
-use desk_store::{Cause, OpenFault, cause_of};
+use desk_store::{EngineCause, OpenFault, cause_of};
 use sqlite::{Error, ErrorCode};
 use store_api::StorageFault;
 
@@ -32,7 +32,7 @@ fn files_fault(error: Error) -> StorageFault
     ensures { result ≡ fault_of_files (cause_of error) }
 {
     match cause_of(error) {
-        Cause::Memory => StorageFault::Memory,
-        Cause::Device | Cause::Other => StorageFault::Device,
+        EngineCause::Memory => StorageFault::Memory,
+        EngineCause::Device | EngineCause::Other => StorageFault::Device,
     }
 }

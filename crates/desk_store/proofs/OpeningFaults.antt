@@ -19,8 +19,8 @@ use Rattle.store_api.specs.declared.fault.StorageFault.{StorageFault}
 use Rattle.store_api.specs.declared.fault.StorageFault.TheVariants as fault
 use Rattle.desk_store.specs.Causes.{IsMetFault, IsOfOpening, IsOfReading, IsOfStatement, cause_of}
 use Rattle.desk_store.specs.{Making.IsOfStorage, Opening.RefusesReading}
-use Rattle.desk_store.specs.declared.faults.Cause.TheVariants as cause
-use Rattle.desk_store.specs.declared.{faults.Cause.Cause, open_fault.OpenFault.OpenFault}
+use Rattle.desk_store.specs.declared.faults.EngineCause.TheVariants as cause
+use Rattle.desk_store.specs.declared.{faults.EngineCause.EngineCause, open_fault.OpenFault.OpenFault}
 use Rattle.desk_store.specs.declared.open_fault.OpenFault.TheVariants.{NewerFormat, NotADesk, Storage}
 
 -- a failure of memory or of the disk is the store's
@@ -34,14 +34,14 @@ failure_is_storage error why (inr (inr (inl corrupt))) is = (fault.Device, subst
 failure_is_storage error why (inr (inr (inr full))) is = (fault.Device, subst (λ e. IsOfOpening (cause_of e) why) full is)
 
 -- a reading that failed tells of no later format
-pub reading_is_known : (cause : Cause) (why : OpenFault) → IsOfOpening cause why → why ≡ NewerFormat → ⊥
+pub reading_is_known : (cause : EngineCause) (why : OpenFault) → IsOfOpening cause why → why ≡ NewerFormat → ⊥
 reading_is_known cause.Memory why (inl goes_on) newer = absurd (let e = sym goes_on ∙ newer in cc)
 reading_is_known cause.Memory why (inr shut) newer = absurd (let e = sym shut ∙ newer in cc)
 reading_is_known cause.Device why is newer = absurd (let e = sym is ∙ newer in cc)
 reading_is_known cause.Other why is newer = absurd (let e = sym is ∙ newer in cc)
 
 -- one that tells of no desk failed for neither memory nor the disk
-pub no_desk_is_other : (from : Cause) (why : OpenFault) → IsOfOpening from why → why ≡ NotADesk → from ≡ cause.Other
+pub no_desk_is_other : (from : EngineCause) (why : OpenFault) → IsOfOpening from why → why ≡ NotADesk → from ≡ cause.Other
 no_desk_is_other cause.Memory why (inl goes_on) none = absurd (let e = sym goes_on ∙ none in cc)
 no_desk_is_other cause.Memory why (inr shut) none = absurd (let e = sym shut ∙ none in cc)
 no_desk_is_other cause.Device why is none = absurd (let e = sym is ∙ none in cc)
@@ -130,7 +130,7 @@ of_device (error.IntegralValueOutOfRange at) is = absurd (let e = is in cc)
 of_device (error.Utf8Error at) is = absurd (let e = is in cc)
 
 -- a reading that failed is told as the disk's by such an error
-told_of_device : (c : Cause) (f : OpenFault) → IsOfOpening c f → f ≡ Storage fault.Device → c ≡ cause.Device
+told_of_device : (c : EngineCause) (f : OpenFault) → IsOfOpening c f → f ≡ Storage fault.Device → c ≡ cause.Device
 told_of_device cause.Memory f (inl goes_on) is = absurd (let e = sym goes_on ∙ is in cc)
 told_of_device cause.Memory f (inr shut) is = absurd (let e = sym shut ∙ is in cc)
 told_of_device cause.Device f told is = refl

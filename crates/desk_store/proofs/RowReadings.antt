@@ -14,7 +14,7 @@ use Rattle.store_api.specs.declared.fault.StorageFault.TheVariants.{Memory}
 use Rattle.desk_store.specs.Causes.{IsOfOpening, cause_of}
 use Rattle.desk_store.specs.Desks.{HasDesk}
 use Rattle.desk_store.specs.Opening.{ReadsRows, ShowsBook, ShowsFirstBook, ShowsNoBook, ShowsNoFirstBook}
-use Rattle.desk_store.specs.declared.faults.Cause.TheVariants as cause
+use Rattle.desk_store.specs.declared.faults.EngineCause.TheVariants as cause
 use Rattle.desk_store.specs.declared.open_fault.OpenFault.{OpenFault}
 use Rattle.desk_store.specs.declared.open_fault.OpenFault.TheVariants.{NotADesk, Storage}
 use Rattle.desk_store.proofs.{Books.always_ok, Upgrading.first_unchanged}

@@ -18,14 +18,14 @@ use Rattle.sql_write.specs.declared.fault.SaveFault.TheVariants.{Row, Statement,
 use Rattle.store_api.specs.Storing.{Saving}
 use Rattle.store_api.specs.declared.fault.StorageFault.{StorageFault}
 use Rattle.store_api.specs.declared.fault.StorageFault.TheVariants as fault
-use Rattle.desk_store.specs.declared.faults.Cause.{Cause}
-use Rattle.desk_store.specs.declared.faults.Cause.TheVariants as cause
+use Rattle.desk_store.specs.declared.faults.EngineCause.{EngineCause}
+use Rattle.desk_store.specs.declared.faults.EngineCause.TheVariants as cause
 use Rattle.desk_store.specs.declared.open_fault.OpenFault.{OpenFault}
 use Rattle.desk_store.specs.declared.open_fault.OpenFault.TheVariants.{NotADesk, Storage}
 use Rattle.sql_write.specs.declared.fault.WriteFault.TheVariants as write
 
 -- memory, the disk or a size, or anything else
-abbrev pub cause_of : Error → Cause
+abbrev pub cause_of : Error → EngineCause
 cause_of (SqliteFailure code.OutOfMemory) = cause.Memory
 cause_of (SqliteFailure code.SystemIoFailure) = cause.Device
 cause_of (SqliteFailure code.DatabaseCorrupt) = cause.Device
@@ -54,13 +54,13 @@ module _ {S : Type 0} (g : Ghosts S) where
     pub shut : HasCleanDisk (state g new) → why ≡ fault.Reopen → IsShut old new
 
 -- the fault of a statement that failed
-abbrev pub IsOfStatement : Cause → StorageFault → Type 0
+abbrev pub IsOfStatement : EngineCause → StorageFault → Type 0
 IsOfStatement cause.Memory f = IsOfMemory f
 IsOfStatement cause.Device f = f ≡ fault.Device
 IsOfStatement cause.Other f = f ≡ fault.Device
 
 -- the fault of a commit that failed
-abbrev pub commit_fault : Cause → StorageFault
+abbrev pub commit_fault : EngineCause → StorageFault
 commit_fault cause.Device = fault.Device
 commit_fault _ = fault.Reopen
 
@@ -112,7 +112,7 @@ module _ {S : Type 0} (g : Ghosts S) where
       old.in_transaction ≡ false → FailedToChange (Some saving.part) saving.changes old new why
 
 -- the fault of a reading that failed in opening: of memory, the disk or a size it is the store's, else there is no desk
-abbrev pub IsOfOpening : Cause → OpenFault → Type 0
+abbrev pub IsOfOpening : EngineCause → OpenFault → Type 0
 IsOfOpening cause.Memory f = (f ≡ Storage fault.Memory) ⊎ (f ≡ Storage fault.Reopen)
 IsOfOpening cause.Device f = f ≡ Storage fault.Device
 IsOfOpening cause.Other f = f ≡ NotADesk

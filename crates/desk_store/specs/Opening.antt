@@ -16,7 +16,7 @@ use Rattle.store_api.specs.declared.fault.{StorageFault.StorageFault, StorageFau
 use Rattle.desk_store.specs.Causes.{FailedToRead, FailedToSave, IsMetFault, LeavesNothing, cause_of}
 use Rattle.desk_store.specs.Desks.{AreOfDesk, HasDesk}
 use Rattle.desk_store.specs.Making.{IsOfStorage}
-use Rattle.desk_store.specs.declared.faults.Cause.TheVariants as cause
+use Rattle.desk_store.specs.declared.faults.EngineCause.TheVariants as cause
 use Rattle.desk_store.specs.declared.open_fault.OpenFault.{OpenFault}
 use Rattle.desk_store.specs.declared.open_fault.OpenFault.TheVariants.{NewerFormat, NotADesk, Storage}
 use Rattle.sql_upgrade.specs.FirstDesks.{HasFirst, HasSecond, IsAdded}

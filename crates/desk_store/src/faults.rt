@@ -15,7 +15,7 @@ use store_api::StorageFault;
 
 /// What an error of the engine comes from.
 #[derive(Clone, Copy)]
-pub enum Cause {
+pub enum EngineCause {
     /// A growth was refused.
     Memory,
     /// The disk failed, or a row is too large for it.
@@ -26,19 +26,19 @@ pub enum Cause {
 
 /// What an error of the engine comes from: `OutOfMemory` from memory; a failure of the system's calls, pages that are
 /// corrupt, a full disk and a row that is too large from the device.
-pub fn cause_of(error: Error) -> Cause
+pub fn cause_of(error: Error) -> EngineCause
     ensures { result ≡ cause_of error }
 {
     match error {
         Error::SqliteFailure(code) => match code {
-            ErrorCode::OutOfMemory => Cause::Memory,
+            ErrorCode::OutOfMemory => EngineCause::Memory,
             ErrorCode::SystemIoFailure
             | ErrorCode::DatabaseCorrupt
             | ErrorCode::DiskFull
-            | ErrorCode::TooBig => Cause::Device,
-            _ => Cause::Other,
+            | ErrorCode::TooBig => EngineCause::Device,
+            _ => EngineCause::Other,
         },
-        _ => Cause::Other,
+        _ => EngineCause::Other,
     }
 }
 
@@ -85,8 +85,8 @@ pub(crate) fn statement_fault<S: Alter>(conn: &mut Connection<S>, error: Error) 
     ensures asks { Asks (state S.Store conn.old) (state S.Store conn.new) }
 {
     match cause_of(error) {
-        Cause::Memory => memory_fault(conn),
-        Cause::Device | Cause::Other => StorageFault::Device,
+        EngineCause::Memory => memory_fault(conn),
+        EngineCause::Device | EngineCause::Other => StorageFault::Device,
     }
 }
 
@@ -95,8 +95,8 @@ pub(crate) fn commit_fault(error: Error) -> StorageFault
     ensures { result ≡ commit_fault (cause_of error) }
 {
     match cause_of(error) {
-        Cause::Device => StorageFault::Device,
-        Cause::Memory | Cause::Other => StorageFault::Reopen,
+        EngineCause::Device => StorageFault::Device,
+        EngineCause::Memory | EngineCause::Other => StorageFault::Reopen,
     }
 }
 

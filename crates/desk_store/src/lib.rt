@@ -10,7 +10,7 @@ mod open_fault;
 mod opening;
 mod store;
 
-pub use faults::{Cause, cause_of};
+pub use faults::{EngineCause, cause_of};
 pub use laws::desks_are_books;
 pub use open_fault::OpenFault;
 pub use store::{Store, Unopened};

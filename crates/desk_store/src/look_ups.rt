@@ -41,7 +41,7 @@ impl<S: Alter> LookUps for Store<S> {
 
     fn find_accounts(&mut self, alloc: Global, which: AccountsWhere<'_>) -> Found<AccountRow> {
         let read = rows::find_accounts(alloc, &mut self.conn, which);
-        self.told(read)
+        self.or_fault(read)
     }
 
     fn find_orders(&mut self, alloc: Global, which: OrdersWhere) -> Found<OrderRow> {
@@ -49,7 +49,7 @@ impl<S: Alter> LookUps for Store<S> {
             return Ok(Vec::new(alloc));
         }
         let read = rows::find_orders(alloc, &mut self.conn, which);
-        self.told(read)
+        self.or_fault(read)
     }
 
     fn find_authorizations(
@@ -61,32 +61,32 @@ impl<S: Alter> LookUps for Store<S> {
             return Ok(Vec::new(alloc));
         }
         let read = rows::find_authorizations(alloc, &mut self.conn, which);
-        self.told(read)
+        self.or_fault(read)
     }
 
     fn bare_orders_of(&mut self, alloc: Global, account: u64) -> Found<OrderRow> {
         let read = rows::bare_orders_of(alloc, &mut self.conn, account);
-        self.told(read)
+        self.or_fault(read)
     }
 
     fn bare_authorizations(&mut self, alloc: Global, number: u64) -> Found<AuthorizationRow> {
         let read = rows::bare_authorizations(alloc, &mut self.conn, number);
-        self.told(read)
+        self.or_fault(read)
     }
 
     fn orders_listing(&mut self, alloc: Global, authorization: u64) -> Found<u64> {
         let read = rows::orders_listing(alloc, &mut self.conn, authorization);
-        self.told(read)
+        self.or_fault(read)
     }
 
     fn owners_of(&mut self, alloc: Global, challenge: u64) -> Found<u64> {
         let read = rows::owners_of(alloc, &mut self.conn, challenge);
-        self.told(read)
+        self.or_fault(read)
     }
 
     fn waiting_challenges(&mut self, alloc: Global) -> Found<Owned<ChallengeRow>> {
         let read = rows::waiting_challenges(alloc, &mut self.conn);
-        self.told(read)
+        self.or_fault(read)
     }
 }
 
@@ -95,22 +95,22 @@ impl<S: Alter> LookUps for Store<S> {
 impl<S: Alter> RowsAbove for Store<S> {
     fn account_above(&mut self, alloc: Global, number: u64) -> Found<AccountRow> {
         let read = rows::account_above(alloc, &mut self.conn, number);
-        self.told(read)
+        self.or_fault(read)
     }
 
     fn order_above(&mut self, alloc: Global, number: u64) -> Found<OrderRow> {
         let read = rows::order_above(alloc, &mut self.conn, number);
-        self.told(read)
+        self.or_fault(read)
     }
 
     fn authorization_above(&mut self, alloc: Global, number: u64) -> Found<AuthorizationRow> {
         let read = rows::authorization_above(alloc, &mut self.conn, number);
-        self.told(read)
+        self.or_fault(read)
     }
 
     fn challenge_above(&mut self, alloc: Global, number: u64) -> Found<ChallengeRow> {
         let read = rows::challenge_above(alloc, &mut self.conn, number);
-        self.told(read)
+        self.or_fault(read)
     }
 
     ghost books = { λ store T has. has.desk.desk.book.book };
@@ -156,7 +156,7 @@ impl<S: Alter> Store<S> {
         ensures found { ForTables (store_sight S.Store) self.old self.new (λ T. IfOk result (λ meta. meta ≡ T.meta)) }
     {
         let read = rows::meta_row(alloc, &mut self.conn);
-        match self.told(read) {
+        match self.or_fault(read) {
             Ok(meta) => {
                 self.known.note_meta(&meta);
                 Ok(meta)
@@ -178,7 +178,7 @@ impl<S: Alter> Store<S> {
             return Ok(true);
         }
         let read = rows::earliest_issue(&mut self.conn);
-        match self.told(read) {
+        match self.or_fault(read) {
             Ok(earliest) => {
                 self.known.note_issue(earliest);
                 Ok(self.known.first_issue() >= moment)
@@ -200,7 +200,7 @@ impl<S: Alter> Store<S> {
             return Ok(true);
         }
         let read = rows::earliest_order_end(&mut self.conn, status);
-        match self.told(read) {
+        match self.or_fault(read) {
             Ok(earliest) => {
                 self.known.note_order_end(status, earliest);
                 Ok(self.known.order_end(status) >= moment)
@@ -227,7 +227,7 @@ impl<S: Alter> Store<S> {
             return Ok(true);
         }
         let read = rows::earliest_authorization_end(&mut self.conn, status);
-        match self.told(read) {
+        match self.or_fault(read) {
             Ok(earliest) => {
                 self.known.note_authorization_end(status, earliest);
                 Ok(self.known.authorization_end(status) >= moment)
@@ -253,7 +253,7 @@ impl<S: Alter> Store<S> {
             return Ok(Vec::new(alloc));
         }
         let read = rows::find_nonces(alloc, &mut self.conn, which);
-        self.told(read)
+        self.or_fault(read)
     }
 
     /// Whether a query has no nonces; where it answers `false`, it may have some.

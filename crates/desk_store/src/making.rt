@@ -1,8 +1,7 @@
 //! The making of a desk.
-ghost use Rattle.std.specs.Prelude.{◌≡◌, false, None, OnOk, OnErr, IfErr, Err, IsTrue};
+ghost use Rattle.std.specs.Prelude.{◌≡◌, false, OnOk, OnErr, IfErr, Err, IsTrue};
 ghost use Rattle.sqlite.specs.State.{HasCleanDisk, Survives};
 ghost use Rattle.sqlite.specs.Held.{state};
-ghost use Rattle.desk_model.specs.{History.first_history, Tables.picture};
 ghost use Rattle.sql_write.specs.Committing.{GoesBack};
 ghost use Rattle.store_api.specs.declared.fault.StorageFault.TheVariants.{Memory as memory};
 ghost use Rattle.desk_store.specs.Making.{FailedToDefine, IsNewDesk, Makes};

@@ -10,15 +10,15 @@ ghost use Rattle.store_api.specs.declared.fault.StorageFault.TheVariants.{Memory
 ghost use Rattle.desk_store.specs.Causes.{IsMetFault, IsOfOpening, IsShut, IsSilent, cause_of};
 ghost use Rattle.desk_store.specs.Desks.{AreOfDesk, HasDesk};
 ghost use Rattle.desk_store.specs.Making.{IsOfStorage};
-ghost use Rattle.desk_store.specs.Opening.{FailedToOpen, FailedToWiden, HasLaterFormat, IsUpgraded, IsWhole, IsWholeFirst, ShowsBook, ShowsFirstBook};
+ghost use Rattle.desk_store.specs.Opening.{FailedToOpen, FailedToWiden, HasLaterFormat, ShowsFirstBook};
 ghost use Rattle.desk_store.specs.Opening.{OpensKnown, ReadsDesk, ReadsFirst, RefusesFormat, ShowsKnownFormat, ShowsNewerFormat};
-ghost use Rattle.desk_store.specs.Opening.{ShowsNoBook, ShowsNoDesk, ShowsNoFirstBook, ShowsNoLaterFormat};
+ghost use Rattle.desk_store.specs.Opening.{ShowsNoDesk, ShowsNoFirstBook, ShowsNoLaterFormat};
 ghost use Rattle.desk_store.specs.declared.open_fault.OpenFault.TheVariants.{NewerFormat as newer_format, NotADesk as not_a_desk, Storage as of_storage};
 ghost use Rattle.sql_upgrade.specs.FirstDesks.{BringsDesk, HasFirst, HasSecond, IsAdded, IsOfBook, UpgradesDesk};
 ghost use Rattle.store_laws.specs.Blank.{blank};
 ghost use Rattle.store_book.specs.IsBook.{IsBookOfStored};
 
-use crate::faults::{Cause, cause_of, memory_fault, saving_fault};
+use crate::faults::{EngineCause, cause_of, memory_fault, saving_fault};
 use crate::open_fault::OpenFault;
 use desk_book::Book;
 use sql_read::{has_book_rows, is_newer, load_first, load_stored};
@@ -38,9 +38,9 @@ fn opening_fault<S: Alter>(conn: &mut Connection<S>, error: Error) -> OpenFault
     ensures asks { Asks (state S.Store conn.old) (state S.Store conn.new) }
 {
     match cause_of(error) {
-        Cause::Memory => OpenFault::Storage(memory_fault(conn)),
-        Cause::Device => OpenFault::Storage(StorageFault::Device),
-        Cause::Other => OpenFault::NotADesk,
+        EngineCause::Memory => OpenFault::Storage(memory_fault(conn)),
+        EngineCause::Device => OpenFault::Storage(StorageFault::Device),
+        EngineCause::Other => OpenFault::NotADesk,
     }
 }
 

@@ -183,7 +183,7 @@ impl<S: Alter> Store<S> {
         ensures answering { IfErr result (λ why. HasCleanDisk (state S.Store self.new.conn) → why ≡ memory → IsTrue (state S.Store self.new.conn).is_open) }
     {
         let read = meta_row(alloc, &mut self.conn);
-        match self.told(read) {
+        match self.or_fault(read) {
             Ok(meta) => Ok(meta.policy),
             Err(fault) => Err(fault),
         }
@@ -247,7 +247,7 @@ impl<S: Alter> Store<S> {
     }
 
     // What a reading found, or the fault of the store where it failed.
-    pub(crate) fn told<R>(&mut self, read: Result<R, ReadFault>) -> Result<R, StorageFault>
+    pub(crate) fn or_fault<R>(&mut self, read: Result<R, ReadFault>) -> Result<R, StorageFault>
         ensures reads { (was : Store S) → was.known ≡ self.old.known → Asks (state S.Store was.conn) (state S.Store self.old.conn)
             → (HasCleanDisk (state S.Store self.old.conn) → OnOk read (IsUnchanged (state S.Store was.conn) (state S.Store self.old.conn)))
             → (ForHeld (state S.Store was.conn) (state S.Store self.old.conn) (λ T. IsStoredBook T → MayRead (state S.Store was.conn)

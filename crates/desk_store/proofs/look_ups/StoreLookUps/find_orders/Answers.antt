@@ -5,6 +5,6 @@ use Rattle.desk_store.proofs.look_ups.StoreLookUps.find_orders.Goals as goal
 pub returns : goal.returns
 returns g c =
     let read = c.find_orders-read.ensures in
-    handed_on g.S.Store c.told.result c.in_ok-has_no_orders.ensures.reads
-    (handed g.S.Store read (c.told.ensures.reads c.has_no_orders.new.self refl read.asks read.unchanged read.caused) c.told.ensures.found
-    c.told.ensures.honest)
+    handed_on g.S.Store c.or_fault.result c.in_ok-has_no_orders.ensures.reads
+    (handed g.S.Store read (c.or_fault.ensures.reads c.has_no_orders.new.self refl read.asks read.unchanged read.caused) c.or_fault.ensures.found
+    c.or_fault.ensures.honest)

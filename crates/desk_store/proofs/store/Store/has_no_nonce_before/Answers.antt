@@ -14,17 +14,17 @@ pub returns-in-Ok : goal.returns-in-Ok
 returns-in-Ok g c =
     let old = c.args.self.now in
     let read = c.earliest_issue-read.ensures in
-    let mid = c.told.new.self in
+    let mid = c.or_fault.new.self in
     let known = c.note_issue.new.self in
     let knows = notes_on g.S.Store (λ T. IsEarliest (issues T)) old c.earliest_issue-read.new.conn mid known _ c.in-Ok.earliest
-    (λ clean T held book. read.found clean T held) c.in-Ok.ensures.found c.told.ensures.honest
+    (λ clean T held book. read.found clean T held) c.in-Ok.ensures.found c.or_fault.ensures.honest
     (issue_noted mid.known known c.in-Ok.earliest c.note_issue.ensures) in
     record {
       reads = reads_knowing g.S.Store old mid (record { conn = mid.conn; known = known }) c.in-Ok.earliest _ refl
           (c.in-Ok.ensures.reads old refl read.asks read.unchanged read.caused) knows;
       found = λ clean T has none.
           no_nonces_before known T c.args.moment c.first_issue-in-Ok.result
-          (knows clean T has (subst (λ k. IsKnownOf k T) (sym c.told.ensures.known) has.known)) c.first_issue-in-Ok.ensures
+          (knows clean T has (subst (λ k. IsKnownOf k T) (sym c.or_fault.ensures.known) has.known)) c.first_issue-in-Ok.ensures
           (not_late c.args.moment c.first_issue-in-Ok.result none);
     }
 

@@ -14,17 +14,17 @@ pub returns-in-Ok : goal.returns-in-Ok
 returns-in-Ok g c =
     let old = c.args.self.now in
     let read = c.earliest_order_end-read.ensures in
-    let mid = c.told.new.self in
+    let mid = c.or_fault.new.self in
     let known = c.note_order_end.new.self in
     let knows = notes_on g.S.Store (λ T. IsEarliest (order_ends T c.args.status)) old c.earliest_order_end-read.new.conn mid known _ c.in-Ok.earliest
-    (λ clean T held book. read.found clean T held) c.in-Ok.ensures.found c.told.ensures.honest
+    (λ clean T held book. read.found clean T held) c.in-Ok.ensures.found c.or_fault.ensures.honest
     (order_end_noted mid.known known c.args.status c.in-Ok.earliest c.note_order_end.ensures) in
     record {
       reads = reads_knowing g.S.Store old mid (record { conn = mid.conn; known = known }) c.in-Ok.earliest _ refl
           (c.in-Ok.ensures.reads old refl read.asks read.unchanged read.caused) knows;
       found = λ clean T has none.
           no_orders_past known T c.args.status c.args.moment c.order_end-in-Ok.result
-          (knows clean T has (subst (λ k. IsKnownOf k T) (sym c.told.ensures.known) has.known)) c.order_end-in-Ok.ensures
+          (knows clean T has (subst (λ k. IsKnownOf k T) (sym c.or_fault.ensures.known) has.known)) c.order_end-in-Ok.ensures
           (not_late c.args.moment c.order_end-in-Ok.result none);
     }
 
