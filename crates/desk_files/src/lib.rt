@@ -1,4 +1,4 @@
-//! Desks in two files: made, opened, closed, for all bytes that these may hold.
+//! Desks in two files: made, opened, closed, for all bytes that these may hold. `app_files` opens the desk at a path by it.
 //!
 //! The two are the database at a path and the log beside it. A contract here stands over whatever bytes they held before the
 //! call, while the disk is clean: nobody else writes them, and the disk returns what was written. Then

@@ -1,4 +1,5 @@
-//! The tables of a desk over a connection of `sqlite`.
+//! The tables of a desk over a connection of `sqlite`: made, opened, looked up and saved. It is the `Storage` that a desk in a file
+//! stands on; `desk_files` and `app_files` make and open it.
 #![tactic(auto)]
 
 mod faults;

@@ -1,4 +1,5 @@
-//! The rows of a desk, read from the tables of its database.
+//! The rows of a desk, read from the tables of its database: looked up by queries, read whole, or checked one after the other.
+//! `desk_store` answers look-ups and opens a file by it, and `sql_upgrade` reads a file of format 1.
 #![tactic(auto)]
 
 mod accounts;

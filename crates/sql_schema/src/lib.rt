@@ -1,5 +1,6 @@
 //! The schema of a desk's file, format 2, and that of format 1: its tables and indexes, and what the statements that make them do. The
-//! texts of all statements stand here, once, those on a table in its module: code and definitions take them from there.
+//! texts of all statements stand here, once, those on a table in its module: `sql_write`, `sql_read` and the definitions of `sql_tables`
+//! take them from there.
 #![tactic(auto)]
 
 pub mod accounts;

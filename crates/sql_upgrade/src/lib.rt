@@ -1,4 +1,4 @@
-//! A desk in a database of format 1 becomes the same desk in format 2.
+//! A desk in a database of format 1 becomes the same desk in format 2. `desk_store` does so where it opens such a file.
 #![tactic(auto)]
 
 mod additions;

@@ -1,4 +1,5 @@
-//! Changes of a desk's rows, made in its database by one transaction, and the making of that database.
+//! Changes of a desk's rows, made in its database by one transaction, and the making of that database. `desk_store` saves calls by
+//! it, and `sql_upgrade` brings a file of format 1 into today's.
 #![tactic(auto)]
 
 mod accounts;

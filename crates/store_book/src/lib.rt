@@ -1,4 +1,5 @@
 //! The rows of a file's tables: made into a book, or checked one after the other, as they come by key; and the check of their statuses.
+//! `desk_store` opens a file by these, `sql_read` checks its rows as it reads them, and `store_passes` looks for status faults.
 #![tactic(auto)]
 
 mod accounts;

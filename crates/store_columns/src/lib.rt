@@ -1,4 +1,5 @@
-//! The columns of the tables, and the rows that they spell.
+//! The columns of the tables of a desk's file, and the rows that they spell, both ways. `store_book` makes a book of such rows; the
+//! `sql_` crates read and write them.
 #![tactic(auto)]
 
 mod accounts;

@@ -1,4 +1,5 @@
-//! Passes through the rows of a desk that keep one object's rows at a time: those of a table, and its status faults.
+//! Passes through the rows of a desk that keep one object's rows at a time: those of a table, and its status faults. They go over any
+//! store whose rows can be found above a number; `app_reports` lists rows and faults by them.
 #![tactic(auto)]
 
 mod checked;
