@@ -1,13 +1,13 @@
 //! What requests ask, by method, path and body: an envelope of the front, or a word of the office.
-ghost use Rattle.std.specs.Prelude.{◌≡◌, None, IfOk, MatchOption};
+ghost use Rattle.std.specs.Prelude.{◌≡◌, ℕ, List, IfOk, MatchOption};
 ghost use Rattle.http_routes.specs.Request.{IsAskIn, IsFailAsk, IsOfText, IsOfficeAsk, IsPlace, IsReportAsk, IsSignedAsk, IsUnserved, certify_ask};
 ghost use Rattle.http_routes.specs.Request.{refused_reply};
-ghost use Rattle.http_routes.specs.Routes.{IsResourceAt};
+ghost use Rattle.http_routes.specs.Routes.{IsResourceAt, has_index};
 ghost use Rattle.http_routes.specs.Envelopes.{IsKeyRead, IsSignedAskIn, formed_nonce, has_nonce_form, nonce_in};
 ghost use Rattle.serde_json.specs.View.{view};
 ghost use Rattle.http_routes.specs.Offices.{body_in, error_in, fetch_error, finding, finding_in, records_in};
 
-use crate::routes::{OfficeResource, Resource, Routes, has_index, methods_of, resource_at, serves};
+use crate::routes::{OfficeResource, Resource, Routes, methods_of, resource_at, serves};
 use desk_model::{
     Allow, Ask, BadKey, FetchError, Finding, Jwk, OfficeAsk, Refusal, Reply, Sequence, Signed,
     Target, Text, has_base64url_bytes,
@@ -57,7 +57,7 @@ pub enum Place {
     Unserved(RequestRefusal),
 }
 
-/// Where a request of this method and path goes (RFC 8555, 7.1).
+/// Where a request of this method and path goes (RFC 8555, 7.1); `index` is whether a reply at the path has the link to the directory.
 ///
 /// # Errors
 ///
@@ -67,22 +67,23 @@ pub fn place_of(
     routes: &mut Routes,
     method: &str,
     path: &str,
+    index: bool,
 ) -> Result<Place, AllocError>
+    requires { index ≡ has_index path.now }
     ensures { IfOk result (λ p. IsPlace method.now path.now p) }
 {
     let found = resource_at(alloc, routes, path)?;
     match found {
         Some(resource) if serves(methods_of(resource), method) => Ok(Place::Served(resource)),
-        _ => Ok(Place::Unserved(unserved_at(found, path))),
+        _ => Ok(Place::Unserved(unserved_at(found, index))),
     }
 }
 
-// How a request of a method that this path does not serve is refused, by what it leads to.
-fn unserved_at(found: Option<Resource>, path: &str) -> RequestRefusal
-    requires { MatchOption found ((r : Resource) → ¬ (IsResourceAt path.now r)) (λ r. IsResourceAt path.now r) }
-    ensures { IsUnserved path.now result }
+// How a request of a method that its path does not serve is refused, by what the path leads to.
+fn unserved_at(found: Option<Resource>, index: bool) -> RequestRefusal
+    ensures { (path : List ℕ) → index ≡ has_index path → MatchOption found ((r : Resource) → ¬ (IsResourceAt path r)) (λ r. IsResourceAt path r)
+        → IsUnserved path result }
 {
-    let index = has_index(path);
     match found {
         Some(resource) => RequestRefusal {
             refusal: Refusal::MethodNotAllowed,

@@ -1,6 +1,6 @@
 -- From a plan and a body to the request.
 use Rattle.std.proofs.Common.{◌≡◌, ℕ, List, ◌++◌, Option, Some, None, Result, Ok, Err, sym, subst}
-use Rattle.std.specs.Prelude.{IfOk, IfSome, MatchResult, option_map}
+use Rattle.std.specs.Prelude.{IfOk, IfSome, option_map}
 use Rattle.http_routes.specs.Request.{IsAskIn, IsServed}
 use Rattle.http_routes.specs.{Routes.has_index, declared.request.Request.Request, declared.routes.Resource.Resource}
 use Rattle.http_routes.specs.declared.request.Request.TheVariants as request
@@ -21,17 +21,16 @@ request_by_body method path fields rest r n (Some body) (request.Asks what) s e 
 request_by_body method path fields rest r n (Some body) (request.Refused reply) s e b a =
     rw (a.1) (unread r n s e b.0 (subst (λ (x : List ℕ). IsAskIn r method x None) b.1 a.0))
 
--- the same of what the reader has left, where memory was found for the body and for what it asks
+-- the same of what the reader has left, where memory was found for what the body asks
 pub request_behind : {V E : Type 0} (items : V → List ℕ) (known : Option (List ℕ)) (method path : List ℕ) (fields : List (List ℕ × List ℕ))
-    (begun : List ℕ) (r : Resource) (n : ℕ) (body : Result (Option V) E) (res : Result Request E)
+    (begun : List ℕ) (r : Resource) (n : ℕ) (body : Option V) (res : Result Request E)
     → IsServed method path r → framing_for r fields ≡ frame.Takes n
-    → IfOk body (λ b. IfSome known (λ left. IsBody (begun ++ left) n (option_map items b)))
-    → IfOk res (λ q. MatchResult body (λ b. IsAnswerTo r method (has_index path) (option_map items b) q) (λ _. ⊥))
+    → IfSome known (λ left. IsBody (begun ++ left) n (option_map items body))
+    → IfOk res (λ q. IsAnswerTo r method (has_index path) (option_map items body) q)
     → IfOk res (λ q. IfSome known (λ left. IsRequestWith method path fields (begun ++ left) q))
 request_behind items known method path fields begun r n body (Err x) s e b a = tt
-request_behind items known method path fields begun r n (Err x) (Ok q) s e b a = absurd a
-request_behind items None method path fields begun r n (Ok body) (Ok q) s e b a = tt
-request_behind items (Some left) method path fields begun r n (Ok body) (Ok q) s e b a =
+request_behind items None method path fields begun r n body (Ok q) s e b a = tt
+request_behind items (Some left) method path fields begun r n body (Ok q) s e b a =
     request_by_body method path fields (begun ++ left) r n (option_map items body) q s e b a
 
 -- what is so whatever follows is so of what the reader has left

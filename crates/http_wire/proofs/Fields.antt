@@ -1,7 +1,7 @@
 -- The values of a name, with one field more; tokens.
 use Rattle.std.proofs.Common.{◌≡◌, ◌<◌, ◌+◌, length, take, get_or, add-one, arith, ℕ, Bool, true, false, List, [], ◌∷◌, ◌++◌, map, refl, ap, ◌∙◌, sym}
 use Rattle.std.specs.List.{filter}
-use Rattle.std.specs.Prelude.{if◌then◌else◌, ◌≤◌, All, IsUtf8}
+use Rattle.std.specs.Prelude.{if◌then◌else◌, All, IsUtf8}
 use Rattle.std.proofs.{lemmas.List.map-append, lemmas.Bool.Decides.nat_tests, lemmas.Str.IsUtf8-from_ascii, lemmas.Str.Ascii.IsAscii-from_all}
 use Rattle.std.proofs.{Math.Seq.take-suc}
 use Rattle.std.proofs.lemmas.List.Elements.{All-weaker, filter-append}

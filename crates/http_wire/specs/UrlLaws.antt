@@ -1,5 +1,5 @@
 -- The laws of the URLs that the desk shows.
-use Rattle.std.specs.Prelude.{ℕ, ◌≤◌, ◌^◌}
+use Rattle.std.specs.Prelude.{ℕ, ◌≤◌}
 use Rattle.desk_model.specs.{Limits.last_number, Tables.Tables, Terms.Terms}
 use Rattle.http_wire.specs.Served.{AreServed}
 use Rattle.http_wire.specs.ShownUrls.{HaveUrls, NameUrls}

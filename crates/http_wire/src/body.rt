@@ -1,9 +1,8 @@
 //! The body of a request: how long it is, its bytes, and what it asks.
-ghost use Rattle.std.specs.Prelude.{◌≡◌, ◌≤◌, ◌++◌, ◌∷◌, [], ◌+◌, ◌-◌, ◌<◌, ℕ, List, Option, Some, IfOk, IfSome, MatchResult, option_map, length, take, None};
-ghost use Rattle.std.specs.Prelude.{MatchOption, All, map, Bool, if◌then◌else◌, OnErr, drop};
+ghost use Rattle.std.specs.Prelude.{◌≡◌, ◌≤◌, ◌++◌, ◌∷◌, [], ◌+◌, ◌-◌, ◌<◌, ℕ, List, Some, IfOk, IfSome, option_map, length, take, None};
+ghost use Rattle.std.specs.Prelude.{MatchOption, All, map, OnErr, drop};
 ghost use Rattle.http_wire.specs.Head.{TakesAtMost, Adds};
 ghost use Rattle.http_wire.specs.ParsedRequest.{IsAnswerTo, IsBody};
-ghost use Rattle.std.specs.Char.{digit_value};
 ghost use Rattle.httparse.specs.Spans.{IsHeaderWithin, header_bytes};
 ghost use Rattle.http_wire.specs.Framing.{FoundIs, framing, framing_by, framing_for, is_posted, length_in, limit_of, same_name, saturated, values_of};
 ghost use Rattle.desk_model.specs.Limits.{longest_body};
@@ -66,17 +65,17 @@ fn room_for(alloc: Global, begun: &[u8], count: usize) -> Result<Vec<u8>, AllocE
 ///
 /// # Errors
 ///
-/// Where there was no memory for the body, or is none for what it asks.
+/// Where there is no memory for what it asks.
 pub(crate) fn answer_to(
     alloc: Global,
     resource: Resource,
     method: &str,
     index: bool,
-    body: Result<Option<Vec<u8>>, AllocError>,
+    body: Option<Vec<u8>>,
 ) -> Result<Request, AllocError>
-    ensures { IfOk result (λ q. MatchResult body (λ b. IsAnswerTo resource method.now index (option_map (λ v. v.items) b) q) (λ _. ⊥)) }
+    ensures { IfOk result (λ q. IsAnswerTo resource method.now index (option_map (λ v. v.items) body) q) }
 {
-    let asked = match body? {
+    let asked = match body {
         Some(body) => ask_in(alloc, resource, method, body.as_slice())?,
         None => None,
     };
@@ -279,7 +278,7 @@ fn read_some<R: Read>(reader: &mut R, free: &mut [u8]) -> Result<usize, ReadFail
     ensures end { IfOk result (λ n. n ≡ 0 → 0 < length free.old → IsAtEnd (R.remaining reader.new)) }
     ensures kept { OnErr result (Keeps (R.remaining reader.old) (R.remaining reader.new)) }
 {
-    'again: for _ in 0..u64::MAX {
+    for _ in 0..u64::MAX {
         match reader.read(free) {
             Ok(n) => return Ok(n),
             Err(error) => {
@@ -329,7 +328,7 @@ pub fn fill_from<R: Read>(
     ensures failed { OnErr result (TakesAtMost (R.remaining reader.old) (R.remaining reader.new) (length buffer.old - start)) }
 {
     let mut filled = start;
-    'more: while filled < buffer.len() {
+    while filled < buffer.len() {
         let count = fill(reader, buffer, filled)?;
         if count == 0 {
             return Ok(filled);

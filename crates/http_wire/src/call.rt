@@ -94,33 +94,36 @@ fn read_headed<R: Read>(
 {
     let method = text_of(spans.method.of(bytes));
     let path = text_of(spans.path.of(bytes));
+    let form = form_by(method, path);
     let fields = first(headers, spans.headers);
     let begun = behind(bytes, spans.len);
-    let plan = plan_for(alloc, routes, method, path, bytes, fields);
-    read_as(alloc, reader, plan, method, path, begun)
+    match plan_for(alloc, routes, method, path, form.index, bytes, fields) {
+        Ok(plan) => read_as(alloc, reader, plan, method, form, begun),
+        Err(error) => Ok(ParsedRequest {
+            form,
+            request: Err(error),
+        }),
+    }
 }
 
-// The request of this method and path by what its head says, and how its reply is written.
+// The request of this method by a plan for it, with what was begun behind its head, and how its reply is written.
 fn read_as<R: Read>(
     alloc: Global,
     reader: &mut R,
-    plan: Result<Plan, AllocError>,
+    plan: Plan,
     method: &str,
-    path: &str,
+    form: ReplyForm,
     begun: &[u8],
 ) -> Result<ParsedRequest, ReadFailed>
-    ensures form { IfOk result (λ parsed. parsed.form ≡ form_by method.now path.now) }
-    ensures request { (fields : List (List ℕ × List ℕ)) → IfOk plan (IsPlan method.now path.now fields)
+    ensures form { IfOk result (λ parsed. parsed.form ≡ form) }
+    ensures request { (path : List ℕ) → form.index ≡ has_index path → (fields : List (List ℕ × List ℕ)) → IsPlan method.now path fields plan
         → IfOk result (λ parsed. IfOk parsed.request
-        (λ q. IfSome (R.remaining reader.old) (λ left. IsRequestWith method.now path.now fields (begun.now ++ left) q))) }
-    ensures taken { (fields : List (List ℕ × List ℕ)) → IfOk plan (IsPlan method.now path.now fields)
+        (λ q. IfSome (R.remaining reader.old) (λ left. IsRequestWith method.now path fields (begun.now ++ left) q))) }
+    ensures taken { (path : List ℕ) (fields : List (List ℕ × List ℕ)) → IsPlan method.now path fields plan
         → TakesAtMost (R.remaining reader.old) (R.remaining reader.new) longest_body }
 {
-    let request = read_with(alloc, reader, plan, method, path, begun)?;
-    Ok(ParsedRequest {
-        form: form_by(method, path),
-        request,
-    })
+    let request = read_planned(alloc, reader, plan, method, form.index, begun)?;
+    Ok(ParsedRequest { form, request })
 }
 
 // The text of these bytes.
@@ -178,49 +181,27 @@ fn behind(bytes: &[u8], len: usize) -> &[u8]
     &bytes[len..]
 }
 
-// The request of this method and path by what its head says, with what was begun behind it; an inner error where memory was
-// refused.
-fn read_with<R: Read>(
-    alloc: Global,
-    reader: &mut R,
-    plan: Result<Plan, AllocError>,
-    method: &str,
-    path: &str,
-    begun: &[u8],
-) -> Result<Result<Request, AllocError>, ReadFailed>
-    ensures request { (fields : List (List ℕ × List ℕ)) → IfOk plan (IsPlan method.now path.now fields)
-        → IfOk result (λ r. IfOk r
-        (λ q. IfSome (R.remaining reader.old) (λ left. IsRequestWith method.now path.now fields (begun.now ++ left) q))) }
-    ensures taken { (fields : List (List ℕ × List ℕ)) → IfOk plan (IsPlan method.now path.now fields)
-        → TakesAtMost (R.remaining reader.old) (R.remaining reader.new) longest_body }
-{
-    match plan {
-        Ok(plan) => read_planned(alloc, reader, plan, method, path, begun),
-        Err(error) => Ok(Err(error)),
-    }
-}
-
-// The request of this method and path by a plan for it.
+// The request of this method by a plan for it, with what was begun behind its head; an inner error where memory was refused.
 fn read_planned<R: Read>(
     alloc: Global,
     reader: &mut R,
     plan: Plan,
     method: &str,
-    path: &str,
+    index: bool,
     begun: &[u8],
 ) -> Result<Result<Request, AllocError>, ReadFailed>
-    ensures request { (fields : List (List ℕ × List ℕ)) → IsPlan method.now path.now fields plan
+    ensures request { (path : List ℕ) → index ≡ has_index path → (fields : List (List ℕ × List ℕ)) → IsPlan method.now path fields plan
         → IfOk result (λ r. IfOk r
-        (λ q. IfSome (R.remaining reader.old) (λ left. IsRequestWith method.now path.now fields (begun.now ++ left) q))) }
-    ensures taken { (fields : List (List ℕ × List ℕ)) → IsPlan method.now path.now fields plan
+        (λ q. IfSome (R.remaining reader.old) (λ left. IsRequestWith method.now path fields (begun.now ++ left) q))) }
+    ensures taken { (path : List ℕ) (fields : List (List ℕ × List ℕ)) → IsPlan method.now path fields plan
         → TakesAtMost (R.remaining reader.old) (R.remaining reader.new) longest_body }
 {
     match plan {
         Plan::Refused(why) => Ok(Ok(Request::Refused(why))),
-        Plan::Takes(resource, count) => {
-            let body = read_body(alloc, reader, begun, count)?;
-            Ok(answer_to(alloc, resource, method, has_index(path), body))
-        }
+        Plan::Takes(resource, count) => match read_body(alloc, reader, begun, count)? {
+            Ok(body) => Ok(answer_to(alloc, resource, method, index, body)),
+            Err(error) => Ok(Err(error)),
+        },
     }
 }
 
@@ -254,7 +235,7 @@ fn read_head<R: Read>(
     ensures failed { OnErr result (TakesAtMost (R.remaining reader.old) (R.remaining reader.new) longest_head) }
 {
     let mut filled = 0;
-    'more: while filled < buffer.len() {
+    while filled < buffer.len() {
         match parse_request(&buffer[..filled], headers) {
             Ok(Status::Complete(spans)) => return Ok((HeadRead::Complete(spans), filled)),
             Ok(Status::Partial) => {}
@@ -284,7 +265,8 @@ pub enum Plan {
     Takes(Resource, usize),
 }
 
-// What is done with the request of this method, path and fields.
+// What is done with the request of this method, path and fields, where `index` is whether a reply at the path has the link to the
+// directory.
 //
 // # Errors
 //
@@ -294,29 +276,31 @@ fn plan_for(
     routes: &mut Routes,
     method: &str,
     path: &str,
+    index: bool,
     buffer: &[u8],
     headers: &[HeaderSpan],
 ) -> Result<Plan, AllocError>
-    requires { All (IsHeaderWithin (length buffer.now)) headers.now }
+    requires index { index ≡ has_index path.now }
+    requires within { All (IsHeaderWithin (length buffer.now)) headers.now }
     ensures { IfOk result (λ p. IsPlan method.now path.now (map (header_bytes buffer.now) headers.now) p) }
 {
-    match place_of(alloc, routes, method, path)? {
+    match place_of(alloc, routes, method, path, index)? {
         Place::Unserved(why) => Ok(Plan::Refused(why)),
         Place::Served(resource) => match framing_for(resource, buffer, headers) {
-            Framing::Malformed => Ok(refused(Refusal::Malformed, path)),
-            Framing::TooLarge => Ok(refused(Refusal::TooLarge, path)),
+            Framing::Malformed => Ok(refused(Refusal::Malformed, index)),
+            Framing::TooLarge => Ok(refused(Refusal::TooLarge, index)),
             Framing::Takes(count) => Ok(Plan::Takes(resource, count)),
         },
     }
 }
 
-// The refusal of a request to this path, whatever follows.
-fn refused(refusal: Refusal, path: &str) -> Plan
-    ensures { result ≡ Plan.Refused (refused_request refusal No (has_index path.now)) }
+// The refusal of a request, whatever follows.
+fn refused(refusal: Refusal, index: bool) -> Plan
+    ensures { result ≡ Plan.Refused (refused_request refusal No index) }
 {
     Plan::Refused(RequestRefusal {
         refusal,
         allow: Allow::No,
-        index: has_index(path),
+        index,
     })
 }

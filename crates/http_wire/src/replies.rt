@@ -1,5 +1,5 @@
 //! Replies as bytes: their heads and bodies, written one piece behind the other.
-ghost use Rattle.std.specs.Prelude.{◌≡◌, ◌++◌, IfOk, OnOk, ℕ, List, string_bytes, Bool, is_some, codes, decimal};
+ghost use Rattle.std.specs.Prelude.{◌≡◌, ◌++◌, IfOk, OnOk, codes, decimal};
 ghost use Rattle.http_wire.specs.Replies.{first_lines, last_lines, reply_bytes, body_allow, body_bytes, body_fields, has_body, has_index, is_new_nonce};
 ghost use Rattle.http_wire.specs.Replies.{allow_field, cache_line, content_fields, crlf, field, field_if, index_line, link, phrase, status_line, up_link};
 
@@ -69,13 +69,6 @@ fn push_last(out: &mut Vec<u8>, base: &str, reply: &Reply) -> Result<(), AllocEr
 
 // ---- the bodies
 
-// The bytes of a text, if it could be made.
-fn text_bytes(text: Result<String, AllocError>) -> Result<Vec<u8>, AllocError>
-    ensures { (bytes : List ℕ) → IfOk text (λ t. string_bytes t ≡ bytes) → IfOk result (λ v. v.items ≡ bytes) }
-{
-    Ok(text?.into_bytes())
-}
-
 // The bytes of a body.
 fn body_bytes(alloc: Global, body: &Body) -> Result<Vec<u8>, AllocError>
     ensures { IfOk result (λ t. t.items ≡ body_bytes body.now) }
@@ -83,7 +76,7 @@ fn body_bytes(alloc: Global, body: &Body) -> Result<Vec<u8>, AllocError>
     match body {
         Body::Empty => Ok(Vec::new(alloc)),
         Body::Json(document) => Vec::from_slice(alloc, document.text().as_bytes()),
-        Body::Problem(problem) => text_bytes(problem_text(alloc, problem)),
+        Body::Problem(problem) => Ok(problem_text(alloc, problem)?.into_bytes()),
         Body::Certificate(bytes) => Vec::from_slice(alloc, bytes.as_slice()),
     }
 }

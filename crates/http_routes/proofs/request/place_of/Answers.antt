@@ -9,4 +9,6 @@ returns-in_default c =
     let one : c.in_ok-found.found ≡ Some r = c.in_ok-found.ensures.one r s.there in
     let served = s.serves in
     elim c.in_default.branch [ in_default-via-in-Some+else-serves w ↦ search rules | in_default-via-in_default w ↦ search rules ] in
-    (none, c.unserved_at.ensures)
+    let same : c.in_default.found ≡ c.in_ok-found.found =
+    elim c.in_default.branch [ in_default-via-in-Some+else-serves w ↦ search rules | in_default-via-in_default w ↦ search rules ] in
+    (none, c.unserved_at.ensures c.args.path.now c.requires (rw same c.in_ok-found.ensures.there))

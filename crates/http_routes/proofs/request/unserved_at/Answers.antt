@@ -3,11 +3,11 @@ use Rattle.http_routes.specs.{Routes.IsResourceAt, declared.routes.Resource.Reso
 use Rattle.http_routes.proofs.request.unserved_at.Goals as goal
 
 pub returns-in-Some : goal.returns-in-Some
-returns-in-Some c =
-    let there : IsResourceAt c.args.path.now c.in-Some.resource = rw c.in-Some.is at c.requires in
-    rw (c.has_index-index.ensures, c.methods_of.ensures) (not_served c.in-Some.resource there)
+returns-in-Some c path link leads =
+    let there : IsResourceAt path c.in-Some.resource = rw c.in-Some.is at leads in
+    rw (link, c.methods_of.ensures) (not_served c.in-Some.resource there)
 
 pub returns-in-None : goal.returns-in-None
-returns-in-None c =
-    let none : (r : Resource) → IsResourceAt c.args.path.now r → ⊥ = rw c.in-None.is at c.requires in
-    rw (c.has_index-index.ensures) (not_here none)
+returns-in-None c path link leads =
+    let none : (r : Resource) → IsResourceAt path r → ⊥ = rw c.in-None.is at leads in
+    rw link (not_here none)

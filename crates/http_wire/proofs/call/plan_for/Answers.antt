@@ -12,9 +12,9 @@ returns-in-Unserved c = λ rest.
 pub returns-in-Malformed : goal.returns-in-Malformed
 returns-in-Malformed c =
     let s : IsServed c.args.method.now c.args.path.now c.in-Served.resource = rw c.in-Served.is at c.in_ok-why.ensures in
-    rw c.refused.ensures (λ rest. ill_framed c.in-Served.resource s (sym c.framing_for.ensures ∙ c.in-Malformed.is))
+    rw (c.refused.ensures, c.requires.index) (λ rest. ill_framed c.in-Served.resource s (sym c.framing_for.ensures ∙ c.in-Malformed.is))
 
 pub returns-in-TooLarge : goal.returns-in-TooLarge
 returns-in-TooLarge c =
     let s : IsServed c.args.method.now c.args.path.now c.in-Served.resource = rw c.in-Served.is at c.in_ok-why.ensures in
-    rw c.refused-in-TooLarge.ensures (λ rest. too_large c.in-Served.resource s (sym c.framing_for.ensures ∙ c.in-TooLarge.is))
+    rw (c.refused-in-TooLarge.ensures, c.requires.index) (λ rest. too_large c.in-Served.resource s (sym c.framing_for.ensures ∙ c.in-TooLarge.is))

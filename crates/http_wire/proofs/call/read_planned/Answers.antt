@@ -8,33 +8,33 @@ use Rattle.http_wire.proofs.call.read_planned.Goals as goal
 use Rattle.desk_model.specs.Limits.{longest_body}
 
 pub returns-in-Refused-clause-request : goal.returns-in-Refused-clause-request
-returns-in-Refused-clause-request g c = λ fields given.
-    let p : IsPlan c.args.method.now c.args.path.now fields (plan.Refused c.in-Refused.why) =
+returns-in-Refused-clause-request g c = λ path link fields given.
+    let p : IsPlan c.args.method.now path fields (plan.Refused c.in-Refused.why) =
     rw c.in-Refused.is at given in
     whatever_is_left (g.R.Read.remaining c.args.reader.now) c.args.begun.now
-    (λ rest. IsRequestWith c.args.method.now c.args.path.now fields rest (request.Refused c.in-Refused.why)) p
+    (λ rest. IsRequestWith c.args.method.now path fields rest (request.Refused c.in-Refused.why)) p
 
 pub returns-in-Refused-clause-taken : goal.returns-in-Refused-clause-taken
-returns-in-Refused-clause-taken g c = λ fields given. takes_none (g.R.Read.remaining c.args.reader.now) longest_body
+returns-in-Refused-clause-taken g c = λ path fields given. takes_none (g.R.Read.remaining c.args.reader.now) longest_body
 
-pub returns-in_ok-body-in-Takes-clause-request : goal.returns-in_ok-body-in-Takes-clause-request
-returns-in_ok-body-in-Takes-clause-request g c = λ fields given.
-    let p : IsPlan c.args.method.now c.args.path.now fields (plan.Takes c.in-Takes.resource c.in-Takes.count) =
+pub returns-in-Ok-clause-request : goal.returns-in-Ok-clause-request
+returns-in-Ok-clause-request g c = λ path link fields given.
+    let p : IsPlan c.args.method.now path fields (plan.Takes c.in-Takes.resource c.in-Takes.count) =
     rw c.in-Takes.is at given in
-    request_behind (λ v. v.items) (g.R.Read.remaining c.args.reader.now) c.args.method.now c.args.path.now fields c.args.begun.now
-    c.in-Takes.resource c.in-Takes.count c.in_ok-body-in-Takes.body c.answer_to.result p.0 p.1 c.in_ok-body-in-Takes.ensures.body
-    (rw c.has_index.ensures at c.answer_to.ensures)
+    request_behind (λ v. v.items) (g.R.Read.remaining c.args.reader.now) c.args.method.now path fields c.args.begun.now
+    c.in-Takes.resource c.in-Takes.count c.in-Ok.body c.answer_to.result p.0 p.1 (rw c.in-Ok.is at c.in_ok-body-in-Takes.ensures.body)
+    (rw link at c.answer_to.ensures)
 
-pub returns-in_ok-body-in-Takes-clause-taken : goal.returns-in_ok-body-in-Takes-clause-taken
-returns-in_ok-body-in-Takes-clause-taken g c = λ fields given.
-    let p : IsPlan c.args.method.now c.args.path.now fields (plan.Takes c.in-Takes.resource c.in-Takes.count) =
+pub returns-in-Ok-clause-taken : goal.returns-in-Ok-clause-taken
+returns-in-Ok-clause-taken g c = λ path fields given.
+    let p : IsPlan c.args.method.now path fields (plan.Takes c.in-Takes.resource c.in-Takes.count) =
     rw c.in-Takes.is at given in
     takes_within (g.R.Read.remaining c.args.reader.now) (g.R.Read.remaining c.read_body.new.reader) c.in-Takes.count longest_body
     (body_within c.in-Takes.resource fields c.in-Takes.count p.1) c.read_body.ensures.taken
 
 pub returns-in_err-body-in-Takes-clause-taken : goal.returns-in_err-body-in-Takes-clause-taken
-returns-in_err-body-in-Takes-clause-taken g c = λ fields given.
-    let p : IsPlan c.args.method.now c.args.path.now fields (plan.Takes c.in-Takes.resource c.in-Takes.count) =
+returns-in_err-body-in-Takes-clause-taken g c = λ path fields given.
+    let p : IsPlan c.args.method.now path fields (plan.Takes c.in-Takes.resource c.in-Takes.count) =
     rw c.in-Takes.is at given in
     takes_within (g.R.Read.remaining c.args.reader.now) (g.R.Read.remaining c.read_body.new.reader) c.in-Takes.count longest_body
     (body_within c.in-Takes.resource fields c.in-Takes.count p.1) c.read_body.ensures.taken
