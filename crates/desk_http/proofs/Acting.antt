@@ -9,8 +9,8 @@ use Rattle.http_routes.specs.declared.request.Request.{Request}
 use Rattle.http_routes.specs.declared.request.Request.TheVariants as request
 use Rattle.http_wire.specs.declared.call.ReplyForm.{ReplyForm}
 use Rattle.desk_http.specs.Serving.{Breaks, Fails, HasAnswer, IsAnswer, IsLeft, Responds, Serves, ServesBy, call_of}
-use Rattle.desk_http.specs.declared.{serving.Cause.Cause, serving.IoFault.IoFault, serving.Served.Served, overseeing.Told.Told}
-use Rattle.desk_http.specs.declared.serving.Cause.TheVariants as cause
+use Rattle.desk_http.specs.declared.{serving.Unanswered.Unanswered, serving.IoFault.IoFault, serving.Served.Served, overseeing.ReplySummary.ReplySummary}
+use Rattle.desk_http.specs.declared.serving.Unanswered.TheVariants as cause
 use Rattle.desk_http.specs.declared.serving.IoFault.TheVariants as iofault
 
 module _ {S C : Type 0} (v : Sight S C) (causes : Causes S) where
@@ -32,7 +32,7 @@ module _ {S C : Type 0} (v : Sight S C) (causes : Causes S) where
     answer_acts result old new a = responds_acts a.request result old new a.responds
 
     -- it did not have its reply
-    fails_acts : (why : Cause) (old new : DeskState S) → Fails v causes at random None old new why → ActsOnce v old new
+    fails_acts : (why : Unanswered) (old new : DeskState S) → Fails v causes at random None old new why → ActsOnce v old new
     fails_acts (cause.Desk why) old new f = answer_acts (Err why) old new f
     fails_acts cause.Reading old new f = inl f
     fails_acts cause.Text old new f = answer_acts (Ok f.0) old new f.1
@@ -43,15 +43,15 @@ module _ {S C : Type 0} (v : Sight S C) (causes : Causes S) where
     left_acts old new (inr a) = answer_acts a.0 old new a.1
 
     -- it was served
-    served_acts : (base : List ℕ) (old new : DeskState S) (form : ReplyForm) (why : Option Cause) (written : Bool) (told : Option Told)
-        → ServesBy v causes at random base None None None old new form why written told → ActsOnce v old new
-    served_acts base old new form None written told s = answer_acts (Ok s.0) old new s.1
-    served_acts base old new form (Some why) written told s = fails_acts why old new s.0
+    served_acts : (base : List ℕ) (old new : DeskState S) (form : ReplyForm) (why : Option Unanswered) (written : Bool) (summary : Option ReplySummary)
+        → ServesBy v causes at random base None None None old new form why written summary → ActsOnce v old new
+    served_acts base old new form None written summary s = answer_acts (Ok s.0) old new s.1
+    served_acts base old new form (Some why) written summary s = fails_acts why old new s.0
 
     -- whatever became of it
     pub once_acts : (base : List ℕ) (old new : DeskState S) (served : Result Served IoFault)
         → MatchResult served (λ s. Serves v causes at random base None None None old new s) (λ e. Breaks v causes at random None None None old new e)
         → ActsOnce v old new
-    once_acts base old new (Ok served) s = served_acts base old new s.0 served.cause served.written served.told s.2
+    once_acts base old new (Ok served) s = served_acts base old new s.0 served.cause served.written served.summary s.2
     once_acts base old new (Err iofault.Read) s = inl (s.0)
     once_acts base old new (Err iofault.Write) s = left_acts old new s

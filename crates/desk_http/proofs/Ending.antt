@@ -9,8 +9,8 @@ use Rattle.http_routes.specs.declared.request.Request.{Request}
 use Rattle.http_routes.specs.declared.request.Request.TheVariants as request
 use Rattle.http_wire.specs.declared.call.ReplyForm.{ReplyForm}
 use Rattle.desk_http.specs.Serving.{HasAnswer, Responds, ServesBy}
-use Rattle.desk_http.specs.declared.{serving.Cause.Cause, serving.IoFault.IoFault, serving.Served.Served, overseeing.Told.Told}
-use Rattle.desk_http.specs.declared.serving.Cause.TheVariants as cause
+use Rattle.desk_http.specs.declared.{serving.Unanswered.Unanswered, serving.IoFault.IoFault, serving.Served.Served, overseeing.ReplySummary.ReplySummary}
+use Rattle.desk_http.specs.declared.serving.Unanswered.TheVariants as cause
 use Rattle.desk_http.specs.InTurn.{Ends, IsClosedBy, ServesClient, ended_by, fault_after, fault_of, parsed, if_closes, unread}
 
 -- the desk is closed by this fault, or, where there is none, it is open
@@ -43,19 +43,19 @@ module _ {S C : Type 0} (v : Sight S C) (causes : Causes S) (at : ℕ) (random :
   answer_ends result a = responds_ends a.request result a.responds
 
   -- by a connection that was served
-  served_ends : (base : List ℕ) (form : ReplyForm) (why : Option Cause) (written : Bool) (told : Option Told)
-      → ServesBy v causes at random base None None None old new form why written told → EndsBy (fault_of why) new
-  served_ends base form None written told s = answer_ends (Ok s.0) s.1
-  served_ends base form (Some (cause.Desk why)) written told s = ends_if why (closes why) new refl (answer_ends (Err why) s.0)
-  served_ends base form (Some cause.Reading) written told s = ap (λ (desk : DeskState S). desk.is_closed) s.0 ∙ opened
-  served_ends base form (Some cause.Text) written told s = answer_ends (Ok s.0.0) s.0.1
+  served_ends : (base : List ℕ) (form : ReplyForm) (why : Option Unanswered) (written : Bool) (summary : Option ReplySummary)
+      → ServesBy v causes at random base None None None old new form why written summary → EndsBy (fault_of why) new
+  served_ends base form None written summary s = answer_ends (Ok s.0) s.1
+  served_ends base form (Some (cause.Desk why)) written summary s = ends_if why (closes why) new refl (answer_ends (Err why) s.0)
+  served_ends base form (Some cause.Reading) written summary s = ap (λ (desk : DeskState S). desk.is_closed) s.0 ∙ opened
+  served_ends base form (Some cause.Text) written summary s = answer_ends (Ok s.0.0) s.0.1
 
 -- by a connection, whatever became of it
 pub client_ends : {S C : Type 0} (v : Sight S C) (causes : Causes S) (served : Result Served IoFault) (old new : DeskState S) → old.is_closed ≡ false
     → ServesClient v causes None None None old new served → EndsBy (fault_after served new.is_closed) new
 client_ends v causes (Ok served) old new opened (unread same kept failed) = absurd (cc failed)
 client_ends v causes (Ok served) old new opened (parsed s) =
-    let does = s.does in served_ends v causes s.at s.random old new opened new.policy.base does.0 served.cause served.written served.told does.2
+    let does = s.does in served_ends v causes s.at s.random old new opened new.policy.base does.0 served.cause served.written served.summary does.2
 client_ends v causes (Err why) old new opened s = reopens_if new.is_closed new refl
 
 -- and so by how the serving of it ends

@@ -8,8 +8,8 @@ use Rattle.http_routes.specs.declared.request.Request.{Request}
 use Rattle.http_wire.specs.Spelled.{IsReplyForm, Spells}
 use Rattle.http_wire.specs.declared.call.ParsedRequest.{ParsedRequest}
 use Rattle.desk_http.specs.Serving.{Fails, HasAnswer, IsParsedOf, IsLeft, LacksReply, LacksText, ReadAnswer}
-use Rattle.desk_http.specs.declared.serving.Cause.{Cause}
-use Rattle.desk_http.specs.declared.serving.Cause.TheVariants as cause
+use Rattle.desk_http.specs.declared.serving.Unanswered.{Unanswered}
+use Rattle.desk_http.specs.declared.serving.Unanswered.TheVariants as cause
 
 -- the request that was read is the input's
 spelled : (known : Option (List ℕ)) (h : ParsedRequest) (q : Request) → IsParsedOf known h → h.request ≡ Ok q
@@ -24,7 +24,7 @@ form_parsed (Some input) h is = is.form
 
 -- why a request that was read has no reply is why it has no text
 pub no_text : {S C : Type 0} (v : Sight S C) (causes : Causes S) (at : ℕ) (random : List ℕ) (read : Result Request AllocError)
-    (q : Request) (old new : DeskState S) (why : Cause) → read ≡ Ok q → LacksReply v causes at random q why old new
+    (q : Request) (old new : DeskState S) (why : Unanswered) → read ≡ Ok q → LacksReply v causes at random q why old new
     → LacksText v causes at random read why old new
 no_text v causes at random read q old new (cause.Desk fault) e l = record { request = q; is_read = e; responds = l }
 no_text v causes at random read q old new cause.Reading e l = l
@@ -37,14 +37,14 @@ module _ {S C : Type 0} (v : Sight S C) (causes : Causes S) (at : ℕ) (random :
   answered old new result is a = record { request = a.request; spelled = spelled known h a.request is a.is_read; responds = a.responds }
 
   -- why what was read did not have its reply is why the input did not
-  pub fails : (old new : DeskState S) (why : Cause) → IsParsedOf known h
+  pub fails : (old new : DeskState S) (why : Unanswered) → IsParsedOf known h
       → LacksText v causes at random h.request why old new → Fails v causes at random known old new why
   fails old new (cause.Desk fault) is l = answered old new _ is l
   fails old new cause.Reading is l = l
   fails old new cause.Text is l = (l.0, answered old new _ is l.1)
 
   -- and then the desk is as it was, or as the answer to the input left it
-  pub leaves : (old new : DeskState S) (why : Cause) → IsParsedOf known h
+  pub leaves : (old new : DeskState S) (why : Unanswered) → IsParsedOf known h
       → LacksText v causes at random h.request why old new → IsLeft v causes at random known old new
   leaves old new (cause.Desk fault) is l = inr (Err fault, answered old new (Err fault) is l)
   leaves old new cause.Reading is l = inl l

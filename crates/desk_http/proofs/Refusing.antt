@@ -7,11 +7,11 @@ use Rattle.desk.specs.State.{DeskState}
 use Rattle.http_routes.specs.declared.request.Request.{Request}
 use Rattle.http_routes.specs.declared.request.Request.TheVariants as request
 use Rattle.http_wire.specs.declared.call.ReplyForm.{ReplyForm}
-use Rattle.desk_http.specs.{InTurn.ServesAt, declared.clients.MomentBound.MomentBound, declared.serving.Cause.Cause, declared.serving.IoFault.IoFault}
-use Rattle.desk_http.specs.declared.{serving.Served.Served, overseeing.Told.Told}
+use Rattle.desk_http.specs.{InTurn.ServesAt, declared.clients.MomentBound.MomentBound, declared.serving.Unanswered.Unanswered, declared.serving.IoFault.IoFault}
+use Rattle.desk_http.specs.declared.{serving.Served.Served, overseeing.ReplySummary.ReplySummary}
 use Rattle.desk_http.specs.MomentBounds.{admits, moment_for}
 use Rattle.desk_http.specs.Serving.{Breaks, Fails, HasAnswer, IsLeft, Responds, Serves, ServesBy}
-use Rattle.desk_http.specs.declared.serving.Cause.TheVariants as cause
+use Rattle.desk_http.specs.declared.serving.Unanswered.TheVariants as cause
 use Rattle.desk_http.specs.declared.serving.IoFault.TheVariants as iofault
 
 module _ {S C : Type 0} (v : Sight S C) (causes : Causes S) (old new : DeskState S) where
@@ -25,7 +25,7 @@ module _ {S C : Type 0} (v : Sight S C) (causes : Causes S) (old new : DeskState
     answer_late result a = responds_late a.request result a.responds
 
     -- where it has no reply
-    fails_late : (why : Cause) → Fails v causes at random known old new why → new ≡ old
+    fails_late : (why : Unanswered) → Fails v causes at random known old new why → new ≡ old
     fails_late (cause.Desk why) f = answer_late (Err why) f
     fails_late cause.Reading f = f
     fails_late cause.Text f = answer_late (Ok f.0) f.1
@@ -36,17 +36,17 @@ module _ {S C : Type 0} (v : Sight S C) (causes : Causes S) (old new : DeskState
     left_late (inr a) = answer_late a.0 a.1
 
     -- where it was served
-    served_late : (base : List ℕ) (before after : Option (List ℕ)) (form : ReplyForm) (why : Option Cause) (written : Bool) (told : Option Told)
-        → ServesBy v causes at random base known before after old new form why written told → new ≡ old
-    served_late base before after form None written told s = answer_late (Ok s.0) s.1
-    served_late base before after form (Some why) written told s = fails_late why s.0
+    served_late : (base : List ℕ) (before after : Option (List ℕ)) (form : ReplyForm) (why : Option Unanswered) (written : Bool) (summary : Option ReplySummary)
+        → ServesBy v causes at random base known before after old new form why written summary → new ≡ old
+    served_late base before after form None written summary s = answer_late (Ok s.0) s.1
+    served_late base before after form (Some why) written summary s = fails_late why s.0
 
     -- whatever became of it
     once_late : (base : List ℕ) (before after : Option (List ℕ)) (served : Result Served IoFault)
         → MatchResult served (λ s. Serves v causes at random base known before after old new s)
         (λ e. Breaks v causes at random known before after old new e)
         → new ≡ old
-    once_late base before after (Ok served) s = served_late base before after s.0 served.cause served.written served.told s.2
+    once_late base before after (Ok served) s = served_late base before after s.0 served.cause served.written served.summary s.2
     once_late base before after (Err iofault.Read) s = s.0
     once_late base before after (Err iofault.Write) s = left_late s
 

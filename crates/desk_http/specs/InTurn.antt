@@ -11,8 +11,8 @@ use Rattle.http_routes.specs.declared.request.Request.{Request}
 use Rattle.http_routes.specs.declared.request.Request.TheVariants as request
 use Rattle.http_wire.specs.declared.call.ParsedRequest.{ParsedRequest}
 use Rattle.desk_http.specs.Serving.{Breaks, IsParsedOf, Serves}
-use Rattle.desk_http.specs.declared.{serving.Cause.Cause, serving.IoFault.IoFault, serving.Served.Served, serve_fault.ServeFault.ServeFault}
-use Rattle.desk_http.specs.declared.serving.Cause.TheVariants as cause
+use Rattle.desk_http.specs.declared.{serving.Unanswered.Unanswered, serving.IoFault.IoFault, serving.Served.Served, serve_fault.ServeFault.ServeFault}
+use Rattle.desk_http.specs.declared.serving.Unanswered.TheVariants as cause
 use Rattle.desk_http.specs.declared.serving.IoFault.TheVariants as iofault
 use Rattle.desk_http.specs.declared.serve_fault.ServeFault.TheVariants as servefault
 
@@ -22,7 +22,7 @@ if_closes why true = Some why
 if_closes why false = None
 
 -- the fault by which a request closed the desk, where the connection did not fail
-abbrev pub fault_of : Option Cause → Option DeskFault
+abbrev pub fault_of : Option Unanswered → Option DeskFault
 fault_of (Some (cause.Desk why)) = if_closes why (closes why)
 fault_of _ = None
 

@@ -11,10 +11,10 @@ use Rattle.desk_model.specs.declared.reply.Body.TheVariants as body
 use Rattle.http_routes.specs.{Routes.HasNumber, declared.request.Request.Request}
 use Rattle.http_routes.specs.declared.request.Request.TheVariants as request
 use Rattle.std.specs.declared.alloc.AllocError.{AllocError}
-use Rattle.desk_http.specs.declared.{serving.Cause.Cause, serving.IoFault.IoFault, serving.Served.Served, overseeing.Told.Told}
-use Rattle.desk_http.specs.declared.serving.Cause.TheVariants as cause
+use Rattle.desk_http.specs.declared.{serving.Unanswered.Unanswered, serving.IoFault.IoFault, serving.Served.Served, overseeing.ReplySummary.ReplySummary}
+use Rattle.desk_http.specs.declared.serving.Unanswered.TheVariants as cause
 
--- ---- what a reply tells
+-- ---- the summary of a reply
 
 -- the number of the refusal, where the body is one
 abbrev pub refusal_number : Body → Option ℕ
@@ -34,39 +34,39 @@ abbrev pub IsLocated : (base : List ℕ) → Option (List ℕ) → Option ℕ �
 IsLocated base None found = found ≡ None
 IsLocated base (Some url) found = MatchOption found ((n : ℕ) → IsUrlOf base url n → ⊥) (λ n. IsUrlOf base url n)
 
--- what a reply tells of itself
-pub record IsToldOf (base : List ℕ) (reply : Reply) (told : Told) : Type 0 where
-  pub status : told.status ≡ reply.status
-  pub refusal : told.refusal ≡ refusal_number reply.body
-  pub located : IsLocated base reply.location told.located
+-- this is its summary
+pub record IsSummaryOf (base : List ℕ) (reply : Reply) (summary : ReplySummary) : Type 0 where
+  pub status : summary.status ≡ reply.status
+  pub refusal : summary.refusal ≡ refusal_number reply.body
+  pub located : IsLocated base reply.location summary.located
 
 -- ---- what was sent
 
 -- the status of the reply, or of what was written in its place, that the desk could not act
-abbrev pub status_by : Option Told → Bool → Option ℕ
-status_by (Some told) written = Some told.status
+abbrev pub status_by : Option ReplySummary → Bool → Option ℕ
+status_by (Some summary) written = Some summary.status
 status_by None true = Some 500
 status_by None false = None
 
 -- that of a connection which did not fail
 abbrev pub outcome_status : Result Served IoFault → Option ℕ
-outcome_status (Ok served) = status_by served.told served.written
+outcome_status (Ok served) = status_by served.summary served.written
 outcome_status (Err why) = None
 
 -- the number of a fault: that of memory where the call or its reply found none
-abbrev pub number_of_cause : Cause → ℕ
+abbrev pub number_of_cause : Unanswered → ℕ
 number_of_cause (cause.Desk why) = number_of why
 number_of_cause cause.Reading = 20
 number_of_cause cause.Text = 20
 
 -- the number of what took the reply's place, or of its refusal
-abbrev pub number_by : Option Cause → Option Told → Option ℕ
-number_by (Some why) told = Some (number_of_cause why)
-number_by None (Some told) = told.refusal
+abbrev pub number_by : Option Unanswered → Option ReplySummary → Option ℕ
+number_by (Some why) summary = Some (number_of_cause why)
+number_by None (Some summary) = summary.refusal
 number_by None None = None
 
 abbrev pub outcome_number : Result Served IoFault → Option ℕ
-outcome_number (Ok served) = number_by served.cause served.told
+outcome_number (Ok served) = number_by served.cause served.summary
 outcome_number (Err why) = None
 
 -- ---- what was asked
@@ -112,13 +112,13 @@ first_of (Some n) other = Some n
 first_of None other = other
 
 -- the number of what the reply locates, or of what was asked about
-abbrev pub located_or : Option ℕ → Option Told → Option ℕ
-located_or asked (Some told) = first_of told.located asked
+abbrev pub located_or : Option ℕ → Option ReplySummary → Option ℕ
+located_or asked (Some summary) = first_of summary.located asked
 located_or asked None = asked
 
 -- the number of the object that was made, or of the one that was asked about
 abbrev pub object_of : Option ℕ → Result Served IoFault → Option ℕ
-object_of asked (Ok served) = located_or asked served.told
+object_of asked (Ok served) = located_or asked served.summary
 object_of asked (Err why) = asked
 
 -- ---- the first line of a request

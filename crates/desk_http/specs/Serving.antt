@@ -14,9 +14,9 @@ use Rattle.http_routes.specs.declared.request.Request.{Request}
 use Rattle.http_routes.specs.declared.request.Request.TheVariants as request
 use Rattle.http_wire.specs.{Replies.reply_bytes, ParsedRequest.Parses, declared.call.ParsedRequest.ParsedRequest, declared.call.ReplyForm.ReplyForm}
 use Rattle.http_wire.specs.Spelled.{IsReplyForm, Spells}
-use Rattle.desk_http.specs.Noted.{IsToldOf}
-use Rattle.desk_http.specs.declared.{serving.Cause.Cause, serving.IoFault.IoFault, serving.Served.Served, overseeing.Told.Told}
-use Rattle.desk_http.specs.declared.serving.Cause.TheVariants as cause
+use Rattle.desk_http.specs.Noted.{IsSummaryOf}
+use Rattle.desk_http.specs.declared.{serving.Unanswered.Unanswered, serving.IoFault.IoFault, serving.Served.Served, overseeing.ReplySummary.ReplySummary}
+use Rattle.desk_http.specs.declared.serving.Unanswered.TheVariants as cause
 use Rattle.desk_http.specs.declared.serving.IoFault.TheVariants as iofault
 
 -- the call of a request that asks this
@@ -34,20 +34,20 @@ IsParsedOf known parsed = IfSome known (λ input. Parses input parsed)
 -- ---- what is written in place of a reply: that the desk could not act, or nothing where memory for it was refused
 
 -- whether it has the link to the directory: by the path, which is not known where memory was refused in reading the call
-abbrev pub index_for : Cause → ReplyForm → Bool
+abbrev pub index_for : Unanswered → ReplyForm → Bool
 index_for cause.Reading form = true
 index_for _ form = form.index
 
 -- refusal 15 without a nonce, or nothing
-abbrev pub Tells : List ℕ → Bool → Bool → Option (List ℕ) → Option (List ℕ) → Bool → Type 0
-Tells base index head_only before after true =
+abbrev pub WritesFault : List ℕ → Bool → Bool → Option (List ℕ) → Option (List ℕ) → Bool → Type 0
+WritesFault base index head_only before after true =
     Appends before after (reply_bytes base (refused_reply (refused_request refusal.ServerInternal allow.No index)) head_only)
-Tells base index head_only before after false = Keeps before after
+WritesFault base index head_only before after false = Keeps before after
 
--- what is told is what the reply tells
-abbrev pub IsTold : List ℕ → Reply → Option Told → Type 0
-IsTold base reply None = ⊥
-IsTold base reply (Some told) = IsToldOf base reply told
+-- there is a summary, and it is the reply's
+abbrev pub HasSummary : List ℕ → Reply → Option ReplySummary → Type 0
+HasSummary base reply None = ⊥
+HasSummary base reply (Some summary) = IsSummaryOf base reply summary
 
 -- ---- the desk
 
@@ -77,25 +77,25 @@ module _ {S C : Type 0} (v : Sight S C) (causes : Causes S) where
       pub responds : Responds old request result new
 
     -- why the request did not have its reply written, and what the desk then is
-    abbrev pub Fails : Option (List ℕ) → DeskState S → DeskState S → Cause → Type 0
+    abbrev pub Fails : Option (List ℕ) → DeskState S → DeskState S → Unanswered → Type 0
     Fails known old new (cause.Desk why) = HasAnswer known old new (Err why)
     Fails known old new cause.Reading = new ≡ old
     Fails known old new cause.Text = (reply : Reply) × HasAnswer known old new (Ok reply)
 
     -- the reply was written, or in its place that the desk could not act
     abbrev pub ServesBy : List ℕ → Option (List ℕ) → Option (List ℕ) → Option (List ℕ) → DeskState S → DeskState S → ReplyForm
-        → Option Cause → Bool → Option Told → Type 0
-    ServesBy base known before after old new form None written told =
+        → Option Unanswered → Bool → Option ReplySummary → Type 0
+    ServesBy base known before after old new form None written summary =
         (reply : Reply) × HasAnswer known old new (Ok reply) × Appends before after (reply_bytes base reply form.head_only) × (written ≡ true)
-        × IsTold base reply told
-    ServesBy base known before after old new form (Some why) written told =
-        Fails known old new why × Tells base (index_for why form) form.head_only before after written × (told ≡ None)
+        × HasSummary base reply summary
+    ServesBy base known before after old new form (Some why) written summary =
+        Fails known old new why × WritesFault base (index_for why form) form.head_only before after written × (summary ≡ None)
 
     -- what was served: how the reply is written is the input's, too
     abbrev pub Serves : List ℕ → Option (List ℕ) → Option (List ℕ) → Option (List ℕ) → DeskState S → DeskState S → Served → Type 0
     Serves base known before after old new served =
         (form : ReplyForm) × IfSome known (λ input. IsReplyForm input form)
-        × ServesBy base known before after old new form served.cause served.written served.told
+        × ServesBy base known before after old new form served.cause served.written served.summary
 
     -- the desk is as it was, or as its answer to the input's request left it
     abbrev pub IsLeft : Option (List ℕ) → DeskState S → DeskState S → Type 0
@@ -114,19 +114,19 @@ module _ {S C : Type 0} (v : Sight S C) (causes : Causes S) where
       pub is_read : read ≡ Ok request
       pub responds : Responds old request result new
 
-    -- the text is that of the reply to the request that was read, and what is told is what the reply tells
-    abbrev pub Says : List ℕ → Result Request AllocError → Bool → List ℕ → Told → DeskState S → DeskState S → Type 0
-    Says base read head_only text told old new =
-        (reply : Reply) × ReadAnswer read old new (Ok reply) × (text ≡ reply_bytes base reply head_only) × IsToldOf base reply told
+    -- the text is that of the reply to the request that was read, and the summary is the reply's
+    abbrev pub IsReplyTo : List ℕ → Result Request AllocError → Bool → List ℕ → ReplySummary → DeskState S → DeskState S → Type 0
+    IsReplyTo base read head_only text summary old new =
+        (reply : Reply) × ReadAnswer read old new (Ok reply) × (text ≡ reply_bytes base reply head_only) × IsSummaryOf base reply summary
 
     -- why there is no text
-    abbrev pub LacksText : Result Request AllocError → Cause → DeskState S → DeskState S → Type 0
+    abbrev pub LacksText : Result Request AllocError → Unanswered → DeskState S → DeskState S → Type 0
     LacksText read (cause.Desk why) old new = ReadAnswer read old new (Err why)
     LacksText read cause.Reading old new = new ≡ old
     LacksText read cause.Text old new = (reply : Reply) × ReadAnswer read old new (Ok reply)
 
     -- why there is no reply
-    abbrev pub LacksReply : Request → Cause → DeskState S → DeskState S → Type 0
+    abbrev pub LacksReply : Request → Unanswered → DeskState S → DeskState S → Type 0
     LacksReply q (cause.Desk why) old new = Responds old q (Err why) new
     LacksReply q cause.Reading old new = new ≡ old
     LacksReply q cause.Text old new = ⊥

@@ -1,7 +1,7 @@
-//! A request to a desk that is served, and what its reply tells.
+//! A request to a desk that is served, and the outcome by its reply.
 ghost use Rattle.std.specs.Prelude.{◌≡◌, ℕ, List, Some, IfOk};
 ghost use Rattle.std.specs.Io.KnownBytes.{Appends, Consumes};
-ghost use Rattle.desk_http.specs.Asking.{told_by};
+ghost use Rattle.desk_http.specs.Asking.{outcome_of};
 
 use crate::clients::{Patient, end};
 use crate::serving::{IoFault, send};
@@ -33,9 +33,9 @@ pub fn ask_at<M: Clock + Net<Stream = TcpStream, Listener = TcpListener>>(
     };
     let mut reader = Patient::new(&stream, machine, PATIENCE);
     let mut writer = Patient::new(&stream, machine, PATIENCE);
-    let told = ask(&mut reader, &mut writer, request);
+    let outcome = ask(&mut reader, &mut writer, request);
     end(&stream, machine);
-    told
+    outcome
 }
 
 /// Sends the bytes of a request to the desk at the other end, and gives the refusal that the beginning of its reply tells, or
@@ -50,22 +50,22 @@ pub fn ask<R: Read, W: Write>(
     request: &[u8],
 ) -> Result<Option<Refusal>, IoFault>
     ensures asked { IfOk result (λ _. Appends (W.contents writer.old) (W.contents writer.new) request.now) }
-    ensures told { IfOk result (λ told. (read : List ℕ) × Consumes (R.remaining reader.old) (R.remaining reader.new) read × (told_by read ≡ Some told)) }
+    ensures outcome { IfOk result (λ outcome. (read : List ℕ) × Consumes (R.remaining reader.old) (R.remaining reader.new) read × (outcome_of read ≡ Some outcome)) }
 {
     send(writer, request)?;
     let mut beginning = [0u8; BEGINNING];
     let Ok(count) = fill_from(reader, &mut beginning, 0) else {
         return Err(IoFault::Read);
     };
-    match told_by(&beginning[..count]) {
-        Some(told) => Ok(told),
+    match outcome_of(&beginning[..count]) {
+        Some(outcome) => Ok(outcome),
         None => Err(IoFault::Read),
     }
 }
 
-// What the beginning of a reply tells: that it was done, or why not; `None` where the desk gives no such reply.
-fn told_by(reply: &[u8]) -> Option<Option<Refusal>>
-    ensures { result ≡ told_by reply.now }
+// The outcome by the beginning of a reply: done, or why not; `None` where the desk gives no such reply.
+fn outcome_of(reply: &[u8]) -> Option<Option<Refusal>>
+    ensures { result ≡ outcome_of reply.now }
 {
     if reply.starts_with(b"HTTP/1.1 200 ") {
         Some(None)

@@ -12,7 +12,7 @@ use crate::overseeing::{
     Entry, Noting, Overseer, Watch, number_of_ask, outcome_number, outcome_status,
 };
 use crate::serve_fault::ServeFault;
-use crate::serving::{Cause, IoFault, Served, serve_parsed};
+use crate::serving::{IoFault, Served, Unanswered, serve_parsed};
 use crate::{ParsedRequest, Request, Routes, read_call_by};
 use desk::{Desk, DeskFault};
 use desk_model::{Ask, MOST_NAMES, Target};
@@ -170,8 +170,8 @@ fn object_of(call: CallNote, served: Result<Served, IoFault>) -> Option<u64>
     ensures { result ≡ object_of call.object served }
 {
     match served {
-        Ok(served) => match served.told {
-            Some(told) => first_of(told.located, call.object),
+        Ok(served) => match served.summary {
+            Some(summary) => first_of(summary.located, call.object),
             None => call.object,
         },
         Err(_) => call.object,
@@ -331,7 +331,7 @@ fn closing_fault<K: Storage + Drop>(
 {
     match served {
         Ok(served) => match served.cause {
-            Some(Cause::Desk(fault)) if fault.closes() => Some(fault),
+            Some(Unanswered::Desk(fault)) if fault.closes() => Some(fault),
             _ => None,
         },
         Err(_) if desk.is_closed() => Some(DeskFault::Reopen),

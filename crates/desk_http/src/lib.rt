@@ -14,6 +14,6 @@ pub use connections::{bind, moment, serve_all};
 pub use http_routes::{Request, Routes};
 pub use http_wire::{ParsedRequest, ReadFailed, ReplyForm, read_call, read_call_by, reply_text};
 pub use json_texts::problem_document;
-pub use overseeing::{Entry, Overseer, Told, Watch};
+pub use overseeing::{Entry, Overseer, ReplySummary, Watch};
 pub use serve_fault::ServeFault;
-pub use serving::{Cause, IoFault, Served, serve_one, serve_one_by, serve_parsed};
+pub use serving::{IoFault, Served, Unanswered, serve_one, serve_one_by, serve_parsed};

@@ -1,20 +1,20 @@
 //! Who watches the serving of a desk, and what is noted of each connection, its requests and their replies.
 ghost use Rattle.std.specs.Prelude.{◌≡◌, ◌≢◌, ◌++◌, ℕ, List, MatchOption};
-ghost use Rattle.desk_http.specs.Noted.{IsLocated, IsPathOf, IsToldOf, IsUrlOf, refusal_number, shown, number_by, number_of_ask, number_of_cause};
+ghost use Rattle.desk_http.specs.Noted.{IsLocated, IsPathOf, IsSummaryOf, IsUrlOf, refusal_number, shown, number_by, number_of_ask, number_of_cause};
 ghost use Rattle.desk_http.specs.Noted.{number_of_office, number_of_target, outcome_number, outcome_status, status_by};
 
 use crate::clients::MomentBound;
-use crate::serving::{Cause, IoFault, Served};
+use crate::serving::{IoFault, Served, Unanswered};
 use desk::DeskFault;
 use desk_model::{Ask, Body, OfficeAsk, Reply, Target};
 use http_routes::number_between;
 use std::io::{self, Read};
 
-// ---- what a reply tells
+// ---- the summary of a reply
 
-/// What a reply tells whoever watches the serving.
+/// What whoever watches the serving is told of a reply.
 #[derive(Clone, Copy, Debug, PartialEq, Eq)]
-pub struct Told {
+pub struct ReplySummary {
     /// Its HTTP status.
     pub status: u16,
     /// The number of the refusal, 1 to 17, where it is one.
@@ -23,11 +23,11 @@ pub struct Told {
     pub located: Option<u64>,
 }
 
-/// What a reply of a desk with this base tells.
-pub(crate) fn told_of(base: &str, reply: &Reply) -> Told
-    ensures { IsToldOf base.now reply.now result }
+/// The summary of a reply of a desk with this base.
+pub(crate) fn summary_of(base: &str, reply: &Reply) -> ReplySummary
+    ensures { IsSummaryOf base.now reply.now result }
 {
-    Told {
+    ReplySummary {
         status: reply.status,
         refusal: refusal_number(&reply.body),
         located: located(base, reply),
@@ -223,7 +223,7 @@ pub(crate) fn outcome_status(served: Result<Served, IoFault>) -> Option<u16>
     ensures { result ≡ outcome_status served }
 {
     match served {
-        Ok(served) => status_by(served.told, served.written),
+        Ok(served) => status_by(served.summary, served.written),
         Err(_) => None,
     }
 }
@@ -233,43 +233,43 @@ pub(crate) fn outcome_number(served: Result<Served, IoFault>) -> Option<u8>
     ensures { result ≡ outcome_number served }
 {
     match served {
-        Ok(served) => number_by(served.cause, served.told),
+        Ok(served) => number_by(served.cause, served.summary),
         Err(_) => None,
     }
 }
 
 // The status of the reply, or of what was written in its place.
-fn status_by(told: Option<Told>, written: bool) -> Option<u16>
-    ensures { result ≡ status_by told written }
+fn status_by(summary: Option<ReplySummary>, written: bool) -> Option<u16>
+    ensures { result ≡ status_by summary written }
 {
-    match told {
-        Some(told) => Some(told.status),
+    match summary {
+        Some(summary) => Some(summary.status),
         None if written => Some(INABILITY),
         None => None,
     }
 }
 
 // The number of what took the reply's place, or of its refusal.
-fn number_by(cause: Option<Cause>, told: Option<Told>) -> Option<u8>
-    ensures { result ≡ number_by cause told }
+fn number_by(cause: Option<Unanswered>, summary: Option<ReplySummary>) -> Option<u8>
+    ensures { result ≡ number_by cause summary }
 {
     match cause {
         Some(cause) => Some(number_of_cause(cause)),
-        None => match told {
-            Some(told) => told.refusal,
+        None => match summary {
+            Some(summary) => summary.refusal,
             None => None,
         },
     }
 }
 
 // The number of a fault, which is that of memory where the call or its reply found none.
-fn number_of_cause(cause: Cause) -> u8
+fn number_of_cause(cause: Unanswered) -> u8
     ensures { result ≡ number_of_cause cause }
 {
     match cause {
-        Cause::Desk(fault) => fault.number(),
-        Cause::Reading => DeskFault::Memory.number(),
-        Cause::Text => DeskFault::Memory.number(),
+        Unanswered::Desk(fault) => fault.number(),
+        Unanswered::Reading => DeskFault::Memory.number(),
+        Unanswered::Text => DeskFault::Memory.number(),
     }
 }
 

@@ -1,13 +1,13 @@
-//! One request from a reader: read, said to the desk, and its reply sent to a writer.
+//! One request from a reader: read, answered by the desk, and its reply sent to a writer.
 ghost use Rattle.std.specs.Prelude.{◌≡◌, ◌+◌, ℕ, List, Option, IfOk, IfErr, MatchResult, Ok, OnOk};
 ghost use Rattle.desk_model.specs.Limits.{longest_body, longest_head};
 ghost use Rattle.http_wire.specs.{Head.TakesAtMost, Replies.reply_bytes};
-ghost use Rattle.desk_http.specs.Serving.{Breaks, IsParsedOf, Serves, index_for, IsAnswer, LacksReply, LacksText, Responds, Says, call_of, Tells};
+ghost use Rattle.desk_http.specs.Serving.{Breaks, IsParsedOf, Serves, index_for, IsAnswer, LacksReply, LacksText, Responds, IsReplyTo, call_of, WritesFault};
 ghost use Rattle.std.specs.Io.KnownBytes.{Appends};
 ghost use Rattle.desk_model.specs.{declared.refusal.Refusal.TheVariants.ServerInternal, declared.reply.Allow.TheVariants.No};
 ghost use Rattle.http_routes.specs.Request.{refused_reply, refused_request};
 
-use crate::overseeing::{Told, told_of};
+use crate::overseeing::{ReplySummary, summary_of};
 use desk::{Desk, DeskFault};
 use desk_model::{Allow, Ask, Call, Refusal, Reply, Sequence};
 use http_routes::{Request, RequestRefusal, Routes};
@@ -21,11 +21,11 @@ use thiserror::Error;
 #[derive(Clone, Copy, Debug, PartialEq, Eq)]
 pub struct Served {
     /// Why it did not have its reply, if so.
-    pub cause: Option<Cause>,
+    pub cause: Option<Unanswered>,
     /// Whether anything was written.
     pub written: bool,
-    /// What its reply tells, where it had one.
-    pub told: Option<Told>,
+    /// The summary of its reply, where it had one.
+    pub summary: Option<ReplySummary>,
 }
 
 /// Serves one request: reads it, has the desk answer its call, and writes the reply, or in its place that the desk could
@@ -108,22 +108,22 @@ pub fn serve_parsed<W: Write, K: Storage + Drop>(
         known (W.contents writer.old) (W.contents writer.new) desk.old desk.new e) }
 {
     let form = parsed.form;
-    match say(alloc, desk, at, random, parsed.request, form.head_only) {
-        Ok(said) => match send(writer, said.text.as_slice()) {
+    match reply_bytes(alloc, desk, at, random, parsed.request, form.head_only) {
+        Ok(reply) => match send(writer, reply.bytes.as_slice()) {
             Ok(()) => Ok(Served {
                 cause: None,
                 written: true,
-                told: Some(said.told),
+                summary: Some(reply.summary),
             }),
             Err(fault) => Err(fault),
         },
         Err(cause) => {
             let index = index_for(cause, form);
-            match tell(alloc, writer, desk.base(), index, form.head_only) {
+            match write_fault(alloc, writer, desk.base(), index, form.head_only) {
                 Ok(written) => Ok(Served {
                     cause: Some(cause),
                     written,
-                    told: None,
+                    summary: None,
                 }),
                 Err(fault) => Err(fault),
             }
@@ -132,20 +132,20 @@ pub fn serve_parsed<W: Write, K: Storage + Drop>(
 }
 
 // Whether what is written in the place of a reply has the link to the directory.
-fn index_for(cause: Cause, form: ReplyForm) -> bool
+fn index_for(cause: Unanswered, form: ReplyForm) -> bool
     ensures { result ≡ index_for cause form }
 {
     match cause {
-        Cause::Reading => true,
+        Unanswered::Reading => true,
         _ => form.index,
     }
 }
 
-// ---- what is said: the bytes of the desk's answer to the call, or of the refusal
+// ---- the bytes of a reply: the desk's answer to the call, or the refusal
 
 /// Why a request did not have its reply.
 #[derive(Clone, Copy, Debug, PartialEq, Eq, Error)]
-pub enum Cause {
+pub enum Unanswered {
     /// The desk had a fault.
     #[error("{0}")]
     Desk(DeskFault),
@@ -157,44 +157,45 @@ pub enum Cause {
     Text,
 }
 
-/// The bytes of a reply, and what it tells.
+/// The bytes of a reply, and its summary.
 #[derive(Drop)]
-pub struct Said {
-    pub(crate) text: Vec<u8>,
-    pub(crate) told: Told,
+pub struct ReplyBytes {
+    pub(crate) bytes: Vec<u8>,
+    pub(crate) summary: ReplySummary,
 }
 
-// The bytes of the reply to a request that was read, and what it tells.
+// The bytes of the reply to a request that was read, and its summary.
 //
 // # Errors
 //
 // Where there is no reply, or no memory for its bytes.
-fn say<K: Storage + Drop>(
+fn reply_bytes<K: Storage + Drop>(
     alloc: Global,
     desk: &mut Desk<K>,
     at: u64,
     random: &[u8],
     request: Result<Request, AllocError>,
     head_only: bool,
-) -> Result<Said, Cause>
+) -> Result<ReplyBytes, Unanswered>
     ensures policy { desk.new.policy ≡ desk.old.policy }
-    ensures said { MatchResult result
-        (λ said. Says K.Storage.sight K.Storage.causes at random.now desk.new.policy.base request head_only said.text.items said.told desk.old desk.new)
+    ensures reply { MatchResult result
+        (λ reply. IsReplyTo K.Storage.sight K.Storage.causes at random.now desk.new.policy.base request head_only
+        reply.bytes.items reply.summary desk.old desk.new)
         (λ cause. LacksText K.Storage.sight K.Storage.causes at random.now request cause desk.old desk.new) }
 {
     let Ok(request) = request else {
-        return Err(Cause::Reading);
+        return Err(Unanswered::Reading);
     };
     let reply = match reply_to(alloc, desk, at, random, request) {
         Ok(reply) => reply,
         Err(cause) => return Err(cause),
     };
-    let text = reply_text(alloc, desk.base(), &reply, head_only);
-    let told = told_of(desk.base(), &reply);
+    let bytes = reply_text(alloc, desk.base(), &reply, head_only);
+    let summary = summary_of(desk.base(), &reply);
     drop(reply);
-    match text {
-        Ok(text) => Ok(Said { text, told }),
-        Err(_) => Err(Cause::Text),
+    match bytes {
+        Ok(bytes) => Ok(ReplyBytes { bytes, summary }),
+        Err(_) => Err(Unanswered::Text),
     }
 }
 
@@ -205,7 +206,7 @@ fn reply_to<K: Storage + Drop>(
     at: u64,
     random: &[u8],
     request: Request,
-) -> Result<Reply, Cause>
+) -> Result<Reply, Unanswered>
     ensures policy { desk.new.policy ≡ desk.old.policy }
     ensures reply { MatchResult result
         (λ reply. Responds K.Storage.sight K.Storage.causes at random.now desk.old request (Ok reply) desk.new)
@@ -214,13 +215,13 @@ fn reply_to<K: Storage + Drop>(
     match request {
         Request::Asks(ask) => {
             let Ok(call) = call_of(alloc, at, random, ask) else {
-                return Err(Cause::Reading);
+                return Err(Unanswered::Reading);
             };
             let answered = answer(alloc, desk, &call);
             drop(call);
             match answered {
                 Ok(reply) => Ok(reply),
-                Err(fault) => Err(Cause::Desk(fault)),
+                Err(fault) => Err(Unanswered::Desk(fault)),
             }
         }
         Request::Refused(why) => Ok(why.reply(alloc)),
@@ -268,19 +269,19 @@ pub enum IoFault {
     Write,
 }
 
-// Writes that the desk could not act, if there is memory to say it, and tells whether there was.
+// Writes that the desk could not act, where there is memory for that, and gives whether it was written.
 //
 // # Errors
 //
 // Where the writer fails.
-fn tell<W: Write>(
+fn write_fault<W: Write>(
     alloc: Global,
     writer: &mut W,
     base: &str,
     index: bool,
     head_only: bool,
 ) -> Result<bool, IoFault>
-    ensures told { IfOk result (λ written. Tells base.now index head_only (W.contents writer.old) (W.contents writer.new) written) }
+    ensures written { IfOk result (λ written. WritesFault base.now index head_only (W.contents writer.old) (W.contents writer.new) written) }
     ensures failed { IfErr result (λ e. e ≡ IoFault.Write) }
 {
     match inability_text(alloc, base, index, head_only) {

@@ -25,8 +25,8 @@ const NOTHING_HERE: &[u8] =
 const REVOKES: &[u8] =
     b"POST /office/revoke-authz/1 HTTP/1.1\r\nHost: 127.0.0.1\r\nContent-Length: 0\r\n\r\n";
 
-// What is told of this reply to it: none, or the number of its refusal.
-fn told_of(alloc: Global, reply: &[u8]) -> Result<Option<u8>, IoFault> {
+// The outcome by this reply to it: none, or the number of its refusal.
+fn outcome_of(alloc: Global, reply: &[u8]) -> Result<Option<u8>, IoFault> {
     let mut reader = reply;
     let mut sent = Vec::new(alloc);
     match ask(&mut reader, &mut sent, REVOKES) {
@@ -40,8 +40,8 @@ fn told_of(alloc: Global, reply: &[u8]) -> Result<Option<u8>, IoFault> {
 fn revokes_nothing(alloc: Global, desk: &mut Desk<Memory>) -> bool {
     let mut reader = NOTHING_HERE;
     let mut sent = Vec::new(alloc);
-    let told = ask(&mut reader, &mut sent, REVOKES);
-    told.is_ok() && gives(alloc, desk, sent.as_slice(), NOTHING_HERE)
+    let outcome = ask(&mut reader, &mut sent, REVOKES);
+    outcome.is_ok() && gives(alloc, desk, sent.as_slice(), NOTHING_HERE)
 }
 
 // Whether a new desk does.
@@ -132,7 +132,7 @@ fn worked_replies_are_given_after_readers_that_fail(rt: HostRuntime) -> Result<(
 #[test]
 fn what_is_asked_is_answered(rt: HostRuntime) -> Result<(), Fail> {
     assert!(rt; new_desk_revokes_nothing(&rt, rt.alloc())?);
-    for (reply, told) in [
+    for (reply, outcome) in [
         (b"HTTP/1.1 200 OK\r\n".as_slice(), Ok(None)),
         (NOTHING_HERE, Ok(Some(2))),
         (b"HTTP/1.1 409 Conflict\r\n", Ok(Some(14))),
@@ -142,7 +142,7 @@ fn what_is_asked_is_answered(rt: HostRuntime) -> Result<(), Fail> {
         (b"HTTP/1.1 200", Err(IoFault::Read)),
         (b"", Err(IoFault::Read)),
     ] {
-        assert!(rt; told_of(rt.alloc(), reply) == told);
+        assert!(rt; outcome_of(rt.alloc(), reply) == outcome);
     }
     Ok(())
 }
