@@ -55,7 +55,7 @@ pub fn batch_line<K: Storage + Drop>(
     desk: &mut Desk<K>,
     line: &[u8],
 ) -> Result<Vec<u8>, AnswerFault>
-    ensures { Answered K.Storage.sight (λ said. said.items) desk.old line.now result desk.new }
+    ensures { Answered K.Storage.sight (λ text. text.items) desk.old line.now result desk.new }
 {
     let mut routes = Routes::new();
     batch_line_by(alloc, &mut routes, desk, line)
@@ -68,7 +68,7 @@ fn batch_line_by<K: Storage + Drop>(
     desk: &mut Desk<K>,
     line: &[u8],
 ) -> Result<Vec<u8>, AnswerFault>
-    ensures { Answered K.Storage.sight (λ said. said.items) desk.old line.now result desk.new }
+    ensures { Answered K.Storage.sight (λ text. text.items) desk.old line.now result desk.new }
 {
     let line = match read_line(alloc, line) {
         Ok(line) => line,
@@ -83,9 +83,9 @@ fn batch_line_by<K: Storage + Drop>(
         Ok(reply) => reply,
         Err(fault) => return Err(AnswerFault::Desk(fault)),
     };
-    let said = reply_line(alloc, &reply);
+    let text = reply_line(alloc, &reply);
     drop(reply);
-    match said {
+    match text {
         Ok(text) => Ok(text.into_bytes()),
         Err(_) => Err(AnswerFault::Memory),
     }
@@ -228,11 +228,11 @@ fn write_answer<W: Write>(
     answered: Result<Vec<u8>, AnswerFault>,
     writer: &mut W,
 ) -> Result<(), BatchFault>
-    ensures written { IfOk answered (λ said. OnOk result (Appends (W.contents writer.old) (W.contents writer.new) (said.items ++ 10 ∷ []))) }
+    ensures written { IfOk answered (λ text. OnOk result (Appends (W.contents writer.old) (W.contents writer.new) (text.items ++ 10 ∷ []))) }
     ensures silent { IfErr answered (λ why. IsErr result × (W.contents writer.new ≡ W.contents writer.old)) }
 {
     match answered {
-        Ok(said) => write_line(writer, said),
+        Ok(text) => write_line(writer, text),
         Err(AnswerFault::NotACall) => Err(BatchFault::NotACall(number)),
         Err(AnswerFault::Desk(fault)) => Err(BatchFault::Desk(fault)),
         Err(AnswerFault::Memory) => Err(BatchFault::Desk(DeskFault::Memory)),

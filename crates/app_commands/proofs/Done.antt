@@ -1,7 +1,7 @@
 -- What a word does, by what its steps say.
 use Rattle.std.proofs.Common.{◌≡◌, ◌∙◌, ◌≤◌, ℕ, zero, suc, List, [], Option, Result, Ok, Err, IsErrAnd, arith, ap, inl, inr, refl}
 use Rattle.app_batch.specs.InTurn.{AnswersFirst, StopsBehind}
-use Rattle.app_words.specs.declared.command.Target.{Target}
+use Rattle.app_words.specs.declared.command.Revocation.{Revocation}
 use Rattle.app_commands.specs.Deeds.{AnswersLines, Revokes, Serves, ask_of, served, unserved}
 use Rattle.app_commands.specs.declared.fault.Fault.{Fault}
 use Rattle.app_commands.specs.declared.fault.Fault.TheVariants as fault
@@ -24,13 +24,13 @@ module _ {S C : Type 0} (v : Sight S C) where
   lines_answered bytes was is desk ended (suc (suc n)) most seen all first = absurd (omega (arith, most))
 
   -- the machine told no moment
-  pub no_moment : (what : Target) (desk : DeskState S) (cause : ServeFault) (how : Result ℕ Fault) → cause ≡ servefault.Clock
+  pub no_moment : (what : Revocation) (desk : DeskState S) (cause : ServeFault) (how : Result ℕ Fault) → cause ≡ servefault.Clock
       → Fails how (fault.Serve cause) → Revokes v what desk desk how
   no_moment what desk cause (Ok status) is told = absurd told
   no_moment what desk cause (Err f) is told = inl (refl, ap Err (told ∙ ap fault.Serve is))
 
   -- the desk had a fault
-  pub not_revoked : (what : Target) (desk ended : DeskState S) (at : ℕ) (cause : DeskFault) (how : Result ℕ Fault)
+  pub not_revoked : (what : Revocation) (desk ended : DeskState S) (at : ℕ) (cause : DeskFault) (how : Result ℕ Fault)
       → AnswersOffice v at (ask_of what) desk.store ended.store (Err cause) → ended.is_closed ≡ closes cause → ended.policy ≡ desk.policy
       → Fails how (fault.Desk cause) → Revokes v what desk ended how
   not_revoked what desk ended at cause (Ok status) answers flag policy told = absurd told

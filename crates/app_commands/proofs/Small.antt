@@ -4,7 +4,7 @@ use Rattle.std.proofs.Common.{unwrap_or}
 use Rattle.std.specs.Prelude.{if◌then◌else◌}
 use Rattle.sqlite.specs.Recovery.{Image}
 use Rattle.sqlite_disk.specs.declared.Disk as disk
-use Rattle.app_words.specs.declared.command.{Command.Command, Target.Target}
+use Rattle.app_words.specs.declared.command.{Command.Command, Revocation.Revocation}
 use Rattle.app_words.specs.declared.command.Command.TheVariants as command
 use Rattle.app_commands.specs.Asked.{IsSaid, RevokesServed, refused, revoked, unheard}
 use Rattle.app_commands.specs.Deeds.{AnswersReader, ChecksStatuses, ListsRows, RevokesTarget, ServesCount, TellsAbout, TellsPage, AnswersLines, ByDesk, IsTold}
@@ -69,11 +69,11 @@ small_told (Ok (Some refusal)) how is = small_as how _ is (omega arith)
 small_told (Err why) how is = small_as how _ is (omega arith)
 
 -- revocations by a desk that is served
-small_said : (what : Target) (was is : Option (List ℕ)) (how : Result ℕ Fault) → IsSaid what was is how → IsSmall how
+small_said : (what : Revocation) (was is : Option (List ℕ)) (how : Result ℕ Fault) → IsSaid what was is how → IsSmall how
 small_said what was is how (inl it) = small_as how _ it.0 (small_status 0 (omega arith))
 small_said what was is how (inr it) = small_as how _ it (omega arith)
 
-small_asked : (what : Target) (was is : Option (List ℕ)) (how : Result ℕ Fault) → RevokesServed what was is how → IsSmall how
+small_asked : (what : Revocation) (was is : Option (List ℕ)) (how : Result ℕ Fault) → RevokesServed what was is how → IsSmall how
 small_asked what was is how (unheard (inl it) same) = small_as how _ it (omega arith)
 small_asked what was is how (unheard (inr it) same) = small_as how _ it (omega arith)
 small_asked what was is how (refused refusal it same) = small_as how _ it (omega arith)
@@ -99,12 +99,12 @@ small_page was is S C D v causes rows old new how it = small_as how _ it.ends (s
 small_checks : (f : Form) → AreSmall (ChecksStatuses f)
 small_checks f was is S C D v causes rows old new how it = small_as how _ it.ends (small_checked it.checked)
 
-small_revoked : {S C : Type 0} (v : Sight S C) (what : Target) (desk ended : DeskState S) (how : Result ℕ Fault)
+small_revoked : {S C : Type 0} (v : Sight S C) (what : Revocation) (desk ended : DeskState S) (how : Result ℕ Fault)
     → Revokes v what desk ended how → IsSmall how
 small_revoked v what desk ended how (inl it) = small_as how _ it.1 (omega arith)
 small_revoked v what desk ended how (inr it) = small_told it.answer how it.told
 
-small_revokes : (what : Target) → AreSmall (RevokesTarget what)
+small_revokes : (what : Revocation) → AreSmall (RevokesTarget what)
 small_revokes what was is S C D v causes rows old new how it = small_by v was is (Revokes v what) (small_revoked v what) old new how it
 
 small_line : {S C : Type 0} (v : Sight S C) (bytes was is : Option (List ℕ)) (desk ended : DeskState S) (how : Result ℕ Fault)

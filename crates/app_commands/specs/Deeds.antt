@@ -2,8 +2,8 @@
 use Rattle.std.specs.Prelude.{if◌then◌else◌, ◌≡◌, ◌≢◌, ◌⊎◌, ◌↔◌, ℕ, List, [], false, Option, Some, None, Result, Ok, Err, IfOk, IsTrue, OnOk, unwrap_or}
 use Rattle.std.specs.Io.KnownBytes.{Appends}
 use Rattle.app_batch.specs.InTurn.{AnswersFirst, StopsBehind}
-use Rattle.app_words.specs.declared.command.Target.{Target}
-use Rattle.app_words.specs.declared.command.Target.TheVariants as target
+use Rattle.app_words.specs.declared.command.Revocation.{Revocation}
+use Rattle.app_words.specs.declared.command.Revocation.TheVariants as revocation
 use Rattle.app_commands.specs.{Faults.report_fault, declared.fault.Fault.Fault}
 use Rattle.app_commands.specs.declared.fault.Fault.TheVariants as fault
 use Rattle.desk_http.specs.{InTurn.ServesAll, declared.serve_fault.ServeFault.ServeFault}
@@ -79,9 +79,9 @@ module _ {S C : Type 0} (v : Sight S C) where
 -- ---- revocations
 
 -- what is asked of the desk
-abbrev pub ask_of : Target → OfficeAsk
-ask_of (target.Authorization number) = ask.RevokeAuthz number
-ask_of (target.Account number) = ask.RevokeAccount number
+abbrev pub ask_of : Revocation → OfficeAsk
+ask_of (revocation.Authorization number) = ask.RevokeAuthz number
+ask_of (revocation.Account number) = ask.RevokeAccount number
 
 -- how a revocation ends, by the desk's answer: where it is not refused, what says so may still fail to be written
 abbrev pub IsTold : Result (Option Refusal) DeskFault → Result ℕ Fault → Type 0
@@ -91,7 +91,7 @@ IsTold (Err why) how = how ≡ Err (fault.Desk why)
 
 module _ {S C : Type 0} (v : Sight S C) where
   -- the desk answered the office's ask at some moment
-  pub record AnswersRevocation (what : Target) (desk ended : DeskState S) (how : Result ℕ Fault) : Type 0 where
+  pub record AnswersRevocation (what : Revocation) (desk ended : DeskState S) (how : Result ℕ Fault) : Type 0 where
     pub at : ℕ
     pub answer : Result (Option Refusal) DeskFault
     pub answers : AnswersOffice v at (ask_of what) desk.store ended.store answer
@@ -100,7 +100,7 @@ module _ {S C : Type 0} (v : Sight S C) where
     pub told : IsTold answer how
 
   -- the machine told no moment, or the desk answered
-  abbrev pub Revokes : Target → DeskState S → DeskState S → Result ℕ Fault → Type 0
+  abbrev pub Revokes : Revocation → DeskState S → DeskState S → Result ℕ Fault → Type 0
   Revokes what desk ended how = ((ended ≡ desk) × (how ≡ Err (fault.Serve servefault.Clock))) ⊎ AnswersRevocation what desk ended how
 
 -- ---- lines and connections
@@ -155,7 +155,7 @@ abbrev pub ChecksStatuses : Form → Deed Fault
 ChecksStatuses f was is _ _ _ v causes rows = Checks rows f was is
 
 -- an authorization or an account is revoked
-abbrev pub RevokesTarget : Target → Deed Fault
+abbrev pub RevokesTarget : Revocation → Deed Fault
 RevokesTarget what was is _ _ _ v causes rows = ByDesk v was is (Revokes v what)
 
 -- the lines of a reader with these bytes are answered

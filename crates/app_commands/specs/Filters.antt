@@ -1,7 +1,7 @@
 -- Which rows the words of a list ask for.
 use Rattle.std.specs.Prelude.{◌≡◌, ℕ, List, Option, None, Some}
 use Rattle.std.specs.Borrow.{Bor}
-use Rattle.app_words.specs.declared.command.{AuthorizationListing.AuthorizationListing, Listing.Listing}
+use Rattle.app_words.specs.declared.command.{AuthorizationListing.AuthorizationListing, OrderListing.OrderListing}
 use Rattle.desk_model.specs.{Document.order_status_text, Name.Name, Names.name_of, declared.status.OrderStatus.OrderStatus}
 use Rattle.app_reports.specs.declared.{lists.AuthorizationFilter.AuthorizationFilter, lists.OrderFilter.OrderFilter}
 use Rattle.app_commands.specs.declared.filters.Unasked.{Unasked}
@@ -30,10 +30,10 @@ AsksForName given None = given ≡ None
 AsksForName given (Some name) = (text : _) × (given ≡ Some text) × (name_of text.now ≡ Some name)
 
 -- the words of a list of orders are right, and these are the orders that they ask for
-abbrev pub AreRight : Listing → Type 0
+abbrev pub AreRight : OrderListing → Type 0
 AreRight l = NamesStatus l.status × StandsForName l.name
 
-pub record AsksForOrders (l : Listing) (filter : OrderFilter) : Type 0 where
+pub record AsksForOrders (l : OrderListing) (filter : OrderFilter) : Type 0 where
   pub right : AreRight l
   pub account : filter.account ≡ l.account
   pub status : AsksForStatus l.status filter.status

@@ -2,7 +2,7 @@
 use Rattle.std.specs.Prelude.{◌≡◌, ◌≢◌, ◌⊎◌, ℕ, Bool, List, codes, Option, Some, None, Result, Ok, Err, true, false}
 use Rattle.sqlite.specs.Recovery.{Image}
 use Rattle.sqlite_disk.specs.declared.Disk as disk
-use Rattle.app_words.specs.declared.command.{AuthorizationListing.AuthorizationListing, Listing.Listing, Command.Command, Syncs.Syncs, Terms.Terms as Words}
+use Rattle.app_words.specs.declared.command.{AuthorizationListing.AuthorizationListing, OrderListing.OrderListing, Command.Command, Syncs.Syncs, Terms.Terms as Words}
 use Rattle.app_words.specs.declared.command.Command.TheVariants as command
 use Rattle.app_words.specs.declared.command.Syncs.TheVariants as syncs
 use Rattle.app_commands.specs.{Asked.RevokesServed, declared.filters.Unasked.Unasked, declared.fault.Fault.Fault, declared.limits.Limit.Limit}
@@ -99,7 +99,7 @@ module _ {D : Type 0} (g : disk.Ghosts D) (image : Image) where
   EndsUnasked unasked.Memory was is how left = (how ≡ Err (fault.Desk deskfault.Memory)) × IsIdle was is left
 
   -- the orders are listed that are asked for
-  pub record ListsOrders (listing : Listing) (was is : Option (List ℕ)) (how : Result ℕ Fault) (left : Left D g) : Type 0 where
+  pub record ListsOrders (listing : OrderListing) (was is : Option (List ℕ)) (how : Result ℕ Fault) (left : Left D g) : Type 0 where
     pub filter : OrderFilter
     pub asks : AsksForOrders listing filter
     pub ends : EndsOverFiles (ListsRows (orders_roster filter (form_of listing.json))) was is how left

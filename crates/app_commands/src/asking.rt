@@ -5,7 +5,7 @@ ghost use Rattle.app_commands.specs.declared.fault.Fault.TheVariants as fault;
 
 use crate::fault::Fault;
 use crate::tasks::tell_revoked;
-use app_words::Target;
+use app_words::Revocation;
 use desk::DeskFault;
 use desk_http::ask_at;
 use desk_model::Refusal;
@@ -21,7 +21,7 @@ use std::io::Write;
 pub(crate) fn revoke_served<W: Write>(
     rt: &HostRuntime,
     port: u16,
-    target: Target,
+    target: Revocation,
     out: &mut W,
 ) -> Result<u8, Fault>
     ensures { RevokesServed target (W.contents out.old) (W.contents out.new) result }
@@ -33,10 +33,11 @@ pub(crate) fn revoke_served<W: Write>(
     tell_reply(reply, target, out)
 }
 
-// Says what the desk replied: that it is done, or why it is not; gives the exit status.
+// Says what the desk replied: that it is done, or why it is not; gives the exit status. It takes the result of asking,
+// so that its clause also says what follows where no reply came.
 fn tell_reply<W: Write>(
     reply: Result<Option<Refusal>, Fault>,
-    target: Target,
+    target: Revocation,
     out: &mut W,
 ) -> Result<u8, Fault>
     ensures { TellsReply target reply (W.contents out.old) (W.contents out.new) result }
@@ -49,14 +50,14 @@ fn tell_reply<W: Write>(
 }
 
 // The request for it, which has no body (RFC 9112, 3).
-fn request_of(alloc: Global, target: Target) -> Result<String, AllocError>
+fn request_of(alloc: Global, target: Revocation) -> Result<String, AllocError>
     ensures { IfOk result (λ request. string_bytes request ≡ request_of target) }
 {
     match target {
-        Target::Authorization(number) => format!(in alloc;
+        Revocation::Authorization(number) => format!(in alloc;
             "POST /office/revoke-authz/{number} HTTP/1.1\r\nHost: 127.0.0.1\r\nContent-Length: 0\r\n\r\n"
         ),
-        Target::Account(number) => format!(in alloc;
+        Revocation::Account(number) => format!(in alloc;
             "POST /office/revoke-account/{number} HTTP/1.1\r\nHost: 127.0.0.1\r\nContent-Length: 0\r\n\r\n"
         ),
     }
@@ -67,7 +68,7 @@ fn ask(rt: &HostRuntime, port: u16, request: &[u8]) -> Result<Option<Refusal>, F
     ensures { IfErr result (λ e. e ≡ fault.Connection) }
 {
     match ask_at(rt, port, request) {
-        Ok(told) => Ok(told),
+        Ok(refusal) => Ok(refusal),
         Err(_) => Err(Fault::Connection),
     }
 }

@@ -1,5 +1,5 @@
 //! A desk that is checked, and copied.
-ghost use Rattle.std.specs.Prelude.{◌≡◌, ◌≢◌, Err, Ok};
+ghost use Rattle.std.specs.Prelude.{◌≡◌, ◌≢◌, Ok};
 ghost use Rattle.sqlite.specs.WalFiles.{image_at};
 ghost use Rattle.app_commands.specs.Statuses.{EndsBackUp, IsToldCopied};
 
@@ -36,7 +36,8 @@ pub(crate) fn back_up<S: Start, W: Write, E: Write>(
     (copied(rt, checked, file, to, out), left)
 }
 
-// Copies the file of a desk that is closed and has no wrong status, says so, and gives the exit status.
+// Copies the file of a desk that is closed and has no wrong status, says so, and gives the exit status. It takes the result of the
+// check as it is, since `back_up` gives what is left of the files beside it.
 fn copied<W: Write>(
     rt: &HostRuntime,
     checked: Result<u8, Fault>,

@@ -2,7 +2,7 @@
 
 use crate::fault::Fault;
 use crate::limits::broken_limit;
-use app_files::{Cause, Left};
+use app_files::{FileCause, Left};
 use app_words::Command;
 use desk::DeskFault;
 use desk_http::ServeFault;
@@ -67,19 +67,19 @@ fn explain_desk_fault<D: Disk, E: Write>(
 }
 
 // Why a file was not reached, or failed.
-fn device_cause<D: Disk>(rt: &HostRuntime, file: &str, left: &Left<D>) -> Cause {
+fn device_cause<D: Disk>(rt: &HostRuntime, file: &str, left: &Left<D>) -> FileCause {
     if left.is_unreached() {
-        Cause::unreached(rt, file)
+        FileCause::unreached(rt, file)
     } else {
-        Cause::Failed
+        FileCause::Failed
     }
 }
 
 // Why a file holds no desk, or none is made in it.
-fn deskless_cause(rt: &HostRuntime, file: &str, command: Command<'_>) -> Cause {
+fn deskless_cause(rt: &HostRuntime, file: &str, command: Command<'_>) -> FileCause {
     match command {
-        Command::Make { .. } => Cause::Taken,
-        _ => Cause::deskless(rt, file),
+        Command::Make { .. } => FileCause::Taken,
+        _ => FileCause::deskless(rt, file),
     }
 }
 
@@ -88,7 +88,7 @@ fn deskless_cause(rt: &HostRuntime, file: &str, command: Command<'_>) -> Cause {
 enum FaultCause {
     // What looking at the file tells.
     #[error(transparent)]
-    OfFile(Cause),
+    OfFile(FileCause),
     #[error("it was replaced, cut or removed while it was served")]
     Replaced,
     #[error("a growth of memory was refused")]

@@ -75,7 +75,7 @@ impl From<ReportFault> for Fault {
 }
 
 /// Says why a command ended, and gives the exit status.
-pub(crate) fn tell<E: Write>(errors: &mut E, fault: Fault) -> u8
+pub(crate) fn write_fault<E: Write>(errors: &mut E, fault: Fault) -> u8
     ensures { result ≡ 1 }
 {
     let _ = writeln!(errors, "desk: {fault}");

@@ -4,7 +4,7 @@ ghost use Rattle.app_commands.specs.Filters.{AreRight, AsksForAuthorizations, As
 
 use crate::fault::Wrong;
 use app_reports::{AuthorizationFilter, OrderFilter};
-use app_words::{AuthorizationListing, Listing};
+use app_words::{AuthorizationListing, OrderListing};
 use desk_model::{DnsName, OrderStatus};
 use identifiers::{NameFault, read_name};
 use std::alloc::Global;
@@ -23,7 +23,7 @@ pub(crate) enum Unasked {
 /// # Errors
 ///
 /// `Wrong` where the word of their status names none, or the text of a name stands for none; `Memory` where there is no memory.
-pub(crate) fn order_filter(alloc: Global, listing: Listing<'_>) -> Result<OrderFilter, Unasked>
+pub(crate) fn order_filter(alloc: Global, listing: OrderListing<'_>) -> Result<OrderFilter, Unasked>
     ensures asked { IfOk result (AsksForOrders listing.entry) }
     ensures unasked { IfErr result (IsUnasked (AreRight listing.entry)) }
 {

@@ -1,5 +1,5 @@
 //! The limit that the terms of a desk break.
-ghost use Rattle.std.specs.Prelude.{◌≡◌, IsTrue, false};
+ghost use Rattle.std.specs.Prelude.{◌≡◌, false};
 ghost use Rattle.desk_model.specs.Terms.{are_terms, is_life};
 ghost use Rattle.app_commands.specs.Statuses.{keeps, terms_of};
 

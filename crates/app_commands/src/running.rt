@@ -14,7 +14,7 @@ ghost use Rattle.app_commands.specs.declared.fault.Fault.TheVariants as fault;
 use crate::asking::revoke_served;
 use crate::backing_up::back_up;
 use crate::explaining::explain;
-use crate::fault::{Fault, Wrong, refuse, tell};
+use crate::fault::{Fault, Wrong, refuse, write_fault};
 use crate::filters::{Unasked, authorization_filter, order_filter};
 use crate::tasks::{
     AnswerLines, CheckStatuses, ListRows, Revoke, ServeConnections, ShowPage, TellAbout, form,
@@ -22,8 +22,8 @@ use crate::tasks::{
 use app_files::{Left, Task, Unknown, Wary, make_desk, run_in_memory, run_over_file, wait_for};
 use app_reports::{AllAccounts, Beside, RowList};
 use app_words::{
-    AUTHZ_LIFE, Asked, AuthorizationListing, Command, Listing, NONCE_LIFE, ORDER_LIFE, Serving,
-    SyncedFile, Syncs, Terms, WordsFault, read_words,
+    AUTHZ_LIFE, Asked, AuthorizationListing, Command, NONCE_LIFE, ORDER_LIFE, OrderListing,
+    Serving, SyncedFile, Syncs, Terms, WordsFault, read_words,
 };
 use desk::DeskFault;
 use desk_http::moment;
@@ -83,7 +83,7 @@ fn run_asked<R: Read + Drop, W: Write, E: Write>(
 pub fn tell_no_memory<E: Write>(errors: &mut E) -> u8
     ensures { result ≡ 1 }
 {
-    tell(errors, Fault::Desk(DeskFault::Memory))
+    write_fault(errors, Fault::Desk(DeskFault::Memory))
 }
 
 // Does a command, gives up what is left of its files, and gives the exit status.
@@ -129,18 +129,18 @@ pub fn run_command<S: Start, R: Read + Drop, W: Write, E: Write>(
     ensures { EndsBy ⟦<FileFrom<S> as Disk>⟧ (image_at S.Start) (R.remaining reader) (W.contents out.old) (W.contents out.new) command.entry result.0 result.1 }
 {
     let (how, left) = try_command(rt, command, start, reader, out, errors);
-    let status = told(errors, how);
+    let status = exit_status(errors, how);
     explain(rt, errors, is_verbose, command, how, &left);
     (status, left)
 }
 
 // Says the fault of a command, where one ended it, and gives the exit status.
-fn told<E: Write>(errors: &mut E, how: Result<u8, Fault>) -> u8
+fn exit_status<E: Write>(errors: &mut E, how: Result<u8, Fault>) -> u8
     ensures { result ≡ status_of how }
 {
     match how {
         Ok(status) => status,
-        Err(fault) => tell(errors, fault),
+        Err(fault) => write_fault(errors, fault),
     }
 }
 
@@ -412,7 +412,7 @@ fn tell_words<W: Write, E: Write>(fault: &WordsFault, out: &mut W, errors: &mut 
     match fault {
         WordsFault::Help(text) => match write!(out, "{text}") {
             Ok(()) => 0,
-            Err(_) => tell(errors, Fault::Output),
+            Err(_) => write_fault(errors, Fault::Output),
         },
         WordsFault::Wrong(text) => {
             let _ = write!(errors, "{text}");

@@ -16,7 +16,7 @@ use app_reports::{
     Beside, Checked, Form, ReportFault, RowList, list_faults, list_rows, seconds_ahead, tell_about,
     write_page,
 };
-use app_words::{Serving, Target};
+use app_words::{Revocation, Serving};
 use desk::Desk;
 use desk_http::{MomentBound, ServeFault, Watch, bind, moment, serve_all};
 use desk_model::OfficeAsk;
@@ -56,7 +56,7 @@ impl<L: RowList> Task for ListRows<L> {
     ) -> (K, Result<u8, Fault>) {
         let mut store = store;
         let listed = list_rows(self.alloc, &mut store, out, self.form, &self.list);
-        (store, told(listed))
+        (store, report_status(listed))
     }
 }
 
@@ -79,7 +79,7 @@ impl Task for TellAbout {
     ) -> (K, Result<u8, Fault>) {
         let mut store = store;
         let about = tell_about(self.alloc, &mut store, out, self.beside);
-        (store, told(about))
+        (store, report_status(about))
     }
 }
 
@@ -101,7 +101,7 @@ impl Task for ShowPage {
     ) -> (K, Result<u8, Fault>) {
         let mut store = store;
         let page = write_page(self.alloc, &mut store, out);
-        (store, told(page))
+        (store, report_status(page))
     }
 }
 
@@ -127,12 +127,12 @@ impl<'a, E: Write> Task for CheckStatuses<'a, E> {
         let mut store = store;
         let checked = list_faults(self.alloc, &mut store, out, self.form);
         tell_ahead(self.errors, checked, self.now);
-        (store, found(checked))
+        (store, check_status(checked))
     }
 }
 
 // How a report ends that finds nothing.
-fn told(listed: Result<(), ReportFault>) -> Result<u8, Fault>
+fn report_status(listed: Result<(), ReportFault>) -> Result<u8, Fault>
     ensures { result ≡ how_listed listed }
 {
     listed?;
@@ -140,7 +140,7 @@ fn told(listed: Result<(), ReportFault>) -> Result<u8, Fault>
 }
 
 // How a list of wrong statuses ends, by whether there is one.
-fn found(checked: Result<Checked, ReportFault>) -> Result<u8, Fault>
+fn check_status(checked: Result<Checked, ReportFault>) -> Result<u8, Fault>
     ensures { result ≡ how_checked checked }
 {
     Ok(if checked?.found { FOUND } else { 0 })
@@ -164,7 +164,7 @@ fn tell_ahead<E: Write>(errors: &mut E, checked: Result<Checked, ReportFault>, n
 #[derive(Drop)]
 pub(crate) struct Revoke<'a> {
     pub(crate) rt: &'a HostRuntime,
-    pub(crate) target: Target,
+    pub(crate) target: Revocation,
 }
 
 impl<'a> Revoke<'a> {
@@ -205,7 +205,7 @@ impl<'a> Task for Revoke<'a> {
 }
 
 /// Says what is revoked, and gives the exit status.
-pub(crate) fn tell_revoked<W: Write>(target: Target, out: &mut W) -> Result<u8, Fault>
+pub(crate) fn tell_revoked<W: Write>(target: Revocation, out: &mut W) -> Result<u8, Fault>
     ensures { IsSaid target (W.contents out.old) (W.contents out.new) result }
 {
     match write_revoked(target, out) {
@@ -215,22 +215,22 @@ pub(crate) fn tell_revoked<W: Write>(target: Target, out: &mut W) -> Result<u8, 
 }
 
 // Writes the line that says what is revoked.
-fn write_revoked<W: Write>(target: Target, out: &mut W) -> io::Result<()>
+fn write_revoked<W: Write>(target: Revocation, out: &mut W) -> io::Result<()>
     ensures { OnOk result (Appends (W.contents out.old) (W.contents out.new) (revoked_line target)) }
 {
     match target {
-        Target::Authorization(number) => writeln!(out, "authz {number} revoked"),
-        Target::Account(number) => writeln!(out, "account {number} revoked"),
+        Revocation::Authorization(number) => writeln!(out, "authz {number} revoked"),
+        Revocation::Account(number) => writeln!(out, "account {number} revoked"),
     }
 }
 
 // What is asked of the desk.
-fn ask_of(target: Target) -> OfficeAsk
+fn ask_of(target: Revocation) -> OfficeAsk
     ensures { result ≡ ask_of target }
 {
     match target {
-        Target::Authorization(number) => OfficeAsk::RevokeAuthz(number),
-        Target::Account(number) => OfficeAsk::RevokeAccount(number),
+        Revocation::Authorization(number) => OfficeAsk::RevokeAuthz(number),
+        Revocation::Account(number) => OfficeAsk::RevokeAccount(number),
     }
 }
 

@@ -9,7 +9,7 @@ use thiserror::Error;
 
 /// Why a file is not opened, made or copied; its text is said of the file.
 #[derive(Clone, Copy, Debug, Error)]
-pub enum Cause {
+pub enum FileCause {
     /// There is none.
     #[error("there is no such file")]
     Missing,
@@ -60,59 +60,59 @@ pub enum Cause {
     Failed,
 }
 
-impl Cause {
+impl FileCause {
     /// The cause of an error of the system at a file.
-    pub(crate) fn of(error: io::Error) -> Cause {
+    pub(crate) fn of(error: io::Error) -> FileCause {
         match error.kind() {
-            ErrorKind::NotFound => Cause::NoDirectory,
-            ErrorKind::NotADirectory => Cause::NoDirectory,
-            ErrorKind::AlreadyExists => Cause::Taken,
-            ErrorKind::PermissionDenied => Cause::Denied,
-            ErrorKind::ReadOnlyFilesystem => Cause::ReadOnly,
-            ErrorKind::StorageFull => Cause::Full,
-            _ => Cause::Failed,
+            ErrorKind::NotFound => FileCause::NoDirectory,
+            ErrorKind::NotADirectory => FileCause::NoDirectory,
+            ErrorKind::AlreadyExists => FileCause::Taken,
+            ErrorKind::PermissionDenied => FileCause::Denied,
+            ErrorKind::ReadOnlyFilesystem => FileCause::ReadOnly,
+            ErrorKind::StorageFull => FileCause::Full,
+            _ => FileCause::Failed,
         }
     }
 
     /// Why the file at a path was not reached: no program could open it, or make it, or its log.
-    pub fn unreached(rt: &HostRuntime, path: &str) -> Cause {
+    pub fn unreached(rt: &HostRuntime, path: &str) -> FileCause {
         match fs::metadata(rt, path) {
             Ok(found) if found.is_file() => of_file(rt, path),
-            Ok(_) => Cause::NotAFile,
-            Err(error) => match Cause::of(error) {
-                Cause::NoDirectory if has_directory(rt, path) => Cause::NoRoom,
-                Cause::Failed => Cause::NoPath,
+            Ok(_) => FileCause::NotAFile,
+            Err(error) => match FileCause::of(error) {
+                FileCause::NoDirectory if has_directory(rt, path) => FileCause::NoRoom,
+                FileCause::Failed => FileCause::NoPath,
                 cause => cause,
             },
         }
     }
 
     /// Why the file at a path holds no desk.
-    pub fn deskless(rt: &HostRuntime, path: &str) -> Cause {
+    pub fn deskless(rt: &HostRuntime, path: &str) -> FileCause {
         match fs::metadata(rt, path) {
-            Ok(found) if found.len() == 0 => Cause::Empty,
-            Ok(_) => Cause::NoDesk,
-            Err(_) if has_directory(rt, path) => Cause::Missing,
-            Err(_) => Cause::NoDirectory,
+            Ok(found) if found.len() == 0 => FileCause::Empty,
+            Ok(_) => FileCause::NoDesk,
+            Err(_) if has_directory(rt, path) => FileCause::Missing,
+            Err(_) => FileCause::NoDirectory,
         }
     }
 }
 
 // Why a regular file was not reached.
-fn of_file(rt: &HostRuntime, path: &str) -> Cause {
+fn of_file(rt: &HostRuntime, path: &str) -> FileCause {
     match OpenOptions::new().read(true).write(true).open(rt, path) {
         Ok(file) => {
             if is_linked(&file) {
-                Cause::Linked
+                FileCause::Linked
             } else if is_held(&file) {
-                Cause::Held
+                FileCause::Held
             } else if has_journal(rt, path) {
-                Cause::Journal
+                FileCause::Journal
             } else {
                 of_log(rt, path)
             }
         }
-        Err(error) => Cause::of(error),
+        Err(error) => FileCause::of(error),
     }
 }
 
@@ -131,21 +131,21 @@ fn has_journal(rt: &HostRuntime, path: &str) -> bool {
 }
 
 // Why the file at a path was not reached, where nothing is the matter with itself.
-fn of_log(rt: &HostRuntime, path: &str) -> Cause {
+fn of_log(rt: &HostRuntime, path: &str) -> FileCause {
     let Ok(log) = beside(rt, path, "-wal") else {
-        return Cause::Failed;
+        return FileCause::Failed;
     };
     match OpenOptions::new()
         .read(true)
         .write(true)
         .open(rt, log.as_str())
     {
-        Ok(file) if is_linked(&file) => Cause::LogDenied,
-        Ok(_) => Cause::Failed,
+        Ok(file) if is_linked(&file) => FileCause::LogDenied,
+        Ok(_) => FileCause::Failed,
         Err(error) => match error.kind() {
-            ErrorKind::NotFound => Cause::NoRoom,
-            ErrorKind::PermissionDenied => Cause::LogDenied,
-            _ => Cause::of(error),
+            ErrorKind::NotFound => FileCause::NoRoom,
+            ErrorKind::PermissionDenied => FileCause::LogDenied,
+            _ => FileCause::of(error),
         },
     }
 }

@@ -1,6 +1,6 @@
 //! Copies of the file of a desk that is closed.
 
-use crate::causes::Cause;
+use crate::causes::FileCause;
 use std::fs::{self, OpenOptions};
 use std::io::{self, ErrorKind};
 use std::os::unix::fs::OpenOptionsExt;
@@ -14,14 +14,14 @@ pub enum CopyFault {
     Taken,
     /// The new file could not be made or written, for this cause; none is left.
     #[error("copy")]
-    Failed(Cause),
+    Failed(FileCause),
 }
 
 impl CopyFault {
     /// Why the new file was not made or written.
-    pub fn cause(self) -> Cause {
+    pub fn cause(self) -> FileCause {
         match self {
-            CopyFault::Taken => Cause::Taken,
+            CopyFault::Taken => FileCause::Taken,
             CopyFault::Failed(cause) => cause,
         }
     }
@@ -52,13 +52,13 @@ pub fn copy_file(rt: &HostRuntime, from: &str, to: &str) -> Result<(), CopyFault
     let mut copy = match make_new(rt, to) {
         Ok(copy) => copy,
         Err(error) if error.kind() == ErrorKind::AlreadyExists => return Err(CopyFault::Taken),
-        Err(error) => return Err(CopyFault::Failed(Cause::of(error))),
+        Err(error) => return Err(CopyFault::Failed(FileCause::of(error))),
     };
     match fill(rt, from, &mut copy, to) {
         Ok(()) => Ok(()),
         Err(error) => {
             let _ = fs::remove_file(rt, to);
-            Err(CopyFault::Failed(Cause::of(error)))
+            Err(CopyFault::Failed(FileCause::of(error)))
         }
     }
 }

@@ -1,5 +1,5 @@
 //! The desk of the file at a path, and its log beside it.
-ghost use Rattle.std.specs.Prelude.{◌≡◌, IfErr, IfOk};
+ghost use Rattle.std.specs.Prelude.{IfErr, IfOk};
 ghost use Rattle.sqlite.specs.WalFiles.{image_at};
 ghost use Rattle.desk_files.specs.Opening.{OpensFiles};
 ghost use Rattle.desk_store.specs.Making.{IsOfStorage};

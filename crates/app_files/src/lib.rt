@@ -11,7 +11,7 @@ mod over_file;
 mod over_memory;
 mod tasks;
 
-pub use causes::Cause;
+pub use causes::FileCause;
 pub use copies::{CopyFault, copy_file, is_taken};
 pub use files::make_desk;
 pub use left::Left;

@@ -10,7 +10,7 @@ use Rattle.app_batch.specs.InTurn as batch
 use Rattle.app_batch.specs.LineRequests.{IsRequestOf, call_of}
 use Rattle.app_batch.specs.Said.{RepliesTo, Says}
 use Rattle.app_batch.specs.InTurn.{AnswersEach, AnswersFirst, AreLines, Stops, StopsBehind, not_one, one_more, silent, unread, unwritten}
-use Rattle.app_words.specs.declared.command.Target.{Target}
+use Rattle.app_words.specs.declared.command.Revocation.{Revocation}
 use Rattle.app_commands.specs.Deeds.{Adopts, AnswersLines, AnswersReader, BehindClock, ByDesk, FailsToAdopt, IsTold, Revokes, RevokesTarget, Serves}
 use Rattle.app_commands.specs.Deeds.{ServesCount, adopted, ask_of, clocked, clockless, served, unadopted, unserved}
 use Rattle.app_commands.specs.declared.fault.Fault.{Fault}
@@ -154,7 +154,7 @@ module _ {S C : Type 0} (v : Sight S C) where
   not_refused (Err why) refusal how is told well = absurd (cc is)
 
   -- what an office asked of an open desk
-  office_calls : (at : ℕ) (what : Target) (desk ended : DeskState S) (answer : Result (Option Refusal) DeskFault) (how : Result ℕ Fault)
+  office_calls : (at : ℕ) (what : Revocation) (desk ended : DeskState S) (answer : Result (Option Refusal) DeskFault) (how : Result ℕ Fault)
       → desk.is_closed ≡ false → AnswersOffice v at (ask_of what) desk.store ended.store answer → ended.is_closed ≡ is_closed_after answer
       → ended.policy ≡ desk.policy → IsTold answer how → AreCalls v (TellsRevocation what how) desk ended
   office_calls at what desk ended (Ok refusal) how running answers flag policy told =
@@ -178,7 +178,7 @@ module _ {S C : Type 0} (v : Sight S C) where
         says = inl (refl, λ well. absurd (cc (told, well)));
       }
 
-  revoke_calls : (what : Target) (desk ended : DeskState S) (how : Result ℕ Fault) → desk.is_closed ≡ false → Revokes v what desk ended how
+  revoke_calls : (what : Revocation) (desk ended : DeskState S) (how : Result ℕ Fault) → desk.is_closed ≡ false → Revokes v what desk ended how
       → AreCalls v (TellsRevocation what how) desk ended
   revoke_calls what desk ended how running (inl it) =
       no_call v (TellsRevocation what how) (inl (refl, λ well. absurd (let e = it.1 in cc (e, well)))) desk ended it.0
@@ -340,7 +340,7 @@ module _ {D : Type 0} (g : disk.Ghosts D) where
   as_read F done over reads left may = (keeps_opened F done over (reads.honest over.honest)).left left.trees (reads.left over.honest left.trees may)
 
   -- each other word
-  revoke_leaves : (what : Target) (was is : Option (List ℕ)) → LivesOn g (RevokesTarget what was is) (TellsRevocation what)
+  revoke_leaves : (what : Revocation) (was is : Option (List ℕ)) → LivesOn g (RevokesTarget what was is) (TellsRevocation what)
   revoke_leaves what was is bytes how done F over =
       left_over (TellsRevocation what how) F done over
       (by_desk stored (TellsRevocation what) was is (λ why same. inl (refl, λ well. absurd (cc well))) (Revokes stored what) (revoke_calls stored what)

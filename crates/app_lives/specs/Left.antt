@@ -5,7 +5,7 @@ use Rattle.sqlite.specs.{Recovery.Image, WalReads.AreClean}
 use Rattle.sqlite_disk.specs.declared.Disk as disk
 use Rattle.sqlite_disk.specs.declared.Files.{Files}
 use Rattle.sqlite_store.specs.declared.store.FileStore.{FileStore}
-use Rattle.app_words.specs.declared.command.Target.{Target}
+use Rattle.app_words.specs.declared.command.Revocation.{Revocation}
 use Rattle.app_commands.specs.Deeds.{Adopts, AnswersReader, ChecksStatuses, FailsToAdopt, ListsRows, RevokesTarget, ServesCount, TellsAbout, TellsPage}
 use Rattle.app_commands.specs.{Statuses.EndsBackUp, declared.fault.Fault.Fault}
 use Rattle.desk.specs.{Seen.Told, State.DeskState}
@@ -79,7 +79,7 @@ module _ {D : Type 0} (g : disk.Ghosts D) where
     pub accounts : (f : Form) (was is : Option (List ℕ)) → LeavesAsIs (ListsRows (accounts_roster f) was is)
     pub authorizations : (filter : AuthorizationFilter) (f : Form) (was is : Option (List ℕ)) → LeavesAsIs (ListsRows (authorizations_roster filter f) was is)
     pub check : (f : Form) (was is : Option (List ℕ)) → LeavesAsIs (ChecksStatuses f was is)
-    pub revoke : (what : Target) (was is : Option (List ℕ)) → LivesOn (RevokesTarget what was is) (TellsRevocation what)
+    pub revoke : (what : Revocation) (was is : Option (List ℕ)) → LivesOn (RevokesTarget what was is) (TellsRevocation what)
     pub batch : (bytes was is : Option (List ℕ)) → LivesOn (AnswersReader bytes was is) (TellsBatch bytes was is)
     pub backup : CopiesHoldDesk
     pub serve : (count : Option ℕ) (was is : Option (List ℕ)) → LivesOn (ServesCount count was is) TellsAny

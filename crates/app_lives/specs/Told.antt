@@ -3,7 +3,7 @@ use Rattle.std.specs.Prelude.{◌≡◌, ◌≢◌, ◌⊎◌, ℕ, List, [], �
 use Rattle.std.specs.Io.KnownBytes.{Appends}
 use Rattle.app_batch.specs.InTurn.{AreLines}
 use Rattle.app_batch.specs.LineRequests.{IsRequestOf, call_of}
-use Rattle.app_words.specs.declared.command.Target.{Target}
+use Rattle.app_words.specs.declared.command.Revocation.{Revocation}
 use Rattle.app_commands.specs.{Deeds.ask_of, declared.fault.Fault.Fault}
 use Rattle.desk.specs.Office.{office_call, refusal_in}
 use Rattle.desk.specs.Seen.{Told}
@@ -43,7 +43,7 @@ pub record TellsBatch (bytes was is : Option (List ℕ)) (how : Result ℕ Fault
 
 -- the desk replied to the revocation of this target at some moment, and refused nothing where that is told as done; or it did not reply,
 -- which is not told so
-abbrev pub TellsRevocation : Target → Result ℕ Fault → List Told → Type 0
+abbrev pub TellsRevocation : Revocation → Result ℕ Fault → List Told → Type 0
 TellsRevocation what how told =
     ((told ≡ []) × (how ≢ Ok 0))
     ⊎ ((at : ℕ) × (reply : Reply) × (told ≡ record { call = office_call at (ask_of what); reply = reply } ∷ [])

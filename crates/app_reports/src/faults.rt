@@ -16,15 +16,15 @@ use store_api::RowsAbove;
 use store_passes::{FaultKind, StatusFaults, moment_of};
 
 // A row whose status is not the one that its columns give.
-struct Line {
+struct FaultLine {
     kind: &'static str,
     number: u64,
     stored: &'static str,
     derived: &'static str,
 }
 
-// What is said of a fault.
-fn said_of(fault: StatusFault) -> Line
+// The parts of the line of a fault.
+fn parts_of(fault: StatusFault) -> FaultLine
     ensures { (form : Manner) → fault_line form result.kind.now result.number result.stored.now result.derived.now ≡ line_of form fault }
 {
     let (kind, number, stored, derived) = match fault {
@@ -49,7 +49,7 @@ fn said_of(fault: StatusFault) -> Line
             derived,
         } => ("chall", number, stored.as_str(), derived.as_str()),
     };
-    Line {
+    FaultLine {
         kind,
         number,
         stored,
@@ -58,11 +58,11 @@ fn said_of(fault: StatusFault) -> Line
 }
 
 // The line of a fault. No member of the document needs an escape.
-fn write_fault<W: Write>(out: &mut W, form: Form, line: Line) -> io::Result<()>
+fn write_fault<W: Write>(out: &mut W, form: Form, line: FaultLine) -> io::Result<()>
     ensures { OnOk result (Appends (W.contents out.old) (W.contents out.new)
         (fault_line form line.kind.now line.number line.stored.now line.derived.now)) }
 {
-    let Line {
+    let FaultLine {
         kind,
         number,
         stored,
@@ -95,7 +95,7 @@ fn write_kind<K: RowsAbove, W: Write>(
     let mut found = false;
     let mut faults = StatusFaults::new(source, kind, moment);
     while let Some(fault) = faults.next(alloc)? {
-        write_fault(out, form, said_of(fault))?;
+        write_fault(out, form, parts_of(fault))?;
         found = true;
     }
     Ok(found)

@@ -67,9 +67,9 @@ fn made(rt: &impl Abort, alloc: Global) -> Result<Files<FailsOnce<Memory>>, Fail
 
 // How many calls the log's disk is asked until the desk is opened and has answered these lines.
 fn calls_of(alloc: Global, desk: &Files<FailsOnce<Memory>>, lines: &[&[u8]]) -> Result<u64, Fail> {
-    let mut said = Vec::new(alloc);
+    let mut out = Vec::new(alloc);
     let files = failing(alloc, desk, ALL)?;
-    let files = visit(alloc, files, Errand::Ask(lines), &mut said)?;
+    let files = visit(alloc, files, Errand::Ask(lines), &mut out)?;
     Ok(files.log.calls())
 }
 
@@ -82,14 +82,14 @@ fn a_nonce_that_a_stop_undid_is_given_again_and_serves_once(rt: HostRuntime) -> 
         log: Fuse::new(disk_of(alloc, desk.log.inner().bytes())?, calls),
         db: Fuse::new(disk_of(alloc, desk.db.inner().bytes())?, ALL),
     };
-    let mut said = Vec::new(alloc);
-    let mut files = visit(alloc, files, Errand::Ask(&[NEW_NONCE]), &mut said)?;
+    let mut out = Vec::new(alloc);
+    let mut files = visit(alloc, files, Errand::Ask(&[NEW_NONCE]), &mut out)?;
     files.log.crash();
     files.db.crash();
     let lines = [NEW_NONCE, NEW_ACCOUNT, NEW_ACCOUNT];
-    let files = visit(alloc, files, Errand::Ask(&lines), &mut said)?;
-    visit(alloc, files, Errand::Check, &mut said)?;
-    assert_eq!(rt; said.as_slice(), SERVES_ONCE);
+    let files = visit(alloc, files, Errand::Ask(&lines), &mut out)?;
+    visit(alloc, files, Errand::Check, &mut out)?;
+    assert_eq!(rt; out.as_slice(), SERVES_ONCE);
     Ok(())
 }
 
@@ -100,18 +100,18 @@ fn ask_failing(
     desk: &Files<FailsOnce<Memory>>,
     calls: u64,
 ) -> Result<Vec<u8>, Fail> {
-    let mut said = Vec::new(alloc);
+    let mut out = Vec::new(alloc);
     let files = failing(alloc, desk, calls)?;
     let lines = [NEW_NONCE, NEW_NONCE, NEW_NONCE];
-    let failed = visit(alloc, files, Errand::Ask(&lines), &mut said)?;
+    let failed = visit(alloc, files, Errand::Ask(&lines), &mut out)?;
     let again = failing(alloc, &failed, ALL)?;
-    visit(alloc, again, Errand::Ask(&[NEW_NONCE]), &mut said)?;
-    Ok(said)
+    visit(alloc, again, Errand::Ask(&[NEW_NONCE]), &mut out)?;
+    Ok(out)
 }
 
 // Whether a desk said that it is closed until it was opened again.
-fn is_closed_until_opened(said: &[u8]) -> bool {
-    said == CLOSED_WITHOUT || said == CLOSED_WITH
+fn is_closed_until_opened(out: &[u8]) -> bool {
+    out == CLOSED_WITHOUT || out == CLOSED_WITH
 }
 
 #[test]
@@ -122,8 +122,8 @@ fn a_disk_that_fails_once_closes_the_desk_until_it_is_opened(rt: HostRuntime) ->
     let answered = calls_of(alloc, &desk, &[NEW_NONCE])?;
     assert!(rt; opened < answered);
     for calls in opened..answered {
-        let said = ask_failing(alloc, &desk, calls)?;
-        assert!(rt; is_closed_until_opened(said.as_slice()), "call {calls}");
+        let out = ask_failing(alloc, &desk, calls)?;
+        assert!(rt; is_closed_until_opened(out.as_slice()), "call {calls}");
     }
     Ok(())
 }

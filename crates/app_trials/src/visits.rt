@@ -31,7 +31,7 @@ pub enum Errand<'a> {
     Check,
 }
 
-/// Does an errand with two disks, and leaves them without a last word. What is said is put behind `said`: a reply or a fault for
+/// Does an errand with two disks, and leaves them without a last word. What is said is put behind `out`: a reply or a fault for
 /// each line that an open desk is asked, or what a check found.
 ///
 /// # Errors
@@ -41,15 +41,17 @@ pub fn visit<D: Disk + Drop>(
     alloc: Global,
     files: Files<D>,
     errand: Errand<'_>,
-    said: &mut Vec<u8>,
+    out: &mut Vec<u8>,
 ) -> Result<Files<D>, AllocError> {
     if !files.may_be_used() {
         return Ok(files);
     }
     match Connection::open_files(alloc, files, Options::new(SALT)) {
         Ok(conn) => {
-            let (last, done) = visit_database(alloc, conn, errand, said);
-            done.and(Ok(last.close()))
+            let (last, done) = visit_database(alloc, conn, errand, out);
+            let files = last.close();
+            done?;
+            Ok(files)
         }
         Err((_, left)) => Ok(left.into_files()),
     }
@@ -60,18 +62,18 @@ fn visit_database<D: Disk + Drop>(
     alloc: Global,
     conn: Connection<FileStore<D>>,
     errand: Errand<'_>,
-    said: &mut Vec<u8>,
+    out: &mut Vec<u8>,
 ) -> (FileStore<D>, Result<(), AllocError>)
     requires { conn.in_transaction ≡ false }
 {
     match errand {
         Errand::Make(policy) => (make(alloc, conn, policy), Ok(())),
         Errand::Ask(lines) => match open_desk(alloc, conn) {
-            Ok(desk) => ask_desk(alloc, desk, lines, said),
+            Ok(desk) => ask_desk(alloc, desk, lines, out),
             Err(unopened) => (unopened.conn.into_store(), Ok(())),
         },
         Errand::Check => match Store::open(alloc, conn) {
-            Ok(store) => check_store(alloc, store, said),
+            Ok(store) => check_store(alloc, store, out),
             Err(unopened) => (unopened.conn.into_store(), Ok(())),
         },
     }
@@ -96,9 +98,9 @@ fn ask_desk<D: Disk + Drop>(
     alloc: Global,
     mut desk: Desk<Store<FileStore<D>>>,
     lines: &[&[u8]],
-    said: &mut Vec<u8>,
+    out: &mut Vec<u8>,
 ) -> (FileStore<D>, Result<(), AllocError>) {
-    let asked = ask_all(alloc, &mut desk, lines, said);
+    let asked = ask_all(alloc, &mut desk, lines, out);
     (close_desk(desk).into_store(), asked)
 }
 
@@ -106,10 +108,10 @@ fn ask_desk<D: Disk + Drop>(
 fn check_store<D: Disk + Drop>(
     alloc: Global,
     mut store: Store<FileStore<D>>,
-    said: &mut Vec<u8>,
+    out: &mut Vec<u8>,
 ) -> (FileStore<D>, Result<(), AllocError>) {
     let checked = match count(alloc, &mut store) {
-        Ok(counts) => say_counts(said, counts),
+        Ok(counts) => write_counts(out, counts),
         Err(_) => Err(AllocError),
     };
     (leave_from(store), checked)
@@ -196,7 +198,7 @@ fn all_orders<S: Alter>(alloc: Global, store: &mut Store<S>) -> Result<u64, Stor
 }
 
 // Says what a check counted.
-fn say_counts(said: &mut Vec<u8>, counts: Counts) -> Result<(), AllocError> {
+fn write_counts(out: &mut Vec<u8>, counts: Counts) -> Result<(), AllocError> {
     let Counts {
         by_book,
         by_passes,
@@ -204,7 +206,7 @@ fn say_counts(said: &mut Vec<u8>, counts: Counts) -> Result<(), AllocError> {
         touched,
     } = counts;
     writeln!(
-        said,
+        out,
         "wrong statuses: {by_book}, {by_passes}; orders: {orders}; touched accounts: {touched}"
     )
     .map_err(|_| AllocError)
@@ -214,10 +216,10 @@ fn ask_all<K: Storage + Drop>(
     alloc: Global,
     desk: &mut Desk<K>,
     lines: &[&[u8]],
-    said: &mut Vec<u8>,
+    out: &mut Vec<u8>,
 ) -> Result<(), AllocError> {
     for &line in lines {
-        ask(alloc, desk, line, said)?;
+        ask(alloc, desk, line, out)?;
     }
     Ok(())
 }
@@ -226,13 +228,13 @@ fn ask<K: Storage + Drop>(
     alloc: Global,
     desk: &mut Desk<K>,
     line: &[u8],
-    said: &mut Vec<u8>,
+    out: &mut Vec<u8>,
 ) -> Result<(), AllocError> {
     let written = match batch_line(alloc, desk, line) {
-        Ok(text) => said.write_all(text.as_slice()),
-        Err(fault) => write!(said, "{fault}"),
+        Ok(text) => out.write_all(text.as_slice()),
+        Err(fault) => write!(out, "{fault}"),
     };
-    if written.is_err() || said.push(b'\n').is_err() {
+    if written.is_err() || out.push(b'\n').is_err() {
         return Err(AllocError);
     }
     Ok(())

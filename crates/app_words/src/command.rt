@@ -43,7 +43,7 @@ pub enum Command<'a> {
         /// The path of the file that holds the desk.
         file: &'a str,
         /// Which of them, and how.
-        listing: Listing<'a>,
+        listing: OrderListing<'a>,
     },
     /// To list the accounts.
     Accounts {
@@ -78,14 +78,14 @@ pub enum Command<'a> {
         /// The path of the file that holds the desk.
         file: &'a str,
         /// What is revoked.
-        target: Target,
+        target: Revocation,
     },
     /// To have a desk that is served revoke an authorization or an account.
     RevokeServed {
         /// The port of 127.0.0.1 at which it is served.
         port: u16,
         /// What is revoked.
-        target: Target,
+        target: Revocation,
     },
     /// To answer the lines of standard input.
     Batch {
@@ -157,7 +157,7 @@ pub enum Syncs {
 
 /// What is revoked.
 #[derive(Clone, Copy)]
-pub enum Target {
+pub enum Revocation {
     /// The authorization of this number.
     Authorization(u64),
     /// The account of this number.
@@ -179,7 +179,7 @@ pub struct Terms<'a> {
 
 /// Which orders are listed, and how.
 #[derive(Clone, Copy)]
-pub struct Listing<'a> {
+pub struct OrderListing<'a> {
     /// The account whose orders they are, or `None` for all accounts.
     pub account: Option<u64>,
     /// The word of the status that they have (RFC 8555, 7.1.6), or `None` for every status.

@@ -9,12 +9,12 @@ mod help;
 mod lives;
 mod numbers;
 mod reading;
-mod task;
+mod subcommand;
 mod words;
 
 pub use command::{
-    Asked, AuthorizationListing, Command, Listing, LogForm, Serving, SyncedFile, Syncs, Target,
-    Terms,
+    Asked, AuthorizationListing, Command, LogForm, OrderListing, Revocation, Serving, SyncedFile,
+    Syncs, Terms,
 };
 pub use fault::WordsFault;
 pub use lives::{AUTHZ_LIFE, Life, NONCE_LIFE, ORDER_LIFE};

@@ -1,13 +1,13 @@
 //! Words read as what they ask for.
 use crate::arguments;
 use crate::command::{
-    Asked, AuthorizationListing, Command, Listing, LogForm, Serving, SyncedFile, Syncs, Target,
-    Terms,
+    Asked, AuthorizationListing, Command, LogForm, OrderListing, Revocation, Serving, SyncedFile,
+    Syncs, Terms,
 };
 use crate::fault::WordsFault;
 use crate::grammar::desk;
 use crate::numbers::number_in;
-use crate::task::Task;
+use crate::subcommand::Subcommand;
 use crate::words::{Argument, LOG_JSON, SYNC_ONCE, word_named};
 use clap::ArgMatches;
 use clap::error::ErrorKind;
@@ -21,36 +21,36 @@ const NOT_DECIMAL: &str =
 fn asked<'a>(matches: &ArgMatches<'a>) -> Option<Asked<'a>> {
     let (name, given) = matches.subcommand()?;
     Some(Asked {
-        command: command(Task::named(name)?, given)?,
+        command: command(Subcommand::named(name)?, given)?,
         wait: given.get_one::<u64>(arguments::WAIT).unwrap_or(0),
         is_verbose: given.get_flag(arguments::VERBOSE),
     })
 }
 
 // What a word asks for by what is given behind it.
-fn command<'a>(task: Task, given: &ArgMatches<'a>) -> Option<Command<'a>> {
+fn command<'a>(subcommand: Subcommand, given: &ArgMatches<'a>) -> Option<Command<'a>> {
     let file = given.get_str(arguments::FILE);
     let json = given.get_flag(arguments::JSON);
-    Some(match task {
-        Task::Make => Command::Make {
+    Some(match subcommand {
+        Subcommand::Make => Command::Make {
             file: file?,
             terms: terms(given)?,
         },
-        Task::Serve => serve(file?, given)?,
-        Task::Batch => batch(given),
-        Task::About => Command::About { file: file? },
-        Task::Page => Command::Page { file: file? },
-        Task::Status => Command::Status {
+        Subcommand::Serve => serve(file?, given)?,
+        Subcommand::Batch => batch(given),
+        Subcommand::About => Command::About { file: file? },
+        Subcommand::Page => Command::Page { file: file? },
+        Subcommand::Status => Command::Status {
             file: file?,
-            listing: Listing {
+            listing: OrderListing {
                 account: given.get_one::<u64>(arguments::ACCOUNT),
                 status: given.get_str(arguments::STATUS),
                 name: given.get_str(arguments::NAME),
                 json,
             },
         },
-        Task::Accounts => Command::Accounts { file: file?, json },
-        Task::Authorizations => Command::Authorizations {
+        Subcommand::Accounts => Command::Accounts { file: file?, json },
+        Subcommand::Authorizations => Command::Authorizations {
             file: file?,
             listing: AuthorizationListing {
                 account: given.get_one::<u64>(arguments::ACCOUNT),
@@ -58,13 +58,17 @@ fn command<'a>(task: Task, given: &ArgMatches<'a>) -> Option<Command<'a>> {
                 json,
             },
         },
-        Task::Check => Command::Check { file: file?, json },
-        Task::BackUp => Command::BackUp {
+        Subcommand::Check => Command::Check { file: file?, json },
+        Subcommand::BackUp => Command::BackUp {
             file: file?,
             to: given.get_str(arguments::TO)?,
         },
-        Task::RevokeAuthorization => revoke(file?, given, Target::Authorization(number(given)?)),
-        Task::RevokeAccount => revoke(file?, given, Target::Account(number(given)?)),
+        Subcommand::RevokeAuthorization => revoke(
+            file?,
+            given,
+            Revocation::Authorization(number(given)?),
+        ),
+        Subcommand::RevokeAccount => revoke(file?, given, Revocation::Account(number(given)?)),
     })
 }
 
@@ -97,7 +101,7 @@ fn batch<'a>(given: &ArgMatches<'a>) -> Command<'a> {
 }
 
 // By the desk that is served at a port, where one is given, else in the file.
-fn revoke<'a>(file: &'a str, given: &ArgMatches<'a>, target: Target) -> Command<'a> {
+fn revoke<'a>(file: &'a str, given: &ArgMatches<'a>, target: Revocation) -> Command<'a> {
     match given.get_one::<u16>(arguments::PORT) {
         Some(port) => Command::RevokeServed { port, target },
         None => Command::Revoke { file, target },

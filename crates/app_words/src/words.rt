@@ -1,6 +1,6 @@
 //! The words that the program knows, as help lists them.
 use crate::lives::{AUTHZ_LIFE, Life, NONCE_LIFE, ORDER_LIFE};
-use crate::task::Task;
+use crate::subcommand::Subcommand;
 use crate::{arguments, help};
 use clap::builder::ValueParser;
 
@@ -37,7 +37,7 @@ pub(crate) const SYNCS: &[&str] = &[SYNC_ONCE, SYNC_TWICE];
 /// A word, with what help says of it above its options and below them.
 pub(crate) struct Word {
     /// What it asks for.
-    pub(crate) task: Task,
+    pub(crate) subcommand: Subcommand,
     /// The word itself.
     pub(crate) name: &'static str,
     /// What it does.
@@ -299,9 +299,9 @@ const REVOKE: &[Argument] = on_desk! {
 
 // A word: what it asks for, its name, what it does, what help says below its arguments, and these.
 macro_rules! word {
-    ($task:ident, $name:literal, $about:literal, $after:ident, $arguments:ident) => {
+    ($subcommand:ident, $name:literal, $about:literal, $after:ident, $arguments:ident) => {
         Word {
-            task: Task::$task,
+            subcommand: Subcommand::$subcommand,
             name: $name,
             about: $about,
             after: help::$after,

@@ -3,7 +3,7 @@ use crate::words::word_named;
 
 /// What the program does, a word each.
 #[derive(Clone, Copy)]
-pub(crate) enum Task {
+pub(crate) enum Subcommand {
     /// Makes a desk in a new file.
     Make,
     /// Serves connections.
@@ -30,9 +30,9 @@ pub(crate) enum Task {
     RevokeAccount,
 }
 
-impl Task {
-    /// The task that a word asks for.
-    pub(crate) fn named(name: &str) -> Option<Task> {
-        Some(word_named(name)?.task)
+impl Subcommand {
+    /// The one that a word asks for.
+    pub(crate) fn named(name: &str) -> Option<Subcommand> {
+        Some(word_named(name)?.subcommand)
     }
 }
