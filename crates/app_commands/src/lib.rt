@@ -1,4 +1,5 @@
-//! The commands of the program `desk`: its words, done over a reader and writers.
+//! The commands of the program `desk`, done over a reader and writers. `desk_app` stands on it, and `app_lives`, which says what they
+//! leave.
 #![tactic(auto)]
 
 mod asking;

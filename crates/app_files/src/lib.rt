@@ -1,4 +1,5 @@
-//! Desks in files at a path, or in memory: made, used by tasks, waited for, copied, and why not.
+//! The desk in the file at a path, or a new one in memory: made, and its store given to a task; the file waited for, copied, or looked
+//! at for why it was not opened. `app_commands` stands on it.
 #![tactic(auto)]
 
 mod beside;

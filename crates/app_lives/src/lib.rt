@@ -1,4 +1,4 @@
-//! The life of a desk over two files, and what the words of the program leave of it.
+//! The life of a desk over two files, and what the words of the program leave of it. Nothing stands on it.
 #![tactic(auto)]
 
 mod files;

@@ -1,4 +1,5 @@
-//! Reports on the rows of a desk, for people and, as JSON, for programs. They go through the rows one by one.
+//! Reports on the rows of a desk, for people and, as JSON, for programs. They go through the rows one by one. `app_commands` stands
+//! on it.
 #![tactic(auto)]
 
 mod asked;

@@ -1,4 +1,4 @@
-//! Trials of a desk over two disks in memory: one that is stopped, and one that fails once and goes on.
+//! Trials of a desk over two disks in memory: one that is stopped, and one that fails once and goes on. Nothing stands on it.
 #![tactic(auto)]
 
 #[cfg(test)]

@@ -1,4 +1,4 @@
-//! The program `desk`.
+//! The program `desk`: it gives the words of its command line to `app_commands`, and ends by the exit status. Nothing stands on it.
 #![tactic(auto)]
 
 use app_commands::{run_words, tell_no_memory};

@@ -1,4 +1,5 @@
-//! What requests ask, by their methods, paths and bodies, and the lines of a batch (RFC 8555, 6.2, 6.3, 7.1).
+//! What requests ask, by their methods, paths and bodies, and the lines of a batch (RFC 8555, 6.2, 6.3, 7.1). `http_wire` stands on it,
+//! and with that `desk_http` and `app_batch`.
 #![tactic(auto)]
 
 mod lines;

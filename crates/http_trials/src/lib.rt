@@ -1,4 +1,4 @@
-//! Trials of requests over HTTP: worked replies byte for byte, streams that fail, a desk of a thousand orders.
+//! Trials of requests over HTTP: worked replies byte for byte, streams that fail, a desk of a thousand orders. Nothing stands on it.
 #![tactic(auto)]
 
 #[cfg(test)]
