@@ -46,39 +46,34 @@ fn fresh_random(book: &Book, random: &[u8]) -> Result<[u8; 16], CoreFault>
     first_random(random)
 }
 
-// What a recording gives in the end, with the reply; where there is no reply, its error.
-fn decision_of(
-    book: &Book,
-    recording: Recording,
-    reply: Result<Reply, AllocError>,
-) -> Result<Decision, CoreFault>
+// What a recording gives in the end, with the reply.
+fn decision_of(book: &Book, recording: Recording, reply: Reply) -> Result<Decision, CoreFault>
     ensures changes { IfOk result (λ o. (m : ℕ) (e : EntryOf) (es : List EntryOf)
         → IsRecorded m book.now (e ∷ es) recording.changes.items recording.counters → o.changes.items ≡ recorded_changes m book.now (e ∷ es)) }
-    ensures reply { IfOk result (λ o. reply ≡ Ok o.reply) }
+    ensures reply { IfOk result (λ o. o.reply ≡ reply) }
     ensures fault { IfErr result (λ e. e ≡ Memory) }
 {
-    let reply = reply?;
     let changes = recording.finish(&book.meta().policy)?;
     Ok(Decision { changes, reply })
 }
 
-// Issues a nonce with these random bytes and nothing else, with a reply, if that could be made.
+// Issues a nonce with these random bytes and nothing else, with a reply.
 fn issue(
     alloc: Global,
     book: &Book,
     moment: u64,
     random: [u8; 16],
-    reply: Result<Reply, AllocError>,
+    reply: Reply,
 ) -> Result<Decision, CoreFault>
     requires moment { moment ≤ last_moment }
     requires nonces { book.now.meta.counters.nonces < last_number }
     ensures changes { IfOk result (λ o. o.changes.items ≡ recorded_changes moment book.now (issued_entry random ∷ [])) }
-    ensures reply { IfOk result (λ o. reply ≡ Ok o.reply) }
+    ensures reply { IfOk result (λ o. o.reply ≡ reply) }
     ensures fault { IfErr result (λ e. e ≡ Memory) }
 {
     let mut recording = Recording::begin(alloc, book, moment)?;
-    let issued = recording.issue(random);
-    decision_of(book, recording, issued.and(reply))
+    recording.issue(random)?;
+    decision_of(book, recording, reply)
 }
 
 // Issues a nonce and nothing else, with this reply.
@@ -97,7 +92,7 @@ fn issued(
 {
     let bytes = fresh_random(book, random)?;
     let serial = book.meta().counters.nonces + 1;
-    let reply = with_nonce(alloc, serial, bytes, reply);
+    let reply = with_nonce(alloc, serial, bytes, reply)?;
     issue(alloc, book, moment, bytes, reply)
 }
 
@@ -166,7 +161,7 @@ fn act_with_fresh_nonce(
     ensures fault { IfErr result (λ e. IsShort random.now e) }
 {
     let (mut recording, bytes) = begin_signed(alloc, book, moment, serial, random)?;
-    let reply = act_with_nonce(alloc, book, &mut recording, verdict, bytes);
+    let reply = act_with_nonce(alloc, book, &mut recording, verdict, bytes)?;
     decision_of(book, recording, reply)
 }
 
@@ -246,7 +241,7 @@ fn recorded(
     ensures fault { IfErr result (λ e. e ≡ Memory) }
 {
     let mut recording = Recording::begin(alloc, book, moment)?;
-    let reply = act(alloc, book, &mut recording, verdict);
+    let reply = act(alloc, book, &mut recording, verdict)?;
     decision_of(book, recording, reply)
 }
 

@@ -348,7 +348,8 @@ impl Clock {
 
     /// The moment, in seconds since 1970, of a call that is made at `at`: never before the last call's.
     pub fn moment_of(self, at: u64) -> u64
-        ensures { result ≡ max at self }
+        ensures later { result ≡ max at self }
+        ensures in_time { at ≤ last_moment → result ≤ last_moment }
     {
         at.max(self.moment)
     }

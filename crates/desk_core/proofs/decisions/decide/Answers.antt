@@ -1,4 +1,5 @@
-use Rattle.std.proofs.Common.{◌≡◌, ◌∙◌, ap, max, subst}
+use Rattle.std.proofs.Common.{◌≡◌, ◌≤◌, ◌∙◌, ap, max, subst, sym}
+use Rattle.desk_model.specs.Limits.{last_moment}
 use Rattle.desk_model.specs.declared.{call.Call.Call, rows.Meta.Meta}
 use Rattle.desk_core.proofs.DecidingAsks.{code_decides, ok_part, err_part}
 use Rattle.desk_core.proofs.decisions.decide.Goals.{After-decide_at}
@@ -7,10 +8,13 @@ use Rattle.desk_core.proofs.DecidingFaults.{code_fails}
 use Rattle.identifiers.specs.Parsed.{ask_of}
 use Rattle.desk_core.proofs.decisions.decide.Goals as goal
 
+pub decide_at-requires : goal.decide_at-requires
+decide_at-requires c = c.moment_of-moment.ensures.in_time (subst (λ (k : Call). k.at ≤ last_moment) (sym c.call-whole.ensures.call) c.call-whole.ensures.in_time)
+
 -- the moment of the decision
 acts : (c : After-decide_at) → c.moment_of-moment.result ≡ max c.args.call.now.at c.args.book.now.meta.counters.clock
 acts c =
-    c.moment_of-moment.ensures
+    c.moment_of-moment.ensures.later
     ∙ ap (λ (k : Call). max k.at c.meta.result.now.counters.clock) c.call-whole.ensures.call
     ∙ ap (λ (x : Meta). max c.args.call.now.at x.counters.clock) c.meta.ensures
 

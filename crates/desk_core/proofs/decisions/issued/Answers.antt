@@ -2,7 +2,7 @@ use Rattle.std.proofs.Common.{◌+◌, ◌∷◌, [], ap, subst, sym, ◌∙◌}
 use Rattle.desk_model.specs.{Change.recorded_changes, Shown.with_nonce, Tokens.nonce_text, declared.entry.Entry.TheVariants.Issued as issued}
 use Rattle.core_replies.proofs.Results.{ok_so}
 use Rattle.desk_core.specs.Room.{IsIssueFault}
-use Rattle.desk_core.proofs.{Faults.fault_so, ShownTexts.ok_if}
+use Rattle.desk_core.proofs.Faults.{fault_so}
 use Rattle.desk_core.proofs.decisions.issued.Goals as goal
 
 pub returns-clause-changes : goal.returns-clause-changes
@@ -13,7 +13,7 @@ returns-clause-changes c =
 pub returns-clause-reply : goal.returns-clause-reply
 returns-clause-reply c =
     ok_so c.issue.result (λ o answered.
-    ok_if _ c.with_nonce-reply.result o.reply answered c.with_nonce-reply.ensures
+    answered ∙ c.in_ok-reply.ensures
     ∙ (λ i. with_nonce (nonce_text ((c.meta.ensures i).counters.nonces + 1) (c.in_ok-bytes.ensures.0 i)) c.args.reply))
     c.issue.ensures.reply
 

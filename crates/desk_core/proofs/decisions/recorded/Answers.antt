@@ -6,7 +6,6 @@ use Rattle.desk_core.proofs.{Acting.linked, decisions.recorded.Goals.After-decis
 use Rattle.desk_core.proofs.ActingRows.{at_begun, same_entries}
 use Rattle.core_changes.proofs.Moving.{untouched_none}
 use Rattle.core_replies.proofs.Results.{ok_so}
-use Rattle.desk_core.proofs.ShownTexts.{ok_both, ok_if, ok_on}
 use Rattle.desk_core.proofs.decisions.recorded.Goals as goal
 
 -- the counters when the verdict is carried out
@@ -15,17 +14,17 @@ begun_at c = at_begun c.args.moment c.args.book.now c.in_ok-recording.recording.
 
 pub returns-clause-changes : goal.returns-clause-changes
 returns-clause-changes c =
-    ok_both c.decision_of.result (λ o made answered ordered e es is.
+    ok_so c.decision_of.result (λ o made ordered e es is.
     made c.args.moment e es
     (same_entries c.args.moment c.args.book.now is
-    (ok_on c.act-reply.result _ answered c.act-reply.ensures.recorded c.args.moment [] ordered
+    (c.in_ok-reply.ensures.recorded c.args.moment [] ordered
     (untouched_none c.args.moment c.args.book.now) c.in_ok-recording.ensures.recorded))
     ∙ ap (recorded_changes c.args.moment c.args.book.now) (sym is))
-    c.decision_of.ensures.changes c.decision_of.ensures.reply
+    c.decision_of.ensures.changes
 
 pub returns-clause-reply : goal.returns-clause-reply
 returns-clause-reply c =
     ok_so c.decision_of.result (λ o answered ordered e es is texts.
-    ok_if _ c.act-reply.result _ answered c.act-reply.ensures.reply c.args.moment (begun_at c) ordered texts
+    answered ∙ c.in_ok-reply.ensures.reply c.args.moment (begun_at c) ordered texts
     ∙ linked (effects c.args.moment (swept c.args.moment c.args.book.now) (entries_of c.args.verdict)) c.args.verdict e es is)
     c.decision_of.ensures.reply

@@ -30,7 +30,7 @@ returns-clause-found g c = λ honest T held ordered.
     ∙ book_are c.in_ok-meta.meta _ (needed_rows T c.rows_needed-needs.result.moment (ask_of c.ask.result.now)) same are
     ∙ ap (needed_rows T c.rows_needed-needs.result.moment) c.ask.ensures
     ∙ ap (λ m. needed_rows T m c.args.call.now.ask)
-    (c.rows_needed-needs.ensures.moment ∙ c.moment_of-moment.ensures
+    (c.rows_needed-needs.ensures.moment ∙ c.moment_of-moment.ensures.later
     ∙ ap (λ (m : Meta). max c.call.result.now.at m.counters.clock) same
     ∙ ap (λ (k : Call). max k.at T.meta.counters.clock) c.call.ensures.call))
 

@@ -48,7 +48,7 @@ returns-clause-touched g c = λ honest T held ordered.
     (same ∙ sym (loaded_meta T c.moment_of-moment.result (ask_of c.ask.result.now))) are
     ∙ ap (loaded_at T c.moment_of-moment.result) c.ask.ensures
     ∙ ap (λ m. loaded_at T m c.args.call.now.ask)
-    (c.moment_of-moment.ensures
+    (c.moment_of-moment.ensures.later
     ∙ ap (λ (m : Meta). max c.call.result.now.at m.counters.clock) same
     ∙ ap (λ (k : Call). max k.at T.meta.counters.clock) c.call.ensures.call)
     ∙ loaded_touched T c.args.call.now ordered)
