@@ -50,7 +50,8 @@ pub fn ask<R: Read, W: Write>(
     request: &[u8],
 ) -> Result<Option<Refusal>, IoFault>
     ensures asked { IfOk result (λ _. Appends (W.contents writer.old) (W.contents writer.new) request.now) }
-    ensures outcome { IfOk result (λ outcome. (read : List ℕ) × Consumes (R.remaining reader.old) (R.remaining reader.new) read × (outcome_of read ≡ Some outcome)) }
+    ensures outcome { IfOk result (λ outcome.
+        (read : List ℕ) × Consumes (R.remaining reader.old) (R.remaining reader.new) read × (outcome_of read ≡ Some outcome)) }
 {
     send(writer, request)?;
     let mut beginning = [0u8; BEGINNING];

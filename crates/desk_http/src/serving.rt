@@ -2,7 +2,8 @@
 ghost use Rattle.std.specs.Prelude.{◌≡◌, ◌+◌, ℕ, List, Option, IfOk, IfErr, MatchResult, Ok, OnOk};
 ghost use Rattle.desk_model.specs.Limits.{longest_body, longest_head};
 ghost use Rattle.http_wire.specs.{Head.TakesAtMost, Replies.reply_bytes};
-ghost use Rattle.desk_http.specs.Serving.{Breaks, IsParsedOf, Serves, index_for, IsAnswer, LacksReply, LacksText, Responds, IsReplyTo, call_of, WritesFault};
+ghost use Rattle.desk_http.specs.Serving.{Breaks, IsParsedOf, Serves, index_for, IsAnswer, LacksReply, LacksText, Responds, IsReplyTo, call_of};
+ghost use Rattle.desk_http.specs.Serving.{WritesFault};
 ghost use Rattle.std.specs.Io.KnownBytes.{Appends};
 ghost use Rattle.desk_model.specs.{declared.refusal.Refusal.TheVariants.ServerInternal, declared.reply.Allow.TheVariants.No};
 ghost use Rattle.http_routes.specs.Request.{refused_reply, refused_request};

@@ -9,7 +9,8 @@ returns-in-Ok-send-clause-served g c known is =
       form_parsed known c.args.parsed is,
       (
         reply.0,
-        answered g.K.Storage.sight g.K.Storage.causes c.args.at c.args.random.now known c.args.parsed c.args.desk.now c.reply_bytes.new.desk (Ok reply.0) is reply.1,
+        answered g.K.Storage.sight g.K.Storage.causes c.args.at c.args.random.now known c.args.parsed c.args.desk.now c.reply_bytes.new.desk
+            (Ok reply.0) is reply.1,
         rw (c.as_slice.ensures.value ∙ reply.2) at c.in-Ok-send.ensures.took,
         refl,
         reply.3,
@@ -22,7 +23,8 @@ returns-in-Ok-clause-failed g c known is =
     rw (c.in-Err-send.ensures.failed)
     (inr (
       Ok reply.0,
-      answered g.K.Storage.sight g.K.Storage.causes c.args.at c.args.random.now known c.args.parsed c.args.desk.now c.reply_bytes.new.desk (Ok reply.0) is reply.1,
+      answered g.K.Storage.sight g.K.Storage.causes c.args.at c.args.random.now known c.args.parsed c.args.desk.now c.reply_bytes.new.desk
+          (Ok reply.0) is reply.1,
     ))
 
 pub returns-in-Ok-write_fault-clause-served : goal.returns-in-Ok-write_fault-clause-served
