@@ -1,11 +1,13 @@
 -- What is recorded, entry by entry.
-use Rattle.std.proofs.Common.{◌≡◌, ℕ, ◌+◌, ◌-◌, List, [], ◌∷◌, ◌++◌, length, None, Some, refl, sym, ap, ◌∙◌, append-nil, append_assoc, arith, Result, Ok, Err, OnOk}
+use Rattle.std.proofs.Common.{◌≡◌, ℕ, ◌+◌, ◌-◌, List, [], ◌∷◌, ◌++◌, length, None, Some, Result, Ok, Err, OnOk}
+use Rattle.std.proofs.Common.{refl, sym, ap, ◌∙◌, append-nil, append_assoc, arith}
 use Rattle.std.specs.Prelude.{option_and_then, slice_get}
 use Rattle.std.proofs.lemmas.List.{length-append}
 use Rattle.desk_model.specs.{Tables.Tables, Terms.Terms}
 use Rattle.desk_model.specs.Effect.{effect, effects, swept}
 use Rattle.desk_model.specs.Change.{changes, all_changes, recorded_changes, sweep_changes}
-use Rattle.desk_model.specs.declared.{rows.AccountRow.AccountRow, rows.OrderRow.OrderRow, rows.Change.Change, rows.Counters.Counters, objects.Nonce.Nonce, entry.Entry.Entry}
+use Rattle.desk_model.specs.declared.{objects.Nonce.Nonce, entry.Entry.Entry}
+use Rattle.desk_model.specs.declared.rows.{AccountRow.AccountRow, OrderRow.OrderRow, Change.Change, Counters.Counters}
 use Rattle.desk_model.specs.declared.rows.Change.TheVariants.{PutMeta, PutNonce, RemoveNonce, PutAccount, PutOrder}
 use Rattle.desk_model.specs.declared.status.AccountStatus.TheVariants as account
 use Rattle.desk_model.specs.declared.entry.Entry.TheVariants.{Issued as issued, Spent as spent, Opened as opened}

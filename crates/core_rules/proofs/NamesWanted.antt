@@ -1,6 +1,6 @@
 -- How many authorizations and tokens a new order asks for.
-use Rattle.std.proofs.Common.{◌≡◌, ℕ, zero, suc, ◌+◌, ◌*◌, ◌<◌, ◌≤◌, List, [], ◌∷◌, ◌++◌, length, take, drop, get_or, map, Bool, true, false, cond, Option, Some}
-use Rattle.std.proofs.Common.{None, refl, arith, sym, ap, ◌∙◌}
+use Rattle.std.proofs.Common.{◌≡◌, ℕ, zero, suc, ◌+◌, ◌*◌, ◌<◌, ◌≤◌, List, [], ◌∷◌, ◌++◌, length, take, drop, get_or, map, Bool, true, false, cond}
+use Rattle.std.proofs.Common.{Option, Some, None, refl, arith, sym, ap, ◌∙◌}
 use Rattle.std.specs.Prelude.{option_map, sum_by}
 use Rattle.std.proofs.lemmas.List.{at_drop_more, drop-drop}
 use Rattle.std.proofs.lemmas.List.Sums.{sum_by-cons}
