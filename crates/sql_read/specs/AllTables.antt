@@ -4,7 +4,7 @@ use Rattle.sqlite.specs.{Held.Held, Store.Ghosts}
 use Rattle.sqlite.specs.declared.error.Error.{Error}
 use Rattle.sql_read.specs.Failures.{FailsHere, IsReadable}
 use Rattle.sql_read.specs.Spelled.{FitsAccount, FitsAuthorization, FitsChallenge, FitsKey, FitsListed, FitsMeta, FitsNonce, FitsOrder, account_in}
-use Rattle.sql_read.specs.Spelled.{authorization_in, challenge_in, key_in, listed_in, meta_in, nonce_in, order_in}
+use Rattle.sql_read.specs.Spelled.{authorization_in, challenge_in, listed_in, meta_in, nonce_in, order_in}
 use Rattle.sql_read.specs.Shown.{IsShown}
 use Rattle.sql_read.specs.declared.formats.FirstTables.{FirstTables}
 use Rattle.sql_schema.specs.declared.accounts.TheConstants as account
