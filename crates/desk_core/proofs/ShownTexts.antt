@@ -1,7 +1,7 @@
 -- The moments of rows that are found have texts.
-use Rattle.std.proofs.Common.{◌≡◌, ℕ, ◌≤◌, List, Option, Some, None, IfSome, Result, Ok, Err, IfOk, OnOk, ◌∙◌, ap, refl, subst, sym}
+use Rattle.std.proofs.Common.{◌≡◌, ℕ, ◌≤◌, List, Option, Some, None, IfSome, ◌∙◌, ap, refl, subst, sym}
 use Rattle.std.specs.Prelude.{◌==◌, find, is_some, Bool}
-use Rattle.std.specs.{Option.option_map, Result.result_and}
+use Rattle.std.specs.Option.{option_map}
 use Rattle.model_laws.proofs.Finds.{each_found}
 use Rattle.desk_model.specs.{Kept.EachOf, Limits.last_end, Effect.has_row, Shown.shown, Tables.Tables, declared.reply.Reply.Reply}
 use Rattle.desk_model.specs.Questions.{authorization_on, order_on, owner_on}
@@ -27,29 +27,6 @@ authorization_moments T n texts = found_has HasMoments (λ a. a.number == n) T.a
 -- and the one that a challenge is of
 pub owner_moments : (T : Tables) (n : ℕ) → HasTexts T → IfSome (owner_on T n) HasMoments
 owner_moments T n texts = found_has HasMoments (has_row n) T.authorizations texts.authorizations
-
--- what holds of a result holds of the value that it is
-pub ok_if : {X E : Type 0} (P : X → Type 0) (r : Result X E) (x : X) → r ≡ Ok x → IfOk r P → P x
-ok_if P r x is h = subst (λ r. IfOk r P) is h
-
--- and so does what holds where there is one
-pub ok_on : {X E P : Type 0} (r : Result X E) (x : X) → r ≡ Ok x → OnOk r P → P
-ok_on {X} {E} {P} r x is h = subst (λ r. OnOk r P) is h
-
--- where the second of two steps ended well, what holds of the first holds
-pub and_first : {T X E P : Type 0} (a : Result T E) (b r : Result X E) (x : X) → r ≡ result_and a b → r ≡ Ok x → OnOk a P → P
-and_first (Ok t) b r x is so h = h
-and_first (Err e) b r x is so h = cc (is, so)
-
--- and the second is the result
-pub and_second : {T X E : Type 0} (a : Result T E) (b r : Result X E) (x : X) → r ≡ result_and a b → r ≡ Ok x → b ≡ Ok x
-and_second (Ok t) b r x is so = sym is ∙ so
-and_second (Err e) b r x is so = cc (is, so)
-
--- what follows of two things that hold of a value
-pub ok_both : {X E : Type 0} {P Q S : X → Type 0} (r : Result X E) → ((x : X) → P x → Q x → S x) → IfOk r P → IfOk r Q → IfOk r S
-ok_both (Ok x) f p q = f x p q
-ok_both (Err e) f p q = tt
 
 -- what is shown of one that is found is shown of what was looked for
 pub shown_found : {X : Type 0} (f : X → Reply) (P : X → Type 0) (found on : Option X) (r : Reply) → found ≡ on → IfSome on P

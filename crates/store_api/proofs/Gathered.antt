@@ -1,7 +1,7 @@
 -- Rows that are looked up one number after the other, each put into its place.
 use Rattle.std.proofs.Common.{◌≡◌, ℕ, Bool, true, false, cond, refl, filter, List, [], ◌∷◌, ◌++◌}
 use Rattle.std.proofs.Common.{Result, Ok, Err, IfErr, IfOk, OnOk, ap, append-nil, subst, sym, ◌∙◌}
-use Rattle.std.specs.{List.flat_map, Result.result_and}
+use Rattle.std.specs.List.{flat_map}
 use Rattle.model_laws.specs.Placing.{puts}
 use Rattle.model_laws.proofs.RowLists.{puts_append}
 
@@ -65,9 +65,3 @@ of_two rows_of a b = ap (λ l. rows_of a ++ l) (append-nil (rows_of b))
 
 pub of_three : {X Y : Type 0} (rows_of : Y → List X) (a b c : Y) → flat_map rows_of (a ∷ b ∷ c ∷ []) ≡ rows_of a ++ (rows_of b ++ rows_of c)
 of_three rows_of a b c = ap (λ l. rows_of a ++ l) (of_two rows_of b c)
-
--- what is made of what was put, where there was no fault
-pub made_of : {A B F : Type 0} (P : Type 0) (Q : B → Type 0) (x : B) (r : Result A F) (q : Result B F) → q ≡ result_and r (Ok x) → OnOk r P → (P → Q x) →
-    IfOk q Q
-made_of P Q x (Ok a) q is put_now so = subst (λ s. IfOk s Q) (sym is) (so put_now)
-made_of P Q x (Err why) q is put_now so = subst (λ s. IfOk s Q) (sym is) tt

@@ -1,6 +1,5 @@
 -- Look-ups one after the other.
 use Rattle.std.proofs.Common.{◌≡◌, ◌⊎◌, Result, Ok, Err, IfErr, IfOk, IsErrAnd, inl, inr, subst, sym}
-use Rattle.std.specs.Result.{result_and}
 use Rattle.store_api.specs.{InMemory.in_memory, Sight.Gives}
 use Rattle.store_api.specs.Sight.{FailsBy, ForTables, Reads, Sight, Stands}
 use Rattle.desk_model.specs.Tables.{Tables}
@@ -94,17 +93,6 @@ module _ {S C : Type 0} {v : Sight S C} where
       Reads v old new found → IfOk found (λ _. IfErr r LacksMemory) → IfErr found (λ why. r ≡ Err why) →
       Reads v old new r
   reads_found found r read lacks passed = reads_of_tables found r read (λ honest T held. lacks) passed
-
-  -- a result that is another
-  pub read_as : {A : Type 0} {old new : S} {r q : Result A StorageFault} → Reads v old new r → r ≡ q → Reads v old new q
-  read_as {A} {old} {new} read same = subst (Reads v old new) same read
-
-  -- what was made of what was read
-  pub reads_and : {A B : Type 0} {old new : S} (x : B) (r : Result A StorageFault) (q : Result B StorageFault) → q ≡ result_and r (Ok x) →
-      Reads v old new r →
-      Reads v old new q
-  reads_and x (Ok a) q is read = read_as (reads_standing (Ok x) tt (stands_read read)) (sym is)
-  reads_and x (Err why) q is read = read_as (reads_failed_as read) (sym is)
 
 -- a book in memory gives what was made of it, unless a growth was refused
 pub book_gives : {A : Type 0} (book : Tables) (r : Result A StorageFault) {P : Tables → A → Type 0} → IfErr r LacksMemory → IfOk r (P book) →

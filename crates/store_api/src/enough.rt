@@ -31,13 +31,14 @@ fn challenge_work_book<S: LookUps>(alloc: Global, source: &mut S) -> Result<Book
 {
     let meta = source.meta_row(alloc)?;
     let mut authorizations = Table::new(alloc);
-    add_working(alloc, source, &mut authorizations).and(Ok(Book::of_tables(
+    add_working(alloc, source, &mut authorizations)?;
+    Ok(Book::of_tables(
         meta,
         Table::new(alloc),
         Table::new(alloc),
         authorizations,
         Table::new(alloc),
-    )))
+    ))
 }
 
 // ---- the work of the issuer
@@ -65,13 +66,14 @@ fn order_work_book<S: LookUps>(alloc: Global, source: &mut S) -> Result<Book, St
     let meta = source.meta_row(alloc)?;
     let mut authorizations = Table::new(alloc);
     let mut orders = Table::new(alloc);
-    add_processing(alloc, source, &mut authorizations, &mut orders).and(Ok(Book::of_tables(
+    add_processing(alloc, source, &mut authorizations, &mut orders)?;
+    Ok(Book::of_tables(
         meta,
         Table::new(alloc),
         Table::new(alloc),
         authorizations,
         orders,
-    )))
+    ))
 }
 
 // ---- the directory

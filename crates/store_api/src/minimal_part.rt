@@ -341,7 +341,8 @@ pub(crate) fn minimal_book<S: LookUps>(
         → IfOk result (λ book. book ≡ needed_rows T (max call.now.at T.meta.counters.clock) call.now.ask)) }
 {
     let meta = source.meta_row(alloc)?;
-    let moment = meta.counters.clock.moment_of(call.call().at);
+    let counters = meta.counters;
+    let moment = counters.clock.moment_of(call.call().at);
     let needs = rows_needed(call, moment);
     let mut moved = Table::new(alloc);
     let mut rows = Rows {
@@ -358,12 +359,12 @@ pub(crate) fn minimal_book<S: LookUps>(
         &meta.policy,
         call.ask(),
         &needs,
-    )
-    .and(Ok(Book::of_tables(
+    )?;
+    Ok(Book::of_tables(
         meta,
         rows.nonces,
         rows.accounts,
         rows.authorizations,
         rows.orders,
-    )))
+    ))
 }

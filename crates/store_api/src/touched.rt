@@ -144,7 +144,8 @@ pub fn touched_book<S: LookUps>(
     ensures touched { ForTables S.sight source.old source.new (λ T. IsOrdered T → IfOk result (λ book. book ≡ touched T call.now)) }
 {
     let meta = source.meta_row(alloc)?;
-    let moment = meta.counters.clock.moment_of(call.call().at);
+    let counters = meta.counters;
+    let moment = counters.clock.moment_of(call.call().at);
     let mut rows = Rows {
         nonces: Table::new(alloc),
         accounts: Table::new(alloc),
@@ -159,14 +160,14 @@ pub fn touched_book<S: LookUps>(
         moment,
         call.ask(),
         call.names(),
-    )
-    .and(Ok(Book::of_tables(
+    )?;
+    Ok(Book::of_tables(
         meta,
         rows.nonces,
         rows.accounts,
         rows.authorizations,
         rows.orders,
-    )))
+    ))
 }
 
 /// A part for the call, whatever legal history's picture the source has: the book of exactly the rows that it touches.

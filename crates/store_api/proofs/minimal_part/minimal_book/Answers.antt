@@ -3,8 +3,8 @@ use Rattle.std.proofs.lemmas.Result.{IfOk-from_err}
 use Rattle.desk_model.specs.declared.{call.Call.Call, rows.Meta.Meta}
 use Rattle.identifiers.specs.Parsed.{ask_of}
 use Rattle.model_lives.specs.MinimalPart.{needed_rows}
-use Rattle.store_api.proofs.{Gathered.made_of, Tabled.book_are}
-use Rattle.store_api.proofs.Readings.{reads_and, reads_failing, reads_then, stands_read}
+use Rattle.store_api.proofs.Tabled.{book_are}
+use Rattle.store_api.proofs.Readings.{reads_failing, reads_standing, reads_then, stands_both, stands_read}
 use Rattle.store_api.specs.Needing.{NeedsFor}
 use Rattle.store_api.proofs.minimal_part.minimal_book.Goals as goal
 
@@ -15,15 +15,22 @@ add_minimal-requires g c =
 
 pub returns-clause-reads : goal.returns-clause-reads
 returns-clause-reads g c =
-    reads_then _ (stands_read c.in_ok-meta.ensures.reads) (reads_and _ c.add_minimal.result c.and.result c.and.ensures c.add_minimal.ensures.reads)
+    reads_standing _ tt (stands_both (stands_read c.in_ok-meta.ensures.reads) (stands_read c.in_ok-add_minimal.ensures.reads))
+
+pub returns-in_err-add_minimal-clause-reads : goal.returns-in_err-add_minimal-clause-reads
+returns-in_err-add_minimal-clause-reads g c =
+    reads_then _ (stands_read c.in_ok-meta.ensures.reads)
+    (reads_failing _ c.in_err-add_minimal.ensures.reads c.from_residual-in_err-add_minimal.ensures.1)
+
+pub returns-in_err-add_minimal-clause-found : goal.returns-in_err-add_minimal-clause-found
+returns-in_err-add_minimal-clause-found g c honest T held ordered =
+    IfOk-from_err c.from_residual-in_err-add_minimal.result _ c.from_residual-in_err-add_minimal.ensures.0
 
 pub returns-clause-found : goal.returns-clause-found
 returns-clause-found g c = λ honest T held ordered.
-    let so_far = c.add_minimal.ensures.reads.honest honest in
+    let so_far = c.in_ok-add_minimal.ensures.reads.honest honest in
     let same = c.in_ok-meta.ensures.found so_far T held in
-    made_of _ _ _ c.add_minimal.result c.and.result c.and.ensures
-    (c.add_minimal.ensures.found honest T (c.in_ok-meta.ensures.reads.tables so_far T held))
-    (λ put_now.
+    let put_now = c.in_ok-add_minimal.ensures.found honest T (c.in_ok-meta.ensures.reads.tables so_far T held) in
     let are = put_now ordered (λ i. (same i).policy)
     (record { nonces = c.new.ensures; accounts = c.new-2.ensures; authorizations = c.new-3.ensures; orders = c.new-4.ensures }) c.new-moved.ensures in
     c.of_tables.ensures
@@ -32,7 +39,7 @@ returns-clause-found g c = λ honest T held ordered.
     ∙ ap (λ m. needed_rows T m c.args.call.now.ask)
     (c.rows_needed-needs.ensures.moment ∙ c.moment_of-moment.ensures.later
     ∙ ap (λ (m : Meta). max c.call.result.now.at m.counters.clock) same
-    ∙ ap (λ (k : Call). max k.at T.meta.counters.clock) c.call.ensures.call))
+    ∙ ap (λ (k : Call). max k.at T.meta.counters.clock) c.call.ensures.call)
 
 pub returns-in_err-meta-clause-reads : goal.returns-in_err-meta-clause-reads
 returns-in_err-meta-clause-reads g c = reads_failing _ c.in_err-meta.ensures.reads c.from_residual.ensures.1
