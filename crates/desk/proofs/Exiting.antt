@@ -1,7 +1,7 @@
 -- The exits of a call over an open store.
-use Rattle.std.proofs.Common.{◌≡◌, ◌<◌, ◌*◌, List, [], ◌∷◌, Option, Some, None, refl, sym, ap, subst, cond, not, Result, Ok, Err, inl, inr, arith, true, false}
+use Rattle.std.proofs.Common.{◌≡◌, ℕ, ◌<◌, ◌*◌, List, [], ◌∷◌, Option, Some, None, refl, sym, ap, subst, cond, not, Result, Ok, Err, inl, inr, arith, true, false}
 use Rattle.std.proofs.lemmas.Bool.{eqb-true, lt-ltb}
-use Rattle.std.specs.Prelude.{nat_eq, nat_lt, length, IfErr, IsErrAnd}
+use Rattle.std.specs.Prelude.{nat_eq, nat_lt, length, ◌↔◌, IfErr, IsErrAnd}
 use Rattle.desk_model.specs.{Entry.History, Change.applied, Limits.last_moment}
 use Rattle.desk_model.specs.{Decide.after, Decide.decide, Legal.Legal, Legal.numbers_fit, Run.IsFormedCall, Run.count_pieces, Run.fault}
 use Rattle.desk_model.specs.Tables.{Tables, picture}
@@ -22,7 +22,7 @@ use Rattle.store_api.specs.declared.fault.StorageFault.TheVariants as storagefau
 use Rattle.desk.proofs.Running.{declines}
 use Rattle.desk.specs.{Causes.IsCaused, declared.fault.DeskFault.DeskFault}
 use Rattle.desk.specs.Faults.{call_fault, closes, core_fault, storage_fault}
-use Rattle.desk.specs.Answers.{Answers, ExitsBy, IsAnswered, IsBroken}
+use Rattle.desk.specs.Answers.{Answers, ExitsBy, IsAnswered, IsBroken, is_closed_after}
 use Rattle.desk.specs.declared.fault.DeskFault.TheVariants as deskfault
 
 -- ---- faults
@@ -52,6 +52,28 @@ core_in_time core.Full is = cc is
 
 pub core_result_in_time : (e : CoreFault) (result : Result Reply DeskFault) → Faults result (core_fault e) → result ≡ Err deskfault.Moment → ⊥
 core_result_in_time e result is late = core_in_time e (subst (λ r. Faults r (core_fault e)) late is)
+
+-- where a call was not read, it is a late moment exactly where that is why
+pub unread_late : {A : Type 0} (e : CallFault) (result : Result Reply DeskFault) (at : ℕ) → Faults result (call_fault e) →
+    ((Err {A = A} e ≡ Err callfault.Moment) ↔ (last_moment < at)) → (result ≡ Err deskfault.Moment) ↔ (last_moment < at)
+unread_late e (Ok reply) at is late = absurd is
+unread_late callfault.Memory (Err why) at is late = (λ so. cc (is, so), λ past. let so = late.1 past in cc so)
+unread_late callfault.Moment (Err why) at is late = (λ so. late.0 refl, λ past. ap (λ w. Err w) is)
+
+-- where it was read, it is none
+pub read_late : {A : Type 0} (read : A) (result : Result Reply DeskFault) (at : ℕ) → (result ≡ Err deskfault.Moment → ⊥) →
+    ((Ok read ≡ Err callfault.Moment) ↔ (last_moment < at)) → (result ≡ Err deskfault.Moment) ↔ (last_moment < at)
+read_late read result at in_time late = (λ so. absurd (in_time so), λ past. let so = late.1 past in cc so)
+
+-- and its moment is not past the last
+pub read_in_time : {A : Type 0} (read : A) (at : ℕ) → ((Ok read ≡ Err callfault.Moment) ↔ (last_moment < at)) → last_moment < at → ⊥
+read_in_time read at late past = let so = late.1 past in cc so
+
+-- a desk stays open where a call was not read
+pub unread_open : (e : CallFault) (result : Result Reply DeskFault) → Faults result (call_fault e) → false ≡ is_closed_after result
+unread_open e (Ok reply) is = absurd is
+unread_open callfault.Memory (Err why) is = ap closes (sym is)
+unread_open callfault.Moment (Err why) is = ap closes (sym is)
 
 -- a moment above the last is a fault of the call
 late_fault : (F : History) (call : Call) → last_moment < call.at → fault F call ≡ Some 24
