@@ -17,5 +17,5 @@ loop-fault-preserved g c = record {
       let rest = faults_above T c.next.new.self.kind c.next.new.self.moment c.next.new.self.above in
       writes_one c.args.form _ _ _ (faults_of T c.args.kind) left rest c.in-Some.fault (c.loop-fault.invariant.printed before T holds now)
       (subst (λ o. IsNext o left rest) c.in-Some.is next)
-      (subst (Appends _ _) (c.said_of.ensures c.args.form) c.in_ok-write_fault.ensures);
+      (subst (Appends _ _) (c.parts_of.ensures c.args.form) c.in_ok-write_fault.ensures);
 }
