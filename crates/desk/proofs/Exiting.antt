@@ -55,18 +55,19 @@ core_result_in_time e result is late = core_in_time e (subst (λ r. Faults r (co
 
 -- where a call was not read, it is a late moment exactly where that is why
 pub unread_late : {A : Type 0} (e : CallFault) (result : Result Reply DeskFault) (at : ℕ) → Faults result (call_fault e) →
-    ((Err {A = A} e ≡ Err callfault.Moment) ↔ (last_moment < at)) → (result ≡ Err deskfault.Moment) ↔ (last_moment < at)
+    (◌≡◌ {A = Result A CallFault} (Err e) (Err callfault.Moment) ↔ (last_moment < at)) → (result ≡ Err deskfault.Moment) ↔ (last_moment < at)
 unread_late e (Ok reply) at is late = absurd is
 unread_late callfault.Memory (Err why) at is late = (λ so. cc (is, so), λ past. let so = late.1 past in cc so)
 unread_late callfault.Moment (Err why) at is late = (λ so. late.0 refl, λ past. ap (λ w. Err w) is)
 
 -- where it was read, it is none
 pub read_late : {A : Type 0} (read : A) (result : Result Reply DeskFault) (at : ℕ) → (result ≡ Err deskfault.Moment → ⊥) →
-    ((Ok read ≡ Err callfault.Moment) ↔ (last_moment < at)) → (result ≡ Err deskfault.Moment) ↔ (last_moment < at)
+    (◌≡◌ {A = Result A CallFault} (Ok read) (Err callfault.Moment) ↔ (last_moment < at)) → (result ≡ Err deskfault.Moment) ↔ (last_moment < at)
 read_late read result at in_time late = (λ so. absurd (in_time so), λ past. let so = late.1 past in cc so)
 
 -- and its moment is not past the last
-pub read_in_time : {A : Type 0} (read : A) (at : ℕ) → ((Ok read ≡ Err callfault.Moment) ↔ (last_moment < at)) → last_moment < at → ⊥
+pub read_in_time : {A : Type 0} (read : A) (at : ℕ) → (◌≡◌ {A = Result A CallFault} (Ok read) (Err callfault.Moment) ↔ (last_moment < at)) →
+    last_moment < at → ⊥
 read_in_time read at late past = let so = late.1 past in cc so
 
 -- a desk stays open where a call was not read

@@ -1,6 +1,6 @@
 use Rattle.std.proofs.Common.{Err, Ok, ap, subst, sym, ◌∙◌}
 use Rattle.desk_model.specs.Run.{IsFormedCall}
-use Rattle.desk.specs.Answers.{Answers}
+use Rattle.desk.specs.{Answers.Answers, State.DeskState}
 use Rattle.desk.specs.Faults.{call_fault}
 use Rattle.desk.proofs.Exiting.{call_caused, read_in_time, read_late, result_caused, unread, unread_late, unread_open}
 use Rattle.desk.proofs.desk.Desk.answer.Goals as goal
@@ -37,16 +37,6 @@ returns-in-Ok-clause-unmade g c = λ past. absurd (read_in_time _ c.args.call.no
 
 pub returns-in-Ok-clause-exit : goal.returns-in-Ok-clause-exit
 returns-in-Ok-clause-exit g c = λ opened.
-    subst (λ call. Answers g.K.Storage.sight call c.args.self.now.store c.attempt.new.store (Ok c.in-Ok.reply)) c.in_ok-parsed.ensures.read
-    c.in-Ok.ensures.exit
-
-pub returns-in-Err-clause-late : goal.returns-in-Err-clause-late
-returns-in-Err-clause-late g c = λ opened. read_late _ _ c.args.call.now.at c.in-Err.ensures.in_time c.in_ok-parsed.ensures.late
-
-pub returns-in-Err-clause-unmade : goal.returns-in-Err-clause-unmade
-returns-in-Err-clause-unmade g c = λ past. absurd (read_in_time _ c.args.call.now.at c.in_ok-parsed.ensures.late past)
-
-pub returns-in-Err-clause-exit : goal.returns-in-Err-clause-exit
-returns-in-Err-clause-exit g c = λ opened.
-    subst (λ call. Answers g.K.Storage.sight call c.args.self.now.store c.attempt.new.store (Err c.in-Err.fault)) c.in_ok-parsed.ensures.read
-    c.in-Err.ensures.exit
+    subst (λ (d : DeskState g.row.K.Denot). Answers g.K.Storage.sight c.args.call.now d.store c.attempt.new.store (Ok c.in-Ok.reply)) c.self.view_is
+    (subst (λ call. Answers g.K.Storage.sight call c.self.inside.store c.attempt.new.store (Ok c.in-Ok.reply)) c.in_ok-parsed.ensures.read
+    c.in-Ok.ensures.exit)
