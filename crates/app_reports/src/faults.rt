@@ -5,7 +5,7 @@ ghost use Rattle.desk_model.specs.Derived.{status_faults};
 ghost use Rattle.store_passes.specs.Left.{faults_of};
 ghost use Rattle.store_api.specs.Sight.{ForTables};
 ghost use Rattle.app_reports.specs.Printed.{fault_line, faults_text, line_of, lines_of};
-ghost use Rattle.app_reports.specs.{Reported.Reports, declared.form.Form.Form as Manner, declared.form.Form.TheVariants.Text};
+ghost use Rattle.app_reports.specs.{Reported.Reports, declared.form.Form.Form as ReportForm, declared.form.Form.TheVariants.Text};
 
 use crate::fault::ReportFault;
 use crate::form::Form;
@@ -25,7 +25,7 @@ struct FaultLine {
 
 // The parts of the line of a fault.
 fn parts_of(fault: StatusFault) -> FaultLine
-    ensures { (form : Manner) → fault_line form result.kind.now result.number result.stored.now result.derived.now ≡ line_of form fault }
+    ensures { (form : ReportForm) → fault_line form result.kind.now result.number result.stored.now result.derived.now ≡ line_of form fault }
 {
     let (kind, number, stored, derived) = match fault {
         StatusFault::Account {

@@ -4,7 +4,7 @@ ghost use Rattle.std.specs.Io.KnownBytes.{Appends};
 ghost use Rattle.store_api.specs.Sight.{ForTables, Reads};
 ghost use Rattle.app_reports.specs.Listed.{Prints, PrintsAll, Turns, roster, KeepsOrder, KeepsAuthorization};
 ghost use Rattle.app_reports.specs.Printed.{count_line, account_line, order_line, authorization_line};
-ghost use Rattle.app_reports.specs.{Reported.Reports, declared.form.Form.Form as Manner, Filter.Allows};
+ghost use Rattle.app_reports.specs.{Reported.Reports, declared.form.Form.Form as ReportForm, Filter.Allows};
 ghost use Rattle.desk_model.specs.{Tables.Tables, Keys.thumbprint, Tokens.base64url};
 
 use crate::asked::{allows_account, allows_listed, allows_name};
@@ -30,7 +30,7 @@ pub trait RowList {
     ghost keeps: { Self → Tables → Self.Item → Type 0 };
 
     // The line of one.
-    ghost line: { Manner → Self.Item → List ℕ };
+    ghost line: { ReportForm → Self.Item → List ℕ };
 
     // What they are, in the last line of a text.
     ghost noun: { List ℕ };
