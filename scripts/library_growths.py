@@ -130,10 +130,10 @@ fn shape(book: &Book) -> [u64; 10] {
 // Makes the changes of a call; after a refusal the book is as it was, and they are made again. It says whether they were refused.
 fn apply_call(alloc: Global, book: &mut Book, call: &Call) -> Option<bool> {
     let parsed = ParsedCall::read(alloc, call).ok()?;
-    let outcome = decide(alloc, book, &parsed).ok()?;
+    let decision = decide(alloc, book, &parsed).ok()?;
     let again = decide(alloc, book, &parsed).ok()?;
     let before = shape(book);
-    if book.apply(outcome.changes).is_err() {
+    if book.apply(decision.changes).is_err() {
         expect(shape(book) == before);
         expect(book.apply(again.changes).is_ok());
         return Some(true);
