@@ -503,11 +503,18 @@ def limits(trial):
                     client.sendall(b" ")
             tried("silence between bytes", time.monotonic() - start < 10)
         with contextlib.ExitStack() as held:
+            # None of them is silent for too long while they are counted; on a busy machine threads that are over take their time to end.
+            front.SILENCE = 60
             threads = threading.active_count()
             for _ in range(40):
                 held.enter_context(socket.create_connection(address, 5))
-            time.sleep(0.3)
-            tried("connections at one time", threading.active_count() - threads <= front.CONNECTIONS)
+            for _ in range(20):
+                time.sleep(0.3)
+                count = threading.active_count() - threads
+                if count <= front.CONNECTIONS:
+                    break
+            tried("connections at one time", count <= front.CONNECTIONS)
+            front.SILENCE = 1
         with secured(address) as client:
             client.sendall(b"GET /directory HTTP/1.1\r\n\r\n")
             see("a client after them", heard(client)[:15], b"HTTP/1.1 200 OK")
