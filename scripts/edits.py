@@ -1,9 +1,11 @@
 #!/usr/bin/env python3
 """The edits that the prover must refuse: those of the gate (crates/NAME/must-fail) and the planted ones (planted/NAME).
 
-  scripts/edits.py check         sees that each edit still applies: its old texts stand once, it says what it gets wrong, and where
+  scripts/edits.py check         sees that each edit still applies: its old texts stand once, it says what it gets wrong, and where; a crate has one edit of
+                                 the gate at most. It names the crates that changed since their planted edits were last tried (planted/tried.txt)
   scripts/edits.py try [NAME..]  tries the planted edits of these crates, or of all, crates side by side; the prover must refuse each. Edits of different
-                                 functions are made together and told apart by what it says of each function; what this leaves open is tried alone
+                                 functions are made together and told apart by what it says of each function; what this leaves open is tried alone.
+                                 A crate whose edits were refused, and which is as it is committed, gets that commit in planted/tried.txt
   scripts/edits.py uncovered [NAME..]  prints the public functions of these crates, or of all, that no edit changes
 
 The edits of src/MODULE.rt are planted/NAME/MODULE.edits, those of a file of specs/ or proofs/ stand under the name of that folder. Each is
@@ -15,8 +17,8 @@ The edits of src/MODULE.rt are planted/NAME/MODULE.edits, those of a file of spe
   new: what stands there instead
 
 with further pairs of the last two, and a line `file: src/OTHER.rt` before those of another file. An edit of the gate is a file of its own, as rt wants it.
-It may leave out modules that its wrong body does not need, so that it is tried in less time: it puts #[cfg(test)] before what names them. That the crate
-is proved without these, so that it is refused for its wrong body alone, is tried with the planted edits.
+It leaves out what its wrong body does not need, so that it is tried in less time: it puts #[cfg(test)] before lines of src/, and -- before lines of specs/ and
+proofs/. That the crate is proved without these, so that it is refused for its wrong body alone, is tried with the planted edits.
 """
 import contextlib
 import os
@@ -30,7 +32,8 @@ from concurrent.futures import ThreadPoolExecutor
 
 ROOT = os.path.dirname(os.path.dirname(os.path.abspath(__file__)))
 MEMORY = 4 << 30  # what one crate's edits take at most, in bytes
-LEFT_OUT = "#[cfg(test)] "
+LEFT_OUT = {".rt": "#[cfg(test)] ", ".antt": "-- "}  # what stands before a line that an edit leaves out
+TRIED = f"{ROOT}/planted/tried.txt"
 LOST = re.compile(r"has no field|is not in scope|has no `|was not admitted")  # of a proof that names what an edit took away
 
 
@@ -109,7 +112,7 @@ def crates_with(folder):
 
 def leaves_out(old, new):
     """Whether a line is not changed but left out."""
-    return new == LEFT_OUT + old
+    return any(new == mark + old for mark in LEFT_OUT.values())
 
 
 def fault_of(edit):
@@ -126,7 +129,7 @@ def fault_of(edit):
         text = texts.get(path) or read(source)
         if text.count(old) != 1:
             return f"{old.strip()!r} stands {text.count(old)} times in {path}"
-        if LEFT_OUT in new and not leaves_out(old, new):
+        if LEFT_OUT[".rt"] in new and not leaves_out(old, new):
             return f"{old.strip()!r} is left out and changed"
         texts[path], changes = text.replace(old, new), changes + (not leaves_out(old, new))
     return None if changes else "it changes nothing"
@@ -134,9 +137,10 @@ def fault_of(edit):
 
 def named_by_specs(edit):
     """A module that an edit leaves out and a definition of its crate names, which the prover then cannot read, or nothing."""
-    left_out = [re.fullmatch(r"(?:pub )?mod (\w+);", old) for _, old, new in edit.pairs if leaves_out(old, new)]
-    specs = f"{ROOT}/crates/{edit.crate}/specs"
-    texts = [read(f"{specs}/{name}") for name in (os.listdir(specs) if os.path.isdir(specs) else []) if name.endswith(".antt")]
+    left_out = [re.fullmatch(r"(?:pub )?mod (\w+);?", old) for _, old, new in edit.pairs if leaves_out(old, new)]
+    specs, gone = f"{ROOT}/crates/{edit.crate}/specs", {f"{it[1]}.antt" for it in left_out if it}
+    names = os.listdir(specs) if os.path.isdir(specs) else []
+    texts = [read(f"{specs}/{name}") for name in names if name.endswith(".antt") and name not in gone]
     for module in (it[1] for it in left_out if it):
         if any(f"Rattle.{edit.crate}.specs.declared.{module}." in text for text in texts):
             return f"it leaves out {module}, which specs/ names"
@@ -162,11 +166,36 @@ def check():
             why = fault_of(edit) or named_by_specs(edit) or (misplaced(edit) or ("its name stands twice" if names.count(edit.name) > 1 else None) if edit in planted else None)
             if why:
                 faults.append(f"{os.path.relpath(edit.where, ROOT)}: {edit.name}: {why}")
+        if len(gate) > 1:
+            faults.append(f"crates/{crate}/must-fail: {len(gate)} edits: the gate tries one a crate, planted/ has the others")
     for crate in crates_with(f"{ROOT}/planted"):
         if not os.path.isdir(f"{ROOT}/crates/{crate}"):
             faults.append(f"planted/{crate}: there is no such crate")
     print("\n".join(faults + [f"{found} edits, {len(faults)} that do not apply"]))
+    stale = [crate for crate in crates_with(f"{ROOT}/planted") if not is_as_at(crate, tried().get(crate))]
+    print(f"Changed since their planted edits were last tried: {' '.join(stale) or 'no crate'}.")
     return not faults
+
+
+def tried():
+    """The commit at which each crate's planted edits were last tried, each of them refused."""
+    return dict(line.split() for line in read(TRIED).splitlines() if not line.startswith("#")) if os.path.isfile(TRIED) else {}
+
+
+def is_as_at(crate, commit):
+    """Whether a crate and its planted edits stand as they did at a commit."""
+    parts = [f"crates/{crate}/{part}" for part in ("src", "specs", "proofs")] + [f"planted/{crate}"]
+    asked = ["git", "diff", "--quiet", commit or "", "--", *parts]
+    return bool(commit) and not subprocess.run(asked, cwd=ROOT, stderr=subprocess.DEVNULL).returncode
+
+
+def note_tried(crate):
+    """Writes down that a crate's planted edits were refused at the commit that stands here, if the crate is as it is there."""
+    commit = subprocess.run(["git", "rev-parse", "--short=12", "HEAD"], cwd=ROOT, stdout=subprocess.PIPE, text=True).stdout.strip()
+    if is_as_at(crate, commit):
+        lines = [f"{name} {at}" for name, at in sorted({**tried(), crate: commit}.items())]
+        with open(TRIED, "w", encoding="utf-8") as file:
+            file.write("\n".join(["# crate, and the commit at which the prover last refused each of its planted edits (scripts/edits.py)", *lines]) + "\n")
 
 
 def lanes():
@@ -305,11 +334,11 @@ def write(folder, texts):
 
 
 def linked(folder, to, *without):
-    """Copies a folder without what has one of these names; what rt made of it by links, as it replaces such a file and changes none."""
+    """Copies a folder without what has one of these names; by links what rt replaces and never writes into: what it proved, and libraries."""
 
     def copy(one, other):
         try:
-            if "/out/" in one:
+            if one.endswith(".oantt") or "/out/rlib/" in one:
                 return os.link(one, other)
         except OSError:
             pass
@@ -412,6 +441,8 @@ def try_planted(names):
             print(f"{name}: {tried[-1]} edits, {alone} of them alone, {len(bad)} not refused", *bad, sep="\n  ", flush=True)
             if bad:
                 failed.append(name)
+            else:
+                note_tried(name)
 
     names = sorted(names, key=lambda it: -len(planted_edits(it)))
     with ThreadPoolExecutor(lanes()) as pool:
