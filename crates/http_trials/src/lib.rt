@@ -1,4 +1,4 @@
-//! Trials of requests over HTTP: worked replies byte for byte, streams that fail, a desk of a thousand orders. Nothing stands on it.
+//! Trials of requests over HTTP: streams that fail, what is asked of a desk, the first calls in one run. Nothing stands on it.
 #![tactic(auto)]
 
 #[cfg(test)]
@@ -6,12 +6,8 @@ mod asking;
 #[cfg(test)]
 mod failing_streams;
 #[cfg(test)]
-mod loopback;
+mod first_nonce;
 #[cfg(test)]
 mod tests;
-#[cfg(test)]
-mod thousand_orders;
-#[cfg(test)]
-mod worked_replies;
 #[cfg(test)]
 mod worked_run;

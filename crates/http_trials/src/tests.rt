@@ -1,5 +1,5 @@
 use crate::failing_streams::{FailingReader, FailingWriter};
-use crate::worked_replies::{ASKS_NONCE, FIRST_NONCE, WORKED, new_desk, serve};
+use crate::first_nonce::{ASKS_NONCE, FIRST_NONCE, new_desk, serve};
 use desk::{Desk, DeskFault, Memory};
 use desk_http::{IoFault, Served, ask};
 use std::alloc::Global;
@@ -60,16 +60,6 @@ fn gives(alloc: Global, desk: &mut Desk<Memory>, asked: &[u8], reply: &[u8]) -> 
     is_whole(served) && output.as_slice() == reply
 }
 
-// Whether the desk gives these worked replies, one after the other.
-fn gives_all(alloc: Global, desk: &mut Desk<Memory>, worked: &[(&[u8], &[u8])]) -> bool {
-    for &(asked, reply) in worked {
-        if !gives(alloc, desk, asked, reply) {
-            return false;
-        }
-    }
-    true
-}
-
 // Whether a reader that fails behind these bytes is told, and nothing is written.
 fn fails_to_read(alloc: Global, desk: &mut Desk<Memory>, bytes: &[u8]) -> bool {
     let mut reader = FailingReader { bytes };
@@ -88,17 +78,17 @@ fn fails_to_read_all(alloc: Global, desk: &mut Desk<Memory>) -> bool {
     true
 }
 
-// Whether a new desk gives the worked replies after readers that fail.
-fn new_desk_gives_worked(rt: &impl Abort, alloc: Global) -> Result<bool, Fail> {
-    let mut desk = new_desk(rt, alloc)?;
-    let gives = gives_worked_after_failures(alloc, &mut desk);
-    drop(desk);
-    Ok(gives)
+// Whether a desk gives its first nonce after readers that fail.
+fn gives_nonce_after_failures(alloc: Global, desk: &mut Desk<Memory>) -> bool {
+    fails_to_read_all(alloc, desk) && gives(alloc, desk, ASKS_NONCE, FIRST_NONCE)
 }
 
-// Whether a desk gives the worked replies after readers that fail.
-fn gives_worked_after_failures(alloc: Global, desk: &mut Desk<Memory>) -> bool {
-    fails_to_read_all(alloc, desk) && gives_all(alloc, desk, &WORKED)
+// Whether a new desk does.
+fn new_desk_gives_nonce(rt: &impl Abort, alloc: Global) -> Result<bool, Fail> {
+    let mut desk = new_desk(rt, alloc)?;
+    let gives = gives_nonce_after_failures(alloc, &mut desk);
+    drop(desk);
+    Ok(gives)
 }
 
 // Whether a writer that fails behind so many bytes is told, and a new desk gives the nonce all the same.
@@ -124,8 +114,8 @@ fn has_text(alloc: Global, fault: DeskFault, wanted: &str) -> Result<bool, Fail>
 }
 
 #[test]
-fn worked_replies_are_given_after_readers_that_fail(rt: HostRuntime) -> Result<(), Fail> {
-    assert!(rt; new_desk_gives_worked(&rt, rt.alloc())?);
+fn first_nonce_is_given_after_readers_that_fail(rt: HostRuntime) -> Result<(), Fail> {
+    assert!(rt; new_desk_gives_nonce(&rt, rt.alloc())?);
     Ok(())
 }
 

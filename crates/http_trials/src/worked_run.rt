@@ -1,6 +1,6 @@
 //! The specification's first calls in one run of a desk, with their replies (docs/SPECIFICATION.md, 16).
 use crate::asking::{call, request};
-use crate::worked_replies::new_desk;
+use crate::first_nonce::new_desk;
 use desk::{Desk, DeskFault, Memory};
 use desk_http::problem_document;
 use desk_model::{Ask, Body, Call, Reply, Sequence, Target, Text};
