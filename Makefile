@@ -7,7 +7,7 @@ PREFIX ?= /usr/local
 # What has blocks of commands with what they print.
 DOCUMENTS := README.md $(wildcard docs/*.md)
 
-.PHONY: all bench edits first growths hostile install instructions kills planted predicted test try
+.PHONY: all bench check edits first growths hostile install instructions kills planted predicted test try
 
 all: bin/desk
 
@@ -136,6 +136,13 @@ install-house: install
 	install -m 644 examples/house/*.py $(DESTDIR)$(PREFIX)/share/desk/house
 	@for part in front validator office; do sed 's|@PREFIX@|$(PREFIX)|' packaging/desk-$$part.service > bin/desk-$$part.service; done
 	install -m 644 bin/desk-front.service bin/desk-validator.service bin/desk-office.service $(UNITS)
+
+# The inner loop: proves one crate, or of it ONE function or module, over the libraries that the gate proved on this machine (docs/PROVING.md).
+check:
+	@$(HAS_RT)
+	@test -d crates/$(or $(CRATE),none) || { echo 'desk: make check CRATE=name [ONE=path]' >&2; exit 1; }
+	@python3 -B scripts/warm.py $(CRATE)
+	@cd crates/$(CRATE) && rt check $(if $(ONE),--only $(ONE))
 
 planted:
 	@$(HAS_RT)
