@@ -17,8 +17,9 @@ The edits of src/MODULE.rt are planted/NAME/MODULE.edits, those of a file of spe
   new: what stands there instead
 
 with further pairs of the last two, and a line `file: src/OTHER.rt` before those of another file. An edit of the gate is a file of its own, as rt wants it.
-It leaves out what its wrong body does not need, so that it is tried in less time: it puts #[cfg(test)] before lines of src/, and -- before lines of specs/ and
-proofs/. That the crate is proved without these, so that it is refused for its wrong body alone, is tried with the planted edits.
+It leaves out what its wrong body does not need, so that it is tried in less time: it puts #[cfg(test)] before items of src/, and makes a comment of a file of
+specs/ or proofs/, by its first line and its last. That the crate is proved without these, so that it is refused for its wrong body alone, is tried with the
+planted edits.
 """
 import contextlib
 import os
@@ -32,7 +33,7 @@ from concurrent.futures import ThreadPoolExecutor
 
 ROOT = os.path.dirname(os.path.dirname(os.path.abspath(__file__)))
 MEMORY = 4 << 30  # what one crate's edits take at most, in bytes
-LEFT_OUT = {".rt": "#[cfg(test)] ", ".antt": "-- "}  # what stands before a line that an edit leaves out
+LEFT_OUT = "#[cfg(test)] "  # before an item; a file of definitions or lemmas becomes a comment
 TRIED = f"{ROOT}/planted/tried.txt"
 LOST = re.compile(r"has no field|is not in scope|has no `|was not admitted")  # of a proof that names what an edit took away
 
@@ -112,7 +113,7 @@ def crates_with(folder):
 
 def leaves_out(old, new):
     """Whether a line is not changed but left out."""
-    return any(new == mark + old for mark in LEFT_OUT.values())
+    return new in (LEFT_OUT + old, f"{{- {old}", f"{old} -}}")
 
 
 def fault_of(edit):
@@ -129,7 +130,7 @@ def fault_of(edit):
         text = texts.get(path) or read(source)
         if text.count(old) != 1:
             return f"{old.strip()!r} stands {text.count(old)} times in {path}"
-        if LEFT_OUT[".rt"] in new and not leaves_out(old, new):
+        if LEFT_OUT in new and not leaves_out(old, new):
             return f"{old.strip()!r} is left out and changed"
         texts[path], changes = text.replace(old, new), changes + (not leaves_out(old, new))
     return None if changes else "it changes nothing"
@@ -137,10 +138,10 @@ def fault_of(edit):
 
 def named_by_specs(edit):
     """A module that an edit leaves out and a definition of its crate names, which the prover then cannot read, or nothing."""
-    left_out = [re.fullmatch(r"(?:pub )?mod (\w+);?", old) for _, old, new in edit.pairs if leaves_out(old, new)]
-    specs, gone = f"{ROOT}/crates/{edit.crate}/specs", {f"{it[1]}.antt" for it in left_out if it}
+    left_out = [re.fullmatch(r"(?:pub )?mod (\w+);", old) for _, old, new in edit.pairs if leaves_out(old, new)]
+    specs, gone = f"{ROOT}/crates/{edit.crate}/specs", {path for path, old, new in edit.pairs if leaves_out(old, new)}
     names = os.listdir(specs) if os.path.isdir(specs) else []
-    texts = [read(f"{specs}/{name}") for name in names if name.endswith(".antt") and name not in gone]
+    texts = [read(f"{specs}/{name}") for name in names if name.endswith(".antt") and f"specs/{name}" not in gone]
     for module in (it[1] for it in left_out if it):
         if any(f"Rattle.{edit.crate}.specs.declared.{module}." in text for text in texts):
             return f"it leaves out {module}, which specs/ names"
