@@ -19,15 +19,16 @@ import time
 from housed import ROOT, free_port
 
 # What installs packages, compiles or wants a house, and is run elsewhere.
-ELSEWHERE = ("scripts/setup.sh", "make try-house", "make try", "make house")
+ELSEWHERE = ("./try", "./test", "make try", "make house")
 MASKS = [
     (re.compile(r"\b(127\.0\.0\.1|localhost):\d+"), r"\1:PORT"),
     (re.compile(r"\b\d+(\.\d+)? (s|ms|seconds|minutes)\b"), r"TIME \2"),
     (re.compile(r"\b\d+(\.\d+)? (bytes|kB|MB|GB)\b"), r"SIZE \2"),
 ]
 PORT = re.compile(r"--port[ =]([1-9]\d*)")
-# What the shell itself says of a program in the background that was ended by a signal.
-ENDED = re.compile(r"bash: line \d+: +\d+ (Terminated|Killed)\b.*")
+# Lines that are not compared: what the shell itself says of a program in the background that was ended by a signal; how far a long run is;
+# that a program is not proved, on its standard error.
+PASSED_OVER = re.compile(r"bash: line \d+: +\d+ (Terminated|Killed)\b.*|(UNPROVED: )?\.\.\. .*|UNPROVED: nobody proved this program; .*")
 # How long a command may take, and what it leaves in the background to say what is shown of it, in seconds.
 PATIENCE, SOON = 120, 20
 MARK = "\n---- this command has ended ----\n"
@@ -51,6 +52,11 @@ def blocks(text):
                 shown[-1].lines.append(line)
         if any(command.lines for command in shown):
             yield shown
+
+
+def compared(text):
+    """The lines of what was printed that are compared."""
+    return [line for line in text.splitlines() if not PASSED_OVER.fullmatch(line)]
 
 
 def masked(lines):
@@ -77,7 +83,7 @@ class Shell:
     def __init__(self, folder, output):
         self.output = open(output, "w+", encoding="utf-8")
         self.run = subprocess.Popen(["bash"], cwd=folder, stdin=subprocess.PIPE, stdout=self.output, stderr=subprocess.STDOUT, text=True,
-                                    process_group=0)
+                                    process_group=0, env={**os.environ, "TMPDIR": os.path.dirname(folder)})
 
     def say(self, command, is_enough):
         """Runs a command, and gives the lines that it printed; of one in the background when they are enough."""
@@ -88,7 +94,7 @@ class Shell:
             self.output.seek(before)
             said = self.output.read()
             ended, waited = MARK in said, time.monotonic() - start
-            lines = [line for line in said.replace(MARK, "").splitlines() if not ENDED.fullmatch(line)]
+            lines = compared(said.replace(MARK, ""))
             if ended and (not command.endswith("&") or is_enough(lines) or waited > SOON) or waited > PATIENCE:
                 return lines
             time.sleep(0.05)
@@ -103,8 +109,9 @@ class Shell:
 
 
 def furnish(folder, program):
-    """Gives a folder what the repository has, and the program as its bin/desk."""
-    for name in set(os.listdir(ROOT)) - {"bin", ".git"}:
+    """Gives a folder what git knows of the repository, and the program as its bin/desk."""
+    known = subprocess.run(["git", "ls-files", "-z"], cwd=ROOT, stdout=subprocess.PIPE, text=True, check=True).stdout.split("\0")[:-1]
+    for name in {path.split("/")[0] for path in known}:
         os.symlink(f"{ROOT}/{name}", f"{folder}/{name}")
     os.mkdir(f"{folder}/bin")
     os.symlink(program, f"{folder}/bin/desk")
@@ -135,7 +142,7 @@ def run(program, *files):
 
 def said(command, output, *files):
     """Compares what a command printed with what documents show of it, and gives the exit status."""
-    found = read(output).splitlines()
+    found = compared(read(output))
     wanted = [(file, shown) for file in files for block in blocks(read(file)) for shown in block if shown.command == command]
     well = all([is_as_shown(file, shown, found) for file, shown in wanted])
     if well:
