@@ -1,48 +1,58 @@
 # The commands of the repository; README.md says what they need.
 SHELL := /bin/bash
-SOURCES := crates.txt $(shell find crates -name out -prune -o -type f -print)
-HAS_RT := command -v rt >/dev/null || { echo 'desk: rt is not on PATH; the kit has it at /usr/local/bin/rt' >&2; exit 1; }
+SOURCES := crates.txt $(shell find crates \( -name out -o -name must-fail \) -prune -o -type f -print)
+HAS_RT := command -v rt >/dev/null || { echo 'desk: rt is not on PATH; ./try says where it is from' >&2; exit 1; }
+HAS_DESK := test -x bin/desk || { echo 'desk: there is no bin/desk; make bin/desk proves and builds it' >&2; exit 1; }
 
 PREFIX ?= /usr/local
 # What has blocks of commands with what they print.
 DOCUMENTS := README.md $(wildcard docs/*.md)
 
-.PHONY: all bench check edits first growths hostile install instructions kills planted predicted test try
+.PHONY: bench check edits first gate growths help hostile install instructions kills planted predicted test trials try
+.DEFAULT_GOAL := help
 
-all: bin/desk
+# Each target with two # behind it, in the order of this file.
+help: ## this list
+	@awk -F ':.*## ' '/^[a-z].*:.*## / {gsub(/ /, ", ", $$1); printf "  make %-52s %s\n", $$1, $$2}' Makefile
 
-bin/desk: $(SOURCES)
+bin/desk: $(SOURCES) ## proves and builds the program, in most of an hour at the first time
 	@$(HAS_RT)
-	@echo 'Proving and building the program desk, with the crates below it (minutes at the first time).'
-	cd crates/desk_app && rt run -- batch </dev/null
+	@echo 'Proving and building the program desk, with the crates below it.'
+	cd crates/desk_app && python3 -B ../../scripts/gate.py run -- batch
 	@mkdir -p bin
 	@cp crates/desk_app/out/desk_app $@
 	@touch $@
 	@echo 'The program is bin/desk.'
 
-try:
+try: ## a batch over a book in memory, WITHOUT PROOF, in a minute or so
 	@$(HAS_RT)
 	@echo 'Answering examples/first.jsonl by a desk over a book in memory, over the crates as they are, WITHOUT PROOF.'
 	@python3 -B scripts/try.py
 
-first: bin/desk
+first: bin/desk ## a batch by the proved program
 	@echo 'Answering examples/first.jsonl over a new desk in memory:'
 	@bin/desk batch < examples/first.jsonl
 
-edits:
+edits: ## whether the edits that the prover must refuse still apply, and the picture of the crates is today's
 	@echo 'Looking whether each edit that the prover must refuse still applies, and whether the crates are those that are drawn.'
 	@python3 scripts/edits.py check
 	@python3 -B scripts/crates.py check
 
+test: ## ./test: sets up what is missing, and is the merge gate
+	@./test
+
 # The gate leaves the program that it proved, built and ran in crates/desk_app/out. It runs as many checks side by side as there
 # are processors, each by one job. The prover's allocator gives back what was freed after a tenth of a second, not after a
 # whole one: the largest process, the check of the program, takes up to a quarter of a GB less so.
-test: edits
+gate: edits ## the merge gate, where all is set up
 	@$(HAS_RT)
 	@echo 'Running the merge gate: every proof from nothing, the edits that must fail, every test.'
-	@start=$$SECONDS; MIMALLOC_PURGE_DELAY=100 RT_JOBS=$${RT_JOBS:-$$(nproc)} rt ci || exit 1; echo "The gate took $$((SECONDS - start)) seconds on $$(nproc) processors."
+	@MIMALLOC_PURGE_DELAY=100 RT_JOBS=$${RT_JOBS:-$$(nproc)} python3 -B scripts/gate.py
 	@mkdir -p bin
 	@cp crates/desk_app/out/desk_app bin/desk
+	@$(MAKE) --no-print-directory trials
+
+trials: ## what the gate tries of the program bin/desk
 	@set -o pipefail; for calls in examples/*.jsonl; do \
 		echo "Comparing the replies to $$calls."; \
 		bin/desk batch < $$calls | diff $${calls%.jsonl}.expected - || exit 1; \
@@ -59,6 +69,8 @@ test: edits
 	@python3 -B scripts/predicted.py bin/desk --batches 40
 	@echo 'Running the commands that documents show, and comparing what they print.'
 	@python3 -B scripts/readme.py run bin/desk $(DOCUMENTS)
+	@echo 'Trying what is installed: a folder of a name with a space, the manual page, the completion for bash.'
+	@python3 -B scripts/installs.py bin/desk
 	@echo "Trying the operator's words: reports, whole and stopped after each line, and revocations."
 	@python3 -B scripts/words.py bin/desk
 	@echo 'Stopping the program at each write to a file, the upgrade of a file too, and failing each call to the disk once, where it serves, too, and counting syncs.'
@@ -73,85 +85,101 @@ test: edits
 	@python3 -B scripts/kills.py bin/desk --times 20
 	@echo 'Refusing memory to calls of the library, each seventh growth, without proof.'
 	@python3 -B scripts/library_growths.py --step 7
-	@echo 'Answering the first batch without proof, as make try does.'
-	@python3 -B scripts/try.py
 	@echo 'Trying a house around the desk, where the packages for it are there.'
 	@$(MAKE) --no-print-directory house-test
 
 # Each growth of memory of a call refused in turn, a quarter of an hour or more; five minutes of hostile requests; 200 kills while it serves; 100
 # random batches beside the model.
-growths hostile kills predicted:
-	@test -x bin/desk || { echo 'desk: there is no bin/desk; make builds it' >&2; exit 1; }
+growths hostile kills predicted: ## one script each of what the gate tries, at length
+	@$(HAS_DESK)
 	@python3 -B scripts/$@.py bin/desk
 	@! [ $@ = growths ] || python3 -B scripts/library_growths.py
 
-# The program, its manual page from its own help, and for systemd its unit, the socket in front of it, and the users.
-UNITS = $(DESTDIR)$(PREFIX)/lib/systemd/system
-install:
-	@test -x bin/desk || { echo 'desk: there is no bin/desk; make builds it' >&2; exit 1; }
-	@python3 -B scripts/manual.py bin/desk > bin/desk.1
+# The program, its manual page and its completion for bash from its own help, and for systemd its unit, the socket in front of it, and
+# the users.
+PLACE = $(DESTDIR)$(PREFIX)
+UNITS = $(PLACE)/lib/systemd/system
+install: ## the program, its manual page, its completion for bash, its units and users
+	@$(HAS_DESK)
+	@python3 -B scripts/manual.py page bin/desk > bin/desk.1
+	@python3 -B scripts/manual.py completion bin/desk > bin/desk.bash
 	@for unit in desk.service desk-proxy.service desk-proxy.socket; do sed 's|@PREFIX@|$(PREFIX)|' packaging/$$unit > bin/$$unit; done
-	install -D -m 755 bin/desk $(DESTDIR)$(PREFIX)/bin/desk
-	install -D -m 644 bin/desk.1 $(DESTDIR)$(PREFIX)/share/man/man1/desk.1
-	install -D -m 644 packaging/desk.sysusers $(DESTDIR)$(PREFIX)/lib/sysusers.d/desk.conf
-	install -d $(UNITS)
-	install -m 644 bin/desk.service bin/desk-proxy.service bin/desk-proxy.socket $(UNITS)
+	install -D -m 755 bin/desk "$(PLACE)/bin/desk"
+	install -D -m 644 bin/desk.1 "$(PLACE)/share/man/man1/desk.1"
+	install -D -m 644 bin/desk.bash "$(PLACE)/share/bash-completion/completions/desk"
+	install -D -m 644 packaging/desk.sysusers "$(PLACE)/lib/sysusers.d/desk.conf"
+	install -d "$(UNITS)"
+	install -m 644 bin/desk.service bin/desk-proxy.service bin/desk-proxy.socket "$(UNITS)"
 	@echo 'Whoever reaches the port of the desk is trusted. The units keep it behind /run/desk/socket, for the group desk-house alone;'
 	@echo 'by `desk serve` without them it is open to every user of this machine, and while it is stopped any of them may take it.'
 
 # ---- The house around a desk (docs/HOUSE.md), over Debian's packages and their Python.
 HOUSE := /usr/bin/python3 -B scripts/house.py
-HAS_DESK := test -x bin/desk || { echo 'desk: there is no bin/desk; make builds it, and make try-house needs none' >&2; exit 1; }
+# The program that the house is tried with: the proved one, or that of ./try, which each line then says.
+AROUND = $(firstword $(wildcard bin/desk bin/unproved/desk))
+HAS_ONE := test -n '$(AROUND)' || { echo 'desk: there is no program; ./try compiles bin/desk-unproved, make bin/desk proves and builds bin/desk' >&2; exit 1; }
 
-.PHONY: house house-clients house-serve house-test install-house try-house
+.PHONY: house house-clients house-serve house-test install-house try-house unproved-house
+
+try-house: ## ./try: sets up what is missing, compiles the program WITHOUT PROOF, and tries the house
+	@./try
+
+# One run at a time compiles the program: who waited for another takes what that one compiled.
+unproved-house: ## the same, where all is set up
+	@$(HAS_RT)
+	@mkdir -p bin
+	@exec 9> bin/try.lock; seconds=0; until flock --wait $$((seconds ? 20 : 0)) 9; do \
+		echo "Another run compiles the program; this one waits for it, $$seconds s."; seconds=$$((seconds + 20)); done; \
+		$(MAKE) --silent bin/desk-unproved 9>&-
+	@$(HOUSE) run bin/unproved/desk
+
+bin/desk-unproved: $(SOURCES) ## compiles the program WITHOUT PROOF, in some minutes
+	@$(HAS_RT)
+	@python3 -B scripts/unproved.py
 
 # Everything is on the loopback, in a folder that is removed, and ends by itself; house-serve ends by control C.
-house:
-	@$(HAS_DESK)
-	@$(HOUSE) run bin/desk
+house: ## has certbot get a certificate from a house around the desk
+	@$(HAS_ONE)
+	@$(HOUSE) run $(AROUND)
 
-house-serve:
-	@$(HAS_DESK)
-	@$(HOUSE) serve bin/desk
+house-serve: ## a house around the desk until control C
+	@$(HAS_ONE)
+	@$(HOUSE) serve $(AROUND)
 
-house-clients:
-	@$(HAS_DESK)
-	@$(HOUSE) clients bin/desk
+house-clients: ## has each client that is installed get a certificate
+	@$(HAS_ONE)
+	@$(HOUSE) clients $(AROUND)
 
-try-house:
-	@$(HAS_RT)
-	@$(HOUSE) try
-
-house-test:
+house-test: ## what the gate tries of the house and of the units
 	@$(HAS_DESK)
 	@! $(HOUSE) packages || { /usr/bin/python3 -B scripts/house_test.py bin/desk && /usr/bin/python3 -B scripts/house_attacks.py bin/desk && \
 		/usr/bin/python3 -B scripts/house_signatures.py bin/desk; }
 	@/usr/bin/python3 -B scripts/house_units.py bin/desk
+	@! $(HOUSE) packages certbot || /usr/bin/python3 -B scripts/first_hour.py bin/desk
 	@if $(HOUSE) packages certbot; then set -o pipefail; $(HOUSE) run bin/desk | tee bin/house.said && \
 		python3 -B scripts/readme.py said 'make house' bin/house.said $(DOCUMENTS); fi
 
 # Beside the program and its units: the house and the units of its three parts.
-install-house: install
-	install -d $(DESTDIR)$(PREFIX)/share/desk/house
-	install -m 644 examples/house/*.py $(DESTDIR)$(PREFIX)/share/desk/house
+install-house: install ## beside the program, the house and its units
+	install -d "$(PLACE)/share/desk/house"
+	install -m 644 examples/house/*.py "$(PLACE)/share/desk/house"
 	@for part in front validator office; do sed 's|@PREFIX@|$(PREFIX)|' packaging/desk-$$part.service > bin/desk-$$part.service; done
-	install -m 644 bin/desk-front.service bin/desk-validator.service bin/desk-office.service $(UNITS)
+	install -m 644 bin/desk-front.service bin/desk-validator.service bin/desk-office.service "$(UNITS)"
 
-# The inner loop: proves one crate, or of it ONE function or module, over the libraries that the gate proved on this machine (docs/PROVING.md).
-check:
+check: ## proves a crate, CRATE=name, or of it ONE=path alone, over the libraries that the gate proved here
 	@$(HAS_RT)
 	@test -d crates/$(or $(CRATE),none) || { echo 'desk: make check CRATE=name [ONE=path]' >&2; exit 1; }
 	@python3 -B scripts/warm.py $(CRATE)
 	@cd crates/$(CRATE) && rt check $(if $(ONE),--only $(ONE))
 
-planted:
+planted: ## tries the planted edits, of one crate by CRATE=name; the prover must refuse each
 	@$(HAS_RT)
 	@echo 'Trying the planted edits$(if $(CRATE), of $(CRATE)), crates side by side; the prover must refuse each.'
 	@python3 scripts/edits.py try $(CRATE)
 
 # Proves and builds nothing of the desk: it times the program that is there.
-bench:
-	@test -x bin/desk || { echo 'desk: there is no bin/desk; make builds it' >&2; exit 1; }
+bench: ## times the program for docs/PERFORMANCE.md, in minutes
+	@$(HAS_DESK)
 	@echo 'Timing durable calls against C over files of 100 to 100,000 orders (minutes), for docs/PERFORMANCE.md.'
 	@python3 bench/bench.py > bin/PERFORMANCE.md
 	@echo 'Timing requests over loopback.'
@@ -168,7 +196,7 @@ bench:
 	@cat docs/PERFORMANCE.md
 
 # The same figures on any machine and under any load, in two minutes.
-instructions:
-	@test -x bin/desk || { echo 'desk: there is no bin/desk; make builds it' >&2; exit 1; }
+instructions: ## counts the instructions of each call for docs/PERFORMANCE.md, in two minutes
+	@$(HAS_DESK)
 	@echo 'Counting the instructions of a call, of the program and of C, for docs/PERFORMANCE.md.'
 	@python3 -B bench/instructions.py --into docs/PERFORMANCE.md

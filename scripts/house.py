@@ -4,11 +4,10 @@
   scripts/house.py run PROGRAM       makes a desk, starts the house, has certbot get a certificate, and verifies it
   scripts/house.py serve PROGRAM     makes a desk and starts the house, says what to type, and waits for control C
   scripts/house.py clients PROGRAM   has certbot, lego and uacme get a certificate each, where they are installed
-  scripts/house.py try               as run, over the crates as they are, WITHOUT PROOF (`rt try`), as each line says
   scripts/house.py packages [MORE..] says which packages are missing for the house itself, or these programs, and ends with 1 where some are
 
-Everything is on the loopback and in a folder of its own, which is removed at the end. Where something fails, a line says what, and
-bin/house.log (of a try bin/try-house.log) has all that was said.
+Everything is on the loopback and in a folder of its own, which is removed at the end. Around the program that scripts/unproved.py compiled,
+each line says so. Where something fails, a line says what, and where all is that was said.
 """
 import contextlib
 import functools
@@ -24,7 +23,7 @@ import tempfile
 import threading
 import time
 
-from housed import ROOT, House, TriedHouse, free_port
+from housed import ROOT, House, free_port
 
 NAME = "web.house.test"
 # The packages of Debian that the house needs, by what is looked for in its Python.
@@ -36,12 +35,14 @@ case $1 in begin) [ "$2" = http-01 ] && printf %s "$5" > "{web}/$4" ;; esac
 
 
 class Talk:
-    """What is said: printed line by line, each with something before it, and written to a log of bin/, which has what is only noted, too."""
+    """What is said: printed line by line, each with something before it, and written to a log of bin/, which has what is only noted, too,
+    and stays where something failed."""
 
-    def __init__(self, name, before=""):
+    def __init__(self, before):
         os.makedirs(f"{ROOT}/bin", exist_ok=True)
-        self.before, self.log = before, f"{ROOT}/bin/{name}.log"
-        self.file = open(self.log, "w", encoding="utf-8")
+        self.before, self.has_failed = before, False
+        log, self.log = tempfile.mkstemp(prefix="house-", suffix=".log", dir=f"{ROOT}/bin")
+        self.file = open(log, "w", encoding="utf-8")
 
     def note(self, text):
         print(text, file=self.file, flush=True)
@@ -51,8 +52,17 @@ class Talk:
         for line in text.splitlines():
             print(self.before + line, flush=True)
 
+    def __enter__(self):
+        return self
+
+    def __exit__(self, *_):
+        self.file.close()
+        if not self.has_failed:
+            os.remove(self.log)
+
     def fail(self, failure):
         """Says what failed, and gives the exit status."""
+        self.has_failed = True
         self.say(f"{' '.join(str(failure).split())}: the whole output is in {self.log}")
         return 1
 
@@ -128,15 +138,15 @@ def failure_of(client, house, port, talk):
     return None
 
 
-def run(talk, start, clients=(certbot,), last=""):
+def run(talk, program, clients=(certbot,)):
     """Starts a house, has each client get a certificate, and gives the exit status."""
     with tempfile.TemporaryDirectory(prefix="desk-house-") as folder:
         port = free_port()
-        with start(folder, talk.say, web=port, errors=talk.file) as house:
+        with House(program, folder, talk.say, web=port, errors=talk.file) as house:
             failures = [failure for client in clients if (failure := failure_of(client, house, port, talk))]
     if failures:
         return talk.fail(", ".join(failures))
-    talk.say(f"All has ended, and nothing is left.{last}")
+    talk.say("All has ended, and nothing is left." + (" Nobody proved the program that ran." if talk.before else ""))
     return 0
 
 
@@ -168,10 +178,8 @@ def do(word, given, talk):
     """Does what a word asks for, and gives the exit status."""
     if word == "serve":
         return serve(talk, *given)
-    if word == "try":
-        return run(talk, functools.partial(TriedHouse, note=talk.note), last=" Nobody proved the program that ran.")
     clients = [client for client in (certbot, lego, uacme) if is_installed(client)] if word == "clients" else (certbot,)
-    return run(talk, functools.partial(House, *given), clients)
+    return run(talk, *given, clients)
 
 
 def main():
@@ -183,11 +191,11 @@ def main():
     # What ends the script ends all that it started.
     for end in (signal.SIGINT, signal.SIGTERM, signal.SIGHUP):
         signal.signal(end, lambda number, _: sys.exit(128 + number))
-    talk = Talk("try-house", "UNPROVED: ") if word == "try" else Talk("house")
-    try:
-        return do(word, given, talk)
-    except (OSError, RuntimeError, subprocess.SubprocessError) as failure:
-        return talk.fail(failure)
+    with Talk("UNPROVED: " if "unproved" in given[0].split("/") else "") as talk:
+        try:
+            return do(word, given, talk)
+        except (OSError, RuntimeError, subprocess.SubprocessError) as failure:
+            return talk.fail(failure)
 
 
 if __name__ == "__main__":

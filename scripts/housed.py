@@ -5,17 +5,24 @@ import socket
 import subprocess
 import sys
 import threading
-import time
 
 ROOT = os.path.dirname(os.path.dirname(os.path.abspath(__file__)))
-# How long a program has to say that it is there, and how long to end; how long to be compiled, and to run then, in seconds.
-PATIENCE, COMPILING, RUNNING = 20, 1800, 300
+# How long a program has to say that it is there, and how long to end, in seconds.
+PATIENCE = 20
 
 
 def free_port():
     """A port of 127.0.0.1 that nobody has at this moment."""
     with socket.create_server(("127.0.0.1", 0)) as taken:
         return taken.getsockname()[1]
+
+
+def see_free(port):
+    """Says that a port was taken by another program, where it was."""
+    try:
+        socket.create_server(("127.0.0.1", port)).close()
+    except OSError:
+        raise RuntimeError(f"port {port} was taken by another program: type the same again") from None
 
 
 class Run:
@@ -93,7 +100,11 @@ class House:
                  f"--port={self.port}", *self.options]
         self.house = Run("house", words, self.say, "the front serves", stderr=self.errors)
         self.runs.append(self.house)
-        self.house.wait()
+        try:
+            self.house.wait()
+        except RuntimeError:
+            see_free(self.port)
+            raise
 
     def kill(self):
         """Kills the house, and starts it again over the same authority and desk."""
@@ -113,46 +124,3 @@ class House:
     def __exit__(self, *_):
         for run in reversed(self.runs):
             run.stop()
-
-
-class TriedHouse(House):
-    """A house around a desk that nobody proved: `rt try` compiles the program once, and runs it twice, to make the desk and to serve it.
-    It gives what the program says when that ends, so `note` is told all of it."""
-
-    def __init__(self, folder, say, note, **options):
-        super().__init__(None, folder, say, **options)
-        self.note = note
-
-    def make_desk(self):
-        """Compiles the program, makes a desk, and waits until it is served."""
-        self.desk_port = self.called_port = free_port()
-        cases, path = f"{self.folder}/cases", f"{self.folder}/ca.db"
-        os.mkdir(cases)
-        write_case(f"{cases}/1-make", "make", path, "--base", self.base)
-        write_case(f"{cases}/2-serve", "serve", path, "--port", str(self.desk_port))
-        self.say("The program is compiled as it is, WITHOUT PROOF: some minutes.")
-        start = time.monotonic()
-        words = ["rt", "try", "--seconds", str(RUNNING), "--cases", cases]
-        self.desk = Run("rt", words, self.note, "case=2-serve", cwd=f"{ROOT}/crates/desk_app")
-        self.runs.append(self.desk)
-        while not self._is_there():
-            if self.desk.run.poll() is not None:
-                raise RuntimeError("rt try ended, and served no desk")
-            if time.monotonic() - start > COMPILING:
-                raise RuntimeError(f"rt try served no desk in {COMPILING} s")
-            time.sleep(0.2)
-        self.say(f"A desk in a file is served, {time.monotonic() - start:.0f} s later.")
-
-    def _is_there(self):
-        try:
-            with socket.create_connection(("127.0.0.1", self.desk_port), 1):
-                return True
-        except OSError:
-            return False
-
-
-def write_case(path, *words):
-    """Writes a case of `rt try`: no standard input, and the words of the command line, one a line."""
-    for name, text in ((path, ""), (f"{path}.args", "".join(f"{word}\n" for word in words))):
-        with open(name, "w", encoding="utf-8") as file:
-            file.write(text)

@@ -1,11 +1,24 @@
 #!/usr/bin/env python3
-"""Writes the manual page of the program from its own help: scripts/manual.py PROGRAM > desk.1"""
+"""Writes from the program's own help its manual page, or its completion for bash: scripts/manual.py page|completion PROGRAM"""
 import re
 import subprocess
 import sys
 
-WORDS = ("make", "serve", "batch", "about", "page", "status", "accounts", "authorizations", "check", "backup", "revoke-authz", "revoke-account")
 EXITS = "Exit statuses:"
+# A line of help with a term and what is said of it, and one that goes on.
+ENTRY, MORE = re.compile(r" {2,6}(\S.*?) {2,}(\S.*)"), re.compile(r" {7,}(\S.*)")
+# The completion: the words, and of a word its options, and the values of an option that has a few.
+COMPLETION = """\
+# Completes the words of desk; made from its help.
+_desk() {
+    local now=${COMP_WORDS[COMP_CWORD]} words=
+    case $COMP_CWORD:${COMP_WORDS[1]}:${COMP_WORDS[COMP_CWORD - 1]}:$now in
+        1:*) words='%s' ;;
+%s    esac
+    mapfile -t COMPREPLY < <(compgen -W "$words" -- "$now")
+}
+complete -o default -F _desk desk
+"""
 
 
 def said_by(program, *words):
@@ -21,41 +34,80 @@ def help_of(program, *words):
     return lines[:place - 1], lines[place + 1:]
 
 
+def entries(lines, heading):
+    """The terms below a heading of help, each with what is said of it."""
+    below = lines[lines.index(heading) + 1:]
+    return dict(ENTRY.fullmatch(line).groups() for line in below[:below.index("") if "" in below else None] if ENTRY.fullmatch(line))
+
+
+def words_of(program):
+    return [word for word in entries(help_of(program)[0], "Commands:") if word != "help"]
+
+
+# ---- the manual page
+
+
 def roff(line):
     """A line as roff takes it."""
     line = line.replace("\\", "\\e").replace("-", "\\-")
     return f"\\&{line}" if line[:1] in (".", "'") else line
 
 
-def verbatim(lines):
-    return [".nf", *(roff(line) for line in lines), ".fi"]
+def term(name, text):
+    return [".TP", f"\\fB{roff(name)}\\fR", roff(text)]
+
+
+def filled(lines):
+    """Lines of help as paragraphs and terms, which man fills to its width."""
+    made, is_new = [], True
+    for line in lines:
+        entry, more = ENTRY.fullmatch(line), MORE.fullmatch(line)
+        if entry:
+            made += term(*entry.groups())
+        elif more:
+            made.append(roff(more[1]))
+        elif line:
+            made += [".PP"] * is_new + [roff(line.strip())]
+        is_new = not line or line.endswith(":")
+    return made
 
 
 def page(program):
     """The lines of the manual page."""
     said, exits = help_of(program)
-    lines = [f'.TH DESK 1 "" "{roff(said_by(program, "--version")[0])}" "User Commands"', ".SH NAME",
+    lines = [f'.TH DESK 1 "" "{roff(said_by(program, "--version")[0])}" "User Commands"', ".nh", ".ad l", ".SH NAME",
              "desk \\- the order desk of an ACME certificate authority", ".SH SYNOPSIS",
-             "\\fBdesk\\fR \\fIWORD\\fR [\\fIARGUMENT\\fR ...]", ".SH DESCRIPTION", *verbatim(said)]
-    for word in WORDS:
-        lines += [f".SS {roff(word)}", *verbatim(help_of(program, word)[0])]
+             "\\fBdesk\\fR \\fIWORD\\fR [\\fIARGUMENT\\fR ...]", ".SH DESCRIPTION", *filled(said)]
+    for word in words_of(program):
+        lines += [f".SS {roff(word)}", *filled(help_of(program, word)[0])]
     lines += [".SH EXIT STATUS"]
     for line in exits:
-        status, meaning = line.split(None, 1)
-        lines += [".TP", f"\\fB{status}\\fR", roff(meaning)]
-    lines += [".SH FILES", ".TP", "\\fIFILE\\fR", "the desk; one of an earlier format is brought into today's when it is opened",
-              ".TP", roff("FILE-wal"), "the engine's log, until the file is closed", ".SH SEE ALSO", "RFC 8555"]
+        lines += term(*line.split(None, 1))
+    lines += [".SH FILES", *term("FILE", "the desk; one of an earlier format is brought into today's when it is opened"),
+              *term("FILE-wal", "the engine's log, until the file is closed"), ".SH SEE ALSO", "RFC 8555"]
+    if any(re.search(r"[\x00-\x08\x0b-\x1f\x7f-\uffff]", line) for line in lines):
+        sys.exit("the help has a character that a manual page can't show")
     return lines
 
 
-def main(program):
-    lines = page(program)
-    if any(re.search(r"[\x00-\x08\x0b-\x1f\x7f-\uffff]", line) for line in lines):
-        sys.exit("the help has a character that a manual page can't show")
-    print("\n".join(lines))
+# ---- the completion
+
+
+def completion(program):
+    """The lines of the completion."""
+    cases = []
+    for word in words_of(program):
+        options = entries(help_of(program, word)[0], "Options:")
+        names = {re.search(r"--[\w-]+", name)[0]: text for name, text in options.items()}
+        for name, text in names.items():
+            values = re.search(r"\[possible values: (.*?)\]", text)
+            cases += [f"        *:{word}:{name}:*) words='{values[1].replace(',', '')}' ;;"] if values else []
+        cases.append(f"        *:{word}:*:-*) words='{' '.join(names)}' ;;")
+    return (COMPLETION % (" ".join([*words_of(program), "--help", "--version"]), "".join(f"{case}\n" for case in cases))).rstrip("\n").split("\n")
 
 
 if __name__ == "__main__":
-    if len(sys.argv) != 2:
+    KINDS = {"page": page, "completion": completion}
+    if len(sys.argv) != 3 or sys.argv[1] not in KINDS:
         sys.exit(__doc__)
-    main(sys.argv[1])
+    print("\n".join(KINDS[sys.argv[1]](sys.argv[2])))

@@ -1,20 +1,96 @@
 #!/usr/bin/env bash
-# Installs from Debian's packages what `make test` and the house need beside the kit; as root, or by sudo. It may be run again.
+# Says in one line what would keep ./try or ./test from its end, and installs what they need from Debian's packages, as root or by sudo:
+# scripts/setup.sh [try|test]. It may be run again.
 set -euo pipefail
+export LC_ALL=C.UTF-8
+cd "$(dirname "$0")/.."
 
-packages=(make gcc libc6-dev libsqlite3-dev sqlite3 valgrind systemd openssl curl certbot
-    python3-acme python3-josepy python3-cryptography python3-dnspython)
-missing=()
-for package in "${packages[@]}"; do
-    [ "$(dpkg-query --show --showformat='${db:Status-Status}' "$package" 2>/dev/null)" = installed ] || missing+=("$package")
-done
-if [ "${#missing[@]}" = 0 ]; then
-    echo "All packages are there: ${packages[*]}."
-    exit 0
-fi
-as_root=()
-[ "$(id -u)" = 0 ] || as_root=(sudo)
-echo "Installing by apt-get: ${missing[*]}."
-"${as_root[@]}" apt-get --quiet --quiet update
-"${as_root[@]}" env DEBIAN_FRONTEND=noninteractive apt-get --quiet --yes --no-install-recommends install "${missing[@]}"
-echo 'All packages are there.'
+# The GB that have to be free, of memory and on the disks. While it makes machine code, the compiler takes 8 GB of memory; a proof takes
+# 2 or 3, the largest 5.7, and as many run as there are processors, or as RT_JOBS says.
+what=${1:-test} memory=9 disk=8 jobs=${RT_JOBS:-$(nproc)}
+packages=(python3 make openssl certbot python3-acme python3-josepy python3-cryptography python3-dnspython curl)
+case $what in
+    try) disk=2 ;;
+    test)
+        [ "$jobs" -le 2 ] || memory=$((6 + 5 * (jobs - 1) / 2))
+        packages+=(git gcc libc6-dev libsqlite3-dev sqlite3 valgrind systemd iproute2)
+        ;;
+    *) echo 'scripts/setup.sh [try|test]' >&2; exit 2 ;;
+esac
+
+fail() {
+    echo "desk: $*" >&2
+    exit 1
+}
+
+# The free memory in GB, below the limit of the control group.
+free_memory() {
+    local free limit held
+    free=$(awk '/^(MemAvailable|SwapFree):/ {sum += $2} END {printf "%.0f", sum * 1024}' /proc/meminfo)
+    limit=$(cat /sys/fs/cgroup/memory.max 2>/dev/null || echo max)
+    if [ "$limit" != max ]; then
+        held=$(($(cat /sys/fs/cgroup/memory.current) - $(awk '$1 == "inactive_file" {print $2}' /sys/fs/cgroup/memory.stat)))
+        [ $((limit - held)) -ge "$free" ] || free=$((limit - held))
+    fi
+    echo $((free / 1000000000))
+}
+
+room_at() {
+    echo $(($(df --output=avail --block-size=1MB "$1" | tail -1) / 1000))
+}
+
+look() {
+    local folder free
+    command -v rt >/dev/null ||
+        fail 'rt is not on PATH: this repository wants the Rattle kit rattle-kit-13f; link its bin/rt as /usr/local/bin/rt'
+    for folder in . bin crates .git crates/*; do
+        [ ! -e "$folder" ] || [ -w "$folder" ] || fail "$(realpath "$folder") can't be written: make a clone of your own, on a disk that can"
+    done
+    free=$(free_memory)
+    [ "$free" -ge "$memory" ] || fail "$free GB of memory are free, and ./$what takes $memory: end other programs, or take a larger machine$([ "$what" = try ] || echo ', or fewer proofs at a time (RT_JOBS=1 ./test)')"
+    for folder in . "${TMPDIR:-/tmp}"; do
+        [ "$(room_at "$folder")" -ge "$disk" ] || fail "$(room_at "$folder") GB are free at $(realpath "$folder"), and ./$what takes $disk: make room there"
+    done
+}
+
+# Says the packages that are missing.
+missing() {
+    dpkg-query --show --showformat='${db:Status-Status} ${Package}\n' "${packages[@]}" 2>/dev/null | sed -n 's/^installed //p' | sort -u |
+        comm -13 - <(printf '%s\n' "${packages[@]}" | sort)
+}
+
+# Runs apt-get as root, with what it says in the log; while another has its lock, it is tried again.
+apt() {
+    local tries=0
+    until "${as_root[@]}" env DEBIAN_FRONTEND=noninteractive apt-get --quiet --yes --option Acquire::Retries=1 \
+        --option Acquire::http::Timeout=15 --option DPkg::Lock::Timeout=600 "$@" > "$log" 2>&1 < /dev/null 9>&-; do
+        grep --quiet 'Could not get lock' "$log" && [ "$tries" -lt 60 ] || return 1
+        [ "$tries" != 0 ] || echo 'Another apt-get runs here; this one waits for it, at most five minutes.'
+        tries=$((tries + 1))
+        sleep 5
+    done
+}
+
+install() {
+    local as_root=() log
+    command -v apt-get >/dev/null || fail "there is no apt-get: install these packages of Debian 12 by hand: $*"
+    if [ "$(id -u)" != 0 ]; then
+        command -v sudo >/dev/null || fail "neither root nor sudo: as root, type: apt-get install $*"
+        [ -t 0 ] || sudo --non-interactive true 2>/dev/null || fail "sudo asks for a password: as root, type: apt-get install $*"
+        as_root=(sudo)
+    fi
+    grep --quiet --invert-match --word-regexp 'Iface\|lo' /proc/net/route /proc/net/ipv6_route ||
+        fail "no network for apt-get: with one, type it again; it installs $*"
+    log=$(mktemp --tmpdir desk-apt-XXXXXX)
+    echo "Installing by apt-get: $*."
+    apt update && apt install --no-install-recommends "$@" || fail "apt-get failed: is there a network? $log has what it said: $(grep '^E:' "$log" | head -1)"
+    rm -f "$log"
+}
+
+look
+mkdir -p bin
+exec 9> bin/setup.lock
+flock --nonblock 9 || { echo 'Another run sets up what is missing; this one waits for it.' && flock 9; }
+mapfile -t lacking < <(missing)
+[ "${#lacking[@]}" = 0 ] || install "${lacking[@]}"
+[ "$what" = try ] || git rev-parse --quiet --verify HEAD > /dev/null 2>&1 || fail "git can't read $PWD: own it, or type: git config --global --add safe.directory '$PWD'"

@@ -4,7 +4,7 @@
   scripts/try.py     runs `rt try` on a small program over a copy of the crates: a batch, answered by a new desk over a book in memory
 
 The program `desk` itself takes more than twice as long to compile, for its database, ports and words. Where something fails, a line
-says what, and bin/try.log has all that `rt try` said.
+says what, and where all is that `rt try` said.
 """
 import os
 import shutil
@@ -13,7 +13,7 @@ import sys
 import tempfile
 
 ROOT = os.path.dirname(os.path.dirname(os.path.abspath(__file__)))
-CALLS, LOG = f"{ROOT}/examples/first.jsonl", f"{ROOT}/bin/try.log"
+CALLS = f"{ROOT}/examples/first.jsonl"
 MAIN = """\
 //! Answers the lines of standard input by a new desk in memory.
 #![tactic(auto)]
@@ -47,29 +47,33 @@ def write_crates(room):
         program.write(MAIN)
 
 
-def tried():
-    """The exit status and the output of the small program; the log has what was said beside it."""
-    os.makedirs(os.path.dirname(LOG), exist_ok=True)
-    with tempfile.TemporaryDirectory(prefix="desk-try-") as room, open(CALLS, "rb") as calls, open(LOG, "wb") as log:
+def tried(log):
+    """The exit status and the output of the small program; the log gets what was said beside it."""
+    with tempfile.TemporaryDirectory(prefix="desk-try-") as room, open(CALLS, "rb") as calls:
         write_crates(room)
         ran = subprocess.run(["rt", "try"], cwd=f"{room}/crates/first", stdin=calls, stdout=subprocess.PIPE, stderr=log)
-        log.write(ran.stdout)
+    log.write(ran.stdout)
     return ran.returncode, ran.stdout
 
 
-def fail(what):
-    print(f"make try: {what}: the whole output is in {LOG}")
-    return 1
+def failure(status, replies):
+    """What is not as it should be, if something is not."""
+    with open(CALLS.replace(".jsonl", ".expected"), "rb") as expected:
+        if status:
+            return f"rt try ended with status {status}"
+        return None if replies == expected.read() else "the replies are not those of examples/first.expected"
 
 
 def main():
     """Returns the exit status: 0 where the replies are the expected ones."""
-    status, replies = tried()
-    if status:
-        return fail(f"rt try ended with status {status}")
-    with open(CALLS.replace(".jsonl", ".expected"), "rb") as expected:
-        if replies != expected.read():
-            return fail("the replies are not those of examples/first.expected")
+    os.makedirs(f"{ROOT}/bin", exist_ok=True)
+    with tempfile.NamedTemporaryFile(prefix="try-", suffix=".log", dir=f"{ROOT}/bin", delete=False) as log:
+        status, replies = tried(log)
+    what = failure(status, replies)
+    if what:
+        print(f"make try: {what}: the whole output is in {log.name}")
+        return 1
+    os.remove(log.name)
     sys.stdout.buffer.write(replies)
     print("The replies are the expected ones. Nobody proved the crates that gave them.")
     return 0
