@@ -55,19 +55,20 @@ root() { LOCALE='LC_ALL=POSIX' trial root root ./try; }
 able() { LOCALE='LANG=de_DE.ISO-8859-1 LANGUAGE=de' LINES_SHOWN=8 trial able able './try & ./try; first=$?; wait $! && exit $first'; }
 # Everything is said at once.
 plain() { trial plain plain ./try; }
+no_sudo() { SETUP='rm usr/bin/sudo' trial no_sudo able ./test; }
 offline() { SPACES=--net trial offline root ./try; }
 offline_test() { SPACES=--net trial offline_test able ./test; }
 no_kit() { SETUP='rm usr/local/bin/rt' trial no_kit root ./try; }
 no_apt() { SETUP='rm usr/bin/apt-get' trial no_apt root ./try; }
 read_only() { SETUP='chroot . chown -R root "/$clone"' trial read_only plain ./try; }
 no_room() { SETUP='mount -t tmpfs -o size=1g tmpfs tmp' trial no_room root ./try; }
-# Control C, while the program is compiled, leaves no process, and no file but the packages.
+# Control C on a terminal, while the program is compiled, leaves no process, and no file but what is kept for the next time.
 control_c() {
-    trial control_c root 'setsid -w bash -c "trap : INT; ./try" & sleep 1; until ls -d bin/unproved-*; do sleep 1; done; sleep 30; kill -INT -- -$!; wait $!
-        echo "status $?"; sleep 1; ls /tmp bin; ps_left() { ls -d /proc/[0-9]* | wc -l; }; echo "processes: $(ps_left)"'
+    LINES_SHOWN=12 trial control_c root '(until ls -d bin/unproved-* > /dev/null 2>&1; do sleep 1; done; sleep 20; printf "\\003"; sleep 9) |
+        script --quiet --return --command ./try /dev/null; echo "status $?"; ls -A /tmp bin; cat /proc/[0-9]*/comm'
 }
 
 make_root
 for name in "${@:-}"; do
-    for one in ${name:-plain offline offline_test no_kit no_apt read_only no_room control_c root able}; do "$one"; done
+    for one in ${name:-plain no_sudo offline offline_test no_kit no_apt read_only no_room control_c root able}; do "$one"; done
 done

@@ -133,10 +133,10 @@ def gate():
         status = proofs.wait(beside)
         print(f"The proofs took {proofs.took()}.", flush=True)
         if status:
-            return fail("rt ci did not pass; what it said stands above")
+            return fail("rt ci did not pass")
         beside = beside or Newcomer(progress)
         if beside.wait():
-            return fail("what a newcomer types did not end well; what it said stands above")
+            return fail("what a newcomer types did not end well")
         return 0
     finally:
         if beside:
@@ -144,7 +144,7 @@ def gate():
 
 
 def fail(why):
-    print(f"./test failed: {why}.", flush=True)
+    print(f"The gate failed: {why}; what it said stands above.", flush=True)
     return 1
 
 

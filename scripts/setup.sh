@@ -76,13 +76,16 @@ install() {
     command -v apt-get >/dev/null || fail "there is no apt-get: install these packages of Debian 12 by hand: $*"
     if [ "$(id -u)" != 0 ]; then
         command -v sudo >/dev/null || fail "neither root nor sudo: as root, type: apt-get install $*"
-        [ -t 0 ] || sudo --non-interactive true 2>/dev/null || fail "sudo asks for a password: as root, type: apt-get install $*"
+        if [ -t 0 ]; then sudo true; else sudo --non-interactive true 2>/dev/null; fi ||
+            fail "sudo does not let $(id -un) in: as root, type: apt-get install $*"
         as_root=(sudo)
     fi
     grep --quiet --invert-match --word-regexp 'Iface\|lo' /proc/net/route /proc/net/ipv6_route ||
         fail "no network for apt-get: with one, type it again; it installs $*"
     log=$(mktemp --tmpdir desk-apt-XXXXXX)
     echo "Installing by apt-get: $*."
+    while sleep 20 > /dev/null 2>&1; do echo "... $SECONDS s, apt-get: $(tail -n 1 "$log" | cut -c 1-90)"; done 9>&- &
+    trap "kill $!" EXIT
     apt update && apt install --no-install-recommends "$@" || fail "apt-get failed: is there a network? $log has what it said: $(grep '^E:' "$log" | head -1)"
     rm -f "$log"
 }
