@@ -47,8 +47,8 @@ def at_work(process):
 class Proofs:
     """A run of `rt`, whose lines are printed as they come."""
 
-    def __init__(self, words, done, progress):
-        self.done, self.progress, self.of, self.count, self.lines = done, progress, len(crates()), 0, queue.Queue()
+    def __init__(self, words, done, progress, of=""):
+        self.done, self.progress, self.of, self.count, self.lines = done, progress, of, 0, queue.Queue()
         self.start = time.monotonic()
         self.run = subprocess.Popen(["rt", *words], stdin=subprocess.DEVNULL, stdout=subprocess.PIPE, stderr=subprocess.STDOUT, text=True,
                                     encoding="utf-8", errors="replace")
@@ -60,7 +60,7 @@ class Proofs:
         self.lines.put(None)
 
     def say(self):
-        return f"{self.count} of {self.of} crates are proved; at work: {at_work(self.run.pid)}"
+        return f"{self.count}{self.of} crates are proved; at work: {at_work(self.run.pid)}"
 
     def wait(self, beside=None):
         """Prints what the run says until its end, and what a run beside it has said when that has ended; gives the exit status."""
@@ -119,8 +119,7 @@ class Newcomer:
 
 def is_room():
     """Whether there is memory for the newcomer's run beside the checks."""
-    with open("/proc/meminfo", encoding="utf-8") as file:
-        free = int(re.search(r"MemAvailable: +(\d+)", file.read())[1]) / 1e6
+    free = int(subprocess.run([f"{ROOT}/scripts/setup.sh", "memory"], stdout=subprocess.PIPE, check=True).stdout)
     return free >= NEWCOMER + CHECK * int(os.environ.get("RT_JOBS") or os.cpu_count())
 
 
@@ -129,7 +128,7 @@ def gate():
     progress = Progress()
     beside = Newcomer(progress) if is_room() else None
     try:
-        proofs = Proofs(["ci"], DONE_IN_GATE, progress)
+        proofs = Proofs(["ci"], DONE_IN_GATE, progress, f" of {len(crates())}")
         status = proofs.wait(beside)
         print(f"The proofs took {proofs.took()}.", flush=True)
         if status:

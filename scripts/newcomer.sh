@@ -3,7 +3,7 @@
 # Where something fails, the clone stays.
 set -euo pipefail
 cd "$(dirname "$0")/.."
-clone=$(mktemp --directory --tmpdir desk-newcomer-XXXXXX)
+clone=$(mktemp --directory --tmpdir 'a newcomer XXXXXX')
 trap 'trap "" TERM; kill 0; wait; rm -rf "$clone"; exit 143' INT TERM HUP
 trap 'echo "The clone stays in $clone."' ERR
 git clone --quiet . "$clone"

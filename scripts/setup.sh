@@ -1,6 +1,6 @@
 #!/usr/bin/env bash
 # Says in one line what would keep ./try or ./test from its end, and installs what they need from Debian's packages, as root or by sudo:
-# scripts/setup.sh [try|test]. It may be run again.
+# scripts/setup.sh [try|test]. It may be run again. scripts/setup.sh memory prints how many GB of memory are free.
 set -euo pipefail
 export LC_ALL=C.UTF-8
 cd "$(dirname "$0")/.."
@@ -15,7 +15,8 @@ case $what in
         [ "$jobs" -le 2 ] || memory=$((6 + 5 * (jobs - 1) / 2))
         packages+=(git gcc libc6-dev libsqlite3-dev sqlite3 valgrind systemd iproute2)
         ;;
-    *) echo 'scripts/setup.sh [try|test]' >&2; exit 2 ;;
+    memory) ;;
+    *) echo 'scripts/setup.sh [try|test|memory]' >&2; exit 2 ;;
 esac
 
 fail() {
@@ -90,6 +91,7 @@ install() {
     rm -f "$log"
 }
 
+if [ "$what" = memory ]; then free_memory; exit; fi
 look
 mkdir -p bin
 exec 9> bin/setup.lock
