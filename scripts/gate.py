@@ -82,7 +82,7 @@ class Proofs:
 
     def took(self):
         used = resource.getrusage(resource.RUSAGE_CHILDREN)
-        return f"{time.monotonic() - self.start:.0f} seconds, and {used.ru_utime + used.ru_stime:.0f} of processors"
+        return f"{time.monotonic() - self.start:.0f} seconds, and with what ran beside them {used.ru_utime + used.ru_stime:.0f} of processors"
 
 
 class Newcomer:

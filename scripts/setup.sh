@@ -81,7 +81,7 @@ install() {
             fail "sudo does not let $(id -un) in: as root, type: apt-get install $*"
         as_root=(sudo)
     fi
-    grep --quiet --invert-match --word-regexp 'Iface\|lo' /proc/net/route /proc/net/ipv6_route ||
+    grep --quiet --no-messages --invert-match --word-regexp 'Iface\|lo' /proc/net/route /proc/net/ipv6_route ||
         fail "no network for apt-get: with one, type it again; it installs $*"
     log=$(mktemp --tmpdir desk-apt-XXXXXX)
     echo "Installing by apt-get: $*."
