@@ -9,13 +9,17 @@ trap 'echo "The clone stays in $clone."' ERR
 git clone --quiet . "$clone"
 cd "$clone"
 documents=(README.md docs/*.md)
+mkdir bin
 for command in ./try 'make try'; do
-    $command | tee said
-    python3 -B scripts/readme.py said "$command" said "${documents[@]}"
+    $command | tee bin/said
+    python3 -B scripts/readme.py said "$command" bin/said "${documents[@]}"
 done
-echo 'Running what documents show by the program that nobody proved, and the house around it.'
+echo 'Running what documents show by the program that nobody proved, beside a desk of the same name, and the house around it.'
+echo 'no desk' > ca.db
 python3 -B scripts/readme.py run bin/desk-unproved "${documents[@]}"
-make house | tee said
-[ -z "$(grep --invert-match '^UNPROVED: ' said)" ]
+[ "$(cat ca.db)" = 'no desk' ]
+make house | tee bin/said
+[ -z "$(grep --invert-match '^UNPROVED: ' bin/said)" ]
+[ -z "$(git status --porcelain)" ]
 trap - ERR
 rm -rf "$clone"
