@@ -24,15 +24,17 @@ fail() {
     exit 1
 }
 
-# The free memory in GB, below the limit of the control group.
+# The free memory in GB, below the limit of the control group, of either version.
 free_memory() {
-    local free limit held
+    local free folder limit held cached
     free=$(awk '/^(MemAvailable|SwapFree):/ {sum += $2} END {printf "%.0f", sum * 1024}' /proc/meminfo)
-    limit=$(cat /sys/fs/cgroup/memory.max 2>/dev/null || echo max)
-    if [ "$limit" != max ]; then
-        held=$(($(cat /sys/fs/cgroup/memory.current) - $(awk '$1 == "inactive_file" {print $2}' /sys/fs/cgroup/memory.stat)))
-        [ $((limit - held)) -ge "$free" ] || free=$((limit - held))
-    fi
+    for folder in /sys/fs/cgroup /sys/fs/cgroup/memory; do
+        limit=$(cat "$folder"/memory.max "$folder"/memory.limit_in_bytes 2>/dev/null) || true
+        [[ $limit =~ ^[0-9]+$ ]] || continue
+        held=$(cat "$folder"/memory.current "$folder"/memory.usage_in_bytes 2>/dev/null) || true
+        cached=$(awk '$1 == "inactive_file" {print $2}' "$folder/memory.stat")
+        [ $((limit - held + cached)) -ge "$free" ] || free=$((limit - held + cached))
+    done
     echo $((free / 1000000000))
 }
 
