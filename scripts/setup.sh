@@ -43,14 +43,15 @@ room_at() {
 }
 
 look() {
-    local folder free
+    local folder free fewer
     command -v rt >/dev/null ||
         fail 'rt is not on PATH: this repository wants the Rattle kit rattle-kit-13f; link its bin/rt as /usr/local/bin/rt'
     for folder in . bin crates .git crates/*; do
         [ ! -e "$folder" ] || [ -w "$folder" ] || fail "$(realpath "$folder") can't be written: make a clone of your own, on a disk that can"
     done
     free=$(free_memory)
-    [ "$free" -ge "$memory" ] || fail "$free GB of memory are free, and ./$what takes $memory: end other programs, or take a larger machine$([ "$what" = try ] || echo ', or fewer proofs at a time (RT_JOBS=1 ./test)')"
+    [ "$what" = try ] || fewer=', or let fewer proofs run at a time (RT_JOBS=1 ./test)'
+    [ "$free" -ge "$memory" ] || fail "$free GB of memory are free, and ./$what takes $memory: end other programs${fewer:-}, or take a larger machine"
     for folder in . "${TMPDIR:-/tmp}"; do
         [ "$(room_at "$folder")" -ge "$disk" ] || fail "$(room_at "$folder") GB are free at $(realpath "$folder"), and ./$what takes $disk: make room there"
     done
@@ -100,4 +101,5 @@ exec 9> bin/setup.lock
 flock --nonblock 9 || { echo 'Another run sets up what is missing; this one waits for it.' && flock 9; }
 mapfile -t lacking < <(missing)
 [ "${#lacking[@]}" = 0 ] || install "${lacking[@]}"
-[ "$what" = try ] || git rev-parse --quiet --verify HEAD > /dev/null 2>&1 || fail "git can't read $PWD: own it, or type: git config --global --add safe.directory '$PWD'"
+[ "$what" = try ] || git rev-parse --quiet --verify HEAD > /dev/null 2>&1 ||
+    fail "git can't read $PWD: own it, or type: git config --global --add safe.directory '$PWD'"
