@@ -31,26 +31,26 @@ ln -s "$kit/bin/rt" usr/local/bin/rt
 mount -t proc proc proc
 mount --rbind /dev dev
 mount -t tmpfs tmpfs dev/shm
-git clone --quiet "$repository" "home/$user/the desk" 2>/dev/null || git clone --quiet "$repository" "root/the desk"
-export clone="$(ls -d "home/$user/the desk" "root/the desk" 2>/dev/null)"
-chroot . chown -R "$user" "/$clone"
+export clone="home/$user/the desk"
+git clone --quiet "$repository" "$clone"
+chroot . chown -R "$user" "/home/$user"
 eval "$SETUP"
 exec chroot . setpriv --reuid "$user" --regid "$user" --init-groups env -i PATH=/usr/local/bin:/usr/bin:/bin:/usr/sbin:/sbin HOME="/home/$user" $LOCALE \
-    bash -c "cd \"/\$1\"; $TYPED" typed "$clone"
+    bash -c "cd \"/\$1\"; TIMEFORMAT=\"after %R s\"; time { $TYPED; }" typed "$clone"
 '
 
-# trial NAME USER WHAT IS TYPED, with SETUP, LOCALE and SPACES: prints what was said at the end, the exit status and the seconds.
+# trial NAME USER WHAT IS TYPED, with SETUP, LOCALE and SPACES: prints the exit status, what was said at the end, and the seconds.
 trial() {
-    local name=$1 user=$2 typed=$3 status=0 start=$SECONDS machine
+    local name=$1 user=$2 typed=$3 status=0 machine
     machine=$(mktemp --directory --tmpdir="$room" "$name-XXXXXX")
     env repository="$repository" room="$room" kit="$kit" machine="$machine" user="$user" TYPED="$typed" SETUP="${SETUP:-}" LOCALE="${LOCALE:-}" \
         unshare --mount --pid --fork --kill-child ${SPACES:-} bash -c "$INSIDE" > "$room/$name.said" 2>&1 < /dev/null || status=$?
-    echo "==== $name, as $user: status $status after $((SECONDS - start)) s"
+    echo "==== $name, as $user: status $status"
     tail -n "${LINES_SHOWN:-4}" "$room/$name.said"
     rm -rf --one-file-system "$machine"
 }
 
-# Everything goes well.
+# Everything goes well, in a folder of a name with a space, and in other locales; two at once take one compilation.
 root() { LOCALE='LC_ALL=POSIX' trial root root ./try; }
 able() { LOCALE='LANG=de_DE.ISO-8859-1 LANGUAGE=de' LINES_SHOWN=8 trial able able './try & ./try; first=$?; wait $! && exit $first'; }
 # Everything is said at once.
