@@ -29,47 +29,68 @@ fn asked<'a>(matches: &ArgMatches<'a>) -> Option<Asked<'a>> {
 
 // What a word asks for by what is given behind it.
 fn command<'a>(subcommand: Subcommand, given: &ArgMatches<'a>) -> Option<Command<'a>> {
-    let file = given.get_str(arguments::FILE);
+    match subcommand {
+        Subcommand::Batch => Some(batch(given)),
+        _ => with_file(subcommand, given.get_str(arguments::FILE)?, given),
+    }
+}
+
+// What a word asks for that names the file of a desk, as all do but `batch`.
+fn with_file<'a>(
+    subcommand: Subcommand,
+    file: &'a str,
+    given: &ArgMatches<'a>,
+) -> Option<Command<'a>> {
     let json = given.get_flag(arguments::JSON);
-    Some(match subcommand {
-        Subcommand::Make => Command::Make {
-            file: file?,
-            terms: terms(given)?,
-        },
-        Subcommand::Serve => serve(file?, given)?,
-        Subcommand::Batch => batch(given),
-        Subcommand::About => Command::About { file: file? },
-        Subcommand::Page => Command::Page { file: file? },
-        Subcommand::Status => Command::Status {
-            file: file?,
-            listing: OrderListing {
-                account: given.get_one::<u64>(arguments::ACCOUNT),
-                status: given.get_str(arguments::STATUS),
-                name: given.get_str(arguments::NAME),
-                json,
-            },
-        },
-        Subcommand::Accounts => Command::Accounts { file: file?, json },
-        Subcommand::Authorizations => Command::Authorizations {
-            file: file?,
-            listing: AuthorizationListing {
-                account: given.get_one::<u64>(arguments::ACCOUNT),
-                name: given.get_str(arguments::NAME),
-                json,
-            },
-        },
-        Subcommand::Check => Command::Check { file: file?, json },
-        Subcommand::BackUp => Command::BackUp {
-            file: file?,
-            to: given.get_str(arguments::TO)?,
-        },
-        Subcommand::RevokeAuthorization => revoke(
-            file?,
-            given,
-            Revocation::Authorization(number(given)?),
-        ),
-        Subcommand::RevokeAccount => revoke(file?, given, Revocation::Account(number(given)?)),
-    })
+    match subcommand {
+        Subcommand::Make => make(file, given),
+        Subcommand::Serve => serve(file, given),
+        Subcommand::Batch => None,
+        Subcommand::About => Some(Command::About { file }),
+        Subcommand::Page => Some(Command::Page { file }),
+        Subcommand::Status => Some(status(file, given)),
+        Subcommand::Accounts => Some(Command::Accounts { file, json }),
+        Subcommand::Authorizations => Some(authorizations(file, given)),
+        Subcommand::Check => Some(Command::Check { file, json }),
+        Subcommand::BackUp => back_up(file, given),
+        Subcommand::RevokeAuthorization => {
+            let authorization = Revocation::Authorization(number(given)?);
+            Some(revoke(file, given, authorization))
+        }
+        Subcommand::RevokeAccount => {
+            let account = Revocation::Account(number(given)?);
+            Some(revoke(file, given, account))
+        }
+    }
+}
+
+fn make<'a>(file: &'a str, given: &ArgMatches<'a>) -> Option<Command<'a>> {
+    let terms = terms(given)?;
+    Some(Command::Make { file, terms })
+}
+
+fn status<'a>(file: &'a str, given: &ArgMatches<'a>) -> Command<'a> {
+    let listing = OrderListing {
+        account: given.get_one::<u64>(arguments::ACCOUNT),
+        status: given.get_str(arguments::STATUS),
+        name: given.get_str(arguments::NAME),
+        json: given.get_flag(arguments::JSON),
+    };
+    Command::Status { file, listing }
+}
+
+fn authorizations<'a>(file: &'a str, given: &ArgMatches<'a>) -> Command<'a> {
+    let listing = AuthorizationListing {
+        account: given.get_one::<u64>(arguments::ACCOUNT),
+        name: given.get_str(arguments::NAME),
+        json: given.get_flag(arguments::JSON),
+    };
+    Command::Authorizations { file, listing }
+}
+
+fn back_up<'a>(file: &'a str, given: &ArgMatches<'a>) -> Option<Command<'a>> {
+    let to = given.get_str(arguments::TO)?;
+    Some(Command::BackUp { file, to })
 }
 
 fn serve<'a>(path: &'a str, given: &ArgMatches<'a>) -> Option<Command<'a>> {
