@@ -1,11 +1,31 @@
-use Rattle.std.proofs.Common.{subst}
+use Rattle.std.proofs.Common.{arith, subst}
 use Rattle.std.specs.Prelude.{option_copied}
 use Rattle.sql_write.specs.Makes.{PutsOver, SetsAuthorization, SetsMeta, SetsOrder}
 use Rattle.sql_write.specs.{Numbers.FitsColumns, Refusals.HasWritten, Standing.known_after}
 use Rattle.sql_write.specs.Statements.{sets_account, sets_authorization, sets_meta, sets_order}
+use Rattle.desk_model.specs.Questions.{account_on, authorization_on, order_on}
+use Rattle.sql_write.proofs.KnownRows.{none_above}
 use Rattle.sql_write.proofs.MadeChanges.{makes_account, makes_authorization, makes_meta, makes_nonce, makes_removal, makes_set_order, writes_change}
 use Rattle.sql_write.proofs.saving.make_change.Goals as goal
 use Rattle.sql_tables.specs.Layouts.{account_layout}
+
+pub known_row-requires : goal.known_row-requires
+known_row-requires g c = record { above = λ high. absurd (omega (arith, high)) }
+
+pub known_row-known-requires : goal.known_row-known-requires
+known_row-known-requires g c =
+    record { above = none_above account_on c.args.highest.now.accounts c.in-PutAccount.row.number c.args.before.now c.requires.above.accounts }
+
+pub known_row-known-requires-in-PutAuthorization : goal.known_row-known-requires-in-PutAuthorization
+known_row-known-requires-in-PutAuthorization g c =
+    record {
+      above = none_above authorization_on c.args.highest.now.authorizations c.in-PutAuthorization.row.number c.args.before.now
+          c.requires.above.authorizations;
+    }
+
+pub known_row-known-requires-in-PutOrder : goal.known_row-known-requires-in-PutOrder
+known_row-known-requires-in-PutOrder g c =
+    record { above = none_above order_on c.args.highest.now.orders c.in-PutOrder.row.number c.args.before.now c.requires.above.orders }
 
 pub returns-in-PutMeta-clause-writes : goal.returns-in-PutMeta-clause-writes
 returns-in-PutMeta-clause-writes g c =
