@@ -58,6 +58,7 @@ plain() { trial plain plain ./try; }
 no_sudo() { SETUP='rm usr/bin/sudo' trial no_sudo able ./test; }
 offline() { SPACES=--net trial offline root ./try; }
 offline_test() { SPACES=--net trial offline_test able ./test; }
+no_names() { SETUP='echo nameserver 192.0.2.1 > etc/resolv.conf' trial no_names root ./try; }
 no_kit() { SETUP='rm usr/local/bin/rt' trial no_kit root ./try; }
 no_apt() { SETUP='rm usr/bin/apt-get' trial no_apt root ./try; }
 read_only() { SETUP='chroot . chown -R root "/$clone"' trial read_only plain ./try; }
@@ -70,5 +71,5 @@ control_c() {
 
 make_root
 for name in "${@:-}"; do
-    for one in ${name:-plain no_sudo offline offline_test no_kit no_apt read_only no_room control_c root able}; do "$one"; done
+    for one in ${name:-plain no_sudo offline offline_test no_names no_kit no_apt read_only no_room control_c root able}; do "$one"; done
 done

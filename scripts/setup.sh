@@ -75,6 +75,17 @@ apt() {
     done
 }
 
+# Whether a mirror of apt-get's has an address, or it needs none.
+reaches_a_mirror() {
+    local mirror mirrors
+    mapfile -t mirrors < <(apt-get --print-uris update 2>/dev/null | sed -n "s|^'https\?://\([^/:']*\).*|\1|p" | sort -u)
+    [ -n "${mirrors[*]}" ] && [ -z "$(apt-config dump Acquire::http::Proxy)${http_proxy:-}${https_proxy:-}" ] || return 0
+    for mirror in "${mirrors[@]}"; do
+        ! timeout 5 getent ahosts "$mirror" > /dev/null || return 0
+    done
+    return 1
+}
+
 install() {
     local as_root=() log
     command -v apt-get >/dev/null || fail "there is no apt-get: install these packages of Debian 12 by hand: $*"
@@ -84,8 +95,7 @@ install() {
             fail "sudo does not let $(id -un) in: as root, type: apt-get install $*"
         as_root=(sudo)
     fi
-    grep --quiet --no-messages --invert-match --word-regexp 'Iface\|lo' /proc/net/route /proc/net/ipv6_route ||
-        fail "no network for apt-get: with one, type it again; it installs $*"
+    reaches_a_mirror || fail "no network for apt-get, which finds none of its mirrors: with one, type it again; it installs $*"
     log=$(mktemp --tmpdir desk-apt-XXXXXX)
     echo "Installing by apt-get: $*."
     while sleep 20 > /dev/null 2>&1; do echo "... $SECONDS s, apt-get: $(tail -n 1 "$log" | cut -c 1-90)"; done 9>&- &
