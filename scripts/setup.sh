@@ -2,7 +2,7 @@
 # Says in one line what would keep ./try or ./test from its end, and installs what they need from Debian's packages, as root or by sudo:
 # scripts/setup.sh [try|test]. It may be run again. scripts/setup.sh memory prints how many GB of memory are free.
 set -euo pipefail
-export LC_ALL=C.UTF-8
+export LC_ALL=C.UTF-8 LANGUAGE=
 cd "$(dirname "$0")/.."
 
 # The GB that have to be free, of memory and on the disks. While it makes machine code, the compiler takes 8 GB of memory; a proof takes
