@@ -153,7 +153,7 @@ house-clients: ## has each client that is installed get a certificate
 house-test: ## what the gate tries of the house and of the units
 	@$(HAS_DESK)
 	@! $(HOUSE) packages || { /usr/bin/python3 -B scripts/house_test.py bin/desk && /usr/bin/python3 -B scripts/house_attacks.py bin/desk && \
-		/usr/bin/python3 -B scripts/house_signatures.py bin/desk; }
+		/usr/bin/python3 -B scripts/house_signatures.py bin/desk && /usr/bin/python3 -B scripts/taken_port.py bin/desk; }
 	@/usr/bin/python3 -B scripts/house_units.py bin/desk
 	@! $(HOUSE) packages certbot || /usr/bin/python3 -B scripts/first_hour.py bin/desk
 	@if $(HOUSE) packages certbot; then set -o pipefail; $(HOUSE) run bin/desk | tee bin/house.said && \

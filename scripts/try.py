@@ -6,13 +6,15 @@
 The program `desk` itself takes more than twice as long to compile, for its database, ports and words. Where something fails, a line
 says what, and where all is that `rt try` said.
 """
+import contextlib
 import os
 import shutil
 import subprocess
 import sys
 import tempfile
 
-ROOT = os.path.dirname(os.path.dirname(os.path.abspath(__file__)))
+from progress import ROOT, Progress
+
 CALLS = f"{ROOT}/examples/first.jsonl"
 MAIN = """\
 //! Answers the lines of standard input by a new desk in memory.
@@ -51,9 +53,20 @@ def tried(log):
     """The exit status and the output of the small program; the log gets what was said beside it."""
     with tempfile.TemporaryDirectory(prefix="desk-try-") as room, open(CALLS, "rb") as calls:
         write_crates(room)
-        ran = subprocess.run(["rt", "try"], cwd=f"{room}/crates/first", stdin=calls, stdout=subprocess.PIPE, stderr=log)
-    log.write(ran.stdout)
-    return ran.returncode, ran.stdout
+        run = subprocess.Popen(["rt", "try"], cwd=f"{room}/crates/first", stdin=calls, stdout=subprocess.PIPE, stderr=log)
+        replies = replies_of(run, Progress())
+    log.write(replies)
+    return run.returncode, replies
+
+
+def replies_of(run, progress):
+    """What a run prints by its end."""
+    while True:
+        with contextlib.suppress(subprocess.TimeoutExpired):
+            replies = run.communicate(timeout=1)[0]
+            progress.clear()
+            return replies
+        progress.show(lambda: "compiling the crates of a batch")
 
 
 def failure(status, replies):
