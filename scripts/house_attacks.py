@@ -1,17 +1,21 @@
 #!/usr/bin/python3
 """Attacks the house of examples/house, over loopback alone, and says how many attacks it tried: scripts/house_attacks.py PROGRAM
 
-Who is not the desk; servers that stall and steer the validator; a root that is half there; keys of other spellings and weak ones;
-weak CSRs; clients that are silent, many, or nest their JSON; and a desk that is down.
+Who is not the desk; servers that stall and steer the validator, and accounts that fill it; a root that is half there; keys of other
+spellings and weak ones; weak CSRs; clients that are silent, many, gone, or nest their JSON; and a desk that is down.
 """
+import collections
 import contextlib
+import hashlib
 import http.client
 import io
 import json
 import os
 import resource
+import select
 import socket
 import ssl
+import struct
 import subprocess
 import sys
 import tempfile
@@ -38,6 +42,7 @@ import desk
 import fetch
 import front
 import keys
+import turns
 import validator
 
 NOBODY = 65534
@@ -225,6 +230,65 @@ def steering(_):
     see("addresses of the Internet", [addresses.is_public(text) for text in ("198.41.0.4", "2001:503:ba3e::2:30")], [True, True])
 
 
+def crowds(_):
+    """Accounts whose challenges are tried at silent servers: few of one account's at one time, whatever their type, and each in its turn."""
+    begun, over = collections.Counter(), threading.Event()
+
+    class Silent:
+        def fetch(self, url, end):
+            begun["http-01"] += 1
+            over.wait()
+            return b""
+
+        def resolve(self, name, kind, lifetime):
+            begun[name.split(".")[1]] += 1
+            over.wait()
+            return []
+
+    def challenge(number, thumbprint, kind="http-01"):
+        expected = f"{'A' * 22}.{thumbprint}"
+        if kind == "dns-01":
+            expected = keys.encoded(hashlib.sha256(expected.encode()).digest())
+        return {"challenge": number, "type": kind, "name": f"{thumbprint}.example", "token": "A" * 22, "expected": expected}
+
+    overheard = Overheard([challenge(number, "one") for number in range(150)] + [challenge(number, "two", "dns-01") for number in range(200, 350)])
+    judge = validator.Validator(overheard, ("127.0.0.1", 1), ("127.0.0.1", 1))
+    judge.network = judge.resolver = Silent()
+    for number in range(200, 350):
+        judge.hear(f"{number} two")
+    with contextlib.redirect_stdout(io.StringIO()):
+        judge.work()
+        overheard.challenges += [challenge(999, "three", "dns-01")]
+        start = time.monotonic()
+        judge.hear("999 three")
+        judge.work()
+        while not begun["three"] and time.monotonic() < start + 60:
+            time.sleep(0.001)
+        waited = time.monotonic() - start
+        tried("crowd: 300 challenges of two accounts are silent, and one of a third begins", dict(begun), {"http-01": 4, "two": 4, "three": 1})
+        over.set()
+        while len(overheard.reports) < 301 and time.monotonic() < start + 60:
+            time.sleep(0.01)
+    see("the reports of crowds", len(overheard.reports), 301)
+    print(f"house: beside 300 silent challenges of two accounts one of a third began after {waited:.3f} s")
+    order, lasts = [], turns.Turns(1, 1)
+    over.clear()
+    lasts.add("first", over.wait)
+    for owner in "aaaabbc":
+        lasts.add(owner, order.append, owner)
+    over.set()
+    wait_for(lambda: len(order) == 7)
+    tried("crowd: accounts take turns", "".join(order), "abcabaa")
+
+
+def wait_for(holds, seconds=60):
+    """Waits until something holds, and gives whether it does."""
+    end = time.monotonic() + seconds
+    while not holds() and time.monotonic() < end:
+        time.sleep(0.005)
+    return holds()
+
+
 class Overheard:
     """In the place of the desk: it has one list of work, and keeps what is reported."""
 
@@ -241,13 +305,13 @@ class Overheard:
 
 def reported(challenge, change=lambda judge: None):
     """What the validator reports of a challenge, and what it logs, once `change` was done to it."""
-    overheard = Overheard([{"challenge": 1, "token": "A" * 22, **challenge}])
+    overheard = Overheard([{"challenge": 1, "token": "A" * 22, "expected": "", **challenge}])
     judge = validator.Validator(overheard, ("127.0.0.1", 1), ("127.0.0.1", 1))
     change(judge)
     with contextlib.redirect_stdout(io.StringIO()) as lines:
         judge.work()
         overheard.over.wait(20)
-        judge.pool.shutdown()
+        judge.turns.pool.shutdown()
     return overheard.reports, lines.getvalue()
 
 
@@ -451,10 +515,10 @@ class Down:
 
 
 @contextlib.contextmanager
-def fronted(folder, called):
+def fronted(folder, called, address="127.0.0.1", wake=None):
     """A front of its own before a desk; its address, and the lines that it logs."""
     authority.Authority(folder).certify_front("localhost")
-    server = front.Server(("127.0.0.1", 0), f"{folder}/front.pem", called, None, None, True)
+    server = front.Server((address, 0), f"{folder}/front.pem", called, wake, wake, True)
     threading.Thread(target=server.serve_forever, daemon=True).start()
     try:
         with contextlib.redirect_stdout(io.StringIO()) as lines, contextlib.redirect_stderr(lines):
@@ -464,13 +528,14 @@ def fronted(folder, called):
         server.server_close()
 
 
-def secured(address, ciphers=None):
+def secured(address, ciphers=None, source="127.0.0.1"):
     context = ssl.create_default_context()
     context.check_hostname, context.verify_mode = False, ssl.CERT_NONE
     if ciphers:
         context.maximum_version = ssl.TLSVersion.TLSv1_2
         context.set_ciphers(ciphers)
-    return context.wrap_socket(socket.create_connection(address, 20), server_hostname="localhost")
+    source = (source, 0) if address[0] == "127.0.0.1" else None
+    return context.wrap_socket(socket.create_connection(address[:2], 20, source), server_hostname="localhost")
 
 
 def heard(connection):
@@ -485,7 +550,7 @@ def heard(connection):
 def limits(trial):
     """Clients that are silent, slow or many, words for a log, weak suites, and a desk that is down."""
     folder = f"{trial.house.folder}/front"
-    front.SILENCE, front.WHOLE, front.CONNECTIONS, desk.PATIENCE = 1, 2, 4, 0.3
+    front.HANDSHAKE, front.LINE, front.PART, front.REPLY, front.WHOLE, front.CONNECTIONS, desk.PATIENCE = 1, 1, 1, 1, 2, 16, 0.3
     head = b"POST /new-order HTTP/1.1\r\nContent-Type: application/jose+json\r\nContent-Length: 100\r\n\r\n"
     with fronted(folder, Down()) as (address, lines):
         for what, sent in (("nothing", b""), ("half a line", b"GET /dir"), ("half a head", b"GET /directory HTTP/1.1\r\nA: b\r\n"),
@@ -502,22 +567,7 @@ def limits(trial):
                     time.sleep(0.2)
                     client.sendall(b" ")
             tried("silence between bytes", time.monotonic() - start < 10)
-        with contextlib.ExitStack() as held:
-            # None of them is silent for too long while they are counted; on a busy machine threads that are over take their time to end.
-            front.SILENCE = 60
-            threads = threading.active_count()
-            for _ in range(40):
-                held.enter_context(socket.create_connection(address, 5))
-            for _ in range(20):
-                time.sleep(0.3)
-                count = threading.active_count() - threads
-                if count <= front.CONNECTIONS:
-                    break
-            tried("connections at one time", count <= front.CONNECTIONS)
-            front.SILENCE = 1
-        with secured(address) as client:
-            client.sendall(b"GET /directory HTTP/1.1\r\n\r\n")
-            see("a client after them", heard(client)[:15], b"HTTP/1.1 200 OK")
+        said = crowded(address)
         for text in (b"\x1b[2Jx", b"a\rb", b"\x9b31m", b"\x07", b"%s%n\\x", b"\xe2\x80\xae"):
             lines.truncate(lines.seek(0))
             with secured(address) as client:
@@ -529,6 +579,7 @@ def limits(trial):
             tried(f"suite {suite}", raised(OSError, secured, address, f"{suite}:@SECLEVEL=0") is not None)
         with secured(address, "ECDHE+AESGCM") as client:
             see("TLS 1.2", client.version(), "TLSv1.2")
+    print(said)
     with socket.create_server(("127.0.0.1", 0)) as taken:
         nobody = taken.getsockname()[1]
     with fronted(folder, desk.Desk(str(nobody), "https://localhost")) as (address, lines):
@@ -538,6 +589,106 @@ def limits(trial):
                 top, _, body = heard(client).partition(b"\r\n\r\n")
             found = (top.split(b" ")[1], b"Retry-After: 10" in top, b"application/problem+json" in top, json.loads(body)["type"])
             tried(f"down: {request[:20]}", found, (b"503", True, True, f"{ERROR}serverInternal"))
+
+
+def crowded(address):
+    """400 silent connections of one client, of which few are held, and of many clients; others are answered beside them."""
+    front.HANDSHAKE, threads = 60, threading.active_count()
+    held = [socket.create_connection(address, 5, ("127.0.0.1", 0)) for _ in range(400)]
+    is_few = wait_for(lambda: threading.active_count() - threads == front.OF_ONE and len(ended(held)) == 400 - front.OF_ONE)
+    tried("connections of one client, 400 of them silent", is_few)
+    start = time.monotonic()
+    with secured(address, source="127.0.0.2") as client:
+        client.sendall(b"GET /directory HTTP/1.1\r\n\r\n")
+        see("another client beside them", heard(client)[:15], b"HTTP/1.1 200 OK")
+    said = f"house: {len(ended(held))} of 400 connections of one client were refused, and another was answered in {time.monotonic() - start:.2f} s"
+    held += [socket.create_connection(address, 5, (f"127.0.1.{number}", 0)) for number in range(1, 40)]
+    tried("connections at one time", wait_for(lambda: threading.active_count() - threads == front.CONNECTIONS))
+    front.HANDSHAKE = 1
+    for connection in held:
+        connection.close()
+    with secured(address) as client:
+        client.sendall(b"GET /directory HTTP/1.1\r\n\r\n")
+        see("a client after them", heard(client)[:15], b"HTTP/1.1 200 OK")
+    return said
+
+
+def ended(connections):
+    """Those of some connections whose other end has closed them."""
+    ready = select.poll()
+    for connection in connections:
+        ready.register(connection, select.POLLIN)
+    return ready.poll(0)
+
+
+class Held(Down):
+    """In the place of the desk, which answers a signed request when its client is gone."""
+
+    def __init__(self, jwk):
+        self.jwk, self.called, self.gone = json.dumps(jwk).encode(), threading.Event(), threading.Event()
+
+    def call(self, method, path, body=None, patience=None):
+        if method == "GET":
+            return desk.Reply(200, [], self.jwk)
+        self.called.set()
+        self.gone.wait(20)
+        return desk.Reply(200, [("Replay-Nonce", "AAAA"), ("Content-Length", "21")], b'{"status":"processing"}')
+
+
+def gone(trial):
+    """A client that is gone before its reply is read: validator and office are woken all the same."""
+    woken, called = [], Held(trial.client.key.public_key().to_json())
+    with fronted(f"{trial.house.folder}/gone", called, wake=lambda *said: woken.append(said)) as (address, _):
+        for path, said in [("/chall/7", (f"7 {josepy.encode_b64jose(trial.client.key.thumbprint())}",)), ("/order/7/finalize", ())] * 20:
+            woken.clear(), called.called.clear(), called.gone.clear()
+            body = trial.client.signed(f"https://localhost{path}", {}, kid="https://localhost/account/1").encode()
+            client = secured(address)
+            client.sendall(f"POST {path} HTTP/1.1\r\nContent-Type: application/jose+json\r\nContent-Length: {len(body)}\r\n\r\n".encode() + body)
+            called.called.wait(20)
+            client.setsockopt(socket.SOL_SOCKET, socket.SO_LINGER, struct.pack("ii", 1, 0))
+            client.close()
+            called.gone.set()
+            tried(f"gone client of {path}", wait_for(lambda: woken, 20) and woken, [said])
+    print("house: 40 clients were gone before their reply, and woke validator and office all the same")
+
+
+def families(trial):
+    """The front at addresses of IPv6, and at both families by one."""
+    if not socket.has_dualstack_ipv6():
+        print("house: IPv6 was not tried: this machine has none")
+        return
+    for address, reached in (("::1", ["::1"]), ("::", ["::1", "127.0.0.1"])):
+        with fronted(f"{trial.house.folder}/family", Down(), address) as (place, lines):
+            for end in reached:
+                with secured((end, place[1])) as client:
+                    client.sendall(b"GET /directory HTTP/1.1\r\n\r\n")
+                    see(f"the front at {address}, reached at {end}", heard(client)[:15], b"HTTP/1.1 200 OK")
+                see(f"the address in the log of {end}", lines.getvalue().split("\n")[-2].split(" ")[0], end)
+    see("who counts as one client", [front.client_of("2001:db8::1") == front.client_of(other) for other in ("2001:db8::ffff:1:2", "2001:db8:0:1::1")],
+        [True, False])
+
+
+def chunks(trial):
+    """Bodies in chunks: read as others are, and bounded."""
+    client, url = trial.client, trial.client.directory["newOrder"]
+
+    def sent(rest, coding=b"chunked"):
+        with secured(("127.0.0.1", trial.house.port)) as connection, contextlib.suppress(OSError):
+            connection.sendall(b"POST /new-order HTTP/1.1\r\nContent-Type: application/jose+json\r\nTransfer-Encoding: " + coding + b"\r\n" + rest)
+            return int(heard(connection)[9:12] or 0)
+        return 0
+
+    client.ask("HEAD", client.directory["newNonce"])
+    text = client.signed(url, {"identifiers": [{"type": "dns", "value": "chunks.house.test"}]}, kid=client.kid,
+                         nonce=josepy.decode_b64jose(client.nonce)).encode()
+    whole = b"".join(b"%x;a=b\r\n%s\r\n" % (len(part), part) for part in (text[:1], text[1:500], text[500:]))
+    see("an order in chunks", sent(b"\r\n" + whole + b"0\r\nA: b\r\n\r\n"), 201)
+    for what, body, status in (("a size that is none", b"\r\nx\r\n", 400), ("a size below zero", b"\r\n-1\r\n", 400), ("no size", b"\r\n\r\n", 400),
+                               ("another length than it says", b"\r\n1\r\nab\r\n0\r\n\r\n", 400), ("no end", b"\r\n2\r\n{}\r\n", 0),
+                               ("a length, too", b"Content-Length: 2\r\n\r\n2\r\n{}\r\n0\r\n\r\n", 411),
+                               ("70 KB", b"\r\n11170\r\n" + bytes(70000) + b"\r\n0\r\n\r\n", 413), ("4 GB", b"\r\nffffffff\r\n" + bytes(2**20), 0)):
+        tried(f"chunks with {what}", sent(body), status)
+    tried("chunks of another coding", sent(b"\r\n0\r\n\r\n", b"gzip, chunked"), 411)
 
 
 def stalled(trial):
@@ -570,7 +721,8 @@ def main():
                 trial = Trial(house, web, names)
                 slow = threading.Thread(target=stalled, args=[Trial(house, web, names)])
                 slow.start()
-                for attack in (impostors, stalls, steering, reports, roots, leading_zeros, key_spellings, weak_keys, weak_csrs, nesting, limits):
+                for attack in (impostors, stalls, steering, crowds, reports, roots, leading_zeros, key_spellings, weak_keys, weak_csrs, nesting, chunks,
+                               families, gone, limits):
                     start = time.monotonic()
                     attack(trial)
                     print(f"house: {attack.__name__}, {time.monotonic() - start:.1f} s", flush=True)

@@ -131,6 +131,9 @@ def refusals(trial):
     client, base = trial.client, trial.house.base
     new_order, text = client.directory["newOrder"], json.dumps({"identifiers": []})
     refused("a name that is none", client.order("no_name.house.test"), 400, "rejectedIdentifier")
+    asked, nothing = {"identifiers": [{"type": "dns", "value": "null.house.test"}]}, {"notBefore": None, "notAfter": None}
+    refused("a date for a certificate", client.post(new_order, {**asked, "notBefore": "2027-01-01T00:00:00Z"}), 400, "malformed")
+    see("dates that are null", client.post(new_order, {**asked, **nothing}).status, 201)
     used = josepy.decode_b64jose(client.nonce)
     see("a nonce", client.post(client.kid, nonce=used).status, 200)
     refused("a nonce twice", client.post(client.kid, nonce=used), 400, "badNonce")

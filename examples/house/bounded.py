@@ -15,7 +15,11 @@ class Reader(io.RawIOBase):
     """What a connection sends; a byte behind the bounds, and a moment behind them, is an OSError."""
 
     def __init__(self, connection, end, most):
-        self.connection, self.end, self.most = connection, end, most
+        self.connection, self.end, self.whole, self.most = connection, end, end, most
+
+    def within(self, seconds):
+        """What is read next is to come within so many seconds, too."""
+        self.end = min(self.whole, time.monotonic() + seconds)
 
     def readable(self):
         return True
@@ -31,3 +35,19 @@ class Reader(io.RawIOBase):
     def makefile(self, _mode="rb"):
         """What http.client asks a socket for."""
         return io.BufferedReader(self)
+
+
+class Lines(io.BufferedReader):
+    """What a Reader reads, where each line has a time of its own, and each other part of a body."""
+
+    def __init__(self, reader, line, part):
+        super().__init__(reader)
+        self.line, self.part = line, part
+
+    def readline(self, size=-1):
+        self.raw.within(self.line)
+        return super().readline(size)
+
+    def read(self, size=-1):
+        self.raw.within(self.part)
+        return super().read(size)

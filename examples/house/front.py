@@ -1,24 +1,33 @@
 """The front: TLS, signatures, and plain requests to the desk. Nothing under /office/ is ever passed on."""
+import collections
 import http.server
+import ipaddress
 import json
 import re
+import socket
+import socketserver
 import ssl
 import sys
 import threading
 import time
+from functools import partial
 
-from bounded import Reader
+from bounded import Lines, Reader
 from desk import Down, Reply
+from keys import thumbprint
 from payloads import looked_at
 from signatures import Jws, Refused
 from worker import log, log_fault
 
 # The bytes of a body, at most; those that are read of one that is larger, and of a whole request.
 BODY, MOST, REQUEST = 65536, 2**19, 2**20
-# How long a client may be silent, and its whole request may take; after how long one that waits asks again, in seconds.
-SILENCE, WHOLE, WAIT, WAIT_DOWN = 20, 40, 1, 10
-# The connections at one time; one more waits to be taken. Suites of TLS 1.2 with a key of the session's own, and no CBC.
-CONNECTIONS, SUITES = 128, "ECDHE+AESGCM:ECDHE+CHACHA20"
+# How long a handshake may take, a line of the head, a body, a reply, and a whole request; after how long one that waits asks again,
+# in seconds.
+HANDSHAKE, LINE, PART, REPLY, WHOLE, WAIT, WAIT_DOWN = 10, 5, 20, 20, 40, 1, 10
+# The connections at one time: in all, where one more waits to be taken, and of one client, where one more is refused.
+CONNECTIONS, OF_ONE = 128, 8
+# Suites of TLS 1.2 with a key of the session's own, and no CBC.
+SUITES = "ECDHE+AESGCM:ECDHE+CHACHA20"
 
 
 class Front(http.server.BaseHTTPRequestHandler):
@@ -30,16 +39,16 @@ class Front(http.server.BaseHTTPRequestHandler):
 
     def setup(self):
         super().setup()
-        self.rfile = Reader(self.connection, time.monotonic() + WHOLE, REQUEST).makefile()
+        self.rfile = Lines(Reader(self.connection, time.monotonic() + WHOLE, REQUEST), LINE, PART)
 
     def relay(self):
-        """Answers by the desk's reply, or refuses; then wakes the office that has work now."""
+        """Answers by the desk's reply, or refuses; the office that has work now is woken before, as the client may be gone."""
         self.close_connection = True
         reply = self._answer()
-        self.connection.settimeout(SILENCE)
-        self._send(reply)
         if self.wake:
             self.wake()
+        self.connection.settimeout(REPLY)
+        self._send(reply)
 
     do_GET = do_HEAD = do_POST = do_PUT = do_DELETE = do_PATCH = do_OPTIONS = relay
 
@@ -66,13 +75,32 @@ class Front(http.server.BaseHTTPRequestHandler):
         return self.server.desk.call("POST", self.path, self._envelope(Jws(body)))
 
     def _body(self):
-        length = self.headers.get("Content-Length", "0")
-        if not re.fullmatch("[0-9]{1,9}", length) or "Transfer-Encoding" in self.headers:
+        """The body, of a length that is given or in chunks; what is behind a body that is too large is not read."""
+        coded, length = self.headers.get("Transfer-Encoding"), self.headers.get("Content-Length")
+        if coded is None and re.fullmatch("[0-9]{1,9}", length or "0"):
+            body = self.rfile.read(min(int(length or 0), MOST))
+        elif length is None and coded.lower() == "chunked":
+            body = b"".join(self._chunks())
+        else:
             raise Refused("malformed", "the length of the body is not given", 411)
-        body = self.rfile.read(min(int(length), MOST))
-        if int(length) > BODY:
+        if len(body) > BODY:
             raise Refused("malformed", "the request is too large", 413)
         return body
+
+    def _chunks(self):
+        """The chunks of a body (RFC 9112, 7.1); what is behind them is not looked at."""
+        while size := self._chunk_size():
+            yield self.rfile.read(size)
+            if self.rfile.readline(3) != b"\r\n":
+                raise Refused("malformed", "a chunk has another length than it says")
+        while self.rfile.readline(MOST) not in (b"\r\n", b"\n", b""):
+            pass
+
+    def _chunk_size(self):
+        size = re.fullmatch(rb"([0-9A-Fa-f]{1,8})[ \t]*(;[^\r\n]*)?\r\n", self.rfile.readline(1024))
+        if not size:
+            raise Refused("malformed", "the size of a chunk is not given")
+        return int(size[1], 16)
 
     def _envelope(self, jws):
         """What the desk reads of a signed request, once its signature was checked."""
@@ -80,7 +108,7 @@ class Front(http.server.BaseHTTPRequestHandler):
         key, spelling = jws.check(url, self._key(jws.header))
         payload = looked_at(self.path, jws, url, key)
         if payload and self.path.startswith("/chall/"):
-            self.wake = self.server.wake_validator
+            self.wake = partial(self.server.wake_validator, f"{self.path.removeprefix('/chall/')} {thumbprint(spelling)}")
         elif payload and self.path.endswith("/finalize"):
             self.wake = self.server.wake_office
         nonce = {"nonce": jws.header["nonce"]} if "nonce" in jws.header else {}
@@ -121,18 +149,46 @@ def problem(refused, fields):
     return Reply(refused.status, fields + kind, body)
 
 
-class Server(http.server.ThreadingHTTPServer):
-    """A port with TLS; each connection has a thread of its own, its handshake too, and waits where there are many."""
+def client_of(text):
+    """Who counts as one client: an address, of IPv6 all that begin by the same 64 bits."""
+    address = ipaddress.ip_address(text)
+    return address if address.version == 4 else int(address) >> 64
 
-    request_queue_size = CONNECTIONS
+
+class Server(socketserver.ThreadingTCPServer):
+    """A port with TLS, at an address of either family; at `::` it is reached by both. Each connection has a thread of its own, its
+    handshake too. One client has few at one time, and where there are many in all the next one waits."""
+
+    request_queue_size, daemon_threads, allow_reuse_address = CONNECTIONS, True, True
 
     def __init__(self, address, certificate, desk, wake_validator, wake_office, says_requests):
         self.tls = ssl.create_default_context(ssl.Purpose.CLIENT_AUTH)
         self.tls.load_cert_chain(certificate)
         self.tls.set_ciphers(SUITES)
         self.desk, self.wake_validator, self.wake_office, self.says_requests = desk, wake_validator, wake_office, says_requests
-        self.room = threading.Semaphore(CONNECTIONS)
+        self.room, self.lock, self.held = threading.Semaphore(CONNECTIONS), threading.Lock(), collections.Counter()
+        if address[0] == "::" and not socket.has_dualstack_ipv6():
+            address = "0.0.0.0", address[1]
+        self.address_family = socket.AF_INET6 if ":" in address[0] else socket.AF_INET
         super().__init__(address, Front)
+
+    def server_bind(self):
+        if self.address_family == socket.AF_INET6:
+            self.socket.setsockopt(socket.IPPROTO_IPV6, socket.IPV6_V6ONLY, self.server_address[0] != "::")
+        super().server_bind()
+
+    def get_request(self):
+        """A connection and where it comes from, an address of IPv4 in its own spelling."""
+        request, address = super().get_request()
+        return request, (address[0].removeprefix("::ffff:"), *address[1:])
+
+    def verify_request(self, request, client_address):
+        """Whether a client may have one connection more, which is then counted."""
+        client = client_of(client_address[0])
+        with self.lock:
+            may_have = self.held[client] < OF_ONE
+            self.held[client] += may_have
+        return may_have
 
     def process_request(self, request, client_address):
         """Takes no further connection before one has ended, where there are as many as may be."""
@@ -144,9 +200,12 @@ class Server(http.server.ThreadingHTTPServer):
             super().process_request_thread(request, client_address)
         finally:
             self.room.release()
+            with self.lock:
+                self.held[client_of(client_address[0])] -= 1
+                self.held += collections.Counter()
 
     def finish_request(self, request, client_address):
-        request.settimeout(SILENCE)
+        request.settimeout(HANDSHAKE)
         with self.tls.wrap_socket(request, server_side=True) as connection:
             super().finish_request(connection, client_address)
 

@@ -51,7 +51,8 @@ def main():
         worker = Worker(Office(desk, authority).work)
         wake_office = worker.wake
     if given.part in (None, "validator"):
-        worker = Worker(Validator(desk, given.web, given.names, given.allow_private).work)
+        validator = Validator(desk, given.web, given.names, given.allow_private)
+        worker = Worker(validator.work, validator.hear)
         wake_validator = worker.wake
     if given.part in (None, "front"):
         server = Server((given.bind, given.port), f"{given.folder}/front.pem", desk, wake_validator, wake_office, given.requests)

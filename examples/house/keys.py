@@ -1,5 +1,7 @@
 """Public keys: a JWK in its one spelling (RFC 7518, 6; RFC 8037, 2), and which keys are strong enough."""
 import base64
+import hashlib
+import json
 import re
 
 from cryptography.hazmat.primitives.asymmetric import ec, rsa
@@ -28,6 +30,11 @@ def decoded(text):
 
 def encoded(data):
     return base64.urlsafe_b64encode(data).rstrip(b"=").decode()
+
+
+def thumbprint(spelling):
+    """The thumbprint of a key in its one spelling (RFC 7638)."""
+    return encoded(hashlib.sha256(json.dumps(spelling, sort_keys=True, separators=(",", ":")).encode()).digest())
 
 
 def read_key(jwk):

@@ -17,12 +17,15 @@ def looked_at(path, jws, url, key):
     if path == "/key-change":
         return key_change(jws, url)
     try:
-        if path == "/new-order" and any(ends_in_number(named["value"]) for named in json.loads(jws.payload)["identifiers"]):
+        asked = json.loads(jws.payload)
+        if path == "/new-order" and any(ends_in_number(named["value"]) for named in asked["identifiers"]):
             raise Refused("rejectedIdentifier", "a name that reads as an address is not certified here")
         if path.endswith("/finalize"):
-            csr = x509.load_der_x509_csr(decoded(json.loads(jws.payload)["csr"]))
+            csr = x509.load_der_x509_csr(decoded(asked["csr"]))
             if csr.public_key().public_numbers() == key.public_numbers():
                 raise Refused("badCSR", "the key of the CSR is that of the account")
+        if None in asked.values():
+            return json.dumps({name: value for name, value in asked.items() if value is not None})
     except UNREADABLE:
         pass  # The desk or the signing office refuses it.
     return jws.payload

@@ -1,9 +1,9 @@
 """The validator: tries challenges over the network, and reports what it found (RFC 8555, 8.3 and 8.4)."""
+import hashlib
 import http.client
 import json
 import math
 import time
-from concurrent.futures import ThreadPoolExecutor
 
 import dns.exception
 import dns.resolver
@@ -12,30 +12,48 @@ from addresses import is_name
 from bounded import left
 from fetch import Network
 from keys import encoded
+from turns import Turns
 from worker import log, log_fault
 
-# How long a try may take in all, and the pauses before each; the challenges that are tried side by side.
-TIMEOUT, PAUSES, SIDE_BY_SIDE = 10, (0, 1, 2), 32
+# How long a try may take in all, and the pauses before each; the challenges that are tried side by side, in all and of one account.
+TIMEOUT, PAUSES, SIDE_BY_SIDE, OF_ONE = 10, (0, 1, 2), 32, 4
+# The answers whose account the front has told that are remembered.
+TOLD = 10000
 # The TXT records that are reported, and the characters of each: one that fits has 43.
 RECORDS, CHARACTERS = 64, 255
 
 
 class Validator:
-    """Tries challenges, some side by side."""
+    """Tries challenges, some side by side, and accounts in turn."""
 
     def __init__(self, desk, web=None, names=None, allow_private=False):
         self.desk, self.resolver = desk, dns.resolver.Resolver(configure=not names)
         if names:
             self.resolver.nameservers, self.resolver.port = [names[0]], names[1]
         self.network = Network(self.resolver, web, allow_private)
-        self.pool, self.taken = ThreadPoolExecutor(SIDE_BY_SIDE), set()
+        self.turns, self.taken, self.told = Turns(SIDE_BY_SIDE, OF_ONE), set(), {}
+
+    def hear(self, text):
+        """Notes what the front tells of an answer that it has passed on: the challenge, and the thumbprint of the account's key."""
+        challenge, _, thumbprint = text.partition(" ")
+        if len(self.told) == TOLD:
+            self.told.clear()
+        self.told[challenge] = thumbprint
 
     def work(self):
         """Takes each challenge that is to be tried and that nobody tries yet."""
         for challenge in json.loads(self.desk.call("GET", "/office/challenges").body)["challenges"]:
             if challenge["challenge"] not in self.taken:
                 self.taken.add(challenge["challenge"])
-                self.pool.submit(self._try, challenge)
+                self.turns.add(self._account(challenge), self._try, challenge)
+
+    def _account(self, challenge):
+        """The thumbprint that the expected text has; for dns-01, where that is hashed, the one that was told, or none."""
+        told = self.told.pop(str(challenge["challenge"]), "")
+        if challenge["type"] == "http-01":
+            return challenge["expected"].rpartition(".")[2]
+        digest = hashlib.sha256(f"{challenge['token']}.{told}".encode()).digest()
+        return told if encoded(digest) == challenge["expected"] else ""
 
     def _try(self, challenge):
         """Tries a challenge, and reports what is found, however long the desk is down."""

@@ -5,8 +5,8 @@ import socket
 import threading
 import traceback
 
-# How long after a fault its work is tried again, in seconds.
-AGAIN = 5
+# How long after a fault its work is tried again, in seconds; the bytes that who wakes it may say.
+AGAIN, SAID = 5, 256
 
 
 def log(text):
@@ -20,22 +20,27 @@ def log_fault(what):
         log(line)
 
 
-def notify(path, text=b"!"):
+def notify(path, text=""):
     """Sends a datagram to a socket; where nobody listens nothing is done, since who starts asks for work anyway."""
     with contextlib.suppress(OSError), socket.socket(socket.AF_UNIX, socket.SOCK_DGRAM) as sender:
         sender.setblocking(False)
-        sender.sendto(text, path)
+        sender.sendto(text.encode(), path)
 
 
 class Worker(threading.Thread):
     """Does its work at the start, since an earlier life may have left some, whenever it is woken, and again after a fault."""
 
-    def __init__(self, work):
+    def __init__(self, work, hear=lambda text: None):
         super().__init__(daemon=True)
-        self.work, self.called = work, threading.Event()
-        self.wake = self.called.set
+        self.work, self.hear, self.called = work, hear, threading.Event()
         self.wake()
         self.start()
+
+    def wake(self, text=""):
+        """Has the work done, once what is said of it was heard."""
+        if text:
+            self.hear(text)
+        self.called.set()
 
     def run(self):
         pause = None
@@ -54,7 +59,6 @@ class Worker(threading.Thread):
         with socket.socket(socket.AF_UNIX, socket.SOCK_DGRAM) as waked:
             waked.bind(path)
             os.chmod(path, 0o660)
-            notify(os.environ.get("NOTIFY_SOCKET", ""), b"READY=1")
+            notify(os.environ.get("NOTIFY_SOCKET", ""), "READY=1")
             while True:
-                waked.recv(1)
-                self.wake()
+                self.wake(waked.recv(SAID).decode("latin-1"))
