@@ -95,22 +95,23 @@ growths hostile kills predicted: ## one script each of what the gate tries, at l
 	@python3 -B scripts/$@.py bin/desk
 	@! [ $@ = growths ] || python3 -B scripts/library_growths.py
 
-# The program, its manual page and its completion for bash from its own help, and for systemd its unit, the socket in front of it, and
-# the users.
+# The program, its manual page and its completion for bash from its own help, and for systemd its unit, the sockets in front of it with
+# their filter, and the users.
 PLACE = $(DESTDIR)$(PREFIX)
 UNITS = $(PLACE)/lib/systemd/system
 install: ## the program, its manual page, its completion for bash, its units and users
 	@$(HAS_DESK)
 	@python3 -B scripts/manual.py page bin/desk > bin/desk.1
 	@python3 -B scripts/manual.py completion bin/desk > bin/desk.bash
-	@for unit in desk.service desk-proxy.service desk-proxy.socket; do sed 's|@PREFIX@|$(PREFIX)|' packaging/$$unit > bin/$$unit; done
+	@for unit in desk.service desk-filter.service desk-role@.socket; do sed 's|@PREFIX@|$(PREFIX)|' packaging/$$unit > bin/$$unit; done
 	install -D -m 755 bin/desk "$(PLACE)/bin/desk"
 	install -D -m 644 bin/desk.1 "$(PLACE)/share/man/man1/desk.1"
 	install -D -m 644 bin/desk.bash "$(PLACE)/share/bash-completion/completions/desk"
 	install -D -m 644 packaging/desk.sysusers "$(PLACE)/lib/sysusers.d/desk.conf"
+	install -D -m 644 examples/house/filter.py "$(PLACE)/share/desk/house/filter.py"
 	install -d "$(UNITS)"
-	install -m 644 bin/desk.service bin/desk-proxy.service bin/desk-proxy.socket "$(UNITS)"
-	@echo 'Whoever reaches the port of the desk is trusted. The units keep it behind /run/desk/socket, for the group desk-house alone;'
+	install -m 644 bin/desk.service bin/desk-filter.service bin/desk-role@.socket "$(UNITS)"
+	@echo 'Whoever reaches the port of the desk is trusted. The units keep it behind sockets in /run/desk, one a role, each for a group of its own;'
 	@echo 'by `desk serve` without them it is open to every user of this machine, and while it is stopped any of them may take it.'
 
 # ---- The house around a desk (docs/HOUSE.md), over Debian's packages and their Python.
@@ -163,6 +164,8 @@ house-test: ## what the gate tries of the house and of the units
 install-house: install ## beside the program, the house and its units
 	install -d "$(PLACE)/share/desk/house"
 	install -m 644 examples/house/*.py "$(PLACE)/share/desk/house"
+	install -D -m 644 examples/house/openssl/ca.cnf "$(PLACE)/share/desk/house/openssl/ca.cnf"
+	install -m 755 examples/house/openssl/sign examples/house/openssl/revoke "$(PLACE)/share/desk/house/openssl"
 	@for part in front validator office; do sed 's|@PREFIX@|$(PREFIX)|' packaging/desk-$$part.service > bin/desk-$$part.service; done
 	install -m 644 bin/desk-front.service bin/desk-validator.service bin/desk-office.service "$(UNITS)"
 

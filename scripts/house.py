@@ -130,7 +130,7 @@ def failure_of(client, house, port, talk):
     if status:
         return f"{client.__name__} ended with status {status}"
     talk.say(f"{client.__name__}: a certificate of {NAME} after {time.monotonic() - start:.1f} s")
-    status, lines = call(["openssl", "verify", "-x509_strict", "-CAfile", house.root, "-verify_hostname", NAME, chain])
+    status, lines = call(["openssl", "verify", "-x509_strict", "-CAfile", house.root, "-verify_hostname", NAME, "-untrusted", chain, chain])
     talk.note("\n".join(lines))
     if status:
         return f"openssl does not verify the chain of {client.__name__}"

@@ -10,7 +10,9 @@ import hashlib
 import http.client
 import io
 import json
+import math
 import os
+import random
 import resource
 import select
 import socket
@@ -39,9 +41,14 @@ sys.path.insert(0, f"{ROOT}/examples/house")
 import addresses
 import authority
 import desk
+import factors
 import fetch
 import front
 import keys
+import ledger
+import office
+import policy
+import revocation
 import turns
 import validator
 
@@ -220,14 +227,17 @@ def steering(_):
     good = b"HTTP/1.1 301 Moved\r\nLocation: http://b.example:80/there?a=b#c\r\n\r\n"
     with reached(lambda server: [good if len(server.requests) == 1 else b"HTTP/1.1 200 OK\r\n\r\nhere"]) as (body, _, server):
         see("a redirect that is followed", (body, server.requests[1].split(b"\r\n")[:2]), (b"here", [b"GET /there?a=b HTTP/1.1", b"Host: b.example"]))
-    inside = "127.0.0.1 127.8.8.8 0.0.0.0 10.1.2.3 172.16.0.1 192.168.1.1 169.254.169.254 100.64.0.1 224.0.0.1 255.255.255.255 "
+    inside = "127.0.0.1 127.8.8.8 0.0.0.0 10.1.2.3 172.16.0.1 192.168.1.1 169.254.169.254 168.63.129.16 100.64.0.1 224.0.0.1 255.255.255.255 "
     inside += "::1 :: fe80::1 fd00::1 fec0::1 ff02::1 ::ffff:127.0.0.1 ::127.0.0.1 64:ff9b::7f00:1 2002:7f00:1::1"
     for address in inside.split():
         resolver = SimpleNamespace(resolve=lambda name, kind, lifetime, address=address: [SimpleNamespace(address=address)])
         why = raised(OSError, fetch.Network(resolver).fetch, "http://a.example/x", time.monotonic() + 2)
         tried(f"address {address}", "no address that may be reached" in (why or ""))
-        see(f"{address} by --allow-private", fetch.Network(resolver, allow_private=True)._addresses("a.example", time.monotonic() + 2), [address] * 2)
-    see("addresses of the Internet", [addresses.is_public(text) for text in ("198.41.0.4", "2001:503:ba3e::2:30")], [True, True])
+        for option, private in (("allow_private", "10. 172. 192. fd"), ("allow_loopback", "127.0 127.8 ::1")):
+            is_meant = address.startswith(tuple(private.split())) and not address.startswith("::127")
+            found = fetch.Network(resolver, **{option: True})._addresses("a.example", time.monotonic() + 2)
+            tried(f"address {address} by {option}", found, [address] * 2 * is_meant)
+    see("addresses of the Internet", [addresses.may_be_reached(text) for text in ("198.41.0.4", "2001:503:ba3e::2:30")], [True, True])
 
 
 def crowds(_):
@@ -346,20 +356,26 @@ def roots(_):
     with tempfile.TemporaryDirectory(prefix="desk-house-") as folder:
         made = [authority.Authority(f"{folder}/{name}") for name in "ab"]
         see("the same root again", authority.Authority(f"{folder}/a").root, made[0].root)
-        files = {name: open(f"{folder}/a/{name}", "rb").read() for name in ("root.key", "root.pem")}
-        other = made[1].root
-        for what, left in (("key alone", {"root.key": files["root.key"]}), ("certificate alone", {"root.pem": files["root.pem"]}),
-                           ("certificate of another key", {**files, "root.pem": other}), ("empty key", {**files, "root.key": b""}),
-                           ("certificate cut off", {**files, "root.pem": files["root.pem"][:100]})):
+        (key, root, below), (_, other, other_below) = [[authority.read(f"{folder}/{name}/{file}") for file in ("root.key", "root.pem", "intermediate.pem")]
+                                                       for name in "ab"]
+        for what, left in (("key alone", {"root.key": key}), ("certificate alone", {"root.pem": root}), ("intermediate alone", {"intermediate.pem": below}),
+                           ("certificate of another key", {"root.key": key, "root.pem": other}), ("empty key", {"root.key": b"", "root.pem": root}),
+                           ("certificate cut off", {"root.key": key, "root.pem": root[:100]}),
+                           ("intermediate of another root", {"root.pem": root, "intermediate.pem": other_below}),
+                           ("intermediate cut off", {"root.pem": root, "intermediate.pem": below[:-100]}),
+                           ("intermediate of another key", {"root.pem": root, "intermediate.pem": authority.pem(made[1].key) + made[0].intermediate})):
             path = f"{folder}/{what}"
             os.mkdir(path, 0o700)
             for name, data in left.items():
                 with open(f"{path}/{name}", "wb") as file:
                     file.write(data)
-            ran = subprocess.run([sys.executable, "-B", f"{ROOT}/examples/house/house.py", path, "--desk=1", "--port=1"], capture_output=True,
-                                 text=True, timeout=60)
-            found = {name: open(f"{path}/{name}", "rb").read() for name in os.listdir(path)}
-            tried(f"root: {what}", (ran.returncode, ran.stderr.startswith("no authority: "), ran.stderr.count("\n"), found), (os.EX_CONFIG, True, 1, left))
+            with contextlib.redirect_stderr(io.StringIO()) as said:
+                status = raised(SystemExit, authority.Authority, path)
+            found = {name: authority.read(f"{path}/{name}") for name in os.listdir(path)}
+            tried(f"root: {what}", (status, said.getvalue().startswith("no authority: "), said.getvalue().count("\n"), found),
+                  (str(os.EX_CONFIG), True, 1, left))
+        ran = subprocess.run([sys.executable, "-B", f"{ROOT}/examples/house/house.py", path, "--desk=1", "--port=1"], capture_output=True, text=True)
+        tried("root: the house over it", (ran.returncode, ran.stderr), (os.EX_CONFIG, said.getvalue()))
 
 
 # ---- Keys and CSRs.
@@ -426,6 +442,43 @@ def weak_keys(trial):
     for bits in (1024, 8200, 60000):
         jwk = {"kty": "RSA", "n": spelled(2**bits - 1, bits // 8), "e": "AQAB"}
         tried_refused(f"weak key: {bits} bits", account_by(trial.client, "RS256", jwk, lambda data: bytes(256)), 400, "badPublicKey")
+    for what, modulus in weak_moduli():
+        jwk = {"kty": "RSA", "n": spelled(modulus, (modulus.bit_length() + 7) // 8), "e": "AQAB"}
+        reply = account_by(trial.client, "RS256", jwk, lambda data: bytes(256))
+        tried_refused(f"weak key: {what}", reply, 400, "badPublicKey")
+        tried(f"weak key: what is said of {what}", what in json.loads(reply.body)["detail"])
+
+
+def weak_moduli():
+    """Moduli whose factors can be found, by a word of what is said of them."""
+    yield "is prime", 2**2203 - 1
+    yield "a small factor", 65521 * unlike_others(2040)
+    half = unlike_others(1040)
+    yield "close to each other", half * next(other for other in range(half + 2, half + 10000, 2) if math.gcd(other, factors.SMALL) == 1)
+    most = math.prod(factors.PRIMES)
+    yield "of a form", next(number for power in range(1000, 9000) if math.gcd(number := pow(65537, power, most) + most * unlike_others(1900), factors.SMALL) == 1)
+
+
+def unlike_others(bits):
+    """A random odd number without small factors, which is hardly prime."""
+    while True:
+        number = random.getrandbits(bits) | 1 | 1 << bits - 1
+        if math.gcd(number, factors.SMALL) == 1:
+            return number
+
+
+def close_key():
+    """A key whose two primes are close to each other."""
+    primes = []
+    number = unlike_others(1024) | 3 << 1022
+    while len(primes) < 2:
+        number += 2
+        if math.gcd(number, factors.SMALL) == 1 and pow(2, number - 1, number) == 1 and math.gcd(number - 1, 65537) == 1:
+            primes.append(number)
+    p, q = primes
+    d = pow(65537, -1, (p - 1) * (q - 1))
+    public = rsa.RSAPublicNumbers(65537, p * q)
+    return rsa.RSAPrivateNumbers(p, q, d, d % (p - 1), d % (q - 1), pow(q, -1, p), public).private_key()
 
 
 def csr_of(key, name, hashed=hashes.SHA256()):
@@ -453,6 +506,8 @@ def weak_csrs(trial):
     for what, csr in (
         ("an exponent of 3", csr_of(rsa.generate_private_key(3, 2048), name)),
         ("1024 bits", csr_of(rsa.generate_private_key(65537, 1024), name)),
+        ("primes that are close", csr_of(close_key(), name)),
+        ("version 2", csr_of(good, name).public_bytes(Encoding.DER).replace(b"\x02\x01\0", b"\x02\x01\1", 1)),
         ("MD5", csr_of(rsa_key, name, hashes.MD5())),
         ("SHA-1", csr_of(rsa_key, name, hashes.SHA1())),
         ("SHA-1 by a curve", csr_of(good, name, hashes.SHA1())),
@@ -501,7 +556,7 @@ def nesting(trial):
         inner = client.signed(change, f'{{"account":"{client.kid}","oldKey":{nested(depth)}}}', key=josepy.JWKEC(key=ec.generate_private_key(ec.SECP256R1())))
         tried_refused(f"nesting of an old key, {depth}", client.post(change, inner), 400, "malformed")
     tried_refused("nesting of a payload", client.post(url, f'{{"identifiers":{nested()}}}'), 400, "malformed")
-    for name in ("0x7f.0x1", "*.10.0.0.0x1", "a.0XFF"):
+    for name in ("0x7f.0x1", "*.10.0.0.0x1", "a.0XFF", "a.\uff10\uff581", "\u2460.1.1.1", "\u212a.example", "b\xfccher.example"):
         tried_refused(f"name {name} in an order", client.order("a.house.test", name), 400, "rejectedIdentifier")
 
 
@@ -511,14 +566,15 @@ class Down:
     base = "https://localhost"
 
     def call(self, method, path, body=None, patience=None):
-        return desk.Reply(404 if path.startswith("/office") else 200, [("Replay-Nonce", "AAAA"), ("Content-Length", "0")], b"")
+        return desk.Reply(404 if path.startswith("/office") else 200, [("Replay-Nonce", "AAAA"), ("Content-Length", "2")], b"{}")
 
 
 @contextlib.contextmanager
-def fronted(folder, called, address="127.0.0.1", wake=None):
+def fronted(folder, called, address="127.0.0.1", wake=None, policy=policy.Policy()):
     """A front of its own before a desk; its address, and the lines that it logs."""
-    authority.Authority(folder).certify_front("localhost")
-    server = front.Server((address, 0), f"{folder}/front.pem", called, wake, wake, True)
+    made = office.Office(called, authority.Authority(folder), ledger.Ledger(f"{folder}/ledger.db"), folder)
+    made.certify_front("localhost")
+    server = front.Server((address, 0), f"{folder}/front.pem", called, policy, revocation.Revocation(called, made.answer, ""), wake, wake, True)
     threading.Thread(target=server.serve_forever, daemon=True).start()
     try:
         with contextlib.redirect_stdout(io.StringIO()) as lines, contextlib.redirect_stderr(lines):

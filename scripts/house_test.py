@@ -94,7 +94,7 @@ class Trial:
         with tempfile.NamedTemporaryFile(dir=self.house.folder) as file:
             file.write(chain.body)
             file.flush()
-            words = ["openssl", "verify", "-x509_strict", "-CAfile", self.house.root, "-verify_hostname", names[0], file.name]
+            words = ["openssl", "verify", "-x509_strict", "-CAfile", self.house.root, "-verify_hostname", names[0], "-untrusted", file.name, file.name]
             see(f"openssl verifies {names}", subprocess.run(words, capture_output=True).returncode, 0)
 
 

@@ -9,8 +9,10 @@ import contextlib
 import http.server
 import json
 import os
+import re
 import shutil
 import socketserver
+import ssl
 import subprocess
 import sys
 import tempfile
@@ -22,7 +24,7 @@ from housed import ROOT
 from trying import faults, see
 
 # The exposure that systemd-analyze may find, in tenths; how long systemd and what is asked of it may take, in seconds.
-EXPOSURE = {"desk": 10, "desk-proxy": 10, "desk-office": 10, "desk-validator": 15, "desk-front": 20}
+EXPOSURE = {"desk": 10, "desk-filter": 12, "desk-office": 10, "desk-validator": 15, "desk-front": 20}
 PATIENCE = 60
 SPACES = "--mount", "--pid", "--net", "--uts", "--ipc", "--cgroup"
 PYTHON, TRIAL = "/usr/bin/python3", "/usr/local/share/desk/trial"
@@ -117,9 +119,9 @@ class Machine:
         raise NoMachine(f"systemd did not start: {self.log.read().decode(errors='replace')[-300:]}")
 
     def call(self, *words, user=None):
-        """The status and the output of a program on the machine, of root or of another user with the group of his unit."""
-        group = "nogroup" if user == "nobody" else "desk-house"
-        as_user = ["setpriv", f"--reuid={user}", f"--regid={group}", "--clear-groups"] if user else []
+        """The status and the output of a program on the machine, of root or of another user with the groups of his unit."""
+        groups = ("nogroup", "nogroup") if user == "nobody" else ("desk-house", user)
+        as_user = ["setpriv", f"--reuid={user}", f"--regid={groups[0]}", f"--groups={groups[1]}"] if user else []
         ran = subprocess.run(["nsenter", f"--target={self.first()}", *SPACES, "--root", "--wd", *as_user, *words],
                              stdin=subprocess.DEVNULL, stdout=subprocess.PIPE, stderr=subprocess.STDOUT, text=True, timeout=PATIENCE * 2)
         return ran.returncode, ran.stdout
@@ -155,18 +157,24 @@ def see_state(machine, name, wanted):
     see(f"the state of {name}", found, wanted)
 
 
+def asked(machine, role, method, path, user=None):
+    """The status of what a role asks of the desk by its socket, once the desk listens."""
+    words = ["curl", "-s", "-o", "/dev/null", "-w", "%{http_code}", "--retry", str(PATIENCE), "--retry-delay", "1", "--retry-all-errors"]
+    return well(machine, *words, "-X", method, "--unix-socket", f"/run/desk/{role}", f"http://desk/{path}", user=user)
+
+
 def prepare(machine):
-    """The steps of docs/HOUSE.md, with the names of the machine answered at an address that is not loopback's."""
-    well(machine, "systemd-sysusers")
-    well(machine, "install", "-d", "-o", "desk", "-g", "desk", "-m", "700", "/var/lib/desk")
+    """The lines of docs/HOUSE.md as they stand, typed, with the names of the machine answered at an address that is not loopback's."""
+    well(machine, "sh", "-c", "rm -f /etc/resolv.conf; echo nameserver 10.8.5.55 > /etc/resolv.conf; ip addr add 10.8.5.55/32 dev lo; ip link set lo up")
     well(machine, "systemctl", "start", "desk")
     see_state(machine, "desk", "inactive")
-    well(machine, "setpriv", "--reuid=desk", "--regid=desk", "--clear-groups", "desk", "make", "/var/lib/desk/desk.db", "--base", "https://localhost")
-    well(machine, "sh", "-c", "echo BASE=https://localhost > /etc/default/desk-house; rm -f /etc/resolv.conf; echo nameserver 10.8.5.55 > /etc/resolv.conf; "
-                              "ip addr add 10.8.5.55/32 dev lo; ip link set lo up")
-    well(machine, "systemctl", "start", "desk-proxy.socket", "desk", "desk-office", "desk-validator", "desk-front")
-    for name in ("desk", "desk-office", "desk-validator", "desk-front", "desk-proxy"):
+    with open(f"{ROOT}/docs/HOUSE.md", encoding="utf-8") as house:
+        chapter = house.read().partition("## On a machine of its own")[2].replace("ca.example", "localhost")
+    lines = "".join(re.findall(r"^```\n(.*?)^```$", chapter, re.MULTILINE | re.DOTALL)).splitlines()
+    well(machine, "bash", "-e", "-c", "\n".join(lines))
+    for name in ("desk", "desk-office", "desk-validator", "desk-front", "desk-filter"):
         see_state(machine, name, "active")
+    print(f"units: {len(lines)} lines of docs/HOUSE.md typed, from none to units that sign by `openssl ca`")
 
 
 def attack(machine):
@@ -174,19 +182,27 @@ def attack(machine):
     for user in ("nobody", "desk-front", None):
         said = machine.call(PYTHON, "-c", "import socket; socket.create_connection(('127.0.0.1', 8555))", user=user)[1]
         see(f"{user or 'root'} at port 8555", "ConnectionRefusedError" in said, True)
-    reach = "import socket; socket.socket(socket.AF_UNIX).connect('/run/desk/socket')"
-    see("nobody at the socket", "PermissionError" in machine.call(PYTHON, "-c", reach, user="nobody")[1], True)
-    see("the validator at the socket", machine.call(PYTHON, "-c", reach, user="desk-validator")[0], 0)
-    for path, user in (("/run/desk/socket", "nobody"), ("/run/desk/socket", "desk-front"), ("/run/desk/other", "desk-front")):
+    for user in ("nobody", "desk-front", "desk-validator", "desk-office"):
+        for role in ("front", "validator", "office", "operator"):
+            reach = f"import socket; socket.socket(socket.AF_UNIX).connect('/run/desk/{role}')"
+            see(f"{user} at the socket of the {role}", "PermissionError" in machine.call(PYTHON, "-c", reach, user=user)[1], user != f"desk-{role}")
+    for role, user, method, path, status in (
+        ("front", "desk-front", "GET", "office/key/1", "404"), ("front", "desk-front", "POST", "office/revoke-account/1", "403"),
+        ("validator", "desk-validator", "GET", "office/orders", "403"), ("operator", None, "POST", "office/revoke-account/1", "404"),
+    ):
+        see(f"{method} /{path} by the {role}", asked(machine, role, method, path, user), status)
+    for path, user in (("/run/desk/front", "nobody"), ("/run/desk/front", "desk-front"), ("/run/desk/other", "desk-front")):
         words = f"import os, socket; os.path.exists('{path}') and os.unlink('{path}'); socket.socket(socket.AF_UNIX).bind('{path}')"
         see(f"{user} puts a socket at {path}", "PermissionError" in machine.call(PYTHON, "-c", words, user=user)[1], True)
-    see("the key of the root for the front", machine.call("cat", "/var/lib/desk-office/root.key", user="desk-front")[0], 1)
+    for path, user, status in (("ca/intermediate.key", "desk-front", 1), ("ledger.db", "nobody", 1), ("root.pem", "nobody", 0), ("crl.der", "nobody", 0)):
+        see(f"{path} for {user}", machine.call("test", "-r", f"/var/lib/desk-office/{path}", user=user)[0], status)
     see("the file of the desk for the office", machine.call("cat", "/var/lib/desk/desk.db", user="desk-office")[0], 1)
     well(machine, PYTHON, "-B", f"{TRIAL}/house_units.py", "client")
     well(machine, "systemctl", "kill", "--signal=KILL", "desk")
     # The unit keeps the validator from the loopback where its own option lets it go there.
     well(machine, "sh", "-c", "echo VALIDATOR=--allow-private >> /etc/default/desk-house; systemctl restart desk-validator")
     see_state(machine, "desk", "active")
+    see("the desk after a kill", asked(machine, "operator", "GET", "directory"), "200")
     well(machine, PYTHON, "-B", f"{TRIAL}/house_units.py", "client")
     well(machine, "mv", "/var/lib/desk-office/root.pem", "/root")
     machine.call("systemctl", "restart", "desk-office")
@@ -202,6 +218,7 @@ def client():
     import dns.rrset
     import house_client
     import house_test
+    import josepy
 
     class Names(house_client.NamesHandler):
         def handle(self):
@@ -221,7 +238,21 @@ def client():
     house = type("House", (), {"base": "https://localhost", "root": "/var/lib/desk-office/root.pem", "folder": "/tmp"})
     trial = house_test.Trial(house, None, names)
     trial.web = web
-    trial.certified(*trial.ordered("a.house.test", kind="dns-01"), ["a.house.test"])
+    order, url = trial.ordered("a.house.test", kind="dns-01")
+    trial.certified(order, url, ["a.house.test"])
+    chain = trial.client.post(trial.client.read(url)["certificate"]).body
+    issued = subprocess.run(["openssl", "x509", "-noout", "-issuer", "-serial"], input=chain, capture_output=True, check=True).stdout.decode()
+    see("who signed", "Example intermediate" in issued, True)
+    revoked = {"certificate": josepy.encode_b64jose(ssl.PEM_cert_to_DER_cert(chain.decode().partition("-----\n-----BEGIN")[0] + "-----\n")), "reason": 1}
+    see("a revocation", trial.client.post(trial.client.directory["revokeCert"], revoked).status, 200)
+    serial = issued.partition("serial=")[2].strip()
+    for _ in range(PATIENCE):
+        listed = subprocess.run(["openssl", "crl", "-inform", "DER", "-noout", "-text"], input=trial.client.ask("GET", "https://localhost/crl").body,
+                                capture_output=True, check=True).stdout.decode()
+        if serial in listed:
+            break
+        time.sleep(1)
+    see("the list that openssl ca signed", (serial in listed, "Example intermediate" in listed), (True, True))
     order = json.loads(trial.client.order("inside.house.test").body)
     found = trial.answer(order["authorizations"][0], "http-01")
     see("a name that leads into the machine", found["challenges"][0]["error"]["type"], "urn:ietf:params:acme:error:connection")

@@ -69,7 +69,7 @@ class House:
     def __init__(self, program, folder, say, web=None, names=None, requests=False, errors=subprocess.STDOUT):
         self.program, self.folder, self.say, self.errors, self.runs, self.port = program, folder, say, errors, [], free_port()
         self.base, self.root = f"https://localhost:{self.port}", f"{folder}/ca/root.pem"
-        self.options = [f"--{name}=127.0.0.1:{port}" for name, port in (("web", web), ("names", names)) if port]
+        self.options = [f"--{name}=127.0.0.1:{port}" for name, port in (("web", web), ("resolver", names)) if port]
         self.options += ["--requests"] if requests else []
 
     def make_desk(self):

@@ -6,6 +6,9 @@ LABEL = "[a-z0-9]([a-z0-9-]{0,61}[a-z0-9])?"
 NAME, NUMBER = re.compile(rf"({LABEL}\.)+{LABEL}"), re.compile("[0-9]+|0x[0-9a-f]*")
 # The addresses of IPv6 that lead over the Internet, and those of them that stand for an address of IPv4 (6to4).
 GLOBAL, SIX_TO_FOUR = ipaddress.ip_network("2000::/3"), ipaddress.ip_network("2002::/16")
+# The private addresses (RFC 1918, RFC 4193); and one that looks like an address of the Internet, and is the host of a cloud's machines.
+PRIVATE = [ipaddress.ip_network(text) for text in ("10.0.0.0/8", "172.16.0.0/12", "192.168.0.0/16", "fc00::/7")]
+OF_THE_CLOUD = [ipaddress.ip_address("168.63.129.16")]
 
 
 def ends_in_number(name):
@@ -18,9 +21,12 @@ def is_name(text):
     return len(text) <= 253 and NAME.fullmatch(text) is not None and not ends_in_number(text)
 
 
-def is_public(text):
-    """Whether an address is of the Internet: no loopback, link-local, private, reserved or multicast one."""
+def may_be_reached(text, allow_private=False, allow_loopback=False):
+    """Whether an address is of the Internet: no loopback, link-local, private, reserved or multicast one. Where they are allowed private
+    ones may be reached, too, and for trials those of the machine itself."""
     address = ipaddress.ip_address(text)
-    if address.version == 6 and (address not in GLOBAL or address in SIX_TO_FOUR):
+    if allow_private and any(address in network for network in PRIVATE) or allow_loopback and address.is_loopback:
+        return True
+    if address in OF_THE_CLOUD or address.version == 6 and (address not in GLOBAL or address in SIX_TO_FOUR):
         return False
     return address.is_global and not address.is_multicast and not address.is_reserved

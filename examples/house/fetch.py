@@ -8,7 +8,7 @@ import urllib.parse
 
 import dns.exception
 
-from addresses import is_name, is_public
+from addresses import is_name, may_be_reached
 from bounded import Reader, left
 
 # The redirects that are followed; the bytes that are read of a response with its head, and of its body; the addresses of a name.
@@ -22,8 +22,8 @@ TLS.check_hostname, TLS.verify_mode = False, ssl.CERT_NONE
 class Network:
     """Where a name leads: its own addresses, if they may be reached, or for trials one address and port whatever it names."""
 
-    def __init__(self, resolver, web=None, allow_private=False):
-        self.resolver, self.web, self.allow_private = resolver, web, allow_private
+    def __init__(self, resolver, web=None, allow_private=False, allow_loopback=False):
+        self.resolver, self.web, self.allowed = resolver, web, (allow_private, allow_loopback)
 
     def fetch(self, url, end):
         """The first bytes of the body at a URL, or none where the status is not 200. Redirects are followed. It ends by OSError or
@@ -65,7 +65,7 @@ class Network:
         for kind in ("AAAA", "A"):
             with contextlib.suppress(dns.exception.DNSException):
                 found += [record.address for record in self.resolver.resolve(host, kind, lifetime=left(end) / 2)]
-        return [address for address in found if self.allow_private or is_public(address)][:ADDRESSES]
+        return [address for address in found if may_be_reached(address, *self.allowed)][:ADDRESSES]
 
 
 def parts(url):

@@ -28,6 +28,7 @@ HANDSHAKE, LINE, PART, REPLY, WHOLE, WAIT, WAIT_DOWN = 10, 5, 20, 20, 40, 1, 10
 CONNECTIONS, OF_ONE = 128, 8
 # Suites of TLS 1.2 with a key of the session's own, and no CBC.
 SUITES = "ECDHE+AESGCM:ECDHE+CHACHA20"
+REVOKE = "/revoke-cert"
 
 
 class Front(http.server.BaseHTTPRequestHandler):
@@ -61,7 +62,7 @@ class Front(http.server.BaseHTTPRequestHandler):
                 return problem(refused, self.server.desk.call("HEAD", "/new-nonce").fields)
         except Down as down:
             log(str(down))
-            return problem(Refused("serverInternal", "the desk does not answer", 503), [("Retry-After", str(WAIT_DOWN)), ("Connection", "close")])
+            return problem(Refused("serverInternal", "the house can not act now", 503), [("Retry-After", str(WAIT_DOWN)), ("Connection", "close")])
 
     def _hand_on(self):
         # A connection that is closed with bytes unread may lose the reply: the body comes first.
@@ -69,10 +70,22 @@ class Front(http.server.BaseHTTPRequestHandler):
         if self.path.startswith("/office") or not re.fullmatch("/[!-~]*", self.path):
             raise Refused("malformed", "there is nothing here", 404)
         if self.command != "POST":
-            return self.server.desk.call(self.command, self.path)
+            return self._read_only()
         if self.headers.get_content_type() != "application/jose+json":
             raise Refused("malformed", "the content type is not application/jose+json", 415)
-        return self.server.desk.call("POST", self.path, self._envelope(Jws(body)))
+        return self._signed(Jws(body))
+
+    def _read_only(self):
+        """The reply to a request without a signature: the front's own list of what is revoked, and what it adds to the directory."""
+        revoked = self.server.revocation.list()
+        if revoked and self.command in ("GET", "HEAD") and self.path == "/crl":
+            return revoked
+        reply = self.server.desk.call(self.command, self.path)
+        if self.path != "/directory" or reply.status != 200:
+            return reply
+        more = {"revokeCert": self.server.desk.base + REVOKE} if revoked else {}
+        body = json.dumps({**json.loads(reply.body), **more, **self.server.policy.meta}, sort_keys=True, separators=(",", ":")).encode()
+        return Reply(200, [(name, value) for name, value in reply.fields if name != "Content-Length"] + [("Content-Length", str(len(body)))], body)
 
     def _body(self):
         """The body, of a length that is given or in chunks; what is behind a body that is too large is not read."""
@@ -102,21 +115,24 @@ class Front(http.server.BaseHTTPRequestHandler):
             raise Refused("malformed", "the size of a chunk is not given")
         return int(size[1], 16)
 
-    def _envelope(self, jws):
-        """What the desk reads of a signed request, once its signature was checked."""
+    def _signed(self, jws):
+        """The reply to a signed request, once its signature was checked."""
         url = self.server.desk.base + self.path
         key, spelling = jws.check(url, self._key(jws.header))
-        payload = looked_at(self.path, jws, url, key)
+        if self.path == REVOKE:
+            return self.server.revocation.reply(jws, key, spelling)
+        payload = looked_at(self.path, jws, url, key, spelling, self.server.policy)
         if payload and self.path.startswith("/chall/"):
             self.wake = partial(self.server.wake_validator, f"{self.path.removeprefix('/chall/')} {thumbprint(spelling)}")
         elif payload and self.path.endswith("/finalize"):
             self.wake = self.server.wake_office
-        nonce = {"nonce": jws.header["nonce"]} if "nonce" in jws.header else {}
-        return json.dumps({"jwk": spelling, "payload": payload, **nonce}).encode()
+        return self.server.desk.call("POST", self.path, jws.envelope(spelling, payload))
 
     def _key(self, header):
-        """The key that a request is to be signed by: the one that a newAccount shows, else that of the account it names."""
-        if ("jwk" in header, "kid" in header) != (self.path == "/new-account", self.path != "/new-account"):
+        """The key that a request is to be signed by: the one that a newAccount shows, or a revocation may show, else that of the account
+        it names."""
+        shows, names = "jwk" in header, "kid" in header
+        if shows == names or shows != (self.path == "/new-account") and self.path != REVOKE:
             raise Refused("malformed", "the request is to have a jwk or a kid, by its path")
         if "jwk" in header:
             return header["jwk"]
@@ -161,11 +177,12 @@ class Server(socketserver.ThreadingTCPServer):
 
     request_queue_size, daemon_threads, allow_reuse_address = CONNECTIONS, True, True
 
-    def __init__(self, address, certificate, desk, wake_validator, wake_office, says_requests):
+    def __init__(self, address, certificate, desk, policy, revocation, wake_validator, wake_office, says_requests):
         self.tls = ssl.create_default_context(ssl.Purpose.CLIENT_AUTH)
         self.tls.load_cert_chain(certificate)
         self.tls.set_ciphers(SUITES)
-        self.desk, self.wake_validator, self.wake_office, self.says_requests = desk, wake_validator, wake_office, says_requests
+        self.desk, self.policy, self.revocation = desk, policy, revocation
+        self.wake_validator, self.wake_office, self.says_requests = wake_validator, wake_office, says_requests
         self.room, self.lock, self.held = threading.Semaphore(CONNECTIONS), threading.Lock(), collections.Counter()
         if address[0] == "::" and not socket.has_dualstack_ipv6():
             address = "0.0.0.0", address[1]
@@ -210,6 +227,7 @@ class Server(socketserver.ThreadingTCPServer):
             super().finish_request(connection, client_address)
 
     def handle_error(self, request, client_address):
-        """A client that is gone, or speaks no TLS, is nobody's fault; all else is shown."""
-        if not isinstance(sys.exc_info()[1], OSError):
+        """A client that is gone, or speaks no TLS, is nobody's fault; all else is shown, and a program that is missing."""
+        fault = sys.exc_info()[1]
+        if not isinstance(fault, OSError) or isinstance(fault, FileNotFoundError):
             log_fault(f"{client_address[0]}: a request that was not answered")

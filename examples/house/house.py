@@ -1,26 +1,40 @@
 #!/usr/bin/python3
 """A small house around a desk: front, validator, signing office and an authority on disk. Nothing of it is proved (docs/HOUSE.md).
 
-  house.py FOLDER --desk PORT|SOCKET --port PORT [--bind ADDRESS] [--base URL] [--web ADDRESS:PORT] [--names ADDRESS:PORT]
-           [--allow-private] [--requests] [--part front|validator|office --validator SOCKET --office SOCKET]
+  house.py FOLDER --desk PORT|SOCKET [--base URL] [--part front|validator|office --validator SOCKET --office SOCKET --asks SOCKET]
+    front:      --port PORT [--bind ADDRESS] [--names DOMAIN,..] [--accounts FILE] [--bindings FILE] [--crl FILE] [--requests]
+    validator:  [--web ADDRESS:PORT] [--resolver ADDRESS:PORT] [--allow-private] [--allow-loopback]
+    office:     [--sign COMMAND [--revoke COMMAND]]
 
-FOLDER keeps the authority, and the front's key and certificate. The front is at a port of 127.0.0.1 where no address is given, and its
-base, which is the desk's, https://localhost:PORT. For trials, challenges are tried at the address of --web whatever their name is, and
-names are asked at that of --names. --allow-private has the validator connect to addresses that are not of the Internet. --requests says
-each request. --part runs one part as a process of its own; validator and office are then woken by their sockets.
+FOLDER keeps the authority, the ledger of what it signed, and the front's key and certificate. The front is at a port of 127.0.0.1 where no
+address is given, and at `::` at all of this machine; its base, which is the desk's, is https://localhost:PORT where none is given.
+docs/HOUSE.md says what --names, --accounts, --bindings, --sign and --revoke do. For trials, challenges are tried at the address of --web
+whatever their name is, and names are asked at that of --resolver. --allow-private has the validator connect to private addresses, and
+--allow-loopback to this machine's. --requests says each request. --part runs one part as a process of its own; validator and office are
+then woken by their sockets, and the office is asked by that of --asks.
 """
 import argparse
+import os
+import shlex
 import signal
+import sqlite3
 import sys
 import urllib.parse
 from functools import partial
 
-from authority import Authority
+from asks import Asks, ask
+from authority import Authority, end
+from command import Command, NotNow, NotSigned
 from desk import Desk
 from front import Server
+from ledger import Ledger
 from office import Office
+from policy import Policy
+from revocation import Revocation
 from validator import Validator
 from worker import Worker, log, notify
+
+TEXTS = "port base bind accounts bindings crl validator office asks".split()
 
 
 def address(text):
@@ -29,15 +43,32 @@ def address(text):
 
 
 def words():
-    parser = argparse.ArgumentParser(description="A small house around a desk.")
+    parser = argparse.ArgumentParser(description=__doc__, formatter_class=argparse.RawDescriptionHelpFormatter)
     parser.add_argument("folder")
     parser.add_argument("--part", choices=("front", "validator", "office"))
-    for word, kind in {"desk": str, "port": int, "base": str, "web": address, "names": address, "validator": str, "office": str}.items():
-        parser.add_argument(f"--{word}", type=kind, required=word == "desk")
-    parser.add_argument("--bind", default="127.0.0.1")
-    parser.add_argument("--allow-private", action="store_true")
-    parser.add_argument("--requests", action="store_true")
+    parser.add_argument("--desk", required=True)
+    for word in TEXTS:
+        parser.add_argument(f"--{word}", default="127.0.0.1" if word == "bind" else None)
+    for word, kind in {"web": address, "resolver": address, "names": lambda text: text.lower().split(","), "sign": shlex.split, "revoke": shlex.split}.items():
+        parser.add_argument(f"--{word}", type=kind)
+    for word in ("allow-private", "allow-loopback", "requests"):
+        parser.add_argument(f"--{word}", action="store_true")
     return parser.parse_args()
+
+
+def open_office(given, desk, base):
+    """The office over its authority and ledger, once it has certified the front; without them the process ends with a word."""
+    authority = Command(given.sign, given.revoke or ()) if given.sign else Authority(given.folder, revoked_at=f"{base}/crl")
+    if not os.path.exists(f"{given.folder}/root.pem"):
+        end(f"{given.folder} has no root.pem, by which is verified what {given.sign[0]} signs")
+    try:
+        office = Office(desk, authority, Ledger(f"{given.folder}/ledger.db"), given.folder)
+        office.certify_front(urllib.parse.urlsplit(base).hostname)
+    except sqlite3.Error as fault:
+        end(f"ledger.db of {given.folder} can not be read: {fault}")
+    except (NotSigned, NotNow) as why:
+        sys.exit(f"no certificate for the front: {why}")
+    return office
 
 
 def main():
@@ -45,19 +76,22 @@ def main():
     signal.signal(signal.SIGTERM, lambda *_: sys.exit(0))
     base = given.base or f"https://localhost:{given.port}"
     desk, wake_validator, wake_office = Desk(given.desk, base), partial(notify, given.validator), partial(notify, given.office)
+    asked, crl = partial(ask, given.asks), given.crl or f"{given.folder}/crl.der"
     if given.part in (None, "office"):
-        authority = Authority(given.folder)
-        authority.certify_front(urllib.parse.urlsplit(base).hostname)
-        worker = Worker(Office(desk, authority).work)
+        office = open_office(given, desk, base)
+        worker, asked = Worker(office.work), office.answer
         wake_office = worker.wake
     if given.part in (None, "validator"):
-        validator = Validator(desk, given.web, given.names, given.allow_private)
+        validator = Validator(desk, given.web, given.resolver, given.allow_private, given.allow_loopback)
         worker = Worker(validator.work, validator.hear)
         wake_validator = worker.wake
     if given.part in (None, "front"):
-        server = Server((given.bind, given.port), f"{given.folder}/front.pem", desk, wake_validator, wake_office, given.requests)
+        policy, revocation = Policy(given.names or (), given.accounts, given.bindings), Revocation(desk, asked, crl)
+        server = Server((given.bind, int(given.port)), f"{given.folder}/front.pem", desk, policy, revocation, wake_validator, wake_office, given.requests)
         log(f"the front serves {base}/directory")
         server.serve_forever()
+    if given.part == "office":
+        Asks(given.asks, office.answer)
     worker.wait_at(given.validator if given.part == "validator" else given.office)
 
 

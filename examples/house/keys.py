@@ -8,6 +8,8 @@ from cryptography.hazmat.primitives.asymmetric import ec, rsa
 from cryptography.hazmat.primitives.asymmetric.ed25519 import Ed25519PublicKey
 from cryptography.hazmat.primitives.serialization import Encoding, PublicFormat
 
+import factors
+
 CURVES = {"P-256": ec.SECP256R1(), "P-384": ec.SECP384R1(), "P-521": ec.SECP521R1()}
 CURVE_NAMES = {curve.name for curve in CURVES.values()}
 # The bits of an RSA key: fewer are too weak, and more take too long. Its exponent: odd, and 65537 or above.
@@ -80,6 +82,8 @@ def weakness_of(key):
     if isinstance(key, rsa.RSAPublicKey):
         if key.key_size not in RSA_BITS:
             return "the RSA key has too few bits or too many"
-        return None if key.public_numbers().e in RSA_EXPONENTS else "the exponent of the RSA key is below 65537, or not odd"
+        if key.public_numbers().e not in RSA_EXPONENTS:
+            return "the exponent of the RSA key is below 65537, or not odd"
+        return factors.weakness_of(key.public_numbers().n)
     is_used = isinstance(key, Ed25519PublicKey) or isinstance(key, ec.EllipticCurvePublicKey) and key.curve.name in CURVE_NAMES
     return None if is_used else "the key is of no kind that is used here"

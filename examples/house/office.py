@@ -3,21 +3,31 @@ import json
 
 from cryptography import x509
 from cryptography.hazmat.primitives.asymmetric import ec, rsa
+from cryptography.hazmat.primitives.hashes import SHA256
+from cryptography.hazmat.primitives.serialization import Encoding
 
 from addresses import is_name
+from authority import pem, write_over
+from certificates import accepted
+from command import NotNow, NotSigned
+from desk import Down
 from keys import decoded, weakness_of
-from worker import log, log_fault
+from worker import Worker, log, log_fault
 
 # The kinds of keys that are certified, and the hashes by which a CSR may be signed.
 CERTIFIED, HASHES = (rsa.RSAPublicKey, ec.EllipticCurvePublicKey), {"sha256", "sha384", "sha512"}
+# How often a list of what is revoked is signed, in seconds.
+LIST_EVERY = 86400
+# The reasons of revocations that are taken, by their codes (RFC 5280, 5.3.1).
+REASONS = {0: "unspecified", 1: "keyCompromise", 3: "affiliationChanged", 4: "superseded", 5: "cessationOfOperation"}
 
 
 class BadCsr(Exception):
     """Why a CSR has no certificate."""
 
 
-def key_asked_for(der, names):
-    """The key of a CSR, which must be signed by it, name exactly the names of the order, and have a key of a good kind."""
+def read_csr(der, names):
+    """A CSR that is signed by its key, names exactly the names of the order, and has a key of a good kind."""
     try:
         csr = x509.load_der_x509_csr(der)
         asked, key, hashed = names_in(csr), csr.public_key(), csr.signature_hash_algorithm
@@ -33,7 +43,7 @@ def key_asked_for(der, names):
         raise BadCsr("the names of the CSR are not those of the order")
     if not all(is_name(name.removeprefix("*.")) for name in names):
         raise BadCsr("a name of the order reads as an address")
-    return key
+    return csr
 
 
 def names_in(csr):
@@ -44,23 +54,93 @@ def names_in(csr):
 
 
 class Office:
-    """Certifies orders by an authority."""
+    """Certifies orders by an authority, records what it signed, and revokes."""
 
-    def __init__(self, desk, authority):
-        self.desk, self.authority = desk, authority
+    def __init__(self, desk, authority, ledger, folder):
+        self.desk, self.authority, self.ledger, self.folder = desk, authority, ledger, folder
+        self.wake_list = Worker(self.list_revoked, every=LIST_EVERY).wake
 
     def work(self):
-        """Certifies each order that is to be, or says why it is not; none of them keeps the others waiting."""
+        """Hands in what an earlier life has signed, and certifies each order that is to be, or says why it is not; none of them keeps
+        the others waiting."""
+        for number, serial, chain in self.ledger.untaken():
+            self._hand_in(number, serial, chain)
+        later = None
         for order in json.loads(self.desk.call("GET", "/office/orders").body)["orders"]:
             try:
-                self._settle(order["order"], order["names"], order["csr"])
+                self._settle(order["order"], order["names"], decoded(order["csr"]))
+            except NotNow as why:
+                later = why
+                log(f"order {order['order']} waits: {why}")
             except (ValueError, TypeError):
                 log_fault(f"order {order['order']} is left as it is")
+        if later:
+            raise Down(f"orders wait: {later}")
 
-    def _settle(self, number, names, csr):
+    def _settle(self, number, names, der):
+        chain = self.ledger.chain_of(number, der)
         try:
-            reason, verdict, body = "certified", "certify", self.authority.certify(names, key_asked_for(decoded(csr), names))
-        except BadCsr as bad:
-            reason, verdict, body = str(bad), "fail", json.dumps({"type": "badCSR", "detail": str(bad)}).encode()
-        reply = self.desk.call("POST", f"/office/{verdict}/{number}", body)
-        log(f"order {number}: {json.loads(reply.body)['status']}, {reason}")
+            certificate, chain = (x509.load_pem_x509_certificate(chain), chain) if chain else self._signed(number, names, der)
+        except (BadCsr, NotSigned) as bad:
+            kind = "badCSR" if isinstance(bad, BadCsr) else "serverInternal"
+            reply = self.desk.call("POST", f"/office/fail/{number}", json.dumps({"type": kind, "detail": str(bad)}).encode())
+            log(f"order {number}: {json.loads(reply.body)['status']}, {bad}")
+        else:
+            self._hand_in(number, f"{certificate.serial_number:X}", chain)
+
+    def _signed(self, number, names, der):
+        """A new certificate for a CSR and its chain, which the ledger has then."""
+        csr = read_csr(der, names)
+        if self.ledger.is_compromised(csr.public_key()):
+            raise BadCsr("others have the key of the CSR")
+        chain = self.authority.sign(names, csr)
+        certificate = accepted(chain, names, csr.public_key(), f"{self.folder}/root.pem")
+        self.ledger.add(number, names, der, certificate, chain)
+        return certificate, chain
+
+    def _hand_in(self, number, serial, chain):
+        """Hands in a chain that the ledger has."""
+        reply = self.desk.call("POST", f"/office/certify/{number}", chain)
+        if reply.status >= 500:
+            raise Down(f"the desk could not act on order {number}")
+        self.ledger.note_taken(number, chain, reply.status)
+        if reply.status == 200:
+            log(f"order {number}: {json.loads(reply.body)['status']}, certified")
+        else:
+            log(f"order {number}: the desk does not take certificate {serial} ({reply.status}), as the order has ended since it was signed")
+
+    def certify_front(self, host):
+        """Makes a new key and certificate for the front, which take the place of the last ones in front.pem."""
+        key = ec.generate_private_key(ec.SECP256R1())
+        named = x509.SubjectAlternativeName([x509.DNSName(host)])
+        csr = x509.CertificateSigningRequestBuilder().subject_name(x509.Name([])).add_extension(named, False).sign(key, SHA256())
+        chain = self.authority.sign([host], csr)
+        certificate = accepted(chain, [host], key.public_key(), f"{self.folder}/root.pem")
+        self.ledger.add(0, [host], csr.public_bytes(Encoding.DER), certificate, chain, taken=200)
+        write_over(f"{self.folder}/front.pem", pem(key) + chain)
+
+    def answer(self, certificate, reason=None):
+        """What the front asks: the order of a certificate that was signed here; and, by the code of a reason, that it be revoked."""
+        try:
+            certificate = x509.load_der_x509_certificate(decoded(certificate))
+            number = self.ledger.order_of(certificate)
+        except Exception:
+            number = None
+        if reason is None or number is None:
+            return {"order": number}
+        if reason not in REASONS:
+            return {"refused": "badRevocationReason"}
+        if not self.ledger.revoke(certificate, REASONS[reason]):
+            return {"refused": "alreadyRevoked"}
+        log(f"order {number}: certificate {certificate.serial_number:X} is revoked, {REASONS[reason]}")
+        self.wake_list()
+        return {"order": number}
+
+    def list_revoked(self):
+        """Has the authority know each revocation, and sign a new list of them, which the front serves."""
+        for chain, reason in self.ledger.untold():
+            self.authority.revoke(x509.load_pem_x509_certificate(chain), reason)
+            self.ledger.note_told(chain)
+        data = self.authority.list_revoked(self.ledger.revoked(), self.ledger.next_list())
+        if data:
+            write_over(f"{self.folder}/crl.der", data, 0o644)

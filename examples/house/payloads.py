@@ -2,32 +2,37 @@
 import json
 
 from cryptography import x509
-from cryptography.exceptions import UnsupportedAlgorithm
 
-from addresses import ends_in_number
-from keys import decoded
+from desk import Down
+from keys import decoded, thumbprint
 from signatures import Jws, Refused
 
-# What a payload fails by that is not what it should be.
-UNREADABLE = ValueError, KeyError, TypeError, AttributeError, RecursionError, UnsupportedAlgorithm
 
-
-def looked_at(path, jws, url, key):
-    """The payload for the desk, which is the client's but for a change of keys; what the desk does not look at is refused here."""
+def looked_at(path, jws, url, key, spelling, policy):
+    """The payload for the desk, which is the client's but for a change of keys, and for members that are null; what the desk does not look
+    at is refused here."""
     if path == "/key-change":
         return key_change(jws, url)
+    if not jws.payload:
+        return ""
     try:
         asked = json.loads(jws.payload)
-        if path == "/new-order" and any(ends_in_number(named["value"]) for named in asked["identifiers"]):
-            raise Refused("rejectedIdentifier", "a name that reads as an address is not certified here")
+        if path == "/new-account":
+            policy.check_account(asked, spelling, thumbprint(spelling), url)
+        if None in asked.values():
+            jws.payload = json.dumps({name: value for name, value in asked.items() if value is not None})
+        if path == "/new-order":
+            policy.check_order(asked["identifiers"])
         if path.endswith("/finalize"):
             csr = x509.load_der_x509_csr(decoded(asked["csr"]))
             if csr.public_key().public_numbers() == key.public_numbers():
                 raise Refused("badCSR", "the key of the CSR is that of the account")
-        if None in asked.values():
-            return json.dumps({name: value for name, value in asked.items() if value is not None})
-    except UNREADABLE:
-        pass  # The desk or the signing office refuses it.
+    except (Down, Refused):
+        raise
+    except Exception:
+        # What a firm allows is not left to how the desk reads it; all else the desk or the signing office refuses.
+        if path in ("/new-account", "/new-order"):
+            raise Refused("malformed", "the payload can not be read") from None
     return jws.payload
 
 
@@ -40,5 +45,5 @@ def key_change(jws, url):
     try:
         asked = json.loads(inner.payload)
         return json.dumps({"account": asked["account"], "oldKey": asked["oldKey"], "newKey": new_key})
-    except UNREADABLE:
+    except Exception:
         raise Refused("malformed", "the inner payload is to name an account and its old key") from None

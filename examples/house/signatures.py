@@ -13,13 +13,16 @@ KEYS = {"RS256": ("RSA", None), "PS256": ("RSA", None), "ES256": ("EC", "P-256")
         "ES512": ("EC", "P-521"), "EdDSA": ("OKP", "Ed25519")}
 
 
+ERROR = "urn:ietf:params:acme:error:"
+
+
 class Refused(Exception):
     """A request that the front refuses, by a type of RFC 8555, 6.7."""
 
     def __init__(self, kind, detail, status=400, **members):
         super().__init__(detail)
         self.status = status
-        self.document = {"type": f"urn:ietf:params:acme:error:{kind}", "detail": detail, "status": status, **members}
+        self.document = {"type": ERROR + kind, "detail": detail, "status": status, **members}
 
 
 class Jws:
@@ -55,6 +58,11 @@ class Jws:
         if not self._is_signed_by(key):
             raise Refused("malformed", "the signature is not that of the key")
         return key, spelling
+
+    def envelope(self, spelling, payload):
+        """What the desk reads of the request: the key that signed, a payload, and the nonce as it stands."""
+        nonce = {"nonce": self.header["nonce"]} if "nonce" in self.header else {}
+        return json.dumps({"jwk": spelling, "payload": payload, **nonce}).encode()
 
     def _is_signed_by(self, key):
         try:

@@ -26,11 +26,11 @@ RECORDS, CHARACTERS = 64, 255
 class Validator:
     """Tries challenges, some side by side, and accounts in turn."""
 
-    def __init__(self, desk, web=None, names=None, allow_private=False):
+    def __init__(self, desk, web=None, names=None, allow_private=False, allow_loopback=False):
         self.desk, self.resolver = desk, dns.resolver.Resolver(configure=not names)
         if names:
             self.resolver.nameservers, self.resolver.port = [names[0]], names[1]
-        self.network = Network(self.resolver, web, allow_private)
+        self.network = Network(self.resolver, web, allow_private, allow_loopback)
         self.turns, self.taken, self.told = Turns(SIDE_BY_SIDE, OF_ONE), set(), {}
 
     def hear(self, text):

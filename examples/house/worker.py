@@ -28,28 +28,29 @@ def notify(path, text=""):
 
 
 class Worker(threading.Thread):
-    """Does its work at the start, since an earlier life may have left some, whenever it is woken, and again after a fault."""
+    """Does its work at the start, since an earlier life may have left some, whenever it is woken, again after a fault, and every so many
+    seconds."""
 
-    def __init__(self, work, hear=lambda text: None):
+    def __init__(self, work, hear=None, every=None):
         super().__init__(daemon=True)
-        self.work, self.hear, self.called = work, hear, threading.Event()
+        self.work, self.hear, self.every, self.called = work, hear, every, threading.Event()
         self.wake()
         self.start()
 
     def wake(self, text=""):
         """Has the work done, once what is said of it was heard."""
-        if text:
+        if text and self.hear:
             self.hear(text)
         self.called.set()
 
     def run(self):
-        pause = None
+        pause = self.every
         while True:
             self.called.wait(pause)
             self.called.clear()
             try:
                 self.work()
-                pause = None
+                pause = self.every
             except Exception:
                 log_fault("work that is tried again")
                 pause = AGAIN

@@ -1,0 +1,36 @@
+"""What an authority gives for an order, before the desk has it: looked at, and verified by OpenSSL."""
+import datetime
+import subprocess
+import tempfile
+
+from cryptography import x509
+
+from command import CHAIN, NotSigned
+
+
+def accepted(chain, names, key, roots):
+    """The first certificate of a chain, which is for exactly these names and this key, is not over, is no authority's, and is verified
+    by the roots of a file."""
+    try:
+        certificate = x509.load_pem_x509_certificate(chain)
+        extensions = {type(extension.value): extension.value for extension in certificate.extensions}
+        named, constraints = extensions.get(x509.SubjectAlternativeName, []), extensions.get(x509.BasicConstraints)
+        is_named = sorted(str(name.value).lower() for name in named) == sorted(names) and all(isinstance(name, x509.DNSName) for name in named)
+        is_keyed = certificate.public_key() and certificate.public_key().public_numbers() == key.public_numbers()
+    except Exception:
+        raise NotSigned("what the authority wrote is no chain of certificates") from None
+    for is_good, why in ((len(chain) <= CHAIN, "is too large"), (is_named, "has other names than the order"), (is_keyed, "has another key than the CSR"),
+                         (certificate.not_valid_after > datetime.datetime.utcnow(), "is over"), (not (constraints and constraints.ca), "is an authority's"),
+                         (is_verified(chain, roots), "is not verified by the root")):
+        if not is_good:
+            raise NotSigned(f"the certificate {certificate.serial_number:X} of the authority {why}")
+    return certificate
+
+
+def is_verified(chain, roots):
+    """Whether OpenSSL verifies a chain for a server."""
+    with tempfile.NamedTemporaryFile() as file:
+        file.write(chain)
+        file.flush()
+        words = ["openssl", "verify", "-x509_strict", "-purpose", "sslserver", "-CAfile", roots, "-untrusted", file.name, file.name]
+        return subprocess.run(words, stdin=subprocess.DEVNULL, capture_output=True, timeout=60).returncode == 0
