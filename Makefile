@@ -138,14 +138,15 @@ bin/desk-unproved: $(SOURCES) ## compiles the program WITHOUT PROOF, in some min
 	@$(HAS_RT)
 	@python3 -B scripts/unproved.py
 
-# Everything is on the loopback, in a folder that is removed, and ends by itself; house-serve ends by control C.
+# Everything is on the loopback, in a folder that is removed, and ends by itself; house-serve ends by control C, and takes further words, as
+# WORDS='--port 14000 --web 5002 --names 5353'.
 house: ## has certbot get a certificate from a house around the desk
 	@$(HAS_ONE)
 	@$(HOUSE) run $(AROUND)
 
 house-serve: ## a house around the desk until control C
 	@$(HAS_ONE)
-	@$(HOUSE) serve $(AROUND)
+	@$(HOUSE) serve $(AROUND) $(WORDS)
 
 house-clients: ## has each client that is installed get a certificate
 	@$(HAS_ONE)
@@ -154,7 +155,8 @@ house-clients: ## has each client that is installed get a certificate
 house-test: ## what the gate tries of the house and of the units
 	@$(HAS_DESK)
 	@! $(HOUSE) packages || { /usr/bin/python3 -B scripts/house_test.py bin/desk && /usr/bin/python3 -B scripts/house_attacks.py bin/desk && \
-		/usr/bin/python3 -B scripts/house_signatures.py bin/desk && /usr/bin/python3 -B scripts/taken_port.py bin/desk; }
+		/usr/bin/python3 -B scripts/house_firm.py bin/desk && /usr/bin/python3 -B scripts/house_signatures.py bin/desk && \
+		/usr/bin/python3 -B scripts/taken_port.py bin/desk; }
 	@/usr/bin/python3 -B scripts/house_units.py bin/desk
 	@! $(HOUSE) packages certbot || /usr/bin/python3 -B scripts/first_hour.py bin/desk
 	@if $(HOUSE) packages certbot; then set -o pipefail; $(HOUSE) run bin/desk | tee bin/house.said && \

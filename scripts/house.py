@@ -2,13 +2,18 @@
 """The house of examples/house around a desk, tried by clients of Debian's packages.
 
   scripts/house.py run PROGRAM       makes a desk, starts the house, has certbot get a certificate, and verifies it
-  scripts/house.py serve PROGRAM     makes a desk and starts the house, says what to type, and waits for control C
-  scripts/house.py clients PROGRAM   has certbot, lego and uacme get a certificate each, where they are installed
+  scripts/house.py serve PROGRAM [--port PORT] [--web PORT] [--names PORT] [WORDS..]
+                                     makes a desk and starts the house, says what to type, and waits for control C; the front, http-01
+                                     challenges and a name server have these ports, and the house further words of its own
+  scripts/house.py clients PROGRAM   has clients get a certificate each, where they are installed, and serve it; then two of them with an
+                                     external account
   scripts/house.py packages [MORE..] says which packages are missing for the house itself, or these programs, and ends with 1 where some are
 
 Everything is on the loopback and in a folder of its own, which is removed at the end. Around the program that scripts/unproved.py compiled,
 each line says so. Where something fails, a line says what, and where all is that was said.
 """
+import argparse
+import base64
 import contextlib
 import functools
 import http.server
@@ -17,21 +22,20 @@ import os
 import shlex
 import shutil
 import signal
+import ssl
 import subprocess
 import sys
 import tempfile
 import threading
 import time
 
-from housed import ROOT, House, free_port
+from house_clients import NAME, apache2, caddy, certbot, haproxy, lego, uacme
+from housed import ROOT, House, Run, free_port
 
-NAME = "web.house.test"
 # The packages of Debian that the house needs, by what is looked for in its Python.
 PACKAGES = {"acme": "python3-acme", "cryptography": "python3-cryptography", "dns": "python3-dnspython", "josepy": "python3-josepy"}
-HOOK = """\
-#!/bin/sh
-case $1 in begin) [ "$2" = http-01 ] && printf %s "$5" > "{web}/$4" ;; esac
-"""
+# How long a server may take to get its certificate and serve by it, in seconds.
+PATIENCE = 120
 
 
 class Talk:
@@ -70,45 +74,11 @@ class Talk:
 def call(words, **environment):
     """The status of a program, and its lines, standard error too; a program that does not end has the status of timeout(1)."""
     try:
-        ran = subprocess.run(words, stdin=subprocess.DEVNULL, stdout=subprocess.PIPE, stderr=subprocess.STDOUT, text=True, timeout=120,
+        ran = subprocess.run(words, stdin=subprocess.DEVNULL, stdout=subprocess.PIPE, stderr=subprocess.STDOUT, text=True, timeout=PATIENCE,
                              env={**os.environ, **environment})
     except subprocess.TimeoutExpired as late:
         return 124, [*(late.output or b"").decode(errors="replace").splitlines(), f"{words[0]} did not end in {late.timeout} s"]
     return ran.returncode, ran.stdout.splitlines()
-
-
-def certbot(house, folder, port):
-    """The words and the environment by which certbot gets a certificate, and the path of its chain."""
-    words = ["certbot", "certonly", "--standalone", "--non-interactive", "--agree-tos", "--register-unsafely-without-email",
-             "--http-01-address", "127.0.0.1", "--http-01-port", str(port), "--server", f"{house.base}/directory", "--domain", NAME]
-    words += [f"--{name}-dir={folder}/{name}" for name in ("config", "work", "logs")]
-    return words, {"REQUESTS_CA_BUNDLE": house.root}, f"{folder}/config/live/{NAME}/fullchain.pem"
-
-
-def lego(house, folder, port):
-    words = ["lego", "--accept-tos", "--email", "a@b.example", "--server", f"{house.base}/directory", "--path", folder, "--http",
-             "--http.port", f"127.0.0.1:{port}", "--domains", NAME, "run"]
-    return words, {"LEGO_CA_CERTIFICATES": house.root}, f"{folder}/certificates/{NAME}.crt"
-
-
-def uacme(house, folder, port):
-    """uacme, with a change of the account's key. It trusts the machine's authorities alone: a name space of its own has the
-    house's in their place."""
-    web, hook = f"{folder}/.well-known/acme-challenge", f"{folder}/hook"
-    os.makedirs(web)
-    with open(os.open(hook, os.O_WRONLY | os.O_CREAT, 0o700), "w", encoding="utf-8") as file:
-        file.write(HOOK.format(web=web))
-    server = http.server.ThreadingHTTPServer(("127.0.0.1", port), functools.partial(Files, directory=folder))
-    threading.Thread(target=server.serve_forever, daemon=True).start()
-    begin = 'uacme --yes --confdir "$1" --acme-url "$2"'
-    steps = ('mount --bind "$0" /etc/ssl/certs/ca-certificates.crt', f"{begin} new", f"{begin} newkey", f'{begin} --hook "$3" issue "$4"')
-    words = ["unshare", "--map-root-user", "--mount", "sh", "-c", " && ".join(steps), house.root, folder, f"{house.base}/directory", hook, NAME]
-    return words, {}, f"{folder}/{NAME}/cert.pem"
-
-
-class Files(http.server.SimpleHTTPRequestHandler):
-    def log_message(self, form, *words):
-        pass
 
 
 def is_installed(client):
@@ -121,44 +91,127 @@ def is_installed(client):
 
 def failure_of(client, house, port, talk):
     """Has a client get a certificate, says in a line what came of it, and gives what failed, if something did."""
-    start = time.monotonic()
-    folder = f"{house.folder}/{client.__name__}"
+    folder, start = f"{house.folder}/{client.__name__}", time.monotonic()
     os.makedirs(folder)
-    words, environment, chain = client(house, folder, port)
+    words, environment, *made = client(house, folder, port)
+    if len(made) == 1:
+        return failure_of_server(client, house, words, environment, made[0], talk)
     status, lines = call(words, **environment)
     talk.note("\n".join(lines))
     if status:
         return f"{client.__name__} ended with status {status}"
     talk.say(f"{client.__name__}: a certificate of {NAME} after {time.monotonic() - start:.1f} s")
+    chain, key = made
     status, lines = call(["openssl", "verify", "-x509_strict", "-CAfile", house.root, "-verify_hostname", NAME, "-untrusted", chain, chain])
     talk.note("\n".join(lines))
     if status:
         return f"openssl does not verify the chain of {client.__name__}"
     talk.say("openssl: the chain is verified")
-    return None
+    with serving(chain, key) as tls:
+        return None if is_served(house, tls, talk) else f"the certificate of {client.__name__} serves nothing"
 
 
-def run(talk, program, clients=(certbot,)):
+def failure_of_server(client, house, words, environment, tls, talk):
+    """Runs a server until it serves by its certificate, starting it again now and then, as one of them takes a new one so."""
+    start, name = time.monotonic(), client.__name__
+    while time.monotonic() - start < PATIENCE:
+        run = Run(name, words, talk.note, "never said", env={**os.environ, **environment})
+        try:
+            for _ in range(10):
+                if is_served(house, tls, talk):
+                    talk.say(f"{name}: {NAME} is served by its certificate after {time.monotonic() - start:.1f} s")
+                    return None
+                time.sleep(1)
+        finally:
+            run.stop()
+    return f"{name} does not serve {NAME}"
+
+
+def is_served(house, tls, talk):
+    """Whether the name is served at a port, by a certificate that is verified."""
+    status, lines = call(["curl", "-sS", "--max-time", "10", "--cacert", house.root, "--resolve", f"{NAME}:{tls}:127.0.0.1", "-o", "/dev/null", f"https://{NAME}:{tls}/"])
+    talk.note("\n".join(lines))
+    return status == 0
+
+
+class Files(http.server.SimpleHTTPRequestHandler):
+    def log_message(self, form, *words):
+        pass
+
+
+@contextlib.contextmanager
+def serving(chain, key):
+    """Serves by a certificate, and gives the port."""
+    context = ssl.SSLContext(ssl.PROTOCOL_TLS_SERVER)
+    context.load_cert_chain(chain, key)
+    with http.server.ThreadingHTTPServer(("127.0.0.1", 0), functools.partial(Files, directory=os.path.dirname(chain))) as server:
+        server.socket = context.wrap_socket(server.socket, server_side=True)
+        threading.Thread(target=server.serve_forever, daemon=True).start()
+        yield server.server_port
+        server.shutdown()
+
+
+def run(talk, start, clients=(certbot,), more=""):
     """Starts a house, has each client get a certificate, and gives the exit status."""
     with tempfile.TemporaryDirectory(prefix="desk-house-") as folder:
+        # Some clients are another user's.
+        os.chmod(folder, 0o711)
+        failures = []
         port = free_port()
-        with House(program, folder, talk.say, web=port, errors=talk.file) as house:
-            failures = [failure for client in clients if (failure := failure_of(client, house, port, talk))]
+        with start(folder, talk.say, web=port, errors=talk.file) as house:
+            for client in clients:
+                failures += filter(None, [failure_of(client, house, port, talk)])
     if failures:
         return talk.fail(", ".join(failures))
-    talk.say("All has ended, and nothing is left." + (" Nobody proved the program that ran." if talk.before else ""))
+    talk.say(more or "All has ended, and nothing is left." + (" Nobody proved the program that ran." if talk.before else ""))
     return 0
 
 
-def serve(talk, program):
+def bind(program, folder, *given, **options):
+    """A house whose accounts are to be bound to an external one."""
+    binding, path = ("team-one", base64.urlsafe_b64encode(os.urandom(32)).decode().rstrip("=")), f"{folder}/bindings"
+    with open(path, "w", encoding="ascii") as file:
+        print(*binding, file=file)
+    house = House(program, folder, *given, more=[f"--bindings={path}", "--names=house.test"], **options)
+    house.binding = binding
+    return house
+
+
+class Texts:
+    """What a name server answers: the lines of the files of a folder, by their names."""
+
+    def __init__(self, folder):
+        self.folder = folder
+        os.mkdir(folder)
+
+    def get(self, name, none):
+        try:
+            with open(f"{self.folder}/{name.replace('/', '_')}", encoding="ascii") as file:
+                return file.read().split()
+        except (OSError, ValueError):
+            return none
+
+
+def serve(talk, program, *given):
     """Starts a house, says what to type, and waits."""
+    from house_client import Names
+
+    parser = argparse.ArgumentParser(prog="house.py serve")
+    for word in ("port", "web", "names"):
+        parser.add_argument(f"--{word}", type=int, default=free_port())
+    ports, more = parser.parse_known_args(given)
     with tempfile.TemporaryDirectory(prefix="desk-house-") as folder:
-        port = free_port()
-        with House(program, folder, talk.say, web=port, requests=True) as house:
-            words, environment, _ = certbot(house, f"{folder}/certbot", port)
+        Names(ports.names, Texts(f"{folder}/txt"))
+        with House(program, folder, talk.say, web=ports.web, names=ports.names, requests=True, port=ports.port, more=more) as house:
+            words, environment, *_ = certbot(house, f"{folder}/certbot", ports.web)
             before = " ".join(f"{name}={value}" for name, value in environment.items())
-            talk.say(f"Challenges by http-01 are tried at 127.0.0.1:{port}, whatever their name. In another terminal:")
+            talk.say(f"Challenges by http-01 are tried at 127.0.0.1:{ports.web}, whatever their name. In another terminal:")
             talk.say(f"  {before} {shlex.join(words)}")
+            talk.say(f"The name server at 127.0.0.1:{ports.names} answers by the files of {folder}/txt. For a wildcard:")
+            words[words.index("--standalone") :] = [word for word in words[words.index("--standalone") + 1 :] if "http-01" not in word and word not in ("127.0.0.1", str(ports.web))]
+            hook = f"echo $CERTBOT_VALIDATION >> {folder}/txt/_acme-challenge.$CERTBOT_DOMAIN"
+            words[-4] = "*.house.test"
+            talk.say(f"  {before} {shlex.join([*words, '--manual', '--preferred-challenges', 'dns', '--manual-auth-hook', hook])}")
             talk.say("Control C ends it, and removes all of it.")
             with contextlib.suppress(SystemExit):
                 signal.pause()
@@ -178,15 +231,19 @@ def do(word, given, talk):
     """Does what a word asks for, and gives the exit status."""
     if word == "serve":
         return serve(talk, *given)
-    clients = [client for client in (certbot, lego, uacme) if is_installed(client)] if word == "clients" else (certbot,)
-    return run(talk, *given, clients)
+    if word == "run":
+        return run(talk, functools.partial(House, *given))
+    clients = [client for client in (certbot, lego, uacme, apache2, caddy, haproxy) if is_installed(client)]
+    bound = [client for client in (certbot, lego) if client in clients]
+    return run(talk, functools.partial(House, *given), clients, "Now with accounts that are bound to an external one.") or run(
+        talk, functools.partial(bind, *given), bound)
 
 
 def main():
     word, *given = sys.argv[1:]
     if word == "packages":
         return 0 if are_there(("openssl", *given)) else 1
-    if not are_there(("openssl",) if word == "clients" else ("openssl", "certbot")):
+    if not are_there(("openssl", "curl") if word == "clients" else ("openssl", "curl", "certbot")):
         return 1
     # What ends the script ends all that it started.
     for end in (signal.SIGINT, signal.SIGTERM, signal.SIGHUP):

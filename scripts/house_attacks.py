@@ -354,28 +354,48 @@ def reports(_):
 def roots(_):
     """A root that is half there, of another key, or unreadable: the house ends with a word, and writes nothing over."""
     with tempfile.TemporaryDirectory(prefix="desk-house-") as folder:
-        made = [authority.Authority(f"{folder}/{name}") for name in "ab"]
-        see("the same root again", authority.Authority(f"{folder}/a").root, made[0].root)
-        (key, root, below), (_, other, other_below) = [[authority.read(f"{folder}/{name}/{file}") for file in ("root.key", "root.pem", "intermediate.pem")]
-                                                       for name in "ab"]
-        for what, left in (("key alone", {"root.key": key}), ("certificate alone", {"root.pem": root}), ("intermediate alone", {"intermediate.pem": below}),
-                           ("certificate of another key", {"root.key": key, "root.pem": other}), ("empty key", {"root.key": b"", "root.pem": root}),
-                           ("certificate cut off", {"root.key": key, "root.pem": root[:100]}),
-                           ("intermediate of another root", {"root.pem": root, "intermediate.pem": other_below}),
-                           ("intermediate cut off", {"root.pem": root, "intermediate.pem": below[:-100]}),
-                           ("intermediate of another key", {"root.pem": root, "intermediate.pem": authority.pem(made[1].key) + made[0].intermediate})):
-            path = f"{folder}/{what}"
-            os.mkdir(path, 0o700)
+        for name in "ab":
+            authority.opened(f"{folder}/{name}", "")
+        names = "root.key", "root.pem", "ca/intermediate.key", "ca/intermediate.pem"
+        (key, root, below_key, below), (_, other, other_key, other_below) = made = [[read(f"{folder}/{name}/{file}") for file in names] for name in "ab"]
+        authority.opened(f"{folder}/a", "")
+        see("the same authority again", [read(f"{folder}/a/{file}") for file in names], made[0])
+        for what, left in (("key alone", [key]), ("certificate alone", [b"", root]), ("intermediate alone", [b"", b"", below_key, below]),
+                           ("certificate of another key", [key, other]), ("certificate cut off", [key, root[:100]]),
+                           ("key cut off", [key[:50], root]), ("intermediate of another root", [b"", root, other_key, other_below]),
+                           ("intermediate cut off", [b"", root, below_key, below[:-100]]), ("intermediate without its key", [b"", root, b"", below]),
+                           ("intermediate of another key", [b"", root, other_key, below])):
+            path, left = f"{folder}/{what}", dict(filter(lambda file: file[1], zip(names, left)))
+            os.makedirs(f"{path}/ca", 0o700)
             for name, data in left.items():
                 with open(f"{path}/{name}", "wb") as file:
                     file.write(data)
             with contextlib.redirect_stderr(io.StringIO()) as said:
-                status = raised(SystemExit, authority.Authority, path)
-            found = {name: authority.read(f"{path}/{name}") for name in os.listdir(path)}
+                status = raised(SystemExit, authority.opened, path, "")
+            found = {name: read(f"{path}/{name}") for name in names if os.path.exists(f"{path}/{name}")}
+            if what in ("certificate of another key", "certificate cut off", "key cut off"):
+                # The key of an intermediate that was not made.
+                found.pop(names[2], None)
             tried(f"root: {what}", (status, said.getvalue().startswith("no authority: "), said.getvalue().count("\n"), found),
                   (str(os.EX_CONFIG), True, 1, left))
         ran = subprocess.run([sys.executable, "-B", f"{ROOT}/examples/house/house.py", path, "--desk=1", "--port=1"], capture_output=True, text=True)
         tried("root: the house over it", (ran.returncode, ran.stderr), (os.EX_CONFIG, said.getvalue()))
+        words = [sys.executable, "-B", f"{ROOT}/examples/house/authority.py", "--offline-root", f"{folder}/away"]
+        for name in ("a", "new"):
+            ran = subprocess.run([*words, f"{folder}/{name}"], capture_output=True, text=True)
+            tried(f"root: put away, of {name}", (ran.returncode, os.path.exists(f"{folder}/{name}/root.key"), os.stat(f"{folder}/away").st_mode & 0o777), (0, False, 0o600))
+            authority.opened(f"{folder}/{name}", "")
+            os.unlink(f"{folder}/{name}/ca/intermediate.pem")
+            with contextlib.redirect_stderr(io.StringIO()):
+                see("a new intermediate without the root's key", raised(SystemExit, authority.opened, f"{folder}/{name}", ""), str(os.EX_CONFIG))
+            see("a new intermediate by it", subprocess.run([*words, f"{folder}/{name}"], capture_output=True).returncode, 0)
+            authority.opened(f"{folder}/{name}", "")
+            os.unlink(f"{folder}/away")
+
+
+def read(path):
+    with open(path, "rb") as file:
+        return file.read()
 
 
 # ---- Keys and CSRs.
@@ -572,7 +592,7 @@ class Down:
 @contextlib.contextmanager
 def fronted(folder, called, address="127.0.0.1", wake=None, policy=policy.Policy()):
     """A front of its own before a desk; its address, and the lines that it logs."""
-    made = office.Office(called, authority.Authority(folder), ledger.Ledger(f"{folder}/ledger.db"), folder)
+    made = office.Office(called, authority.opened(folder, "https://localhost"), ledger.Ledger(f"{folder}/ledger.db"), folder)
     made.certify_front("localhost")
     server = front.Server((address, 0), f"{folder}/front.pem", called, policy, revocation.Revocation(called, made.answer, ""), wake, wake, True)
     threading.Thread(target=server.serve_forever, daemon=True).start()

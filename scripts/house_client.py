@@ -114,9 +114,9 @@ class WebHandler(http.server.BaseHTTPRequestHandler):
 class Names(socketserver.ThreadingUDPServer):
     """Answers questions for TXT records by what `texts` has for their names."""
 
-    def __init__(self):
-        self.texts = {}
-        super().__init__(("127.0.0.1", 0), NamesHandler)
+    def __init__(self, port=0, texts=None):
+        self.texts = {} if texts is None else texts
+        super().__init__(("127.0.0.1", port), NamesHandler)
         threading.Thread(target=self.serve_forever, daemon=True).start()
 
 

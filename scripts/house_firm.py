@@ -28,7 +28,7 @@ import josepy
 from cryptography import x509
 from cryptography.hazmat.primitives import hashes
 from cryptography.hazmat.primitives.asymmetric import ec
-from cryptography.hazmat.primitives.serialization import Encoding
+from cryptography.hazmat.primitives.serialization import Encoding, load_pem_private_key
 
 from house_attacks import Down, counts, csr_of, fronted, heard, raised, secured, tried, tried_refused, wait_for
 from house_client import Client, Names, Web, new_key
@@ -92,15 +92,14 @@ def killed(_):
 
         called = OneOrder(certify)
         words = [sys.executable, "-B", f"{ROOT}/examples/house/house.py", f"{folder}/ca", "--part=office", f"--desk={called.server_port}",
-                 "--base=https://localhost", f"--office={folder}/wakes", f"--asks={folder}/asks"]
+                 "--base=https://localhost", f"--office={folder}/asks"]
         for _ in range(2):
             ends.append(Run("office", words, lines.append, "never said"))
             wait_for(lambda: len(called.handed) == len(ends) and (len(ends) == 1 or any("409" in line for line in lines)))
             if len(ends) == 1:
                 ends[0].run.wait()
-            for name in ("wakes", "asks"):
-                with contextlib.suppress(FileNotFoundError):
-                    os.unlink(f"{folder}/{name}")
+            with contextlib.suppress(FileNotFoundError):
+                os.unlink(f"{folder}/asks")
         ends[1].stop()
         rows = ledger.Ledger(f"{folder}/ca/ledger.db")._do("SELECT number, names, taken, serial FROM certificate WHERE number > 0").fetchall()
         tried("killed office: certificates signed, and handed in", ([row[:3] for row in rows], len(called.handed), len(set(called.handed))),
@@ -119,6 +118,19 @@ def killed(_):
 
 
 # ---- A firm's own authority.
+
+
+def signed(folder, named, key, days, is_authority):
+    """A certificate by the intermediate of a folder, and that's."""
+    with open(f"{folder}/ca/intermediate.key", "rb") as secret, open(f"{folder}/ca/intermediate.pem", "rb") as certificate:
+        signer, below = load_pem_private_key(secret.read(), None), certificate.read()
+    now = datetime.datetime.utcnow()
+    built = x509.CertificateBuilder().issuer_name(x509.load_pem_x509_certificate(below).subject).subject_name(x509.Name([])).public_key(key)
+    built = built.serial_number(x509.random_serial_number()).not_valid_before(now - datetime.timedelta(1)).not_valid_after(now + datetime.timedelta(days))
+    for extension in (x509.SubjectAlternativeName(named), x509.BasicConstraints(is_authority, None), x509.SubjectKeyIdentifier.from_public_key(key),
+                      x509.AuthorityKeyIdentifier.from_issuer_public_key(signer.public_key())):
+        built = built.add_extension(extension, isinstance(extension, (x509.SubjectAlternativeName, x509.BasicConstraints)))
+    return built.sign(signer, hashes.SHA256()).public_bytes(Encoding.PEM) + below
 
 
 def signed_by(folder, sign):
@@ -149,7 +161,7 @@ def commands(_):
     """Commands that sign: those that fail, take too long, write too much, or write what is not the order's certificate."""
     command.SECONDS = 1
     with tempfile.TemporaryDirectory(prefix="desk-house-") as folder:
-        made, other = authority.Authority(folder), authority.Authority(f"{folder}/other")
+        authority.opened(folder, ""), authority.opened(f"{folder}/other", "")
         for what, text, detail in (
             ("fails", "echo 'not by us\x1b[2J\nmore' >&2; exit 1", "not by us?[2J"), ("says nothing", "exit 3", "the authority ended with status 3"),
             ("never ends", "sleep 1000 & sleep 1000", "the authority took too long"), ("never stops", "yes", "the authority wrote too much"),
@@ -162,20 +174,18 @@ def commands(_):
             tried(f"command that {what}: the order waits", (calls, "orders wait" in (why or "")), ([], True))
 
         def wrong(change):
-            """An authority that signs by the built-in one, but for what a function changes of names, key and signer."""
+            """An authority that signs by the keys of the built-in one, but for what is changed of names, key, signer, days and rights."""
             def sign(names, csr):
-                given = {"names": names, "key": csr.public_key(), "signer": made, "days": 90, "ca": x509.BasicConstraints(False, None), **change}
-                named = x509.SubjectAlternativeName([given.get("other") or x509.DNSName(name) for name in given["names"]])
-                return authority.made(given["signer"].key, authority.INTERMEDIATE, given["key"], x509.Name([]), given["days"], ("digital_signature",), given["ca"],
-                                      (named, True)) + given["signer"].intermediate
-            return SimpleNamespace(sign=sign, list_revoked=lambda *_: None)
+                given = {"names": names, "key": csr.public_key(), "signer": folder, "days": 90, "ca": False, **change}
+                return signed(given["signer"], given.get("other") or [x509.DNSName(name) for name in given["names"]], given["key"], given["days"], given["ca"])
+            return SimpleNamespace(sign=sign, revoking=())
 
         key, address = ec.generate_private_key(ec.SECP256R1()).public_key(), x509.IPAddress(ipaddress.ip_address("192.0.2.1"))
         for what, change, why in (("other names", {"names": ["b.house.test"]}, "has other names than the order"),
                                   ("one name more", {"names": [NAME, "b.house.test"]}, "has other names than the order"),
-                                  ("an address", {"other": address}, "has other names than the order"), ("another key", {"key": key}, "has another key than the CSR"),
-                                  ("no time", {"days": 0}, "is over"), ("a right to sign", {"ca": x509.BasicConstraints(True, None)}, "is an authority's"),
-                                  ("another root", {"signer": other}, "is not verified by the root")):
+                                  ("an address", {"other": [x509.DNSName(NAME), address]}, "has other names than the order"), ("another key", {"key": key}, "has another key than the CSR"),
+                                  ("no time", {"days": 0}, "is over"), ("a right to sign", {"ca": True}, "is an authority's"),
+                                  ("another root", {"signer": f"{folder}/other"}, "is not verified by the root")):
             found = failed(folder, wrong(change))
             tried(f"certificate of {what}", (found[0], re.sub("[0-9A-F]{20,}", "N", found[1])), ("serverInternal", f"the certificate N of the authority {why}"))
         see("the same without a change", [path for path, _ in signed_by(folder, wrong({}))[0]], ["/office/certify/5"])
@@ -206,6 +216,11 @@ def verified(trial, chain):
         ran = subprocess.run([*words, f"{folder}/chain.pem", f"{folder}/chain.pem"], capture_output=True, text=True)
     said = re.search("certificate revoked", ran.stderr)
     return "revoked" if said and ran.returncode else "good" if ran.returncode == 0 else ran.stderr
+
+
+def number_of(data):
+    """The number of a list of what is revoked."""
+    return x509.load_der_x509_crl(data).extensions.get_extension_for_class(x509.CRLNumber).value.crl_number
 
 
 def revocations(trial):
@@ -240,15 +255,12 @@ def revocations(trial):
     see("another certificate", verified(trial, second_chain), "good")
     see("a revocation by its own key", other.post(url, payload(second, reason=1), key=josepy.JWKEC(key=second_key), kid=None).status, 200)
     tried("revocation by its key that OpenSSL sees", wait_for(lambda: verified(trial, second_chain) == "revoked"))
-    order, place = trial.ordered("r.house.test")
-    client.finalize(order, ["r.house.test"], second_key)
-    tried("revocation of a key that others have, which is not certified again", trial.settled(place)["error"]["detail"], "others have the key of the CSR")
     found = x509.load_der_x509_crl(client.ask("GET", f"{trial.house.base}/crl").body)
     reasons = {entry.serial_number: entry.extensions.get_extension_for_class(x509.CRLReason).value.reason.value for entry in found}
     see("the list", reasons, {first.serial_number: "superseded", second.serial_number: "keyCompromise"})
-    number = found.extensions.get_extension_for_class(x509.CRLNumber).value.crl_number
+    number = number_of(client.ask("GET", f"{trial.house.base}/crl").body)
     trial.house.kill()
-    wait_for(lambda: x509.load_der_x509_crl(client.ask("GET", f"{trial.house.base}/crl").body).extensions[0].value.crl_number > number)
+    tried("revocation list that is signed anew at a start", wait_for(lambda: number_of(client.ask("GET", f"{trial.house.base}/crl").body) > number))
     see("a revoked certificate after a start", verified(trial, chain), "revoked")
     left = found.next_update - datetime.datetime.utcnow()
     print(f"house: revoked by account and by key; OpenSSL refuses both; the list was number {number} and holds for {left.days + 1} days")

@@ -64,13 +64,16 @@ class Run:
 
 class House:
     """A desk of a program in a folder, and the house around it, which calls it by `called_port`; `web` and `names` are ports for
-    trials of challenges, and `errors` is where the house's standard error goes."""
+    trials of challenges, `more` are further words of the house, and `errors` is where its standard error goes. `binding` is the identifier
+    and the key by which accounts are bound to an external one, where they are to be."""
 
-    def __init__(self, program, folder, say, web=None, names=None, requests=False, errors=subprocess.STDOUT):
-        self.program, self.folder, self.say, self.errors, self.runs, self.port = program, folder, say, errors, [], free_port()
+    binding = None
+
+    def __init__(self, program, folder, say, web=None, names=None, requests=False, errors=subprocess.STDOUT, port=None, more=()):
+        self.program, self.folder, self.say, self.errors, self.runs, self.port = program, folder, say, errors, [], port or free_port()
         self.base, self.root = f"https://localhost:{self.port}", f"{folder}/ca/root.pem"
         self.options = [f"--{name}=127.0.0.1:{port}" for name, port in (("web", web), ("resolver", names)) if port]
-        self.options += ["--requests"] if requests else []
+        self.options += [*more, *(["--requests"] if requests else [])]
 
     def make_desk(self):
         """Makes the desk and serves it."""

@@ -22,8 +22,7 @@ def is_name(text):
 
 
 def may_be_reached(text, allow_private=False, allow_loopback=False):
-    """Whether an address is of the Internet: no loopback, link-local, private, reserved or multicast one. Where they are allowed private
-    ones may be reached, too, and for trials those of the machine itself."""
+    """Whether an address is of the Internet: no loopback, link-local, private, reserved or multicast one; or of a kind that is allowed."""
     address = ipaddress.ip_address(text)
     if allow_private and any(address in network for network in PRIVATE) or allow_loopback and address.is_loopback:
         return True

@@ -38,7 +38,7 @@ class Reader(io.RawIOBase):
 
 
 class Lines(io.BufferedReader):
-    """What a Reader reads, where each line has a time of its own, and each other part of a body."""
+    """What a Reader reads, where each line has a time of its own, and each part of a body."""
 
     def __init__(self, reader, line, part):
         super().__init__(reader)

@@ -1,16 +1,15 @@
 """What an authority gives for an order, before the desk has it: looked at, and verified by OpenSSL."""
 import datetime
-import subprocess
 import tempfile
 
 from cryptography import x509
 
+from authority import openssl
 from command import CHAIN, NotSigned
 
 
 def accepted(chain, names, key, roots):
-    """The first certificate of a chain, which is for exactly these names and this key, is not over, is no authority's, and is verified
-    by the roots of a file."""
+    """The first certificate of a chain: for exactly these names and this key, not over, no authority's, and verified by a file of roots."""
     try:
         certificate = x509.load_pem_x509_certificate(chain)
         extensions = {type(extension.value): extension.value for extension in certificate.extensions}
@@ -32,5 +31,4 @@ def is_verified(chain, roots):
     with tempfile.NamedTemporaryFile() as file:
         file.write(chain)
         file.flush()
-        words = ["openssl", "verify", "-x509_strict", "-purpose", "sslserver", "-CAfile", roots, "-untrusted", file.name, file.name]
-        return subprocess.run(words, stdin=subprocess.DEVNULL, capture_output=True, timeout=60).returncode == 0
+        return openssl("verify", "-x509_strict", "-purpose", "sslserver", "-CAfile", roots, "-untrusted", file.name, file.name) is None

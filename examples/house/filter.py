@@ -1,8 +1,8 @@
 #!/usr/bin/python3
 """The way to the desk, by roles: filter.py PORT
 
-Listens on a socket for each role, which systemd hands it by the role's name, and hands a call on to the desk at a port of 127.0.0.1 if it
-is one that the role needs. Each role has one call under way, and the desk sees a whole request or none: who stalls, stalls his own role.
+Hands a call at a role's socket, which is systemd's, on to the desk at a port of 127.0.0.1 if it is one that the role needs. Each role has
+one call under way, and the desk sees a whole request or none: who stalls, stalls his own role.
 """
 import re
 import shutil
@@ -35,7 +35,6 @@ class Role(socketserver.UnixStreamServer):
         self.socket, self.role, self.allowed, self.port = listener, role, re.compile(ROLES[role]), port
 
     def handle_error(self, request, client_address):
-        """A part that is gone, or a desk that is stopped: the connection is closed, and the part asks again."""
         print(f"{self.role}: {sys.exc_info()[1]}", flush=True)
 
 
@@ -68,12 +67,8 @@ class Call(socketserver.StreamRequestHandler):
 
 def main():
     roles = environ["LISTEN_FDNAMES"].split(":")
-    servers = [Role(role, socket.socket(fileno=number), int(sys.argv[1])) for number, role in enumerate(roles, 3)]
-    threads = [threading.Thread(target=server.serve_forever) for server in servers]
-    for thread in threads:
-        thread.start()
-    for thread in threads:
-        thread.join()
+    for number, role in enumerate(roles, 3):
+        threading.Thread(target=Role(role, socket.socket(fileno=number), int(sys.argv[1])).serve_forever).start()
 
 
 if __name__ == "__main__":

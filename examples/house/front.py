@@ -21,22 +21,20 @@ from worker import log, log_fault
 
 # The bytes of a body, at most; those that are read of one that is larger, and of a whole request.
 BODY, MOST, REQUEST = 65536, 2**19, 2**20
-# How long a handshake may take, a line of the head, a body, a reply, and a whole request; after how long one that waits asks again,
-# in seconds.
+# Seconds of a handshake, a line of the head, a body, a reply, and a whole request; after which one that waits asks again.
 HANDSHAKE, LINE, PART, REPLY, WHOLE, WAIT, WAIT_DOWN = 10, 5, 20, 20, 40, 1, 10
 # The connections at one time: in all, where one more waits to be taken, and of one client, where one more is refused.
 CONNECTIONS, OF_ONE = 128, 8
 # Suites of TLS 1.2 with a key of the session's own, and no CBC.
 SUITES = "ECDHE+AESGCM:ECDHE+CHACHA20"
-REVOKE = "/revoke-cert"
+REVOKE, CHUNK = "/revoke-cert", re.compile(rb"([0-9A-Fa-f]{1,8})[ \t]*(;[^\r\n]*)?\r\n")
 
 
 class Front(http.server.BaseHTTPRequestHandler):
     """Answers one request of a client, and closes the connection."""
 
     protocol_version = "HTTP/1.1"
-    # What wakes the office that has work once this request was answered.
-    wake = None
+    wake = None  # What wakes the office that has work once this request was answered.
 
     def setup(self):
         super().setup()
@@ -102,24 +100,20 @@ class Front(http.server.BaseHTTPRequestHandler):
 
     def _chunks(self):
         """The chunks of a body (RFC 9112, 7.1); what is behind them is not looked at."""
-        while size := self._chunk_size():
-            yield self.rfile.read(size)
+        while (size := CHUNK.fullmatch(self.rfile.readline(1024))) and int(size[1], 16):
+            yield self.rfile.read(int(size[1], 16))
             if self.rfile.readline(3) != b"\r\n":
                 raise Refused("malformed", "a chunk has another length than it says")
-        while self.rfile.readline(MOST) not in (b"\r\n", b"\n", b""):
-            pass
-
-    def _chunk_size(self):
-        size = re.fullmatch(rb"([0-9A-Fa-f]{1,8})[ \t]*(;[^\r\n]*)?\r\n", self.rfile.readline(1024))
         if not size:
             raise Refused("malformed", "the size of a chunk is not given")
-        return int(size[1], 16)
+        while self.rfile.readline(MOST) not in (b"\r\n", b"\n", b""):
+            pass
 
     def _signed(self, jws):
         """The reply to a signed request, once its signature was checked."""
         url = self.server.desk.base + self.path
         key, spelling = jws.check(url, self._key(jws.header))
-        if self.path == REVOKE:
+        if self.path == REVOKE and self.server.revocation.list():
             return self.server.revocation.reply(jws, key, spelling)
         payload = looked_at(self.path, jws, url, key, spelling, self.server.policy)
         if payload and self.path.startswith("/chall/"):
@@ -129,8 +123,7 @@ class Front(http.server.BaseHTTPRequestHandler):
         return self.server.desk.call("POST", self.path, jws.envelope(spelling, payload))
 
     def _key(self, header):
-        """The key that a request is to be signed by: the one that a newAccount shows, or a revocation may show, else that of the account
-        it names."""
+        """The key that a request is to be signed by: the one that a newAccount shows, or a revocation, or that of the account it names."""
         shows, names = "jwk" in header, "kid" in header
         if shows == names or shows != (self.path == "/new-account") and self.path != REVOKE:
             raise Refused("malformed", "the request is to have a jwk or a kid, by its path")
@@ -172,8 +165,7 @@ def client_of(text):
 
 
 class Server(socketserver.ThreadingTCPServer):
-    """A port with TLS, at an address of either family; at `::` it is reached by both. Each connection has a thread of its own, its
-    handshake too. One client has few at one time, and where there are many in all the next one waits."""
+    """A port with TLS. Each connection has a thread of its own, its handshake too; `::` is reached by both families."""
 
     request_queue_size, daemon_threads, allow_reuse_address = CONNECTIONS, True, True
 

@@ -1,17 +1,13 @@
 #!/usr/bin/python3
 """A small house around a desk: front, validator, signing office and an authority on disk. Nothing of it is proved (docs/HOUSE.md).
 
-  house.py FOLDER --desk PORT|SOCKET [--base URL] [--part front|validator|office --validator SOCKET --office SOCKET --asks SOCKET]
+  house.py FOLDER --desk PORT|SOCKET [--base URL] [--part front|validator|office --validator SOCKET --office SOCKET]
     front:      --port PORT [--bind ADDRESS] [--names DOMAIN,..] [--accounts FILE] [--bindings FILE] [--crl FILE] [--requests]
     validator:  [--web ADDRESS:PORT] [--resolver ADDRESS:PORT] [--allow-private] [--allow-loopback]
     office:     [--sign COMMAND [--revoke COMMAND]]
 
-FOLDER keeps the authority, the ledger of what it signed, and the front's key and certificate. The front is at a port of 127.0.0.1 where no
-address is given, and at `::` at all of this machine; its base, which is the desk's, is https://localhost:PORT where none is given.
-docs/HOUSE.md says what --names, --accounts, --bindings, --sign and --revoke do. For trials, challenges are tried at the address of --web
-whatever their name is, and names are asked at that of --resolver. --allow-private has the validator connect to private addresses, and
---allow-loopback to this machine's. --requests says each request. --part runs one part as a process of its own; validator and office are
-then woken by their sockets, and the office is asked by that of --asks.
+FOLDER keeps the authority, the ledger, and the front's certificate. The front is at 127.0.0.1, by `--bind ::` at all addresses; its base is
+the desk's. For trials, challenges are tried at --web whatever their name is, and names are asked at --resolver.
 """
 import argparse
 import os
@@ -22,8 +18,8 @@ import sys
 import urllib.parse
 from functools import partial
 
-from asks import Asks, ask
-from authority import Authority, end
+from asks import Asks, ask, wake
+from authority import end, opened
 from command import Command, NotNow, NotSigned
 from desk import Desk
 from front import Server
@@ -32,10 +28,7 @@ from office import Office
 from policy import Policy
 from revocation import Revocation
 from validator import Validator
-from worker import Worker, log, notify
-
-TEXTS = "port base bind accounts bindings crl validator office asks".split()
-
+from worker import Worker, log
 
 def address(text):
     host, _, port = text.rpartition(":")
@@ -46,11 +39,9 @@ def words():
     parser = argparse.ArgumentParser(description=__doc__, formatter_class=argparse.RawDescriptionHelpFormatter)
     parser.add_argument("folder")
     parser.add_argument("--part", choices=("front", "validator", "office"))
-    parser.add_argument("--desk", required=True)
-    for word in TEXTS:
-        parser.add_argument(f"--{word}", default="127.0.0.1" if word == "bind" else None)
-    for word, kind in {"web": address, "resolver": address, "names": lambda text: text.lower().split(","), "sign": shlex.split, "revoke": shlex.split}.items():
-        parser.add_argument(f"--{word}", type=kind)
+    kinds = {"port": int, "web": address, "resolver": address, "names": lambda text: text.lower().split(","), "sign": shlex.split, "revoke": shlex.split}
+    for word in (*"desk base bind accounts bindings crl validator office".split(), *kinds):
+        parser.add_argument(f"--{word}", type=kinds.get(word), required=word == "desk", default="127.0.0.1" if word == "bind" else None)
     for word in ("allow-private", "allow-loopback", "requests"):
         parser.add_argument(f"--{word}", action="store_true")
     return parser.parse_args()
@@ -58,7 +49,7 @@ def words():
 
 def open_office(given, desk, base):
     """The office over its authority and ledger, once it has certified the front; without them the process ends with a word."""
-    authority = Command(given.sign, given.revoke or ()) if given.sign else Authority(given.folder, revoked_at=f"{base}/crl")
+    authority = Command(given.sign, given.revoke or ()) if given.sign else opened(given.folder, base)
     if not os.path.exists(f"{given.folder}/root.pem"):
         end(f"{given.folder} has no root.pem, by which is verified what {given.sign[0]} signs")
     try:
@@ -75,24 +66,22 @@ def main():
     given = words()
     signal.signal(signal.SIGTERM, lambda *_: sys.exit(0))
     base = given.base or f"https://localhost:{given.port}"
-    desk, wake_validator, wake_office = Desk(given.desk, base), partial(notify, given.validator), partial(notify, given.office)
-    asked, crl = partial(ask, given.asks), given.crl or f"{given.folder}/crl.der"
+    desk, wake_validator, wake_office = Desk(given.desk, base), partial(wake, given.validator), partial(wake, given.office)
+    asked, crl = partial(ask, given.office), given.crl or f"{given.folder}/crl.der"
     if given.part in (None, "office"):
         office = open_office(given, desk, base)
         worker, asked = Worker(office.work), office.answer
-        wake_office = worker.wake
+        wake_office, answer = worker.wake, lambda wake=None, **question: office.answer(**question) if wake is None else worker.wake(wake)
     if given.part in (None, "validator"):
         validator = Validator(desk, given.web, given.resolver, given.allow_private, given.allow_loopback)
         worker = Worker(validator.work, validator.hear)
-        wake_validator = worker.wake
+        wake_validator, answer = worker.wake, lambda wake: worker.wake(wake)
     if given.part in (None, "front"):
         policy, revocation = Policy(given.names or (), given.accounts, given.bindings), Revocation(desk, asked, crl)
-        server = Server((given.bind, int(given.port)), f"{given.folder}/front.pem", desk, policy, revocation, wake_validator, wake_office, given.requests)
+        server = Server((given.bind, given.port), f"{given.folder}/front.pem", desk, policy, revocation, wake_validator, wake_office, given.requests)
         log(f"the front serves {base}/directory")
         server.serve_forever()
-    if given.part == "office":
-        Asks(given.asks, office.answer)
-    worker.wait_at(given.validator if given.part == "validator" else given.office)
+    Asks(given.validator if given.part == "validator" else given.office, answer).serve_forever()
 
 
 if __name__ == "__main__":

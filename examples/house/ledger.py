@@ -3,18 +3,17 @@ import json
 import sqlite3
 import threading
 import time
+from datetime import timezone
 
 from cryptography.hazmat.primitives.hashes import SHA256
 from cryptography.hazmat.primitives.serialization import Encoding, PublicFormat
 
+DER = Encoding.DER, PublicFormat.SubjectPublicKeyInfo
 # A certificate by its fingerprint, with its order, names, keys and chain; the status by which the desk took it or not; its revocation.
-TABLE = """CREATE TABLE IF NOT EXISTS certificate (
+TABLES = """CREATE TABLE IF NOT EXISTS certificate (
     fingerprint BLOB PRIMARY KEY, serial TEXT NOT NULL, number INTEGER NOT NULL, names TEXT NOT NULL, csr BLOB NOT NULL, key BLOB NOT NULL,
-    ends INTEGER NOT NULL, chain BLOB NOT NULL, taken INTEGER, reason TEXT, revoked INTEGER, told INTEGER)"""
-INDEXES = "CREATE INDEX IF NOT EXISTS by_order ON certificate (number)", "CREATE INDEX IF NOT EXISTS by_key ON certificate (key)"
-# How long after its end a revoked certificate is listed, in seconds, so that a list of its lifetime's has it.
-LISTED = 30 * 86400
-COMPROMISED = "keyCompromise"
+    ends INTEGER NOT NULL, chain BLOB NOT NULL, taken INTEGER, reason TEXT, revoked INTEGER, told INTEGER);
+CREATE INDEX IF NOT EXISTS by_order ON certificate (number);"""
 
 
 class Ledger:
@@ -22,8 +21,7 @@ class Ledger:
 
     def __init__(self, path):
         self.lock, self.file = threading.Lock(), sqlite3.connect(path, isolation_level=None, check_same_thread=False)
-        for statement in (TABLE, *INDEXES):
-            self._do(statement)
+        self.file.executescript(TABLES)
 
     def _do(self, statement, *values):
         with self.lock:
@@ -32,8 +30,8 @@ class Ledger:
     def add(self, number, names, csr, certificate, chain, taken=None):
         """Records a certificate of an order that was signed; of the front's own the number is 0."""
         self._do("INSERT INTO certificate VALUES (?, ?, ?, ?, ?, ?, ?, ?, ?, NULL, NULL, NULL)", certificate.fingerprint(SHA256()),
-                 f"{certificate.serial_number:X}", number, json.dumps(names), csr, key_of(certificate.public_key()),
-                 int(certificate.not_valid_after.timestamp()), chain, taken)
+                 f"{certificate.serial_number:X}", number, json.dumps(names), csr, certificate.public_key().public_bytes(*DER),
+                 int(certificate.not_valid_after.replace(tzinfo=timezone.utc).timestamp()), chain, taken)
 
     def chain_of(self, number, csr):
         """The chain that was signed for the CSR of an order, or None; one that is over or revoked counts as none."""
@@ -42,8 +40,8 @@ class Ledger:
         return found and found[0]
 
     def untaken(self):
-        """The order, the serial and the chain of each certificate of which it is not known whether the desk has it."""
-        return self._do("SELECT number, serial, chain FROM certificate WHERE taken IS NULL ORDER BY number").fetchall()
+        """The order and the chain of each certificate of which it is not known whether the desk has it."""
+        return self._do("SELECT number, chain FROM certificate WHERE taken IS NULL ORDER BY number").fetchall()
 
     def note_taken(self, number, chain, status):
         """Records the status by which the desk answered a chain."""
@@ -66,22 +64,3 @@ class Ledger:
     def note_told(self, chain):
         """Records that the authority knows of a revocation."""
         self._do("UPDATE certificate SET told = 1 WHERE chain = ?", chain)
-
-    def revoked(self):
-        """The serial, the reason and the moment of each revocation that is to be listed."""
-        return [(int(serial, 16), reason, moment) for serial, reason, moment in
-                self._do("SELECT serial, reason, revoked FROM certificate WHERE revoked IS NOT NULL AND ends > ?", time.time() - LISTED)]
-
-    def is_compromised(self, key):
-        """Whether a certificate of this key was revoked because others have it."""
-        return self._do("SELECT 1 FROM certificate WHERE key = ? AND reason = ?", key_of(key), COMPROMISED).fetchone() is not None
-
-    def next_list(self):
-        """The number of the next list of revoked certificates."""
-        number = self._do("PRAGMA user_version").fetchone()[0] + 1
-        self._do(f"PRAGMA user_version = {number}")
-        return number
-
-
-def key_of(key):
-    return key.public_bytes(Encoding.DER, PublicFormat.SubjectPublicKeyInfo)

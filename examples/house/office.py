@@ -1,13 +1,13 @@
 """The signing office: the CSR of an order against its names, and then a certificate, or the reason why there is none."""
 import json
+import os
 
 from cryptography import x509
 from cryptography.hazmat.primitives.asymmetric import ec, rsa
 from cryptography.hazmat.primitives.hashes import SHA256
-from cryptography.hazmat.primitives.serialization import Encoding
+from cryptography.hazmat.primitives.serialization import Encoding, NoEncryption, PrivateFormat
 
 from addresses import is_name
-from authority import pem, write_over
 from certificates import accepted
 from command import NotNow, NotSigned
 from desk import Down
@@ -16,14 +16,14 @@ from worker import Worker, log, log_fault
 
 # The kinds of keys that are certified, and the hashes by which a CSR may be signed.
 CERTIFIED, HASHES = (rsa.RSAPublicKey, ec.EllipticCurvePublicKey), {"sha256", "sha384", "sha512"}
-# How often a list of what is revoked is signed, in seconds.
-LIST_EVERY = 86400
-# The reasons of revocations that are taken, by their codes (RFC 5280, 5.3.1).
-REASONS = {0: "unspecified", 1: "keyCompromise", 3: "affiliationChanged", 4: "superseded", 5: "cessationOfOperation"}
+# The seconds after which a list of what is revoked is signed anew; the reasons that are taken, by their codes (RFC 5280, 5.3.1).
+LIST_EVERY, REASONS = 86400, {0: "unspecified", 1: "keyCompromise", 3: "affiliationChanged", 4: "superseded", 5: "cessationOfOperation"}
 
 
-class BadCsr(Exception):
+class BadCsr(NotSigned):
     """Why a CSR has no certificate."""
+
+    kind = "badCSR"
 
 
 def read_csr(der, names):
@@ -50,7 +50,7 @@ def names_in(csr):
     """The names of a CSR, in lower case: those of its subject and of its extension (RFC 8555, 7.4)."""
     named = [extension.value for extension in csr.extensions if isinstance(extension.value, x509.SubjectAlternativeName)]
     named += [csr.subject.get_attributes_for_oid(x509.NameOID.COMMON_NAME)]
-    return {str(name.value).lower() for names in named for name in names}
+    return {text.lower() if text.isascii() else text for names in named for text in (str(name.value) for name in names)}
 
 
 class Office:
@@ -58,13 +58,15 @@ class Office:
 
     def __init__(self, desk, authority, ledger, folder):
         self.desk, self.authority, self.ledger, self.folder = desk, authority, ledger, folder
-        self.wake_list = Worker(self.list_revoked, every=LIST_EVERY).wake
+        if authority.revoking:
+            self.wake_list = Worker(self.list_revoked, every=LIST_EVERY).wake
+        elif os.path.exists(f"{folder}/crl.der"):
+            os.unlink(f"{folder}/crl.der")
 
     def work(self):
-        """Hands in what an earlier life has signed, and certifies each order that is to be, or says why it is not; none of them keeps
-        the others waiting."""
-        for number, serial, chain in self.ledger.untaken():
-            self._hand_in(number, serial, chain)
+        """Hands in what an earlier life has signed, and certifies each order that is to be, or says why not; none keeps others waiting."""
+        for number, chain in self.ledger.untaken():
+            self._hand_in(number, chain)
         later = None
         for order in json.loads(self.desk.call("GET", "/office/orders").body)["orders"]:
             try:
@@ -78,27 +80,22 @@ class Office:
             raise Down(f"orders wait: {later}")
 
     def _settle(self, number, names, der):
-        chain = self.ledger.chain_of(number, der)
         try:
-            certificate, chain = (x509.load_pem_x509_certificate(chain), chain) if chain else self._signed(number, names, der)
-        except (BadCsr, NotSigned) as bad:
-            kind = "badCSR" if isinstance(bad, BadCsr) else "serverInternal"
-            reply = self.desk.call("POST", f"/office/fail/{number}", json.dumps({"type": kind, "detail": str(bad)}).encode())
+            chain = self.ledger.chain_of(number, der) or self._signed(number, names, read_csr(der, names))
+        except NotSigned as bad:
+            reply = self.desk.call("POST", f"/office/fail/{number}", json.dumps({"type": bad.kind, "detail": str(bad)}).encode())
             log(f"order {number}: {json.loads(reply.body)['status']}, {bad}")
         else:
-            self._hand_in(number, f"{certificate.serial_number:X}", chain)
+            self._hand_in(number, chain)
 
-    def _signed(self, number, names, der):
-        """A new certificate for a CSR and its chain, which the ledger has then."""
-        csr = read_csr(der, names)
-        if self.ledger.is_compromised(csr.public_key()):
-            raise BadCsr("others have the key of the CSR")
+    def _signed(self, number, names, csr, taken=None):
+        """The chain of a new certificate, which the ledger has then."""
         chain = self.authority.sign(names, csr)
         certificate = accepted(chain, names, csr.public_key(), f"{self.folder}/root.pem")
-        self.ledger.add(number, names, der, certificate, chain)
-        return certificate, chain
+        self.ledger.add(number, names, csr.public_bytes(Encoding.DER), certificate, chain, taken)
+        return chain
 
-    def _hand_in(self, number, serial, chain):
+    def _hand_in(self, number, chain):
         """Hands in a chain that the ledger has."""
         reply = self.desk.call("POST", f"/office/certify/{number}", chain)
         if reply.status >= 500:
@@ -107,17 +104,16 @@ class Office:
         if reply.status == 200:
             log(f"order {number}: {json.loads(reply.body)['status']}, certified")
         else:
-            log(f"order {number}: the desk does not take certificate {serial} ({reply.status}), as the order has ended since it was signed")
+            serial = x509.load_pem_x509_certificate(chain).serial_number
+            log(f"order {number}: the desk does not take certificate {serial:X} ({reply.status}), as the order has ended since it was signed")
 
     def certify_front(self, host):
         """Makes a new key and certificate for the front, which take the place of the last ones in front.pem."""
         key = ec.generate_private_key(ec.SECP256R1())
         named = x509.SubjectAlternativeName([x509.DNSName(host)])
         csr = x509.CertificateSigningRequestBuilder().subject_name(x509.Name([])).add_extension(named, False).sign(key, SHA256())
-        chain = self.authority.sign([host], csr)
-        certificate = accepted(chain, [host], key.public_key(), f"{self.folder}/root.pem")
-        self.ledger.add(0, [host], csr.public_bytes(Encoding.DER), certificate, chain, taken=200)
-        write_over(f"{self.folder}/front.pem", pem(key) + chain)
+        chain = self._signed(0, [host], csr, taken=200)
+        write_over(f"{self.folder}/front.pem", key.private_bytes(Encoding.PEM, PrivateFormat.PKCS8, NoEncryption()) + chain)
 
     def answer(self, certificate, reason=None):
         """What the front asks: the order of a certificate that was signed here; and, by the code of a reason, that it be revoked."""
@@ -141,6 +137,14 @@ class Office:
         for chain, reason in self.ledger.untold():
             self.authority.revoke(x509.load_pem_x509_certificate(chain), reason)
             self.ledger.note_told(chain)
-        data = self.authority.list_revoked(self.ledger.revoked(), self.ledger.next_list())
-        if data:
-            write_over(f"{self.folder}/crl.der", data, 0o644)
+        write_over(f"{self.folder}/crl.der", self.authority.list_revoked(), 0o644)
+
+
+def write_over(path, data, mode=0o600):
+    """Writes a file in the place of what is there, of which either the old or the new one is there at each moment."""
+    with open(f"{path}.new", "wb", opener=lambda name, flags: os.open(name, flags, mode)) as file:
+        os.fchmod(file.fileno(), mode)
+        file.write(data)
+        file.flush()
+        os.fsync(file.fileno())
+    os.rename(f"{path}.new", path)

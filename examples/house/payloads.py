@@ -13,8 +13,6 @@ def looked_at(path, jws, url, key, spelling, policy):
     at is refused here."""
     if path == "/key-change":
         return key_change(jws, url)
-    if not jws.payload:
-        return ""
     try:
         asked = json.loads(jws.payload)
         if path == "/new-account":

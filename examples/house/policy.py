@@ -7,12 +7,10 @@ from desk import Down
 from keys import decoded, read_key
 from signatures import ERROR, Refused
 
-HASHES = {"HS256": "sha256", "HS384": "sha384", "HS512": "sha512"}
-
 
 class Policy:
-    """The names below these domains are certified, or all. Accounts are opened by keys whose thumbprints a file has, a line each, and by
-    those that are bound to an external account (RFC 8555, 7.3.4), of which a file has the key identifier and the MAC key, a line each."""
+    """The names below these domains are certified. Accounts are opened by the keys whose thumbprints a file has, a line each, and that are
+    bound to an external account (RFC 8555, 7.3.4), of which a file has key identifier and MAC key, a line each."""
 
     def __init__(self, domains=(), accounts=None, bindings=None):
         self.domains, self.accounts, self.bindings = domains, accounts, bindings
@@ -31,8 +29,8 @@ class Policy:
             return "a name is to be in ASCII, by A-labels"
         if ends_in_number(name):
             return "a name that reads as an address is not certified here"
-        below = f".{name.lower().removeprefix('*.')}"
-        return None if not self.domains or any(below.endswith(f".{domain}") for domain in self.domains) else "the name is not one that is certified here"
+        is_allowed = not self.domains or f".{name.lower().removeprefix('*.')}".endswith(tuple(f".{domain}" for domain in self.domains))
+        return None if is_allowed else "the name is not one that is certified here"
 
     def check_account(self, asked, spelling, thumbprint, url):
         """Refuses a key that may not open an account; an account that is there is found by any key."""
@@ -51,8 +49,8 @@ class Policy:
         try:
             header, bound = (json.loads(decoded(binding[name])) for name in ("protected", "payload"))
             signed = f"{binding['protected']}.{binding['payload']}".encode()
-            mac = hmac.digest(decoded(macs[header["kid"]]), signed, HASHES[header["alg"]])
-            is_signed = hmac.compare_digest(mac, decoded(binding["signature"]))
+            mac = hmac.digest(decoded(macs[header["kid"]]), signed, "sha256")
+            is_signed = header["alg"] == "HS256" and hmac.compare_digest(mac, decoded(binding["signature"]))
             return is_signed and header["url"] == url and "nonce" not in header and read_key(bound)[1] == spelling
         except Exception:
             return False

@@ -9,7 +9,6 @@ from signatures import Refused
 
 # What the desk says of a key that has no account, once it took the nonce; the fields of its reply that are handed on.
 STRANGER, KEPT = ("accountDoesNotExist", "unauthorized", "badPublicKey"), ("Connection", "Link", "Replay-Nonce")
-DETAILS = {"alreadyRevoked": "the certificate is revoked already", "badRevocationReason": "the reason is not taken here"}
 
 
 class Revocation:
@@ -49,5 +48,5 @@ class Revocation:
             return reply
         refused = self.ask(certificate=asked["certificate"], reason=reason if isinstance(reason, int) else -1).get("refused")
         if refused:
-            raise Refused(refused, DETAILS[refused])
+            raise Refused(refused, "the certificate is revoked already, or not for this reason")
         return Reply(200, [(name, value) for name, value in reply.fields if name in KEPT] + [("Content-Length", "0")], b"")

@@ -8,12 +8,10 @@ from cryptography.hazmat.primitives.hashes import SHA256
 
 from keys import BadKey, decoded, read_key
 
+ERROR = "urn:ietf:params:acme:error:"
 # The type and the curve of the keys of each algorithm (RFC 7518, 3.1; RFC 8037, 3.1).
 KEYS = {"RS256": ("RSA", None), "PS256": ("RSA", None), "ES256": ("EC", "P-256"), "ES384": ("EC", "P-384"),
         "ES512": ("EC", "P-521"), "EdDSA": ("OKP", "Ed25519")}
-
-
-ERROR = "urn:ietf:params:acme:error:"
 
 
 class Refused(Exception):

@@ -1,4 +1,4 @@
-"""Jobs that are done some side by side, few of one owner's at one time, and owners in turn: nobody's many keep another's one waiting."""
+"""Jobs that are done side by side, few of one owner's at one time, and owners in turn: nobody's many keep another's one waiting."""
 import collections
 import threading
 from concurrent.futures import ThreadPoolExecutor

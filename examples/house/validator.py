@@ -15,10 +15,8 @@ from keys import encoded
 from turns import Turns
 from worker import log, log_fault
 
-# How long a try may take in all, and the pauses before each; the challenges that are tried side by side, in all and of one account.
-TIMEOUT, PAUSES, SIDE_BY_SIDE, OF_ONE = 10, (0, 1, 2), 32, 4
-# The answers whose account the front has told that are remembered.
-TOLD = 10000
+# Seconds of a try, and before each; the challenges that are tried at one time, in all and of one account; those told that are remembered.
+TIMEOUT, PAUSES, SIDE_BY_SIDE, OF_ONE, TOLD = 10, (0, 1, 2), 32, 4, 10000
 # The TXT records that are reported, and the characters of each: one that fits has 43.
 RECORDS, CHARACTERS = 64, 255
 

@@ -1,12 +1,9 @@
 """What the processes of the house share: lines for a log, and work that somebody else wakes."""
-import contextlib
-import os
-import socket
 import threading
 import traceback
 
-# How long after a fault its work is tried again, in seconds; the bytes that who wakes it may say.
-AGAIN, SAID = 5, 256
+# How long after a fault its work is tried again, in seconds.
+AGAIN = 5
 
 
 def log(text):
@@ -20,16 +17,8 @@ def log_fault(what):
         log(line)
 
 
-def notify(path, text=""):
-    """Sends a datagram to a socket; where nobody listens nothing is done, since who starts asks for work anyway."""
-    with contextlib.suppress(OSError), socket.socket(socket.AF_UNIX, socket.SOCK_DGRAM) as sender:
-        sender.setblocking(False)
-        sender.sendto(text.encode(), path)
-
-
 class Worker(threading.Thread):
-    """Does its work at the start, since an earlier life may have left some, whenever it is woken, again after a fault, and every so many
-    seconds."""
+    """Does its work at the start, as an earlier life may have left some, when it is woken, after a fault, and every so many seconds."""
 
     def __init__(self, work, hear=None, every=None):
         super().__init__(daemon=True)
@@ -54,12 +43,3 @@ class Worker(threading.Thread):
             except Exception:
                 log_fault("work that is tried again")
                 pause = AGAIN
-
-    def wait_at(self, path):
-        """Wakes the work at each datagram to a socket, which the group of the process may send to."""
-        with socket.socket(socket.AF_UNIX, socket.SOCK_DGRAM) as waked:
-            waked.bind(path)
-            os.chmod(path, 0o660)
-            notify(os.environ.get("NOTIFY_SOCKET", ""), "READY=1")
-            while True:
-                self.wake(waked.recv(SAID).decode("latin-1"))
