@@ -16,7 +16,7 @@ ghost use Rattle.store_columns.specs.Flat.{bare_row};
 use crate::fault::{SaveFault, WriteFault};
 use crate::standing::Write;
 use crate::statements::{
-    date_column, int_or_null, number_column, text, wildcard_column, write_row,
+    date_column, int_or_null, number_column, number_columns, text, wildcard_column, write_row,
 };
 use desk_model::{AuthorizationEnd, AuthorizationRow, ChallengeRow, Report};
 use sql_schema::{authorizations, challenges, keys};
@@ -51,11 +51,17 @@ fn authorization_numbers(row: &AuthorizationRow) -> Result<AuthorizationNumbers,
     ensures numbers { IfOk result (λ numbers. numbers ≡ authorization_numbers (authorization_columns row.now)) }
     ensures fits { FitsAuthorization row.now → IsOk result }
 {
+    let [number, account, made, expires] = number_columns([
+        row.number,
+        row.account,
+        row.made,
+        row.expires,
+    ])?;
     Ok(AuthorizationNumbers {
-        number: number_column(row.number)?,
-        account: number_column(row.account)?,
-        made: number_column(row.made)?,
-        expires: number_column(row.expires)?,
+        number,
+        account,
+        made,
+        expires,
         ended: date_column(row.ended.map(|end| end.date))?,
     })
 }

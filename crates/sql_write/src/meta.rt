@@ -9,7 +9,7 @@ ghost use Rattle.sql_tables.specs.Layouts.{formatted_layout};
 
 use crate::fault::{SaveFault, WriteFault};
 use crate::standing::Write;
-use crate::statements::{number_column, text, write_row};
+use crate::statements::{number_columns, text, write_row};
 use desk_model::Meta;
 use sql_schema::meta;
 use sqlite::types::ValueRef;
@@ -35,17 +35,31 @@ fn meta_numbers(row: &Meta) -> Result<MetaNumbers, WriteFault>
     ensures numbers { IfOk result (λ numbers. numbers ≡ meta_numbers (meta_columns row.now)) }
     ensures fits { FitsMeta row.now → IsOk result }
 {
+    let policy = &row.policy;
     let counters = &row.counters;
+    let [nonce_life, order_life, authz_life] = number_columns([
+        policy.nonce_life(),
+        policy.order_life(),
+        policy.authz_life(),
+    ])?;
+    let [clock, nonces, accounts, orders, authzs, challs] = number_columns([
+        counters.clock.moment(),
+        counters.nonces,
+        counters.accounts,
+        counters.orders,
+        counters.authorizations,
+        counters.challenges,
+    ])?;
     Ok(MetaNumbers {
-        nonce_life: number_column(row.policy.nonce_life())?,
-        order_life: number_column(row.policy.order_life())?,
-        authz_life: number_column(row.policy.authz_life())?,
-        clock: number_column(counters.clock.moment())?,
-        nonces: number_column(counters.nonces)?,
-        accounts: number_column(counters.accounts)?,
-        orders: number_column(counters.orders)?,
-        authzs: number_column(counters.authorizations)?,
-        challs: number_column(counters.challenges)?,
+        nonce_life,
+        order_life,
+        authz_life,
+        clock,
+        nonces,
+        accounts,
+        orders,
+        authzs,
+        challs,
     })
 }
 

@@ -9,7 +9,7 @@ ghost use Rattle.sql_write.specs.Fits.{Fits, FitsNonce};
 
 use crate::fault::SaveFault;
 use crate::standing::Write;
-use crate::statements::{number_column, run, write_row};
+use crate::statements::{number_column, number_columns, run, write_row};
 use desk_model::Nonce;
 use sql_schema::nonces;
 use sqlite::types::ValueRef;
@@ -38,8 +38,7 @@ pub(crate) fn write_nonce<S: Alter>(
     ensures writes { HasWritten S.Store (writes nonce_writing write row.now) (AddsOrPuts nonce_layout write row.now) tx.old.conn.now tx.new.conn.now result }
     ensures fits { FitsNonce row.now → IfErr result IsNotTooLarge }
 {
-    let serial = number_column(row.serial)?;
-    let issued = number_column(row.issued)?;
+    let [serial, issued] = number_columns([row.serial, row.issued])?;
     let values = nonce_values(row, serial, issued);
     write_row(tx, write, nonces::WRITING, &values, &values)
 }

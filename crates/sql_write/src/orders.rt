@@ -12,7 +12,7 @@ ghost use Rattle.sql_tables.specs.Layouts.{order_layout};
 
 use crate::fault::{SaveFault, WriteFault};
 use crate::standing::Write;
-use crate::statements::{date_column, int_or_null, number_column, text, text_or_null, write_row};
+use crate::statements::{date_column, int_or_null, number_columns, text, text_or_null, write_row};
 use desk_model::{DatedBytes, DatedProblem, Listed, OrderRow, Text};
 use sql_schema::{listed, orders};
 use sqlite::types::ValueRef;
@@ -37,11 +37,17 @@ fn order_numbers(row: &OrderRow) -> Result<OrderNumbers, WriteFault>
     ensures numbers { IfOk result (λ numbers. numbers ≡ order_numbers (order_columns row.now)) }
     ensures fits { FitsOrder row.now → IsOk result }
 {
+    let [number, account, made, expires] = number_columns([
+        row.number,
+        row.account,
+        row.made,
+        row.expires,
+    ])?;
     Ok(OrderNumbers {
-        number: number_column(row.number)?,
-        account: number_column(row.account)?,
-        made: number_column(row.made)?,
-        expires: number_column(row.expires)?,
+        number,
+        account,
+        made,
+        expires,
         finalized: date_column(row.finalized.as_ref().map(|kept| kept.date))?,
         certified: date_column(row.certified.as_ref().map(|kept| kept.date))?,
         failed: date_column(row.failed.as_ref().map(|failure| failure.date))?,
@@ -136,11 +142,9 @@ pub(crate) fn write_listed<S: Alter>(
         tx.old.conn.now tx.new.conn.now result }
     ensures fits { FitsListed (record { owner = order; row = row.now }) → IfErr result IsNotTooLarge }
 {
-    let number = number_column(order)?;
-    let place = number_column(row.place)?;
-    let authorization = number_column(row.authorization)?;
+    let [order, place, authorization] = number_columns([order, row.place, row.authorization])?;
     let values = [
-        ValueRef::Int(number),
+        ValueRef::Int(order),
         ValueRef::Int(place),
         ValueRef::Int(authorization),
     ];

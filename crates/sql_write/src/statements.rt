@@ -1,5 +1,5 @@
 //! Statements inside a transaction and its end, and parts of rows as their parameters.
-ghost use Rattle.std.specs.Prelude.{◌≡◌, ◌⊎◌, ◌≤◌, ◌^◌, IfErr, OnErr, false, Err, IsOk, OnOk, IsTrue, pos, IfOk, MatchResult, option_map};
+ghost use Rattle.std.specs.Prelude.{◌≡◌, ◌⊎◌, ◌≤◌, ◌^◌, IfErr, OnErr, false, Err, IsOk, OnOk, IsTrue, pos, IfOk, MatchResult, map, option_map};
 ghost use Rattle.sqlite.specs.State.{Survives, HasCleanDisk, IsRolledBack};
 ghost use Rattle.sqlite.specs.Values.{bound, bound_value};
 ghost use Rattle.sqlite.specs.{Held.state, declared.types.Value.TheVariants.Text as SqlText};
@@ -9,6 +9,7 @@ ghost use Rattle.sql_schema.specs.Advances.{Declines, KeepsLast, Performs};
 ghost use Rattle.sql_write.specs.Committing.{HasCommitted, IsBeforeCommit};
 ghost use Rattle.sqlite_value.specs.Value.{owned};
 ghost use Rattle.sql_tables.specs.Images.{int_or_null, text_or_null};
+ghost use Rattle.desk_model.specs.Kept.{EachOf};
 ghost use Rattle.store_columns.specs.{Columns.wildcard_column, Limits.IfRecorded};
 
 use crate::fault::{SaveFault, WriteFault};
@@ -149,6 +150,22 @@ pub(crate) fn number_column(number: u64) -> Result<i64, WriteFault>
     } else {
         Err(WriteFault::TooLarge)
     }
+}
+
+/// Numbers as columns.
+///
+/// # Errors
+///
+/// `TooLarge`, where one of them is above 2^63 - 1.
+pub(crate) fn number_columns<const N: usize>(numbers: [u64; N]) -> Result<[i64; N], WriteFault>
+    ensures columns { IfOk result (λ columns. columns ≡ map (λ n. pos n) numbers.entry) }
+    ensures fits { EachOf Fits numbers.entry → IsOk result }
+{
+    let mut columns = [0; N];
+    for i in 0..N {
+        columns[i] = number_column(numbers[i])?;
+    }
+    Ok(columns)
 }
 
 /// A date as a column, or NULL.

@@ -12,9 +12,3 @@ returns-in_err-serial-clause-writes g c =
     let none = row_unwritten g.S.Store nonce_texts c.args.row.now c.args.write
     c.args.tx.now.conn.now c.in_err-serial.field-0.0 in
     search (rules, none)
-
-pub returns-in_err-issued-clause-writes : goal.returns-in_err-issued-clause-writes
-returns-in_err-issued-clause-writes g c =
-    let none = row_unwritten g.S.Store nonce_texts c.args.row.now c.args.write
-    c.args.tx.now.conn.now c.in_err-issued.field-0.0 in
-    search (rules, none)

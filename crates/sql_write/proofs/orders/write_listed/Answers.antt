@@ -7,20 +7,8 @@ returns-clause-writes g c =
     row_written g.S.Store listed_texts (record { owner = c.args.order; row = c.args.row.now }) _ _ c.write_row.result c.args.write _ _
     (search rules) (search rules) c.write_row.ensures.ran
 
-pub returns-in_err-number-clause-writes : goal.returns-in_err-number-clause-writes
-returns-in_err-number-clause-writes g c =
+pub returns-in_err-order-clause-writes : goal.returns-in_err-order-clause-writes
+returns-in_err-order-clause-writes g c =
     let none = row_unwritten g.S.Store listed_texts (record { owner = c.args.order; row = c.args.row.now }) c.args.write
-    c.args.tx.now.conn.now c.in_err-number.field-0.0 in
-    search (rules, none)
-
-pub returns-in_err-place-clause-writes : goal.returns-in_err-place-clause-writes
-returns-in_err-place-clause-writes g c =
-    let none = row_unwritten g.S.Store listed_texts (record { owner = c.args.order; row = c.args.row.now }) c.args.write
-    c.args.tx.now.conn.now c.in_err-place.field-0.0 in
-    search (rules, none)
-
-pub returns-in_err-authorization-clause-writes : goal.returns-in_err-authorization-clause-writes
-returns-in_err-authorization-clause-writes g c =
-    let none = row_unwritten g.S.Store listed_texts (record { owner = c.args.order; row = c.args.row.now }) c.args.write
-    c.args.tx.now.conn.now c.in_err-authorization.field-0.0 in
+    c.args.tx.now.conn.now c.in_err-order.field-0.0 in
     search (rules, none)
