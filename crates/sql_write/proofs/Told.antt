@@ -1,13 +1,11 @@
 -- Statements run one after the other, and the one that was refused.
 use Rattle.std.proofs.Common.{◌≡◌, ℕ, zero, suc, ◌+◌, ◌-◌, ◌<◌, List, [], ◌∷◌, ◌++◌, Result, Ok, Err, IfErr, IsOk, refl, sym, ap, subst, ◌∙◌, arith}
 use Rattle.std.proofs.Common.{◌⊎◌, inl, inr, add-one, append-nil, drop, get_or, length, take}
-use Rattle.std.specs.Prelude.{IsErrAnd, MatchResult}
 use Rattle.std.specs.{List.flat_map}
 use Rattle.std.proofs.{Math.Seq.take-suc, lemmas.Grind.flat_map-append}
 use Rattle.std.proofs.lemmas.List.{append_assoc, take-append-drop}
 use Rattle.sqlite.specs.Held.{Held, state}
-use Rattle.sqlite.specs.{Order.Row, Steps.FailsToCommit, Store.Ghosts}
-use Rattle.sqlite.specs.State.{HasCleanDisk, Survives}
+use Rattle.sqlite.specs.{Order.Row, State.Survives, Store.Ghosts}
 use Rattle.sqlite.specs.declared.error.Error.{Error}
 use Rattle.sql_schema.specs.Definitions.{definition_at}
 use Rattle.sql_schema.proofs.StaysLemmas.{asks_nothing}
@@ -17,10 +15,6 @@ use Rattle.sql_write.specs.{Committing.IsBeforeCommit, Numbers.IsNotTooLarge}
 use Rattle.sql_write.specs.Statements.{Sql, defines, defines_before}
 use Rattle.sql_write.specs.declared.fault.SaveFault.{SaveFault}
 use Rattle.sql_write.specs.declared.fault.SaveFault.TheVariants as save
-
--- a result with a fault of the commit in the place of its error
-abbrev IsCommitted : Result (Unit {0}) SaveFault → Result (Unit {0}) Error → Type 0
-IsCommitted q r = MatchResult r (λ x. q ≡ Ok x) (λ e. IsErrAnd q (λ why. why ≡ save.Commit e))
 
 -- the statements of one more row
 pub one_more : {X : Type 0} (of : X → List Sql) (rows : List X) (i : ℕ) (d : X) → i < length rows
@@ -127,16 +121,6 @@ module _ {S : Type 0} (g : Ghosts S) where
       (save.Statement error) first alone
 
 -- ---- the end of a transaction
-
--- what failed behind statements that were all run is the commit
-pub commit_told : {S : Type 0} (g : Ghosts S) (last after : Held S) (done : Result (Unit {0}) SaveFault) (u : Unit {0}) → done ≡ Ok u
-    → (r : Result (Unit {0}) Error) (q : Result (Unit {0}) SaveFault) → IsCommitted q r
-    → (HasCleanDisk (state g after) → IfErr r (FailsToCommit (state g last) (state g after)))
-    → IfErr q (λ why. (done ≡ Err why) ⊎ (IsOk done × FailedCommit g last after why))
-commit_told g last after done u is r (Ok v) told fails = tt
-commit_told g last after done u is (Ok v) (Err why) told fails = absurd (cc told)
-commit_told g last after done u is (Err error) (Err why) told fails =
-    inr (subst IsOk (sym is) refl, record { error = error; is = told; fails = fails })
 
 module _ {S : Type 0} (g : Ghosts S) (Fits : Type 0) (all : List Sql) (old : Held S) where
   -- what stopped the statements, or the commit behind them, is the cause

@@ -103,7 +103,10 @@ pub(crate) fn end<S: Alter>(
     ensures fits { IfErr done IsNotTooLarge → IfErr result IsNotTooLarge }
 {
     done?;
-    tx.commit().map_err(SaveFault::Commit)
+    match tx.commit() {
+        Ok(()) => Ok(()),
+        Err(error) => Err(SaveFault::Commit(error)),
+    }
 }
 
 // ---- parts of rows
