@@ -66,7 +66,7 @@ no_room() { SETUP='mount -t tmpfs -o size=1g tmpfs tmp' trial no_room root ./try
 # Control C on a terminal, while the program is compiled, leaves no process, and no file but what is kept for the next time.
 control_c() {
     LINES_SHOWN=12 trial control_c root '(until ls -d bin/unproved-* > /dev/null 2>&1; do sleep 1; done; sleep 20; printf "\\003"; sleep 9) |
-        script --quiet --return --command ./try /dev/null; echo "status $?"; ls -A /tmp bin; cat /proc/[0-9]*/comm'
+        script --quiet --return --command ./try /dev/null; echo "status $?"; ls -A /tmp bin; cut -d" " -f 2,3 /proc/[0-9]*/stat'
 }
 
 make_root
