@@ -5,7 +5,7 @@ set -euo pipefail
 export LC_ALL=C.UTF-8 LANGUAGE=
 cd "$(dirname "$0")/.."
 
-# The GB that have to be free, of memory and on the disks. While it makes machine code, the compiler takes 8 GB of memory; a proof takes
+# The GB that it takes, of memory and on the disks. While it makes machine code, the compiler takes 8 GB of memory; a proof takes
 # 2 or 3, the largest 5.7, and as many run as there are processors, or as RT_JOBS says.
 what=${1:-test} memory=9 disk=8 jobs=${RT_JOBS:-$(nproc)}
 packages=(python3 make openssl certbot python3-acme python3-josepy python3-cryptography python3-dnspython curl)
@@ -24,18 +24,20 @@ fail() {
     exit 1
 }
 
-# The free memory in GB, below the limit of the control group, of either version.
-free_memory() {
-    local free folder limit held cached
-    free=$(awk '/^(MemAvailable|SwapFree):/ {sum += $2} END {printf "%.0f", sum * 1024}' /proc/meminfo)
+# The memory of the machine in GB, or what is free of it, below the limit of the control group, of either version.
+memory() {
+    local found folder limit held cached fields='Total|SwapTotal'
+    [ "$1" = all ] || fields='Available|SwapFree'
+    found=$(awk "/^(Mem|)($fields):/ {sum += \$2} END {printf \"%.0f\", sum * 1024}" /proc/meminfo)
     for folder in /sys/fs/cgroup /sys/fs/cgroup/memory; do
         limit=$(cat "$folder"/memory.max "$folder"/memory.limit_in_bytes 2>/dev/null) || true
         [[ $limit =~ ^[0-9]+$ ]] || continue
         held=$(cat "$folder"/memory.current "$folder"/memory.usage_in_bytes 2>/dev/null) || true
         cached=$(awk '$1 == "inactive_file" {print $2}' "$folder/memory.stat")
-        [ $((limit - held + cached)) -ge "$free" ] || free=$((limit - held + cached))
+        [ "$1" = all ] || limit=$((limit - held + cached))
+        [ "$limit" -ge "$found" ] || found=$limit
     done
-    echo $((free / 1000000000))
+    echo $((found / 1000000000))
 }
 
 room_at() {
@@ -43,15 +45,16 @@ room_at() {
 }
 
 look() {
-    local folder free fewer
+    local folder fewer
     command -v rt >/dev/null ||
         fail 'rt is not on PATH: this repository wants the Rattle kit rattle-kit-13f; link its bin/rt as /usr/local/bin/rt'
     for folder in . bin crates .git crates/*; do
         [ ! -e "$folder" ] || [ -w "$folder" ] || fail "$(realpath "$folder") can't be written: make a clone of your own, on a disk that can"
     done
-    free=$(free_memory)
     [ "$what" = try ] || fewer=', or let fewer proofs run at a time (RT_JOBS=1 ./test)'
-    [ "$free" -ge "$memory" ] || fail "$free GB of memory are free, and ./$what takes $memory: end other programs${fewer:-}, or take a larger machine"
+    [ "$(memory all)" -ge "$memory" ] || fail "$(memory all) GB of memory are here, and ./$what takes $memory: take a larger machine${fewer:-}"
+    [ "$(memory free)" -ge "$memory" ] ||
+        echo "Of memory $(memory free) GB are free now, and ./$what takes $memory at its most: end other programs${fewer:-}." >&2
     for folder in . "${TMPDIR:-/tmp}"; do
         [ "$(room_at "$folder")" -ge "$disk" ] || fail "$(room_at "$folder") GB are free at $(realpath "$folder"), and ./$what takes $disk: make room there"
     done
@@ -104,7 +107,7 @@ install() {
     rm -f "$log"
 }
 
-if [ "$what" = memory ]; then free_memory; exit; fi
+if [ "$what" = memory ]; then memory free; exit; fi
 look
 mkdir -p bin
 exec 9> bin/setup.lock
