@@ -20,7 +20,7 @@ use Rattle.desk_store.specs.declared.open_fault.OpenFault.{OpenFault}
 use Rattle.app_files.specs.{Doing.Deed, declared.left.Left.Left}
 use Rattle.app_files.specs.Endings.{EndsInMemory, unopened}
 use Rattle.app_files.specs.Endings as ending
-use Rattle.app_reports.specs.declared.{fault.ReportFault.ReportFault, tally.Beside.Beside, faults.Checked.Checked, form.Form.Form}
+use Rattle.app_reports.specs.declared.{fault.ReportFault.ReportFault, beside.Beside.Beside, faults.Checked.Checked, form.Form.Form}
 use Rattle.app_reports.specs.Listed.{Roster, accounts_roster, authorizations_roster, orders_roster}
 use Rattle.app_reports.specs.declared.form.Form.TheVariants as form
 

@@ -15,9 +15,10 @@ use Rattle.desk_model.specs.declared.call.OfficeAsk.TheVariants as ask
 use Rattle.store_api.specs.Sight.{FailsToRead, ForTables, Sight, Stands}
 use Rattle.store_api.specs.{Storing.Causes, declared.fault.StorageFault.StorageFault}
 use Rattle.app_files.specs.Doing.{Deed}
-use Rattle.app_reports.specs.{About.about_text, Page.page_html, Printed.faults_text, Reported.Reports}
+use Rattle.app_page.specs.Page.{page_html}
+use Rattle.app_reports.specs.{About.about_text, Printed.faults_text, Reported.Reports}
 use Rattle.app_reports.specs.Listed.{PrintsAll, Roster}
-use Rattle.app_reports.specs.declared.{tally.Beside.Beside, faults.Checked.Checked, form.Form.Form, fault.ReportFault.ReportFault}
+use Rattle.app_reports.specs.declared.{beside.Beside.Beside, faults.Checked.Checked, form.Form.Form, fault.ReportFault.ReportFault}
 
 -- ---- reports
 

@@ -3,7 +3,7 @@ use Rattle.std.specs.Prelude.{◌≡◌, ℕ, List, Option, None, Some}
 use Rattle.std.specs.Borrow.{Bor}
 use Rattle.app_words.specs.declared.command.{AuthorizationListing.AuthorizationListing, OrderListing.OrderListing}
 use Rattle.desk_model.specs.{Document.order_status_text, Name.Name, Names.name_of, declared.status.OrderStatus.OrderStatus}
-use Rattle.app_reports.specs.declared.{lists.AuthorizationFilter.AuthorizationFilter, lists.OrderFilter.OrderFilter}
+use Rattle.app_reports.specs.declared.{asked.AuthorizationFilter.AuthorizationFilter, asked.OrderFilter.OrderFilter}
 use Rattle.app_commands.specs.declared.filters.Unasked.{Unasked}
 use Rattle.app_commands.specs.declared.filters.Unasked.TheVariants as unasked
 

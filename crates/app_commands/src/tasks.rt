@@ -12,9 +12,9 @@ use crate::fault::Fault;
 use crate::overseeing::{FileOverseer, Identity};
 use app_batch::batch;
 use app_files::Task;
+use app_page::write_page;
 use app_reports::{
     Beside, Checked, Form, ReportFault, RowList, list_faults, list_rows, seconds_ahead, tell_about,
-    write_page,
 };
 use app_words::{Revocation, Serving};
 use desk::Desk;

@@ -11,8 +11,8 @@ use Rattle.desk_files.specs.LeftFiles.{LeftFiles, file_sight}
 use Rattle.desk_store.specs.Desks.{AreOfDesk}
 use Rattle.app_files.specs.{Doing.Doing, Endings.IsDoneOver}
 use Rattle.app_reports.specs.Listed.{accounts_roster, authorizations_roster, orders_roster}
-use Rattle.app_reports.specs.declared.{lists.AuthorizationFilter.AuthorizationFilter, tally.Beside.Beside, form.Form.Form}
-use Rattle.app_reports.specs.declared.{lists.OrderFilter.OrderFilter}
+use Rattle.app_reports.specs.declared.{asked.AuthorizationFilter.AuthorizationFilter, beside.Beside.Beside, form.Form.Form}
+use Rattle.app_reports.specs.declared.{asked.OrderFilter.OrderFilter}
 use Rattle.app_lives.specs.Kept.{AreKept, calls_of}
 use Rattle.app_lives.specs.Told.{TellsAny, TellsBatch, TellsRevocation}
 

@@ -14,9 +14,9 @@ use Rattle.desk_files.specs.LeftFiles.{HoldDesk, LeftFiles, file_sight}
 use Rattle.desk_store.specs.{Desks.store_sight, declared.store.Store.Store}
 use Rattle.app_files.specs.{Doing.Doing, Endings.IsDoneOver, declared.left.Left.Left}
 use Rattle.app_reports.specs.Listed.{accounts_roster, authorizations_roster, orders_roster}
-use Rattle.app_reports.specs.declared.{lists.AuthorizationFilter.AuthorizationFilter, tally.Beside.Beside}
+use Rattle.app_reports.specs.declared.{asked.AuthorizationFilter.AuthorizationFilter, beside.Beside.Beside}
 use Rattle.app_files.specs.declared.left.Left.TheVariants as rest
-use Rattle.app_reports.specs.declared.{form.Form.Form, lists.OrderFilter.OrderFilter}
+use Rattle.app_reports.specs.declared.{form.Form.Form, asked.OrderFilter.OrderFilter}
 use Rattle.app_lives.specs.Kept.{Answered, HasLife}
 use Rattle.app_lives.specs.Told.{TellsAny, TellsBatch, TellsRevocation}
 

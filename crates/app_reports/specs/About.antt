@@ -5,7 +5,7 @@ use Rattle.moments.specs.Capped.{capped}
 use Rattle.std.specs.List.{flat_map}
 use Rattle.app_reports.specs.Tallied.{accounts_said, authorizations_said, challenges_said, orders_said, tally_of}
 use Rattle.desk_model.specs.Derived.{account_code, authz_code, chall_code, order_code}
-use Rattle.app_reports.specs.declared.tally.Beside.{Beside}
+use Rattle.app_reports.specs.declared.beside.Beside.{Beside}
 
 -- by how many seconds a desk's clock is ahead of the machine's, if it is
 abbrev pub ahead : (clock : ℕ) → (now : Option ℕ) → Option ℕ

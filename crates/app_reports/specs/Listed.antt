@@ -5,7 +5,7 @@ use Rattle.desk_model.specs.{Document.listed_rows, Tables.Tables}
 use Rattle.desk_model.specs.declared.rows.{AccountRow.AccountRow, AuthorizationRow.AuthorizationRow, OrderRow.OrderRow}
 use Rattle.app_reports.specs.Filter.{Allows, AreKept, AsksFor, IsNamed}
 use Rattle.app_reports.specs.Printed.{account_line, authorization_line, count_line, order_line}
-use Rattle.app_reports.specs.declared.{lists.AuthorizationFilter.AuthorizationFilter, form.Form.Form, lists.OrderFilter.OrderFilter}
+use Rattle.app_reports.specs.declared.{asked.AuthorizationFilter.AuthorizationFilter, form.Form.Form, asked.OrderFilter.OrderFilter}
 
 -- ---- what a list is
 

@@ -4,15 +4,15 @@ ghost use Rattle.std.specs.Io.KnownBytes.{Appends};
 ghost use Rattle.store_api.specs.Sight.{ForTables, Reads};
 ghost use Rattle.app_reports.specs.Listed.{Prints, PrintsAll, Turns, roster, KeepsOrder, KeepsAuthorization};
 ghost use Rattle.app_reports.specs.Printed.{count_line, account_line, order_line, authorization_line};
-ghost use Rattle.app_reports.specs.{Reported.Reports, declared.form.Form.Form as ReportForm, Filter.Allows};
+ghost use Rattle.app_reports.specs.{Reported.Reports, declared.form.Form.Form as ReportForm};
 ghost use Rattle.desk_model.specs.{Tables.Tables, Keys.thumbprint, Tokens.base64url};
 
-use crate::asked::{allows_account, allows_listed, allows_name};
+use crate::asked::{AuthorizationFilter, OrderFilter, allows_account, allows_listed, allows_name};
 use crate::fault::ReportFault;
 use crate::form::Form;
 use base64::engine::general_purpose::URL_SAFE_NO_PAD;
 use desk_book::Row;
-use desk_model::{AccountRow, AuthorizationRow, DnsName, Jwk, OrderRow, OrderStatus};
+use desk_model::{AccountRow, AuthorizationRow, Jwk, OrderRow};
 use json_texts::written_list;
 use keys::thumbprint;
 use moments::capped_moment_text;
@@ -209,17 +209,6 @@ fn url_safe(alloc: Global, bytes: &[u8]) -> Result<String, AllocError>
 
 // ---- orders
 
-/// Which orders are listed.
-#[derive(Drop)]
-pub struct OrderFilter {
-    /// The account whose orders they are, or `None` for all accounts.
-    pub account: Option<u64>,
-    /// The status that they have (RFC 8555, 7.1.6), or `None` for every status.
-    pub status: Option<OrderStatus>,
-    /// The name that they ask for (RFC 8555, 7.1.3), or `None` for every name.
-    pub name: Option<DnsName>,
-}
-
 impl RowList for OrderFilter {
     type Item = OrderRow;
 
@@ -271,35 +260,7 @@ impl RowList for OrderFilter {
     }
 }
 
-impl OrderFilter {
-    // Whether an order has the account and the status that are asked for.
-    fn allows(&self, row: &OrderRow) -> bool
-        ensures { IsTrue result ↔ (Allows self.now.account row.now.account × Allows self.now.status row.now.status) }
-    {
-        allows_account(self.account, row.account) && allows_status(self.status, row.status)
-    }
-}
-
-// Whether a status is one that is asked for.
-fn allows_status(asked: Option<OrderStatus>, status: OrderStatus) -> bool
-    ensures { IsTrue result ↔ Allows asked status }
-{
-    match asked {
-        Some(asked) => asked == status,
-        None => true,
-    }
-}
-
 // ---- authorizations
-
-/// Which authorizations are listed.
-#[derive(Drop)]
-pub struct AuthorizationFilter {
-    /// The account whose authorizations they are, or `None` for all accounts.
-    pub account: Option<u64>,
-    /// Their name, or `None` for every name.
-    pub name: Option<DnsName>,
-}
 
 impl RowList for AuthorizationFilter {
     type Item = AuthorizationRow;

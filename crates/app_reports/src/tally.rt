@@ -5,8 +5,9 @@ ghost use Rattle.store_api.specs.Sight.{ForTables, Reads};
 ghost use Rattle.app_reports.specs.Reported.{Reports};
 ghost use Rattle.app_reports.specs.Tallied.{IsTally, accounts_said, authorizations_said, challenges_said, ended_said, orders_said, tally_of, unended_said};
 ghost use Rattle.desk_model.specs.Derived.{account_code, authz_code, chall_code, order_code};
-ghost use Rattle.app_reports.specs.About.{about_text, ahead, base_said, clock_said, lives_said, meta_said, statuses_said};
+ghost use Rattle.app_reports.specs.About.{about_text, base_said, clock_said, lives_said, meta_said, statuses_said};
 
+use crate::beside::{Beside, seconds_ahead};
 use crate::fault::ReportFault;
 use desk_book::Row;
 use desk_model::{AccountRow, AuthorizationRow, ChallengeRow, Meta, OrderRow, Policy};
@@ -170,25 +171,6 @@ fn write_tally<R: Stated, K: RowsAbove, W: Write>(
 
 // ---- about a desk
 
-/// What is known beside the rows of a desk.
-#[derive(Clone, Copy)]
-pub struct Beside {
-    /// The machine's moment, in seconds since 1970-01-01T00:00:00Z, or `None` where its clock tells none.
-    pub now: Option<u64>,
-    /// How many bytes the log had that stood beside the file.
-    pub log: u64,
-}
-
-/// By how many seconds the clock of a desk is ahead of the machine's, if it is.
-pub fn seconds_ahead(clock: u64, now: Option<u64>) -> Option<u64>
-    ensures { result ≡ ahead clock now }
-{
-    match now {
-        Some(now) if now < clock => Some(clock - now),
-        _ => None,
-    }
-}
-
 /// Writes what a desk was made with, its clock, how many of its objects have each stored status, and the size of its log. It
 /// keeps one object's rows at most.
 ///
@@ -283,8 +265,12 @@ fn write_clock<W: Write>(
     }
 }
 
-/// Writes how many objects of each kind have each stored status.
-pub(crate) fn write_statuses<K: RowsAbove, W: Write>(
+/// Writes how many objects of each kind have each stored status. It keeps one object's rows at most.
+///
+/// # Errors
+///
+/// As `tell_about`.
+pub fn write_statuses<K: RowsAbove, W: Write>(
     alloc: Global,
     source: &mut K,
     out: &mut W,

@@ -1,0 +1,2 @@
+pub mod Html
+pub mod Page

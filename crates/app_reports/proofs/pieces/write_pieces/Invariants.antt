@@ -1,6 +1,0 @@
-use Rattle.std.proofs.Common.{drop}
-use Rattle.app_reports.proofs.Writing.{WritesUpTo}
-use Rattle.app_reports.proofs.pieces.write_pieces.Given as goal
-
-abbrev pub invariant-loop-piece : goal.invariant-loop-piece
-invariant-loop-piece g l = WritesUpTo g.P.Piece.html (g.W.Write.contents l.fn.out) (g.W.Write.contents l.out) l.pieces (drop l.piece-index l.pieces)
