@@ -5,9 +5,9 @@ use Rattle.store_api.specs.Sight.{Sight}
 use Rattle.desk.specs.{Meets.ActsOnce, State.DeskState, declared.fault.DeskFault.DeskFault}
 use Rattle.http_routes.specs.declared.{lines.Line.Line, request.Request.Request}
 use Rattle.http_routes.specs.declared.request.Request.TheVariants as request
-use Rattle.app_batch.specs.{LineRequests.call_of, declared.lines.AnswerFault.AnswerFault}
+use Rattle.app_batch.specs.{LineRequests.call_of, declared.fault.AnswerFault.AnswerFault}
 use Rattle.app_batch.specs.Said.{Answered, DeclinesTo, LacksMemory, RepliesTo, SaysNothing}
-use Rattle.app_batch.specs.declared.lines.AnswerFault.TheVariants as answerfault
+use Rattle.app_batch.specs.declared.fault.AnswerFault.TheVariants as answerfault
 
 module _ {S C : Type 0} (v : Sight S C) where
   -- what it asks was replied to

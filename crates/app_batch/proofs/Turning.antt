@@ -9,7 +9,7 @@ use Rattle.std.specs.declared.io.buffered.BufReader.{BufReader}
 use Rattle.app_batch.specs.InTurn.{AnswersEach, AnswersFirst, AnswersLine, AnswersLines, AreLines, Stops, StopsBehind, no_line, not_one, one_line_more}
 use Rattle.app_batch.specs.InTurn.{one_more, silent, unwritten}
 use Rattle.app_batch.specs.Said.{Answered, Says}
-use Rattle.app_batch.specs.declared.lines.AnswerFault.{AnswerFault}
+use Rattle.app_batch.specs.declared.fault.AnswerFault.{AnswerFault}
 use Rattle.desk.specs.State.{DeskState}
 use Rattle.store_api.specs.Sight.{Sight}
 

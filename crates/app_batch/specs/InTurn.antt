@@ -3,7 +3,7 @@ use Rattle.std.specs.Prelude.{◌≡◌, ◌≢◌, ℕ, List, [], ◌∷◌, �
 use Rattle.std.specs.Io.BufRead.{drop_through, first_piece}
 use Rattle.std.specs.Io.KnownBytes.{Appends}
 use Rattle.app_batch.specs.Said.{Says, SaysNothing}
-use Rattle.app_batch.specs.declared.lines.AnswerFault.{AnswerFault}
+use Rattle.app_batch.specs.declared.fault.AnswerFault.{AnswerFault}
 use Rattle.desk.specs.State.{DeskState}
 use Rattle.store_api.specs.Sight.{Sight}
 

@@ -5,8 +5,8 @@ use Rattle.http_routes.specs.Lines.{Spells, line_text}
 use Rattle.http_routes.specs.{Request.refused_reply, declared.lines.Line.Line, declared.request.Request.Request}
 use Rattle.http_routes.specs.declared.request.Request.TheVariants as request
 use Rattle.app_batch.specs.LineRequests.{IsRequestOf, call_of}
-use Rattle.app_batch.specs.declared.lines.AnswerFault.{AnswerFault}
-use Rattle.app_batch.specs.declared.lines.AnswerFault.TheVariants as answerfault
+use Rattle.app_batch.specs.declared.fault.AnswerFault.{AnswerFault}
+use Rattle.app_batch.specs.declared.fault.AnswerFault.TheVariants as answerfault
 use Rattle.desk.specs.{Meets.Meets, State.DeskState, declared.fault.DeskFault.DeskFault}
 use Rattle.store_api.specs.Sight.{Sight}
 

@@ -1,7 +1,9 @@
 //! Batches: lines of which each asks a call, answered by a desk over any store. `app_commands` and `app_trials` stand on it.
 #![tactic(auto)]
 
+mod fault;
 mod line_requests;
 mod lines;
 
-pub use lines::{AnswerFault, batch, batch_line};
+pub use fault::AnswerFault;
+pub use lines::{batch, batch_line};

@@ -7,6 +7,7 @@ ghost use Rattle.app_batch.specs.LineRequests.{call_of};
 ghost use Rattle.desk.specs.{Meets.ActsOnce, SeenDesks.IsSeenOn};
 ghost use Rattle.app_batch.specs.Said.{Answered, RepliesTo, DeclinesTo};
 
+use crate::fault::{AnswerFault, BatchFault};
 use crate::line_requests::request_of;
 use desk::{Desk, DeskFault};
 use desk_model::{Ask, Call, Reply};
@@ -14,35 +15,6 @@ use http_routes::{Line, LineFault, Request, Routes, read_line, reply_line};
 use std::alloc::Global;
 use std::io::{self, BufRead, BufReader, ErrorKind, Read, Write};
 use store_api::Storage;
-use thiserror::Error;
-
-/// Why a line is not answered.
-#[derive(Clone, Copy, Debug, Error)]
-pub enum AnswerFault {
-    /// The line is no call.
-    #[error("not a call")]
-    NotACall,
-    /// The desk declined the call.
-    #[error("{0}")]
-    Desk(DeskFault),
-    /// A growth was refused outside the desk, which is unchanged or as its answer left it.
-    #[error("out of memory")]
-    Memory,
-}
-
-// Why a batch ends before its input does.
-#[derive(Clone, Copy, Debug, Error)]
-enum BatchFault {
-    #[error("input")]
-    Input,
-    #[error("output")]
-    Output,
-    // The line of this number, from 1, is no call.
-    #[error("line {0}: not a call")]
-    NotACall(u64),
-    #[error("{0}")]
-    Desk(DeskFault),
-}
 
 /// The output line for the call that a line spells, or for the refusal of its request.
 ///
