@@ -1,6 +1,2 @@
-mod Done
-mod Bases
-mod Entries
 mod Commands
 mod Small
-mod Replied

@@ -6,18 +6,20 @@ use Rattle.sqlite.specs.Recovery.{Image}
 use Rattle.sqlite_disk.specs.declared.Disk as disk
 use Rattle.app_words.specs.declared.command.{Command.Command, Revocation.Revocation}
 use Rattle.app_words.specs.declared.command.Command.TheVariants as command
-use Rattle.app_commands.specs.Asked.{IsSaid, RevokesServed, refused, revoked, unheard}
-use Rattle.app_commands.specs.Deeds.{AnswersReader, ChecksStatuses, ListsRows, RevokesTarget, ServesCount, TellsAbout, TellsPage, AnswersLines, ByDesk, IsTold}
-use Rattle.app_commands.specs.Deeds.{Revokes, Serves, adopted, clocked, clockless, served, unadopted, unserved, how_checked, how_listed, how_served}
-use Rattle.app_commands.specs.{Faults.IsOfOpening, declared.fault.Fault.Fault}
+use Rattle.app_tasks.specs.Asked.{IsSaid, RevokesServed, refused, revoked, unheard}
+use Rattle.app_tasks.specs.Deeds.{AnswersReader, ChecksStatuses, ListsRows, RevokesTarget, ServesCount, TellsAbout, TellsPage, AnswersLines, ByDesk, IsTold}
+use Rattle.app_tasks.specs.Deeds.{Revokes, Serves, adopted, clocked, clockless, served, unadopted, unserved, how_checked, how_listed, how_served}
+use Rattle.app_tasks.specs.{Faults.IsOfOpening, declared.fault.Fault.Fault}
 use Rattle.app_commands.specs.Statuses.{EndsBackUp, IsToldCopied}
-use Rattle.app_commands.specs.Statuses.{Ends, EndsBy, EndsList, EndsMake, EndsOverFiles, IsToldMade, form_of, status_of, terms_in_memory, terms_of}
+use Rattle.app_commands.specs.Statuses.{Ends, EndsBy, EndsList, EndsMake, EndsOverFiles, IsToldMade, status_of, terms_in_memory}
+use Rattle.app_tasks.specs.{Deeds.form_of, GivenTerms.terms_of}
 use Rattle.desk_http.specs.declared.serve_fault.ServeFault.{ServeFault}
 use Rattle.desk.specs.{State.DeskState, declared.fault.DeskFault.DeskFault}
 use Rattle.desk_model.specs.{Terms.Terms, declared.refusal.Refusal.Refusal}
 use Rattle.store_api.specs.{Sight.Sight, Storing.Causes}
 use Rattle.desk_store.specs.declared.open_fault.OpenFault.{OpenFault}
-use Rattle.app_files.specs.{Doing.Deed, declared.left.Left.Left}
+use Rattle.app_files.specs.declared.left.Left.{Left}
+use Rattle.app_tasks.specs.Doing.{Deed}
 use Rattle.app_files.specs.Endings.{EndsInMemory, unopened}
 use Rattle.app_files.specs.Endings as ending
 use Rattle.app_reports.specs.declared.{fault.ReportFault.ReportFault, beside.Beside.Beside, faults.Checked.Checked, form.Form.Form}

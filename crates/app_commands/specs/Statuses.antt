@@ -2,48 +2,32 @@
 use Rattle.std.specs.Prelude.{◌≡◌, ◌≢◌, ◌⊎◌, ℕ, Bool, List, codes, Option, Some, None, Result, Ok, Err, true, false}
 use Rattle.sqlite.specs.Recovery.{Image}
 use Rattle.sqlite_disk.specs.declared.Disk as disk
-use Rattle.app_words.specs.declared.command.{AuthorizationListing.AuthorizationListing, OrderListing.OrderListing, Command.Command, Syncs.Syncs, Terms.Terms as Words}
+use Rattle.app_words.specs.declared.command.{AuthorizationListing.AuthorizationListing, OrderListing.OrderListing, Command.Command, Syncs.Syncs}
 use Rattle.app_words.specs.declared.command.Command.TheVariants as command
 use Rattle.app_words.specs.declared.command.Syncs.TheVariants as syncs
-use Rattle.app_commands.specs.{Asked.RevokesServed, declared.filters.Unasked.Unasked, declared.fault.Fault.Fault, declared.limits.Limit.Limit}
-use Rattle.app_commands.specs.Filters.{AreRight, AsksForAuthorizations, AsksForOrders, StandsForName}
-use Rattle.app_commands.specs.Deeds.{AnswersReader, ChecksStatuses, ListsRows, RevokesTarget, ServesCount, TellsAbout, TellsPage}
-use Rattle.app_commands.specs.Faults.{IsOfOpening, open_fault}
-use Rattle.app_commands.specs.declared.filters.Unasked.TheVariants as unasked
-use Rattle.app_commands.specs.declared.fault.Fault.TheVariants as fault
-use Rattle.app_commands.specs.declared.limits.Limit.TheVariants as limit
-use Rattle.desk_model.specs.Terms.{Terms, are_terms, is_base, is_life}
+use Rattle.app_tasks.specs.{Asked.RevokesServed, declared.filters.Unasked.Unasked, declared.fault.Fault.Fault}
+use Rattle.app_tasks.specs.Filters.{AreRight, AsksForAuthorizations, AsksForOrders, StandsForName}
+use Rattle.app_tasks.specs.Deeds.{AnswersReader, ChecksStatuses, ListsRows, RevokesTarget, ServesCount, TellsAbout, TellsPage, form_of}
+use Rattle.app_tasks.specs.{Faults.IsOfOpening, Faults.open_fault, GivenTerms.terms_of}
+use Rattle.app_tasks.specs.declared.filters.Unasked.TheVariants as unasked
+use Rattle.app_tasks.specs.declared.fault.Fault.TheVariants as fault
+use Rattle.desk_model.specs.Terms.{Terms, are_terms}
 use Rattle.desk_store.specs.declared.open_fault.OpenFault.{OpenFault}
 use Rattle.desk.specs.declared.fault.DeskFault.{DeskFault}
 use Rattle.desk.specs.declared.fault.DeskFault.TheVariants as deskfault
-use Rattle.app_files.specs.{Doing.Deed, declared.copies.CopyFault.CopyFault, declared.left.Left.Left}
+use Rattle.app_files.specs.declared.left.Left.{Left}
+use Rattle.app_tasks.specs.{Doing.Deed, declared.copies.CopyFault.CopyFault}
 use Rattle.app_files.specs.Endings.{EndsInMemory, EndsMaking, EndsOver}
-use Rattle.app_files.specs.declared.copies.CopyFault.TheVariants as copyfault
+use Rattle.app_tasks.specs.declared.copies.CopyFault.TheVariants as copyfault
 use Rattle.app_files.specs.declared.left.Left.TheVariants as rest
 use Rattle.app_reports.specs.Listed.{accounts_roster, authorizations_roster, orders_roster}
 use Rattle.app_reports.specs.declared.{asked.AuthorizationFilter.AuthorizationFilter, beside.Beside.Beside, form.Form.Form}
 use Rattle.app_reports.specs.declared.form.Form.TheVariants as form
 use Rattle.app_reports.specs.declared.asked.OrderFilter.{OrderFilter}
 
--- the terms that the words give
-abbrev pub terms_of : Words → Terms
-terms_of w = record { base = w.base.now; nonce_life = w.nonce_life; order_life = w.order_life; authz_life = w.authz_life }
-
--- those of a desk in memory
+-- the terms of a desk in memory
 abbrev pub terms_in_memory : Terms
 terms_in_memory = record { base = codes "https://ca.example"; nonce_life = 3600; order_life = 604800; authz_life = 2592000 }
-
--- the terms keep this limit
-abbrev pub keeps : Terms → Limit → Bool
-keeps t limit.Base = is_base t.base
-keeps t limit.NonceLife = is_life t.nonce_life
-keeps t limit.OrderLife = is_life t.order_life
-keeps t limit.AuthzLife = is_life t.authz_life
-
--- the form that is asked for
-abbrev pub form_of : Bool → Form
-form_of true = form.Json
-form_of false = form.Text
 
 -- how often a commit syncs that a command makes: as its word says, or twice
 abbrev pub syncs_of : Command → Syncs

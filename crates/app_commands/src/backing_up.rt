@@ -3,10 +3,9 @@ ghost use Rattle.std.specs.Prelude.{◌≡◌, ◌≢◌, Ok};
 ghost use Rattle.sqlite.specs.WalFiles.{image_at};
 ghost use Rattle.app_commands.specs.Statuses.{EndsBackUp, IsToldCopied};
 
-use crate::fault::Fault;
-use crate::tasks::CheckStatuses;
-use app_files::{CopyFault, Left, copy_file, is_taken, run_over_file};
+use app_files::{Left, run_over_file};
 use app_reports::Form;
+use app_tasks::{CheckStatuses, CopyFault, Fault, copy_file, is_taken};
 use desk_http::moment;
 use sqlite::{FileFrom, Start};
 use sqlite_disk::Disk;

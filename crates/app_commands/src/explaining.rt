@@ -1,8 +1,7 @@
 //! What is said of a fault behind its line.
 
-use crate::fault::Fault;
-use crate::limits::broken_limit;
-use app_files::{FileCause, Left};
+use app_files::Left;
+use app_tasks::{Fault, FileCause, broken_limit};
 use app_words::Command;
 use desk::DeskFault;
 use desk_http::ServeFault;

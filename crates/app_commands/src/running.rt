@@ -3,24 +3,23 @@ ghost use Rattle.std.specs.Prelude.{◌≡◌, ◌≤◌, IfErr, IfOk, MatchOpti
 ghost use Rattle.sqlite.specs.WalFiles.{image_at};
 ghost use Rattle.desk_model.specs.Terms.{are_terms};
 ghost use Rattle.desk.specs.declared.fault.DeskFault.TheVariants as deskfault;
-ghost use Rattle.app_commands.specs.Deeds.{ChecksStatuses, ListsRows, ServesCount, TellsPage};
-ghost use Rattle.app_commands.specs.Faults.{IsOfOpening};
-ghost use Rattle.app_commands.specs.Statuses.{Ends, EndsAbout, EndsBy, EndsMake, EndsOverFiles, EndsUnasked, IsToldMade, form_of, status_of};
-ghost use Rattle.app_commands.specs.Statuses.{supposes, syncs_of, terms_in_memory, terms_of};
+ghost use Rattle.app_tasks.specs.Deeds.{ChecksStatuses, ListsRows, ServesCount, TellsPage, form_of};
+ghost use Rattle.app_tasks.specs.{Faults.IsOfOpening, GivenTerms.terms_of};
+ghost use Rattle.app_commands.specs.Statuses.{Ends, EndsAbout, EndsBy, EndsMake, EndsOverFiles, EndsUnasked, IsToldMade, status_of};
+ghost use Rattle.app_commands.specs.Statuses.{supposes, syncs_of, terms_in_memory};
 ghost use Rattle.app_reports.specs.Listed.{roster};
 ghost use Rattle.app_files.specs.Endings.{EndsInMemory};
-ghost use Rattle.app_commands.specs.declared.fault.Fault.TheVariants as fault;
+ghost use Rattle.app_tasks.specs.declared.fault.Fault.TheVariants as fault;
 
-use crate::asking::revoke_served;
 use crate::backing_up::back_up;
 use crate::explaining::explain;
-use crate::fault::{Fault, Wrong, refuse, write_fault};
-use crate::filters::{Unasked, authorization_filter, order_filter};
-use crate::tasks::{
-    AnswerLines, CheckStatuses, ListRows, Revoke, ServeConnections, ShowPage, TellAbout, form,
-};
-use app_files::{Left, Task, Unknown, Wary, make_desk, run_in_memory, run_over_file, wait_for};
+use app_files::{Left, Unknown, Wary, make_desk, run_in_memory, run_over_file};
 use app_reports::{AllAccounts, Beside, RowList};
+use app_tasks::{
+    AnswerLines, CheckStatuses, Fault, ListRows, Revoke, ServeConnections, ShowPage, Task,
+    TellAbout, Unasked, Wrong, authorization_filter, form, order_filter, refuse, revoke_served,
+    wait_for, write_fault,
+};
 use app_words::{
     AUTHZ_LIFE, Asked, AuthorizationListing, Command, NONCE_LIFE, ORDER_LIFE, OrderListing,
     Serving, SyncedFile, Syncs, Terms, WordsFault, read_words,

@@ -1,6 +1,6 @@
 -- How a task ends that is done with the desk of two files, or with a new one in memory.
 use Rattle.std.specs.Prelude.{◌≡◌, ◌≢◌, ◌⊎◌, ℕ, List, Option, None, Result, Ok, Err, IfErr, IfOk, IfSome, IsErrAnd}
-use Rattle.sqlite.specs.{FileStore.recovers, Files.over_files, Recovery.Image, Steps.over_memory, Tree.Trees}
+use Rattle.sqlite.specs.{FileStore.recovers, Files.over_files, Recovery.Image, Steps.over_memory, Store.Ghosts, Tree.Trees}
 use Rattle.sqlite_disk.specs.declared.Disk as disk
 use Rattle.sqlite_disk.specs.declared.Files.{Files}
 use Rattle.sqlite_store.specs.declared.store.FileStore.{FileStore}
@@ -11,9 +11,9 @@ use Rattle.desk_files.specs.Opening.{RefusesName, RefusesNoDatabase, RefusesNoDe
 use Rattle.desk_files.specs.declared.opening.NotOpened.{NotOpened}
 use Rattle.desk_model.specs.{History.first_history, Tables.picture, Terms.Terms}
 use Rattle.store_api.specs.Sight.{Keeps}
-use Rattle.desk_store.specs.{Desks.store_sight, Making.IsOfStorage}
+use Rattle.desk_store.specs.{Causes.Failed, Desks.store_sight, Making.IsOfStorage}
 use Rattle.desk_store.specs.declared.{open_fault.OpenFault.OpenFault, open_fault.OpenFault.TheVariants.NotADesk, store.Store.Store}
-use Rattle.app_files.specs.Doing.{Deed, Doing, OverStore}
+use Rattle.app_tasks.specs.Doing.{Deed, Doing}
 use Rattle.app_files.specs.declared.left.Left.{Left}
 use Rattle.app_files.specs.declared.left.Left.TheVariants as rest
 
@@ -87,6 +87,10 @@ module _ {D : Type 0} {g : disk.Ghosts D} where
         → EndsMaking bytes policy how left
 
 -- ---- tasks
+
+-- what is done with a store over a connection
+abbrev pub OverStore : {F S : Type 0} → Doing F → Ghosts S → Store S → Store S → Result ℕ F → Type 0
+OverStore does g = does _ _ _ (store_sight g) (λ changes old new why. Failed g changes old.conn new.conn why) (store_sight g)
 
 -- how a task ends whose end was this, by how the closing of its files ended, which is told where the task ended well
 pub record IsTold {F : Type 0} (Becomes : OpenFault → F → Type 0) (outcome : Result ℕ F) (closing : Result Unit OpenFault) (how : Result ℕ F) : Type 0 where

@@ -5,9 +5,8 @@ ghost use Rattle.desk_files.specs.Opening.{OpensFiles};
 ghost use Rattle.desk_store.specs.Making.{IsOfStorage};
 ghost use Rattle.app_files.specs.Endings.{EndsMaking, IsLeft, IsUnopened, IsUntouched};
 
-use crate::beside::{missing_log, remove_empty_log};
-use crate::copies::make_new;
 use crate::left::Left;
+use app_tasks::{make_new, missing_log, remove_empty_log};
 use desk_files::{close_from, make_from, open_from};
 use desk_model::{Clock, Policy};
 use desk_store::{OpenFault, Store};

@@ -1,11 +1,11 @@
 //! A task by the store of a file.
 ghost use Rattle.std.specs.Prelude.{◌≡◌, ◌≢◌, Ok, IfErr, IfOk, IsErrAnd};
 ghost use Rattle.sqlite.specs.WalFiles.{image_at};
-ghost use Rattle.app_files.specs.{Doing.OverStore, Endings.EndsOver};
+ghost use Rattle.app_files.specs.Endings.{OverStore, EndsOver};
 
 use crate::files::{close, open};
 use crate::left::Left;
-use crate::tasks::Task;
+use app_tasks::Task;
 use desk_store::{OpenFault, Store};
 use sqlite::{Alter, FileFrom, Start};
 use std::io::Write;

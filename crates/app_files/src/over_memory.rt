@@ -3,7 +3,7 @@ ghost use Rattle.std.specs.Prelude.{IfOk};
 ghost use Rattle.app_files.specs.Endings.{EndsInMemory, IsNew};
 
 use crate::over_file::run_over;
-use crate::tasks::Task;
+use app_tasks::Task;
 use desk_model::{Clock, Policy};
 use desk_store::{OpenFault, Store};
 use sqlite::{Connection, MemStore};

@@ -6,13 +6,13 @@ use Rattle.sqlite.specs.{Recovery.Image, WalReads.AreClean}
 use Rattle.sqlite_disk.specs.declared.Disk as disk
 use Rattle.sqlite_disk.specs.declared.Files.{Files}
 use Rattle.sqlite_store.specs.declared.store.FileStore.{FileStore}
-use Rattle.app_commands.specs.Deeds.{ChecksStatuses, how_checked}
-use Rattle.app_commands.specs.{Faults.IsOfOpening, declared.fault.Fault.Fault}
+use Rattle.app_tasks.specs.Deeds.{ChecksStatuses, how_checked}
+use Rattle.app_tasks.specs.{Faults.IsOfOpening, declared.fault.Fault.Fault}
 use Rattle.app_commands.specs.Statuses.{EndsOverFiles, IsToldCopied}
 use Rattle.desk_model.specs.{Entry.History, Tables.picture}
 use Rattle.desk_files.specs.LeftFiles.{HoldDesk, LeftFiles, file_sight}
 use Rattle.desk_store.specs.{Desks.store_sight, declared.open_fault.OpenFault.OpenFault, declared.store.Store.Store}
-use Rattle.app_files.specs.{Doing.OverStore, declared.left.Left.Left}
+use Rattle.app_files.specs.{Endings.OverStore, declared.left.Left.Left}
 use Rattle.app_files.specs.Endings.{IsClosed, IsDoneOver, IsLeft, IsTold, done, unopened}
 use Rattle.app_files.specs.declared.left.Left.TheVariants as rest
 use Rattle.app_reports.specs.declared.{fault.ReportFault.ReportFault, faults.Checked.Checked}

@@ -2,8 +2,8 @@
 use Rattle.std.proofs.Common.{◌∙◌, ℕ, List, ◌∷◌, ◌++◌, Result, ap₂, refl, subst, sym}
 use Rattle.sqlite.specs.Files.{over_files}
 use Rattle.sqlite_disk.specs.declared.Disk as disk
-use Rattle.app_commands.specs.Deeds.{AnswersReader, ChecksStatuses, ListsRows, RevokesTarget, ServesCount, TellsAbout, TellsPage}
-use Rattle.app_commands.specs.declared.fault.Fault.{Fault}
+use Rattle.app_tasks.specs.Deeds.{AnswersReader, ChecksStatuses, ListsRows, RevokesTarget, ServesCount, TellsAbout, TellsPage}
+use Rattle.app_tasks.specs.declared.fault.Fault.{Fault}
 use Rattle.desk.specs.Seen.{Told}
 use Rattle.model_lives.proofs.Extends.{histories_are_legal}
 use Rattle.desk_model.specs.{Entry.History, Tables.picture}
@@ -11,7 +11,8 @@ use Rattle.desk_model.specs.Life.{Reopened, history, kept_calls}
 use Rattle.desk_files.proofs.Finding.{in_todays}
 use Rattle.desk_files.specs.LeftFiles.{LeftFiles, file_sight}
 use Rattle.desk_store.specs.Desks.{AreOfDesk, store_sight}
-use Rattle.app_files.specs.{Doing.Doing, Endings.IsDoneOver}
+use Rattle.app_files.specs.Endings.{IsDoneOver}
+use Rattle.app_tasks.specs.Doing.{Doing}
 use Rattle.app_reports.specs.Listed.{accounts_roster, authorizations_roster, orders_roster}
 use Rattle.app_lives.proofs.Joined.{history_on, kept_on, lives_on, replied_on}
 use Rattle.app_lives.proofs.Leaving.{words_leave}

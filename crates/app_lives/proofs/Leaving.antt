@@ -11,9 +11,9 @@ use Rattle.app_batch.specs.LineRequests.{IsRequestOf, call_of}
 use Rattle.app_batch.specs.Said.{RepliesTo, Says}
 use Rattle.app_batch.specs.InTurn.{AnswersEach, AnswersFirst, AreLines, Stops, StopsBehind, not_one, one_more, silent, unread, unwritten}
 use Rattle.app_words.specs.declared.command.Revocation.{Revocation}
-use Rattle.app_commands.specs.Deeds.{Adopts, AnswersLines, AnswersReader, BehindClock, ByDesk, FailsToAdopt, IsTold, Revokes, RevokesTarget, Serves}
-use Rattle.app_commands.specs.Deeds.{ServesCount, adopted, ask_of, clocked, clockless, served, unadopted, unserved}
-use Rattle.app_commands.specs.declared.fault.Fault.{Fault}
+use Rattle.app_tasks.specs.Deeds.{Adopts, AnswersLines, AnswersReader, BehindClock, ByDesk, FailsToAdopt, IsTold, Revokes, RevokesTarget, Serves}
+use Rattle.app_tasks.specs.Deeds.{ServesCount, adopted, ask_of, clocked, clockless, served, unadopted, unserved}
+use Rattle.app_tasks.specs.declared.fault.Fault.{Fault}
 use Rattle.desk_http.specs.InTurn.{ServesAll, ServesClient, ServesMany}
 use Rattle.desk_http.specs.InTurn as turn
 use Rattle.desk_http.specs.declared.{serve_fault.ServeFault.ServeFault, serving.IoFault.IoFault, serving.Served.Served}
@@ -26,7 +26,8 @@ use Rattle.store_api.proofs.Readings.{reads_then, stands_both}
 use Rattle.store_api.specs.Sight.{Keeps, Sight, Stands}
 use Rattle.store_api.specs.Storing.{Causes}
 use Rattle.desk_store.specs.{Desks.store_sight, declared.store.Store.Store}
-use Rattle.app_files.specs.{Doing.Doing, Endings.IsDoneOver}
+use Rattle.app_files.specs.Endings.{IsDoneOver}
+use Rattle.app_tasks.specs.Doing.{Doing}
 use Rattle.app_lives.specs.Kept.{Answered, HasLife}
 use Rattle.app_lives.specs.Kept as kept
 use Rattle.app_reports.specs.{Reported.Reports, declared.fault.ReportFault.ReportFault}

@@ -2,14 +2,15 @@
 use Rattle.std.specs.Prelude.{◌≡◌, ℕ, List, [], ◌∷◌, ◌++◌, Option, Result}
 use Rattle.sqlite_disk.specs.declared.Disk as disk
 use Rattle.app_words.specs.declared.command.Revocation.{Revocation}
-use Rattle.app_commands.specs.Deeds.{AnswersReader, ChecksStatuses, ListsRows, RevokesTarget, ServesCount, TellsAbout, TellsPage}
-use Rattle.app_commands.specs.declared.fault.Fault.{Fault}
+use Rattle.app_tasks.specs.Deeds.{AnswersReader, ChecksStatuses, ListsRows, RevokesTarget, ServesCount, TellsAbout, TellsPage}
+use Rattle.app_tasks.specs.declared.fault.Fault.{Fault}
 use Rattle.desk.specs.Seen.{Told, replied}
 use Rattle.desk_model.specs.{Entry.History, Tables.picture, declared.call.Call.Call}
 use Rattle.desk_model.specs.Life.{Event, IsLife, history, kept_calls}
 use Rattle.desk_files.specs.LeftFiles.{LeftFiles, file_sight}
 use Rattle.desk_store.specs.Desks.{AreOfDesk}
-use Rattle.app_files.specs.{Doing.Doing, Endings.IsDoneOver}
+use Rattle.app_files.specs.Endings.{IsDoneOver}
+use Rattle.app_tasks.specs.Doing.{Doing}
 use Rattle.app_reports.specs.Listed.{accounts_roster, authorizations_roster, orders_roster}
 use Rattle.app_reports.specs.declared.{asked.AuthorizationFilter.AuthorizationFilter, beside.Beside.Beside, form.Form.Form}
 use Rattle.app_reports.specs.declared.{asked.OrderFilter.OrderFilter}

@@ -6,13 +6,15 @@ use Rattle.sqlite_disk.specs.declared.Disk as disk
 use Rattle.sqlite_disk.specs.declared.Files.{Files}
 use Rattle.sqlite_store.specs.declared.store.FileStore.{FileStore}
 use Rattle.app_words.specs.declared.command.Revocation.{Revocation}
-use Rattle.app_commands.specs.Deeds.{Adopts, AnswersReader, ChecksStatuses, FailsToAdopt, ListsRows, RevokesTarget, ServesCount, TellsAbout, TellsPage}
-use Rattle.app_commands.specs.{Statuses.EndsBackUp, declared.fault.Fault.Fault}
+use Rattle.app_tasks.specs.Deeds.{Adopts, AnswersReader, ChecksStatuses, FailsToAdopt, ListsRows, RevokesTarget, ServesCount, TellsAbout, TellsPage}
+use Rattle.app_commands.specs.Statuses.{EndsBackUp}
+use Rattle.app_tasks.specs.declared.fault.Fault.{Fault}
 use Rattle.desk.specs.{Seen.Told, State.DeskState}
 use Rattle.desk_model.specs.{Entry.History, Legal.Legal, Tables.picture}
 use Rattle.desk_files.specs.LeftFiles.{HoldDesk, LeftFiles, file_sight}
 use Rattle.desk_store.specs.{Desks.store_sight, declared.store.Store.Store}
-use Rattle.app_files.specs.{Doing.Doing, Endings.IsDoneOver, declared.left.Left.Left}
+use Rattle.app_files.specs.{Endings.IsDoneOver, declared.left.Left.Left}
+use Rattle.app_tasks.specs.Doing.{Doing}
 use Rattle.app_reports.specs.Listed.{accounts_roster, authorizations_roster, orders_roster}
 use Rattle.app_reports.specs.declared.{asked.AuthorizationFilter.AuthorizationFilter, beside.Beside.Beside}
 use Rattle.app_files.specs.declared.left.Left.TheVariants as rest

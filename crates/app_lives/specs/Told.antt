@@ -4,7 +4,7 @@ use Rattle.std.specs.Io.KnownBytes.{Appends}
 use Rattle.app_batch.specs.InTurn.{AreLines}
 use Rattle.app_batch.specs.LineRequests.{IsRequestOf, call_of}
 use Rattle.app_words.specs.declared.command.Revocation.{Revocation}
-use Rattle.app_commands.specs.{Deeds.ask_of, declared.fault.Fault.Fault}
+use Rattle.app_tasks.specs.{Deeds.ask_of, declared.fault.Fault.Fault}
 use Rattle.desk.specs.Office.{office_call, refusal_in}
 use Rattle.desk.specs.Seen.{Told}
 use Rattle.desk_model.specs.declared.{call.Ask.Ask, reply.Reply.Reply}

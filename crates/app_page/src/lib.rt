@@ -1,4 +1,4 @@
-//! The page of a desk, as one document of HTML: what waits, what ends soon, the last orders. `app_commands` stands on it.
+//! The page of a desk, as one document of HTML: what waits, what ends soon, the last orders. `app_tasks` stands on it.
 #![tactic(auto)]
 
 mod html;

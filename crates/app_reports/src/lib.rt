@@ -1,4 +1,4 @@
-//! Reports on the rows of a desk, for people and, as JSON, for programs. They go through the rows one by one. `app_commands` and
+//! Reports on the rows of a desk, for people and, as JSON, for programs. They go through the rows one by one. `app_tasks` and
 //! `app_page` stand on it.
 #![tactic(auto)]
 

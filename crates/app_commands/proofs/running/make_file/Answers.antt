@@ -1,5 +1,5 @@
 use Rattle.std.proofs.Common.{None}
-use Rattle.app_commands.specs.Statuses.{terms_of}
+use Rattle.app_tasks.specs.GivenTerms.{terms_of}
 use Rattle.app_commands.proofs.Commands.{as_made}
 use Rattle.app_commands.proofs.running.make_file.Goals as goal
 

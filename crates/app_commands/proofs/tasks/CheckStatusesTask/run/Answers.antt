@@ -1,6 +1,0 @@
-use Rattle.app_commands.proofs.tasks.CheckStatusesTask.run.Goals as goal
-
-pub returns : goal.returns
-returns g c =
-    let it = c.list_faults-checked.ensures in
-    record { checked = c.list_faults-checked.result; reads = it.reads; found = it.found; printed = it.printed; ends = c.check_status.ensures }

@@ -1,5 +1,0 @@
-use Rattle.app_commands.proofs.tasks.ListRowsTask.run.Goals as goal
-
-pub returns : goal.returns
-returns g c =
-    let it = c.list_rows-listed.ensures in record { listed = c.list_rows-listed.result; reads = it.reads; printed = it.printed; ends = c.report_status.ensures }

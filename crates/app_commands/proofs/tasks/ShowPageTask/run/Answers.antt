@@ -1,5 +1,0 @@
-use Rattle.app_commands.proofs.tasks.ShowPageTask.run.Goals as goal
-
-pub returns : goal.returns
-returns g c =
-    let it = c.write_page-page.ensures in record { told = c.write_page-page.result; reads = it.reads; printed = it.printed; ends = c.report_status.ensures }

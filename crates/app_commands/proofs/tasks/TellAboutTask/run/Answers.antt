@@ -1,5 +1,0 @@
-use Rattle.app_commands.proofs.tasks.TellAboutTask.run.Goals as goal
-
-pub returns : goal.returns
-returns g c =
-    let it = c.tell_about-about.ensures in record { told = c.tell_about-about.result; reads = it.reads; printed = it.printed; ends = c.report_status.ensures }

@@ -1,0 +1,4 @@
+mod Bases
+mod Done
+mod Entries
+mod Replied

@@ -1,0 +1,15 @@
+use Rattle.std.proofs.Common.{Err, refl}
+use Rattle.app_tasks.specs.Deeds.{adopted, clocked, clockless, unadopted}
+use Rattle.app_tasks.proofs.answering.ServeConnectionsTask.run.Goals as goal
+
+pub returns-in-Err : goal.returns-in-Err
+returns-in-Err g c = clockless c.in-Err.fault c.in-Err.ensures.reads refl
+
+pub returns-in-Err-adopt : goal.returns-in-Err-adopt
+returns-in-Err-adopt g c =
+    clocked (Err c.in-Err-adopt.fault) c.clock_of.new.store c.in-Ok.ensures.reads (unadopted c.in-Err-adopt.fault c.in-Err-adopt.ensures refl)
+
+pub returns : goal.returns
+returns g c =
+    clocked c.serve-outcome.result c.clock_of.new.store c.in-Ok.ensures.reads
+    (adopted c.serve-outcome.result c.in-Ok-adopt.desk c.serve-outcome.new.desk c.in-Ok-adopt.ensures c.serve-outcome.ensures c.into_store.ensures)

@@ -1,0 +1,7 @@
+pub mod Asked
+pub mod CallLog
+pub mod Deeds
+pub mod Doing
+pub mod Faults
+pub mod Filters
+pub mod GivenTerms

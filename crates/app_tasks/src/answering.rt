@@ -1,0 +1,122 @@
+//! Lines and connections, answered by a desk.
+ghost use Rattle.std.specs.Prelude.{unwrap_or};
+ghost use Rattle.app_tasks.specs.Deeds.{AnswersReader, Serves, ServesCount};
+
+use crate::desks::{adopt, clock_of};
+use crate::fault::Fault;
+use crate::overseeing::{FileOverseer, Identity};
+use crate::tasks::Task;
+use app_batch::batch;
+use app_words::Serving;
+use desk::Desk;
+use desk_http::{MomentBound, ServeFault, Watch, bind, serve_all};
+use std::alloc::Global;
+use std::io::{Read, Write};
+use store_api::{RowsAbove, Storage};
+
+/// Answers the lines of a reader.
+#[derive(Drop)]
+pub struct AnswerLines<'r, 'e, R: Read, E: Write> {
+    /// What allocates.
+    pub alloc: Global,
+    /// The lines.
+    pub reader: &'r mut R,
+    /// Where it says why lines are not answered.
+    pub errors: &'e mut E,
+}
+
+impl<'r, 'e, R: Read, E: Write> Task for AnswerLines<'r, 'e, R, E> {
+    type Fault = Fault;
+
+    ghost does = { λ task. AnswersReader (R.remaining task.reader.now) };
+
+    fn run<K: Storage + RowsAbove + Drop, W: Write>(
+        &mut self,
+        store: K,
+        out: &mut W,
+    ) -> (K, Result<u8, Fault>) {
+        let mut desk = match adopt(self.alloc, store) {
+            Ok(desk) => desk,
+            Err((store, fault)) => return (store, Err(fault)),
+        };
+        let status = batch(self.alloc, &mut *self.reader, out, self.errors, &mut desk);
+        (desk.into_store(), Ok(status))
+    }
+}
+
+/// Serves connections at a port.
+#[derive(Drop)]
+pub struct ServeConnections<'a, E: Write> {
+    /// The machine.
+    pub rt: &'a HostRuntime,
+    /// The path of the desk's file.
+    pub path: &'a str,
+    /// At which port, how many, and how they are noted.
+    pub serving: Serving,
+    /// Where it says that a connection failed.
+    pub errors: &'a mut E,
+}
+
+impl<'a, E: Write> ServeConnections<'a, E> {
+    // Takes the port, prints the address, and serves a desk whose clock stands so; gives the exit status.
+    fn serve<K: Storage + Drop, W: Write>(
+        &mut self,
+        desk: &mut Desk<K>,
+        clock: u64,
+        out: &mut W,
+    ) -> Result<u8, Fault>
+        ensures { Serves K.Storage.sight K.Storage.causes (unwrap_or self.old.serving.count 18446744073709551615) desk.old desk.new result }
+    {
+        let Ok(identity) = Identity::of(self.rt, self.path) else {
+            return Err(Fault::Serve(ServeFault::Replaced));
+        };
+        let (listener, bound) = bind(self.rt, self.serving.port)?;
+        if writeln!(out, "listening on {bound}").is_err() || out.flush().is_err() {
+            return Err(Fault::Output);
+        }
+        let mut watch = Watch {
+            overseer: FileOverseer {
+                rt: self.rt,
+                path: self.path,
+                identity,
+                log: self.serving.log,
+                out,
+            },
+            bound: MomentBound::new(self.serving.max_step, clock),
+        };
+        serve_all(
+            self.rt.alloc(),
+            self.rt,
+            &listener,
+            desk,
+            self.serving.count,
+            &mut watch,
+            self.errors,
+        )?;
+        Ok(0)
+    }
+}
+
+impl<'a, E: Write> Task for ServeConnections<'a, E> {
+    type Fault = Fault;
+
+    ghost does = { λ task. ServesCount task.serving.count };
+
+    fn run<K: Storage + RowsAbove + Drop, W: Write>(
+        &mut self,
+        store: K,
+        out: &mut W,
+    ) -> (K, Result<u8, Fault>) {
+        let mut store = store;
+        let clock = match clock_of(self.rt.alloc(), &mut store) {
+            Ok(clock) => clock,
+            Err(fault) => return (store, Err(fault)),
+        };
+        let mut desk = match adopt(self.rt.alloc(), store) {
+            Ok(desk) => desk,
+            Err((store, fault)) => return (store, Err(fault)),
+        };
+        let outcome = self.serve(&mut desk, clock, out);
+        (desk.into_store(), outcome)
+    }
+}

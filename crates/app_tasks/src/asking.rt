@@ -1,0 +1,74 @@
+//! What the operator asks of a desk that is served.
+ghost use Rattle.std.specs.Prelude.{◌≡◌, IfErr, IfOk, string_bytes};
+ghost use Rattle.app_tasks.specs.Asked.{RevokesServed, TellsReply, request_of};
+ghost use Rattle.app_tasks.specs.declared.fault.Fault.TheVariants as fault;
+
+use crate::fault::Fault;
+use crate::revoking::tell_revoked;
+use app_words::Revocation;
+use desk::DeskFault;
+use desk_http::ask_at;
+use desk_model::Refusal;
+use std::alloc::{AllocError, Global};
+use std::io::Write;
+
+/// Has the desk that is served at a port of 127.0.0.1 revoke an authorization or an account, and says so; gives the exit status.
+///
+/// # Errors
+///
+/// `Connection` where the desk could not be asked or gave no reply, `Refused` where it refuses, `Output` where standard output
+/// failed, `Desk` where a growth was refused.
+pub fn revoke_served<W: Write>(
+    rt: &HostRuntime,
+    port: u16,
+    target: Revocation,
+    out: &mut W,
+) -> Result<u8, Fault>
+    ensures { RevokesServed target (W.contents out.old) (W.contents out.new) result }
+{
+    let Ok(request) = request_of(rt.alloc(), target) else {
+        return Err(Fault::Desk(DeskFault::Memory));
+    };
+    let reply = ask(rt, port, request.as_bytes());
+    tell_reply(reply, target, out)
+}
+
+// Says what the desk replied: that it is done, or why it is not; gives the exit status. It takes the result of asking,
+// so that its clause also says what follows where no reply came.
+fn tell_reply<W: Write>(
+    reply: Result<Option<Refusal>, Fault>,
+    target: Revocation,
+    out: &mut W,
+) -> Result<u8, Fault>
+    ensures { TellsReply target reply (W.contents out.old) (W.contents out.new) result }
+{
+    match reply {
+        Ok(None) => tell_revoked(target, out),
+        Ok(Some(refusal)) => Err(Fault::Refused(refusal)),
+        Err(fault) => Err(fault),
+    }
+}
+
+// The request for it, which has no body (RFC 9112, 3).
+fn request_of(alloc: Global, target: Revocation) -> Result<String, AllocError>
+    ensures { IfOk result (λ request. string_bytes request ≡ request_of target) }
+{
+    match target {
+        Revocation::Authorization(number) => format!(in alloc;
+            "POST /office/revoke-authz/{number} HTTP/1.1\r\nHost: 127.0.0.1\r\nContent-Length: 0\r\n\r\n"
+        ),
+        Revocation::Account(number) => format!(in alloc;
+            "POST /office/revoke-account/{number} HTTP/1.1\r\nHost: 127.0.0.1\r\nContent-Length: 0\r\n\r\n"
+        ),
+    }
+}
+
+// Sends a request to the desk, and gives its refusal, if it refuses.
+fn ask(rt: &HostRuntime, port: u16, request: &[u8]) -> Result<Option<Refusal>, Fault>
+    ensures { IfErr result (λ e. e ≡ fault.Connection) }
+{
+    match ask_at(rt, port, request) {
+        Ok(refusal) => Ok(refusal),
+        Err(_) => Err(Fault::Connection),
+    }
+}

@@ -1,0 +1,43 @@
+//! What stands beside the file of a desk, under its name.
+
+use std::fs;
+use std::io::{self, ErrorKind};
+
+// The most bytes of a log of the engine's that holds no commit: its head, and what tells a whole one from a torn one.
+const EMPTY_LOG: u64 = 41;
+
+/// The path of the file whose name is that of the file at a path and this ending, where the links to that lead.
+///
+/// # Errors
+///
+/// Those of looking at the path, and of memory.
+pub(crate) fn beside(rt: &HostRuntime, path: &str, ending: &str) -> io::Result<String> {
+    let real = fs::canonicalize(rt, path)?;
+    Ok(format!(in rt.alloc(); "{}{ending}", real.as_str())?)
+}
+
+/// Whether there is a directory for the file at a path.
+pub(crate) fn has_directory(rt: &HostRuntime, path: &str) -> bool {
+    match path.rsplit_once('/') {
+        None | Some(("", _)) => true,
+        Some((directory, _)) => fs::metadata(rt, directory).is_ok_and(|found| found.is_dir()),
+    }
+}
+
+/// The path of the log of the file at a path, where there is a file and no log; the engine then makes one.
+pub fn missing_log(rt: &HostRuntime, path: &str) -> Option<String> {
+    let log = beside(rt, path, "-wal").ok()?;
+    match fs::symlink_metadata(rt, log.as_str()) {
+        Err(error) if error.kind() == ErrorKind::NotFound => Some(log),
+        _ => None,
+    }
+}
+
+/// Removes the log at this path, if it holds no commit. Whoever calls it has the engine's lock, so nobody else writes the log.
+pub fn remove_empty_log(rt: &HostRuntime, log: &str) {
+    if fs::symlink_metadata(rt, log).is_ok_and(|found| found.is_file()
+        && found.len() <= EMPTY_LOG)
+    {
+        let _ = fs::remove_file(rt, log);
+    }
+}

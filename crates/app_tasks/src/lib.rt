@@ -1,0 +1,33 @@
+//! What the words of the program do: tasks over the store of a desk, whatever keeps it; what is asked of a desk that is served; and
+//! what is done with a file as it is: waited for, copied, watched while it is served, looked at for why it was not opened. `app_files`
+//! gives a task the store of a file, and `app_commands` chooses the task by the words.
+#![tactic(auto)]
+
+mod answering;
+mod asking;
+mod beside;
+mod call_log;
+mod causes;
+mod copies;
+mod desks;
+mod fault;
+mod filters;
+mod limits;
+mod locks;
+mod overseeing;
+mod reports;
+mod revoking;
+mod tasks;
+
+pub use answering::{AnswerLines, ServeConnections};
+pub use asking::revoke_served;
+pub use beside::{missing_log, remove_empty_log};
+pub use causes::FileCause;
+pub use copies::{CopyFault, copy_file, is_taken, make_new};
+pub use fault::{Fault, Wrong, refuse, write_fault};
+pub use filters::{Unasked, authorization_filter, order_filter};
+pub use limits::{Limit, broken_limit};
+pub use locks::wait_for;
+pub use reports::{CheckStatuses, ListRows, ShowPage, TellAbout, form};
+pub use revoking::Revoke;
+pub use tasks::Task;
