@@ -204,11 +204,21 @@ def attack(machine):
     see_state(machine, "desk", "active")
     see("the desk after a kill", asked(machine, "operator", "GET", "directory"), "200")
     well(machine, PYTHON, "-B", f"{TRIAL}/house_units.py", "client")
+    measure(machine)
     well(machine, "mv", "/var/lib/desk-office/root.pem", "/root")
     machine.call("systemctl", "restart", "desk-office")
     see_state(machine, "desk-office", "failed")
     said = machine.call("systemctl", "show", "--property=ActiveState,ExecMainStatus", "desk-office")[1].split()
     see("an office without its certificate", sorted(said), ["ActiveState=failed", f"ExecMainStatus={os.EX_CONFIG}"])
+
+
+def measure(machine):
+    """The memory that each part has used so far: at most half of its limit."""
+    for name in EXPOSURE:
+        words = f"grep VmHWM /proc/$(systemctl show --property=MainPID --value {name})/status; systemctl show --property=MemoryMax --value {name}"
+        used, limit = (int(number) for number in re.findall("[0-9]+", well(machine, "sh", "-c", words)))
+        see(f"half of the limit of {name} for {used} KB", 2 * used * 1024 <= limit, True)
+        print(f"units: {name} has used {used // 1024} MB of {limit // 2**20}")
 
 
 def client():
@@ -283,7 +293,7 @@ def main():
                 prepare(machine)
                 attack(machine)
                 if faults:
-                    print(machine.call("journalctl", "--no-pager", "--lines=80")[1])
+                    print(machine.call("journalctl", "--no-pager", "--lines=150")[1])
                 print("units: verified, and run by a systemd of their own")
             except NoMachine as why:
                 print(f"units: verified; they were not run: {why}")
