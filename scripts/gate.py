@@ -91,7 +91,7 @@ class Newcomer:
     def __init__(self, progress):
         self.progress, self.is_told = progress, False
         self.output = tempfile.TemporaryFile("w+", encoding="utf-8", errors="replace")
-        self.run = subprocess.Popen(["nice", "-n", "10", f"{ROOT}/scripts/newcomer.sh"], stdin=subprocess.DEVNULL, stdout=self.output,
+        self.run = subprocess.Popen(["nice", "-n", "5", f"{ROOT}/scripts/newcomer.sh"], stdin=subprocess.DEVNULL, stdout=self.output,
                                     stderr=subprocess.STDOUT, process_group=0)
 
     def tell(self):

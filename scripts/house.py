@@ -34,8 +34,8 @@ from housed import ROOT, House, Run, free_port
 
 # The packages of Debian that the house needs, by what is looked for in its Python.
 PACKAGES = {"acme": "python3-acme", "cryptography": "python3-cryptography", "dns": "python3-dnspython", "josepy": "python3-josepy"}
-# How long a server may take to get its certificate and serve by it, in seconds.
-PATIENCE = 120
+# How long a client may take to get its certificate, and a server to serve by it, in seconds.
+PATIENCE = 300
 
 
 class Talk:

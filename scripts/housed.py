@@ -7,8 +7,9 @@ import sys
 import threading
 
 ROOT = os.path.dirname(os.path.dirname(os.path.abspath(__file__)))
-# How long a program has to say that it is there, and how long to end, in seconds.
-PATIENCE = 20
+# How long a program has to say that it is there, and how long to end, in seconds. A desk that nobody proved opens its file in some seconds of
+# a processor, which it may share with proofs.
+STARTING, PATIENCE = 180, 20
 
 
 def free_port():
@@ -45,7 +46,7 @@ class Run:
                 self.there.set()
         self.there.set()
 
-    def wait(self, patience=PATIENCE):
+    def wait(self, patience=STARTING):
         """Waits until the program is there, and gives what it said."""
         self.there.wait(patience)
         if not self.found:

@@ -30,7 +30,7 @@ PORT = re.compile(r"--port[ =]([1-9]\d*)")
 # that a program is not proved, on its standard error.
 PASSED_OVER = re.compile(r"bash: line \d+: +\d+ (Terminated|Killed)\b.*|(UNPROVED: )?\.\.\. .*|UNPROVED: nobody proved this program; .*")
 # How long a command may take, and what it leaves in the background to say what is shown of it, in seconds.
-PATIENCE, SOON = 120, 20
+PATIENCE = 180
 MARK = "\n---- this command has ended ----\n"
 
 
@@ -95,7 +95,7 @@ class Shell:
             said = self.output.read()
             ended, waited = MARK in said, time.monotonic() - start
             lines = compared(said.replace(MARK, ""))
-            if ended and (not command.endswith("&") or is_enough(lines) or waited > SOON) or waited > PATIENCE:
+            if ended and (not command.endswith("&") or is_enough(lines)) or waited > PATIENCE:
                 return lines
             time.sleep(0.05)
 
