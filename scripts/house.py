@@ -29,7 +29,7 @@ import tempfile
 import threading
 import time
 
-from house_clients import NAME, apache2, caddy, certbot, haproxy, lego, uacme
+from house_clients import NAME, apache2, caddy, certbot, certbot_words, haproxy, lego, uacme
 from housed import ROOT, House, Run, free_port
 
 # The packages of Debian that the house needs, by what is looked for in its Python.
@@ -207,11 +207,10 @@ def serve(talk, program, *given):
             before = " ".join(f"{name}={value}" for name, value in environment.items())
             talk.say(f"Challenges by http-01 are tried at 127.0.0.1:{ports.web}, whatever their name. In another terminal:")
             talk.say(f"  {before} {shlex.join(words)}")
-            talk.say(f"The name server at 127.0.0.1:{ports.names} answers by the files of {folder}/txt. For a wildcard:")
-            words[words.index("--standalone") :] = [word for word in words[words.index("--standalone") + 1 :] if "http-01" not in word and word not in ("127.0.0.1", str(ports.web))]
             hook = f"echo $CERTBOT_VALIDATION >> {folder}/txt/_acme-challenge.$CERTBOT_DOMAIN"
-            words[-4] = "*.house.test"
-            talk.say(f"  {before} {shlex.join([*words, '--manual', '--preferred-challenges', 'dns', '--manual-auth-hook', hook])}")
+            by_name = "--manual", "--preferred-challenges", "dns", "--manual-auth-hook", hook
+            talk.say(f"The name server at 127.0.0.1:{ports.names} answers by the files of {folder}/txt. For a wildcard:")
+            talk.say(f"  {before} {shlex.join(certbot_words(house, f'{folder}/certbot', '*.house.test', *by_name))}")
             talk.say("Control C ends it, and removes all of it.")
             with contextlib.suppress(SystemExit):
                 signal.pause()

@@ -74,14 +74,17 @@ frontend tls
 """
 
 
-def certbot(house, folder, port, name=NAME):
+def certbot(house, folder, port):
     """certbot's own web server answers the challenges."""
-    words = ["certbot", "certonly", "--standalone", "--non-interactive", "--agree-tos", "--register-unsafely-without-email",
-             "--http-01-address", "127.0.0.1", "--http-01-port", str(port), "--server", f"{house.base}/directory", "--domain", name]
-    words += [f"--{name}-dir={folder}/{name}" for name in ("config", "work", "logs")]
-    if house.binding:
-        words += ["--eab-kid", house.binding[0], "--eab-hmac-key", house.binding[1]]
-    return words, {"REQUESTS_CA_BUNDLE": house.root}, *(f"{folder}/config/live/{name}/{part}.pem" for part in ("fullchain", "privkey"))
+    words = certbot_words(house, folder, NAME, "--standalone", "--http-01-address", "127.0.0.1", "--http-01-port", str(port))
+    return words, {"REQUESTS_CA_BUNDLE": house.root}, *(f"{folder}/config/live/{NAME}/{part}.pem" for part in ("fullchain", "privkey"))
+
+
+def certbot_words(house, folder, name, *answering):
+    """The words of certbot for a name, with those by which challenges are answered."""
+    words = ["certbot", "certonly", "--non-interactive", "--agree-tos", "--register-unsafely-without-email", *answering]
+    words += ["--server", f"{house.base}/directory", "--domain", name, *(f"--{part}-dir={folder}/{part}" for part in ("config", "work", "logs"))]
+    return words + (["--eab-kid", house.binding[0], "--eab-hmac-key", house.binding[1]] if house.binding else [])
 
 
 def lego(house, folder, port):

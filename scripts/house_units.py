@@ -120,10 +120,11 @@ class Machine:
 
     def call(self, *words, user=None):
         """The status and the output of a program on the machine, of root or of another user with the groups of his unit."""
-        groups = ("nogroup", "nogroup") if user == "nobody" else ("desk-house", user)
+        groups = {"nobody": ("nogroup", "nogroup"), "desk-front": ("desk-house", "desk-front,desk-asks"), "desk-office": ("desk-asks", user)}.get(
+            user, ("desk-house", user))
         as_user = ["setpriv", f"--reuid={user}", f"--regid={groups[0]}", f"--groups={groups[1]}"] if user else []
         ran = subprocess.run(["nsenter", f"--target={self.first()}", *SPACES, "--root", "--wd", *as_user, *words],
-                             stdin=subprocess.DEVNULL, stdout=subprocess.PIPE, stderr=subprocess.STDOUT, text=True, timeout=PATIENCE * 2)
+                             stdin=subprocess.DEVNULL, stdout=subprocess.PIPE, stderr=subprocess.STDOUT, text=True, timeout=PATIENCE * 5)
         return ran.returncode, ran.stdout
 
     def stop(self):
@@ -186,6 +187,9 @@ def attack(machine):
         for role in ("front", "validator", "office", "operator"):
             reach = f"import socket; socket.socket(socket.AF_UNIX).connect('/run/desk/{role}')"
             see(f"{user} at the socket of the {role}", "PermissionError" in machine.call(PYTHON, "-c", reach, user=user)[1], user != f"desk-{role}")
+    for user, part, can in (("desk-front", "office", True), ("desk-front", "validator", True), ("desk-validator", "office", False), ("nobody", "office", False)):
+        reach = f"import socket; socket.socket(socket.AF_UNIX).connect('/run/desk-{part}/asks')"
+        see(f"{user} asks the {part}", "PermissionError" not in machine.call(PYTHON, "-c", reach, user=user)[1], can)
     for role, user, method, path, status in (
         ("front", "desk-front", "GET", "office/key/1", "404"), ("front", "desk-front", "POST", "office/revoke-account/1", "403"),
         ("validator", "desk-validator", "GET", "office/orders", "403"), ("operator", None, "POST", "office/revoke-account/1", "404"),

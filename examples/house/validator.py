@@ -33,7 +33,7 @@ class Validator:
 
     def hear(self, text):
         """Notes what the front tells of an answer that it has passed on: the challenge, and the thumbprint of the account's key."""
-        challenge, _, thumbprint = text.partition(" ")
+        challenge, _, thumbprint = text[:99].partition(" ")
         if len(self.told) == TOLD:
             self.told.clear()
         self.told[challenge] = thumbprint
