@@ -133,8 +133,9 @@ def haproxy(house, folder, port):
     tls, client, pem = free_port(), free_port(), f"{folder}/served.pem"
     write(f"{folder}/conf", HAPROXY, house, folder, port, tls, client=client, pem=pem)
     words, environment, chain, key = certbot(house, folder, client)
-    step = ('openssl req -x509 -newkey rsa:2048 -noenc -subj / -keyout "$1" -out "$1.crt" && cat "$1.crt" >> "$1" && haproxy -f "$2" & first=$!; '
-            'sleep 2; pem=$1 conf=$2 chain=$3 key=$4; shift 4; "$@" && cat "$chain" "$key" > "$pem" && kill $first; wait $first; exec haproxy -f "$conf"')
+    step = ('openssl req -x509 -newkey rsa:2048 -noenc -subj / -keyout "$1" -out "$1.crt" && cat "$1.crt" >> "$1" || exit; haproxy -f "$2" & first=$!; '
+            'trap "kill $first; exit 1" TERM; sleep 2; pem=$1 conf=$2 chain=$3 key=$4; shift 4; "$@" && cat "$chain" "$key" > "$pem" && kill $first; '
+            'wait $first; exec haproxy -f "$conf"')
     return ["sh", "-c", step, "sh", pem, f"{folder}/conf", chain, key, *words], environment, tls
 
 
