@@ -31,7 +31,7 @@ import josepy
 from cryptography import x509
 from cryptography.hazmat.primitives import hashes
 from cryptography.hazmat.primitives.asymmetric import dsa, ec, ed25519, rsa
-from cryptography.hazmat.primitives.serialization import Encoding, PublicFormat
+from cryptography.hazmat.primitives.serialization import Encoding, PublicFormat, load_pem_private_key
 
 from house_client import Names, Web
 from house_test import ERROR, Trial, account_by, faults, see
@@ -467,6 +467,19 @@ def weak_keys(trial):
         reply = account_by(trial.client, "RS256", jwk, lambda data: bytes(256))
         tried_refused(f"weak key: {what}", reply, 400, "badPublicKey")
         tried(f"weak key: what is said of {what}", what in json.loads(reply.body)["detail"])
+    long_prime()
+
+
+def long_prime():
+    """A prime of 8192 bits, whose test to the end takes minutes of processor: it is refused after few seconds."""
+    ran = subprocess.run(["openssl", "genpkey", "-algorithm", "DH", "-pkeyopt", "group:ffdhe8192"], capture_output=True, check=True)
+    prime = load_pem_private_key(ran.stdout, None).parameters().parameter_numbers().p
+    before = resource.getrusage(resource.RUSAGE_CHILDREN).ru_utime
+    tried("weak key: a prime of 8192 bits", factors.weakness_of(prime), "the modulus of the RSA key is prime")
+    taken = resource.getrusage(resource.RUSAGE_CHILDREN).ru_utime - before
+    tried("weak key: the processor that a prime of 8192 bits takes", taken < 2 * factors.SECONDS)
+    see("a product of 8192 bits", factors.weakness_of(unlike_others(8192)), None)
+    print(f"house: a prime of 8192 bits was refused after {taken:.1f} s of processor")
 
 
 def weak_moduli():
