@@ -738,6 +738,13 @@ def gone(trial):
             client.close()
             called.gone.set()
             tried(f"gone client of {path}", wait_for(lambda: woken, 20) and woken, [said])
+        woken.clear(), called.gone.set()
+        called.call = lambda method, path, body=None, patience=None: desk.Reply(200 if method == "GET" else 404, [], called.jwk)
+        body = trial.client.signed("https://localhost/chall/7", {}, kid="https://localhost/account/1").encode()
+        with secured(address) as client:
+            client.sendall(f"POST /chall/7 HTTP/1.1\r\nContent-Type: application/jose+json\r\nContent-Length: {len(body)}\r\n\r\n".encode() + body)
+            heard(client)
+        tried("gone client, and what is said of another account's challenge", woken, [()])
     print("house: 40 clients were gone before their reply, and woke validator and office all the same")
 
 

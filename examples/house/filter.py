@@ -59,8 +59,7 @@ class Call(socketserver.StreamRequestHandler):
         """The bytes of a request, of its body as many as it says."""
         head = line = self.rfile.readline(HEAD)
         while line not in (b"\r\n", b"") and len(head) < HEAD:
-            line = self.rfile.readline(HEAD)
-            head += line
+            head += (line := self.rfile.readline(HEAD))
         length = LENGTH.search(head.lower())
         return head + self.rfile.read(min(int(length[1]), BODY) if length else 0)
 

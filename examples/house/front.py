@@ -117,10 +117,13 @@ class Front(http.server.BaseHTTPRequestHandler):
             return self.server.revocation.reply(jws, key, spelling)
         payload = looked_at(self.path, jws, url, key, spelling, self.server.policy)
         if payload and self.path.startswith("/chall/"):
-            self.wake = partial(self.server.wake_validator, f"{self.path.removeprefix('/chall/')} {thumbprint(spelling)}")
+            self.wake = self.server.wake_validator
         elif payload and self.path.endswith("/finalize"):
             self.wake = self.server.wake_office
-        return self.server.desk.call("POST", self.path, jws.envelope(spelling, payload))
+        reply = self.server.desk.call("POST", self.path, jws.envelope(spelling, payload))
+        if self.wake and reply.status == 200 and self.path.startswith("/chall/"):
+            self.wake = partial(self.wake, f"{self.path.removeprefix('/chall/')} {thumbprint(spelling)}")
+        return reply
 
     def _key(self, header):
         """The key that a request is to be signed by: the one that a newAccount shows, or a revocation, or that of the account it names."""

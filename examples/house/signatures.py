@@ -65,12 +65,10 @@ class Jws:
     def _is_signed_by(self, key):
         try:
             if self.algorithm == "EdDSA":
-                key.verify(self.signature, self.signed)
-                return True
+                return key.verify(self.signature, self.signed) is None
             if self.algorithm == "PS256":
                 # josepy asks for the longest salt here, RFC 7518 for one as long as the hash.
-                key.verify(self.signature, self.signed, PSS(MGF1(SHA256()), SHA256.digest_size), SHA256())
-                return True
+                return key.verify(self.signature, self.signed, PSS(MGF1(SHA256()), SHA256.digest_size), SHA256()) is None
             return josepy.JWASignature.from_json(self.algorithm).verify(key, self.signed, self.signature)
         except InvalidSignature:
             return False
