@@ -24,6 +24,7 @@ import tempfile
 import threading
 import time
 import traceback
+import tracemalloc
 import warnings
 from types import SimpleNamespace
 
@@ -785,6 +786,19 @@ def chunks(trial):
                                ("70 KB", b"\r\n11170\r\n" + bytes(70000) + b"\r\n0\r\n\r\n", 413), ("4 GB", b"\r\nffffffff\r\n" + bytes(2**20), 0)):
         tried(f"chunks with {what}", sent(body), status)
     tried("chunks of another coding", sent(b"\r\n0\r\n\r\n", b"gzip, chunked"), 411)
+    small_chunks()
+
+
+def small_chunks():
+    """A body in as many chunks as there may be takes no more memory than its bytes."""
+    called = SimpleNamespace(headers={"Transfer-Encoding": "chunked"}, rfile=io.BytesIO(b"2\r\n{}\r\n" * (front.REQUEST // 7) + b"0\r\n\r\n"))
+    called._chunks = lambda: front.Front._chunks(called)
+    tracemalloc.start()
+    tried("chunks of two bytes", raised(front.Refused, front.Front._body, called), "the request is too large")
+    most = tracemalloc.get_traced_memory()[1]
+    tracemalloc.stop()
+    tried("chunks of two bytes: their memory", most < front.REQUEST)
+    print(f"house: {front.REQUEST // 7} chunks took {most >> 10} KB")
 
 
 def stalled(trial):

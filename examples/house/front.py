@@ -91,7 +91,7 @@ class Front(http.server.BaseHTTPRequestHandler):
         if coded is None and re.fullmatch("[0-9]{1,9}", length or "0"):
             body = self.rfile.read(min(int(length or 0), MOST))
         elif length is None and coded.lower() == "chunked":
-            body = b"".join(self._chunks())
+            body = bytes(byte for chunk in self._chunks() for byte in chunk)  # Not a list of the chunks, which takes much memory.
         else:
             raise Refused("malformed", "the length of the body is not given", 411)
         if len(body) > BODY:
