@@ -275,8 +275,9 @@ def crowds(_):
         judge.work()
         while not begun["three"] and time.monotonic() < start + 60:
             time.sleep(0.001)
-        waited = time.monotonic() - start
-        tried("crowd: 300 challenges of two accounts are silent, and one of a third begins", dict(begun), {"http-01": 4, "two": 4, "three": 1})
+        waited, wanted = time.monotonic() - start, {"http-01": 4, "two": 4, "three": 1}
+        wait_for(lambda: dict(begun) == wanted)
+        tried("crowd: 300 challenges of two accounts are silent, and one of a third begins", dict(begun), wanted)
         over.set()
         while len(overheard.reports) < 301 and time.monotonic() < start + 60:
             time.sleep(0.01)

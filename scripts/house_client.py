@@ -36,7 +36,7 @@ class Client:
         """The reply to a request, whatever its status."""
         asked = urllib.request.Request(url, body, {"Content-Type": kind} if body else {}, method=method)
         try:
-            reply = self.opener.open(asked, timeout=60)
+            reply = self.opener.open(asked, timeout=180)
         except urllib.error.HTTPError as refused:
             reply = refused
         with reply:
