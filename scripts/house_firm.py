@@ -189,7 +189,38 @@ def commands(_):
             found = failed(folder, wrong(change))
             tried(f"certificate of {what}", (found[0], re.sub("[0-9A-F]{20,}", "N", found[1])), ("serverInternal", f"the certificate N of the authority {why}"))
         see("the same without a change", [path for path, _ in signed_by(folder, wrong({}))[0]], ["/office/certify/5"])
+        repeats(folder, wrong({}))
     command.SECONDS = 60
+
+
+def repeats(folder, authority):
+    """An authority that gives one certificate for two orders, and one that can not revoke a certificate: the others go on."""
+    csr, given, failed, told = csr_of(ec.generate_private_key(ec.SECP256R1()), NAME), [], [], []
+
+    def call(method, path, body=None, patience=None):
+        if method == "GET":
+            orders = [{"order": number, "names": [NAME], "csr": keys.encoded(csr.public_bytes(Encoding.DER))} for number in (5, 6)]
+            return desk.Reply(200, [], json.dumps({"orders": orders}).encode())
+        failed.append(path)
+        return desk.Reply(200, [], b'{"status":"valid"}')
+
+    def revoke(certificate, reason):
+        told.append(reason)
+        if reason == "superseded":
+            raise command.NotSigned("unknown")
+
+    given.append(authority.sign([NAME], csr))
+    signer = SimpleNamespace(sign=lambda names, csr: given[0], revoke=revoke, list_revoked=lambda: b"list", revoking=())
+    made = office.Office(SimpleNamespace(call=call), signer, ledger.Ledger(":memory:"), folder)
+    with contextlib.redirect_stdout(io.StringIO()):
+        made.work()
+        tried("command that signs twice alike", failed, ["/office/certify/5", "/office/fail/6"])
+        given[0] = authority.sign([NAME], csr)
+        made._signed(7, [NAME], csr)
+        for chain, reason in (*((chain, "superseded") for _, chain in made.ledger._do("SELECT number, chain FROM certificate WHERE number = 5")), (given[0], "keyCompromise")):
+            made.ledger.revoke(x509.load_pem_x509_certificate(chain), reason)
+        made.list_revoked()
+    tried("command that can not revoke one of two", (told, len(made.ledger.untold())), (["superseded", "keyCompromise"], 1))
 
 
 # ---- Revocation.

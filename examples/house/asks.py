@@ -28,8 +28,7 @@ class Asked(socketserver.StreamRequestHandler):
     timeout = SILENCE
 
     def handle(self):
-        answer = self.server.answer(**json.loads(self.rfile.readline(LINE)))
-        self.wfile.write(json.dumps(answer).encode() + b"\n")
+        self.wfile.write(json.dumps(self.server.answer(**json.loads(self.rfile.readline(LINE)))).encode() + b"\n")
 
 
 def ask(path, timeout=TIMEOUT, **question):

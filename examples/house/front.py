@@ -157,8 +157,7 @@ class Front(http.server.BaseHTTPRequestHandler):
 def problem(refused, fields):
     """A refusal of the front's own, behind these fields."""
     body = json.dumps(refused.document).encode()
-    kind = [("Content-Type", "application/problem+json"), ("Content-Length", str(len(body)))]
-    return Reply(refused.status, fields + kind, body)
+    return Reply(refused.status, [*fields, ("Content-Type", "application/problem+json"), ("Content-Length", str(len(body)))], body)
 
 
 def client_of(text):
@@ -191,8 +190,8 @@ class Server(socketserver.ThreadingTCPServer):
 
     def get_request(self):
         """A connection and where it comes from, an address of IPv4 in its own spelling."""
-        request, address = super().get_request()
-        return request, (address[0].removeprefix("::ffff:"), *address[1:])
+        request, (host, *rest) = super().get_request()
+        return request, (host.removeprefix("::ffff:"), *rest)
 
     def verify_request(self, request, client_address):
         """Whether a client may have one connection more, which is then counted."""

@@ -46,8 +46,7 @@ def read_key(jwk):
         is_spelled = all(jwk[name] == text for name, text in spelling.items())
     except (ValueError, KeyError, TypeError):
         raise BadKey("the key can not be read") from None
-    weakness = weakness_of(key)
-    if weakness or not is_spelled:
+    if (weakness := weakness_of(key)) or not is_spelled:
         raise BadKey(weakness or "the key is not in its one spelling: coordinates of the curve's length, numbers without leading zeros")
     return key, spelling
 

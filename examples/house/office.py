@@ -92,6 +92,8 @@ class Office:
         """The chain of a new certificate, which the ledger has then."""
         chain = self.authority.sign(names, csr)
         certificate = accepted(chain, names, csr.public_key(), f"{self.folder}/root.pem")
+        if self.ledger.order_of(certificate) is not None:
+            raise NotSigned(f"the certificate {certificate.serial_number:X} of the authority is another order's")
         self.ledger.add(number, names, csr.public_bytes(Encoding.DER), certificate, chain, taken)
         return chain
 
@@ -109,8 +111,7 @@ class Office:
 
     def certify_front(self, host):
         """Makes a new key and certificate for the front, which take the place of the last ones in front.pem."""
-        key = ec.generate_private_key(ec.SECP256R1())
-        named = x509.SubjectAlternativeName([x509.DNSName(host)])
+        key, named = ec.generate_private_key(ec.SECP256R1()), x509.SubjectAlternativeName([x509.DNSName(host)])
         csr = x509.CertificateSigningRequestBuilder().subject_name(x509.Name([])).add_extension(named, False).sign(key, SHA256())
         chain = self._signed(0, [host], csr, taken=200)
         write_over(f"{self.folder}/front.pem", key.private_bytes(Encoding.PEM, PrivateFormat.PKCS8, NoEncryption()) + chain)
@@ -135,8 +136,11 @@ class Office:
     def list_revoked(self):
         """Has the authority know each revocation, and sign a new list of them, which the front serves."""
         for chain, reason in self.ledger.untold():
-            self.authority.revoke(x509.load_pem_x509_certificate(chain), reason)
-            self.ledger.note_told(chain)
+            try:
+                self.authority.revoke(x509.load_pem_x509_certificate(chain), reason)
+                self.ledger.note_told(chain)
+            except NotSigned:
+                log_fault("a revocation that is tried again with the next list")
         write_over(f"{self.folder}/crl.der", self.authority.list_revoked(), 0o644)
 
 

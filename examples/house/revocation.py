@@ -46,7 +46,6 @@ class Revocation:
             raise Refused("unauthorized", "the certificate is another account's", 403)
         if kind and not (is_own and kind in STRANGER):
             return reply
-        refused = self.ask(certificate=asked["certificate"], reason=reason if isinstance(reason, int) else -1).get("refused")
-        if refused:
+        if refused := self.ask(certificate=asked["certificate"], reason=reason if isinstance(reason, int) else -1).get("refused"):
             raise Refused(refused, "the certificate is revoked already, or not for this reason")
         return Reply(200, [(name, value) for name, value in reply.fields if name in KEPT] + [("Content-Length", "0")], b"")
