@@ -82,11 +82,10 @@ def main():
     if len(sys.argv) != 4 or sys.argv[1] != "--offline-root":
         sys.exit(__doc__)
     key, folder = sys.argv[2:]
+    here = f"{folder}/root.key"
     try:
-        if os.path.lexists(f"{folder}/root.key"):
-            if os.path.lexists(key):
-                end(f"{key} and {folder}/root.key are both there")
-            shutil.move(f"{folder}/root.key", key)
+        if os.path.lexists(here):
+            end(f"{key} and {here} are both there") if os.path.lexists(key) else shutil.move(here, key)
         opened(folder, "", key)
     except OSError as fault:
         end(f"{folder} and {key} are to be written by this user: {fault}")

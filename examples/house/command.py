@@ -16,7 +16,6 @@ LATE, AGAIN = 124, (os.EX_TEMPFAIL, 126, 127)
 
 class NotSigned(Exception):
     """Why there is no certificate."""
-
     kind = "serverInternal"
 
 

@@ -22,7 +22,6 @@ LIST_EVERY, REASONS = 86400, {0: "unspecified", 1: "keyCompromise", 3: "affiliat
 
 class BadCsr(NotSigned):
     """Why a CSR has no certificate."""
-
     kind = "badCSR"
 
 
