@@ -167,6 +167,7 @@ def commands(_):
             ("never ends", "sleep 1000 & sleep 1000", "the authority took too long"), ("never stops", "yes", "the authority wrote too much"),
             ("never stops its errors", "yes >&2", "the authority wrote too much"), ("writes nothing", "exit 0", "what the authority wrote is no chain of certificates"),
             ("writes no chain", "echo -----BEGIN CERTIFICATE-----", "what the authority wrote is no chain of certificates"),
+            ("writes a key before its chain", f"cat {folder}/root.key {folder}/root.pem", "what the authority wrote is no chain of certificates"),
         ):
             tried(f"command that {what}", failed(folder, ["sh", "-c", text, "sign"]), ("serverInternal", detail))
         for what, words in (("has failed for now", ["sh", "-c", "echo busy >&2; exit 75"]), ("is not there", [f"{folder}/none"])):
@@ -360,6 +361,9 @@ def policies(trial):
                            ("an odd identifier", '{"identifiers":[{"type":"dns","value":"evil.example"},{}]}')):
             tried(f"policy: {what}", sent(address, "/new-order", text)[:2], (400, "malformed"))
         see("what is passed on then", len(called.passed), 3)
+    for path in ("accounts", "bindings"):
+        with fronted(f"{folder}/firm", called, policy=policy.Policy((), **{path: ""})) as (address, _):
+            tried(f"policy: an empty path of {path}", sent(address, "/new-account", {"externalAccountBinding": {}})[:2], (503, "serverInternal"))
     with fronted(f"{folder}/firm", called, policy=policy.Policy((), **paths)) as (address, _):
         thumbprint = josepy.encode_b64jose(client.key.thumbprint())
         tried("policy: files that are not there", sent(address, "/new-account", {})[:2], (503, "serverInternal"))

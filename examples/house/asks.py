@@ -13,7 +13,6 @@ TIMEOUT, SOON, SILENCE, LINE = 60, 1, 5, 2**18
 
 class Asks(socketserver.UnixStreamServer):
     """Answers lines by a function, at a socket that the group of the process may connect to; systemd is told when it is there."""
-
     request_queue_size = 128
 
     def __init__(self, path, answer):

@@ -1,5 +1,6 @@
-"""What an authority gives for an order, before the desk has it: looked at, and verified by OpenSSL."""
+"""What an authority gives for an order, before the desk has it: looked at (the client gets each byte of it), and verified by OpenSSL."""
 import datetime
+import re
 import tempfile
 
 from cryptography import x509
@@ -7,11 +8,13 @@ from cryptography import x509
 from authority import openssl
 from command import CHAIN, NotSigned
 
+BLOCKS = re.compile(rb"(-----BEGIN CERTIFICATE-----[A-Za-z0-9+/=\s]+-----END CERTIFICATE-----\s*)+")
+
 
 def accepted(chain, names, key, roots):
     """The first certificate of a chain: for exactly these names and this key, not over, no authority's, and verified by a file of roots."""
     try:
-        certificate = x509.load_pem_x509_certificate(chain)
+        certificate = x509.load_pem_x509_certificate(BLOCKS.fullmatch(chain)[0])
         extensions = {type(extension.value): extension.value for extension in certificate.extensions}
         named, constraints = extensions.get(x509.SubjectAlternativeName, []), extensions.get(x509.BasicConstraints)
         is_named = sorted(str(name.value).lower() for name in named) == sorted(names) and all(isinstance(name, x509.DNSName) for name in named)

@@ -32,7 +32,6 @@ REVOKE, CHUNK = "/revoke-cert", re.compile(rb"([0-9A-Fa-f]{1,8})[ \t]*(;[^\r\n]*
 
 class Front(http.server.BaseHTTPRequestHandler):
     """Answers one request of a client, and closes the connection."""
-
     protocol_version = "HTTP/1.1"
     wake = None  # What wakes the office that has work once this request was answered.
 
@@ -168,7 +167,6 @@ def client_of(text):
 
 class Server(socketserver.ThreadingTCPServer):
     """A port with TLS. Each connection has a thread of its own, its handshake too; `::` is reached by both families."""
-
     request_queue_size, daemon_threads, allow_reuse_address = CONNECTIONS, True, True
 
     def __init__(self, address, certificate, desk, policy, revocation, wake_validator, wake_office, says_requests):

@@ -14,7 +14,7 @@ class Policy:
 
     def __init__(self, domains=(), accounts=None, bindings=None):
         self.domains, self.accounts, self.bindings = domains, accounts, bindings
-        self.meta = {"meta": {"externalAccountRequired": True}} if bindings else {}
+        self.meta = {"meta": {"externalAccountRequired": True}} if bindings is not None else {}
 
     def check_order(self, identifiers):
         """Refuses the names that are not certified here, with a subproblem each."""
@@ -36,11 +36,11 @@ class Policy:
         """Refuses a key that may not open an account; an account that is there is found by any key."""
         if asked.get("onlyReturnExisting") is True:
             return
-        if self.accounts and [thumbprint] not in words_of(self.accounts):
+        if self.accounts is not None and [thumbprint] not in words_of(self.accounts):
             raise Refused("unauthorized", f"the key {thumbprint} is not one that opens accounts here", 403)
-        if self.bindings and asked.get("externalAccountBinding") is None:
+        if self.bindings is not None and asked.get("externalAccountBinding") is None:
             raise Refused("externalAccountRequired", "an account is to be bound to an external one", 403)
-        if self.bindings and not self._is_bound(asked["externalAccountBinding"], spelling, url):
+        if self.bindings is not None and not self._is_bound(asked["externalAccountBinding"], spelling, url):
             raise Refused("unauthorized", "the external account binding is not by a key that is known here", 403)
 
     def _is_bound(self, binding, spelling, url):
