@@ -26,6 +26,8 @@ from trying import faults, see
 # The exposure that systemd-analyze may find, in tenths; how long systemd and what is asked of it may take, in seconds.
 EXPOSURE = {"desk": 10, "desk-filter": 12, "desk-office": 10, "desk-validator": 15, "desk-front": 20}
 PATIENCE = 60
+# The orders of an account whose list is in the memory that is measured.
+ORDERS = 4000
 SPACES = "--mount", "--pid", "--net", "--uts", "--ipc", "--cgroup"
 PYTHON, TRIAL = "/usr/bin/python3", "/usr/local/share/desk/trial"
 # Makes the root of a machine from this one's files and what is installed, in a mount name space of its own, and starts systemd there.
@@ -217,12 +219,28 @@ def attack(machine):
 
 
 def measure(machine):
-    """The memory that each part has used so far: at most half of its limit."""
+    """The memory that each part has used, and the desk with the list of an account of so many orders in it: at most half of its limit."""
+    well(machine, "bash", "-e", "-c", f"""systemctl stop desk; rm -f /var/lib/desk/desk.db*; install -o desk -m 600 {TRIAL}/list.db /var/lib/desk/desk.db
+        systemctl start desk""")
+    see("the desk with a long list", asked(machine, "operator", "GET", "directory"), "200")
+    see("the orders of its account", well(machine, PYTHON, "-B", f"{TRIAL}/house_units.py", "list"), f"{ORDERS}\n")
     for name in EXPOSURE:
         words = f"grep VmHWM /proc/$(systemctl show --property=MainPID --value {name})/status; systemctl show --property=MemoryMax --value {name}"
         used, limit = (int(number) for number in re.findall("[0-9]+", well(machine, "sh", "-c", words)))
         see(f"half of the limit of {name} for {used} KB", 2 * used * 1024 <= limit, True)
         print(f"units: {name} has used {used // 1024} MB of {limit // 2**20}")
+
+
+def list_orders():
+    """On the machine: how many orders an account has, as the desk lists them; its key is that of bench/bench.py."""
+    sys.path.insert(0, "/usr/local/share/desk/house")
+    import bench
+    import desk
+
+    operator = desk.Desk("/run/desk/operator", "")
+    nonce = dict(operator.call("GET", "/new-nonce").fields)["Replay-Nonce"]
+    reply = operator.call("POST", "/account/1/orders", json.dumps({"jwk": bench.key(1), "nonce": nonce, "payload": ""}))
+    print(len(json.loads(reply.body)["orders"]))
 
 
 def client():
@@ -279,6 +297,8 @@ def client():
 def main():
     if sys.argv[1:] == ["client"]:
         return client()
+    if sys.argv[1:] == ["list"]:
+        return list_orders()
     if not shutil.which("systemd-analyze"):
         sys.exit("systemd-analyze is missing: scripts/setup.sh installs it, by Debian's package systemd.")
     with tempfile.TemporaryDirectory(prefix="desk-units-") as tree:
@@ -287,6 +307,11 @@ def main():
         see("what the install says of the port", "open to every user" in said, True)
         verify(tree)
         shutil.copytree(f"{ROOT}/scripts", f"{tree}{TRIAL}", ignore=shutil.ignore_patterns("__pycache__"))
+        shutil.copy(f"{ROOT}/bench/bench.py", f"{tree}{TRIAL}")
+        sys.path.insert(0, f"{ROOT}/bench")
+        import bench
+
+        bench.make_file(f"{tree}{TRIAL}/list.db", ORDERS, each=ORDERS)
         try:
             machine = Machine(tree)
         except (NoMachine, OSError) as why:
