@@ -159,8 +159,7 @@ house-test: ## what the gate tries of the house and of the units
 		/usr/bin/python3 -B scripts/taken_port.py bin/desk; }
 	@/usr/bin/python3 -B scripts/house_units.py bin/desk
 	@! $(HOUSE) packages certbot || /usr/bin/python3 -B scripts/first_hour.py bin/desk
-	@if $(HOUSE) packages certbot; then set -o pipefail; $(HOUSE) run bin/desk | tee bin/house.said && \
-		python3 -B scripts/readme.py said 'make house' bin/house.said $(DOCUMENTS); fi
+	@! $(HOUSE) packages certbot || $(HOUSE) run bin/desk
 
 # Beside the program and its units: the house and the units of its three parts.
 install-house: install ## beside the program, the house and its units
