@@ -824,16 +824,17 @@ class SlowWeb(Web):
         super().finish_request(request, client_address)
 
 
-def main():
+def attacked(web, attacks, beside=None):
+    """Makes these attacks on a house around the desk of the program, one after the other, and one more beside them; says how many were tried, and
+    gives the exit status."""
     with tempfile.TemporaryDirectory(prefix="desk-house-") as folder:
-        web, names, lines = SlowWeb(), Names(), []
+        names, lines = Names(), []
         try:
             with House(sys.argv[1], folder, lines.append, web.server_port, names.server_address[1]) as house:
                 trial = Trial(house, web, names)
-                slow = threading.Thread(target=stalled, args=[Trial(house, web, names)])
+                slow = threading.Thread(target=beside, args=[Trial(house, web, names)])
                 slow.start()
-                for attack in (impostors, stalls, steering, crowds, reports, roots, leading_zeros, key_spellings, weak_keys, weak_csrs, nesting, chunks,
-                               families, gone, limits):
+                for attack in attacks:
                     start = time.monotonic()
                     attack(trial)
                     print(f"house: {attack.__name__}, {time.monotonic() - start:.1f} s", flush=True)
@@ -845,6 +846,12 @@ def main():
     kinds = ", ".join(f"{word.rstrip(':')} {count}" for word, count in counts.items())
     print(f"house: {sum(counts.values())} attacks tried ({kinds}); {len(faults)} not as they should be.")
     return 1 if faults else 0
+
+
+def main():
+    attacks = (impostors, stalls, steering, crowds, reports, roots, leading_zeros, key_spellings, weak_keys, weak_csrs, nesting, chunks, families,
+               gone, limits)
+    return attacked(SlowWeb(), attacks, stalled)
 
 
 if __name__ == "__main__":

@@ -21,7 +21,6 @@ import sys
 import tempfile
 import threading
 import time
-import traceback
 from types import SimpleNamespace
 
 import josepy
@@ -30,10 +29,10 @@ from cryptography.hazmat.primitives import hashes
 from cryptography.hazmat.primitives.asymmetric import ec
 from cryptography.hazmat.primitives.serialization import Encoding, load_pem_private_key
 
-from house_attacks import Down, counts, csr_of, fronted, heard, raised, secured, tried, tried_refused, wait_for
-from house_client import Client, Names, Web, new_key
-from house_test import ERROR, Trial, faults, other_client, see
-from housed import ROOT, House, Run, free_port
+from house_attacks import Down, attacked, csr_of, fronted, heard, raised, secured, tried, tried_refused, wait_for
+from house_client import Names, Web, new_key
+from house_test import ERROR, other_client, see
+from housed import ROOT, Run
 
 import authority
 import command
@@ -443,22 +442,7 @@ def roles(trial):
 
 
 def main():
-    with tempfile.TemporaryDirectory(prefix="desk-house-") as folder:
-        web, names, lines = Web(), Names(), []
-        try:
-            with House(sys.argv[1], folder, lines.append, web.server_port, names.server_address[1]) as house:
-                trial = Trial(house, web, names)
-                for asked in (killed, commands, policies, roles, revocations):
-                    start = time.monotonic()
-                    asked(trial)
-                    print(f"house: {asked.__name__}, {time.monotonic() - start:.1f} s", flush=True)
-                see("faults that the house shows", [line for line in lines if "Traceback" in line], [])
-        except Exception:
-            faults.append(traceback.format_exc())
-    print("\n".join((lines if faults else []) + faults))
-    kinds = ", ".join(f"{word.rstrip(':')} {count}" for word, count in counts.items())
-    print(f"house: {sum(counts.values())} attacks tried ({kinds}); {len(faults)} not as they should be.")
-    return 1 if faults else 0
+    return attacked(Web(), (killed, commands, policies, roles, revocations))
 
 
 if __name__ == "__main__":
