@@ -2,7 +2,7 @@
 """Gives this clone the libraries that the gate has proved on this machine from the same files, so that a check need not prove them again.
 
   scripts/warm.py         each crate whose files, and those of all crates below it, are as the gate proved them; says how many
-  scripts/warm.py NAME    the same, and then names the crates below NAME that a check of it proves first, and why
+  scripts/warm.py NAME    those below NAME alone, and then names the crates that a check of it proves first, and why
 
 The gate (`rt ci`) keeps what it proved by the sums of all that it read, and puts no stamp beside a library; a check (`rt check`) takes a library by its stamp
 alone. This asks the kit's own rt for the first, and writes the second. No verdict rests on it: the gate looks at neither.
@@ -25,10 +25,11 @@ def kit():
     return module
 
 
-def warm(rt):
-    """Gives each library that can be given; returns the libraries, lowest first."""
+def warm(rt, name=None):
+    """Gives each library that can be given, below a crate where one is named; returns these libraries, lowest first."""
     rt.Crate.allowed = rt.handles_of(ROOT)
-    crates = [it for it in rt.crates_of(ROOT) if it.makes_rlib()]
+    every = rt.crates_of(ROOT)
+    crates = next((it.below() for it in every if it.name == name), [it for it in every if it.makes_rlib()])
     held, kept = rt.rtlib.lock(crates), rt.Kept(crates)
     for crate in crates:
         if not all(it.is_built() for it in crate.below()):
@@ -42,26 +43,23 @@ def warm(rt):
     return crates
 
 
-def proved_first(crates, name):
-    """The lines on the crates below one that its check proves first: those that were never proved as they are, and those that stand on one of them."""
-    crate = next((it for it in crates if it.name == name), None)
-    below = crate.below() if crate else [it for it in crates if name == "desk_app"]
-    cold = [it.name for it in below if not it.is_built()]
+def proved_first(crates):
+    """The lines on the crates that a check proves first: those that were never proved as they are, and those that stand on one of them."""
+    cold = [it.name for it in crates if not it.is_built()]
     lines = []
-    for it in (it for it in below if it.name in cold):
+    for it in (it for it in crates if it.name in cold):
         on = [dep.name for dep in it.deps if dep.name in cold]
         lines.append(f"  {it.name}: {'stands on ' + ' and '.join(on) if on else 'the gate has not proved its files as they are'}")
     return lines
 
 
-def main(names):
+def main(name=None):
     os.chdir(ROOT)
-    crates = warm(kit())
+    crates = warm(kit(), name)
     print(f"{sum(it.is_built() for it in crates)} of {len(crates)} libraries are there as they were proved.")
-    for name in names:
-        lines = proved_first(crates, name)
-        print("\n".join([f"Before {name} these are proved:", *lines] if lines else [f"Below {name} nothing is proved again."]), flush=True)
+    lines = proved_first(crates) if name else []
+    print("\n".join([f"Before {name} these are proved:", *lines] if lines else []), end="\n" if lines else "", flush=True)
 
 
 if __name__ == "__main__":
-    main(sys.argv[1:])
+    main(*sys.argv[1:])
