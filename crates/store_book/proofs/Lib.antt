@@ -3,6 +3,7 @@ pub mod Ascending
 pub mod Distinctness
 pub mod InOrder
 mod Joins
+pub mod KeyedRows
 pub mod NestedRows
 pub mod Nests
 pub mod OrderedRows

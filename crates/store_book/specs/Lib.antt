@@ -1,4 +1,5 @@
 pub mod BookRows
+pub mod ByKey
 pub mod FaultNumbers
 pub mod IsBook
 pub mod Joined

@@ -1,0 +1,272 @@
+-- The rows of a book that stand by key keep their counters and find what they refer to.
+use Rattle.std.proofs.Common.{◌≡◌, ◌<◌, ◌≤◌, ◌+◌, inl, inr, ℕ, List, [], ◌∷◌, ◌++◌, map, Option, Some, None, All, refl, sym, ap, subst, ◌∙◌, arith}
+use Rattle.std.specs.Prelude.{◌==◌, find, filter_map, IsSome, option_map}
+use Rattle.std.specs.List.{cons_option, flat_map}
+use Rattle.std.specs.List.Sorted.{IsPermutation}
+use Rattle.std.proofs.lemmas.List.Elements.{All-cons, All-head, All-nil, All-tail}
+use Rattle.std.proofs.lemmas.List.Sorted.{All-permutation, IsPermutation-map, IsPermutation-sym, IsPermutation-trans}
+use Rattle.std.proofs.lemmas.Simd.{map-map}
+use Rattle.store_columns.specs.Flat.{answer_key, bare_row, challenge_rows, key_rows, listed_rows, owned_by, without_challenges, without_listed}
+use Rattle.store_columns.specs.declared.columns.{AnswerKey.AnswerKey, BareChallenge.BareChallenge, FlatRows.FlatRows, Owned.Owned}
+use Rattle.model_laws.specs.Distinct.{Distinct}
+use Rattle.model_laws.specs.Ordered.{Ascends, Below, IsTable}
+use Rattle.model_laws.proofs.Basics.{each, each-append, each-map, each_all, find-map}
+use Rattle.model_laws.proofs.RowLists.{ascends_found, ascends_from, ascends_map}
+use Rattle.desk_model.specs.{Kept.EachOf, Tables.Tables}
+use Rattle.desk_model.specs.Questions.{account_on, authorization_on}
+use Rattle.desk_model.specs.declared.{objects.Answer.Answer, rows.AccountRow.AccountRow, rows.AuthorizationRow.AuthorizationRow}
+use Rattle.desk_model.specs.declared.{rows.ChallengeRow.ChallengeRow, rows.Listed.Listed, rows.OrderRow.OrderRow}
+use Rattle.store_book.specs.BookRows.{AreAccounts, AreAuthorizations, AreBookRows, AreChallenges, AreListed, AreOrders, IsAmong, PlacesRise}
+use Rattle.store_book.specs.BookRows.{answered_number, answered_numbers}
+use Rattle.store_book.specs.ByKey.{AreByKey, BooksHaveRows}
+use Rattle.store_book.specs.IsBook.{IsBookOf}
+use Rattle.store_book.specs.Passing.{IsPlacedNext, PlacedFrom}
+use Rattle.store_book.proofs.{OrderedRows.same_ascending, SortedLists.same_single, Swapped.picked-permutation}
+
+-- ---- what holds of rows in some order
+
+each_of : {X : Type 0} (P : X → Type 0) (xs : List X) → All P xs → EachOf P xs
+each_of P [] all = tt
+each_of P (x ∷ xs) all = (All-head P x xs all, each_of P xs (All-tail P x xs all))
+
+all_of : {X : Type 0} (P : X → Type 0) (xs : List X) → EachOf P xs → All P xs
+all_of P [] h = All-nil P
+all_of P (x ∷ xs) h = All-cons P x xs h.0 (all_of P xs h.1)
+
+-- holds of them in any other
+pub each_moved : {X : Type 0} (P : X → Type 0) (xs ys : List X) → IsPermutation xs ys → EachOf P xs → EachOf P ys
+each_moved P xs ys moved h = each_of P ys (All-permutation P xs ys moved (all_of P xs h))
+
+-- ---- numbers
+
+-- numbers that ascend, none of which is 0, do so from 1 on
+from_one : {X : Type 0} (number : X → ℕ) (n : ℕ) (xs : List X) → Ascends number n xs → EachOf (λ x. 1 ≤ number x) xs → Ascends number 1 xs
+from_one number n [] up some = tt
+from_one number n (x ∷ xs) up some = (some.0, up.1)
+
+-- and if they do, none is
+none_zero : {X : Type 0} (number : X → ℕ) (n : ℕ) (xs : List X) → 1 ≤ n → Ascends number n xs → EachOf (λ x. 1 ≤ number x) xs
+none_zero number n [] some up = tt
+none_zero number n (x ∷ xs) some up = let first = up.0 in (omega (arith, some, first), none_zero number (number x + 1) xs (omega arith) up.1)
+
+-- the number of a row that is found is among theirs
+among_found : {X : Type 0} (number : X → ℕ) (n : ℕ) (xs : List X) → IsSome (find (λ x. number x == n) xs) → IsAmong (map number xs) n
+among_found {X} number n xs found = subst IsSome (sym (find-map (λ m. m == n) number xs)) (by (find (λ x. number x == n) xs) found)
+  where
+    by : (o : Option X) → IsSome o → IsSome (option_map number o)
+    by None h = absurd (cc h)
+    by (Some x) h = refl
+
+-- so it is of each of rows that ascend
+all_among : {X : Type 0} (number : X → ℕ) (n : ℕ) (xs : List X) → Ascends number n xs → EachOf (λ x. IsAmong (map number xs) (number x)) xs
+all_among number n xs up =
+    each (λ x. find (λ y. number y == number x) xs ≡ Some x) (λ x. IsAmong (map number xs) (number x)) xs
+    (λ x found. among_found number (number x) xs (there (find (λ y. number y == number x) xs) x found)) (ascends_found number n xs up)
+  where
+    there : {X : Type 0} (o : Option X) (x : X) → o ≡ Some x → IsSome o
+    there None x h = absurd (cc h)
+    there (Some y) x h = refl
+
+-- ---- rows under others
+
+-- what holds of each child of each row holds of all children
+each_child : {P T : Type 0} (number : P → ℕ) (children : P → List T) (Q : Owned T → Type 0) (ps : List P)
+    → EachOf (λ p. EachOf (λ t. Q (record { owner = number p; row = t })) (children p)) ps → EachOf Q (flat_map (λ p. owned_by (number p) (children p)) ps)
+each_child number children Q [] h = tt
+each_child number children Q (p ∷ ps) h =
+    each-append Q (owned_by (number p) (children p)) (flat_map (λ p. owned_by (number p) (children p)) ps)
+    (each-map Q (λ t. record { owner = number p; row = t }) (children p) h.0) (each_child number children Q ps h.1)
+
+-- what comes behind a place of a later order is of a later one
+later : (n order place : ℕ) (s : Owned Listed) → n < order → IsPlacedNext order place s.owner s.row.place → n < s.owner
+later n order place s low (inl next) = omega (arith, next, low)
+later n order place s low (inr next) = let is = next.0 in omega (arith, is, low)
+
+past : (n k order place : ℕ) (rows : List (Owned Listed)) → n < order → PlacedFrom order place rows → EachOf (λ s. s.owner ≡ n → k < s.row.place) rows
+past n k order place [] low placed = tt
+past n k order place (s ∷ rows) low placed =
+    let next = later n order place s low placed.0 in
+    (λ same. absurd (omega (arith, next, same)), past n k s.owner s.row.place rows next placed.1)
+
+-- and behind a place of an order each of it is later
+behind : (n k place : ℕ) (rows : List (Owned Listed)) → k ≤ place → PlacedFrom n place rows → EachOf (λ s. s.owner ≡ n → k < s.row.place) rows
+behind n k place [] low placed = tt
+behind n k place (s ∷ rows) low placed =
+    by placed.0 (λ next. past n k s.owner s.row.place rows next placed.1) (λ next is. behind n k s.row.place rows next is)
+  where
+    by : IsPlacedNext n place s.owner s.row.place → (n < s.owner → EachOf (λ s. s.owner ≡ n → k < s.row.place) rows)
+        → (k ≤ s.row.place → PlacedFrom n s.row.place rows → EachOf (λ s. s.owner ≡ n → k < s.row.place) rows)
+        → EachOf (λ s. s.owner ≡ n → k < s.row.place) (s ∷ rows)
+    by (inl next) others own = (λ same. absurd (omega (arith, next, same)), others next)
+    by (inr next) others own =
+        let at = next.1 in (
+          λ same. omega (arith, at, low),
+          own (omega (arith, at, low)) (subst (λ m. PlacedFrom m s.row.place rows) next.0 placed.1),
+        )
+
+-- places that come one behind the other rise
+places_rise : (order place : ℕ) (rows : List (Owned Listed)) → PlacedFrom order place rows → PlacesRise rows
+places_rise order place [] placed = tt
+places_rise order place (r ∷ rows) placed =
+    (behind r.owner r.row.place r.row.place rows (omega arith) placed.1, places_rise r.owner r.row.place rows placed.1)
+
+-- ---- challenges that were answered
+
+-- their numbers ascend with those of all
+answered_up : (n : ℕ) (cs : List (Owned BareChallenge)) → Ascends (λ c. c.row.number) n cs → Ascends (λ m. m) n (answered_numbers cs)
+answered_up n [] up = tt
+answered_up n (c ∷ cs) up = by c.row.answered (answered_up (c.row.number + 1) cs up.1)
+  where
+    by : {D : Type 0} (o : Option D) → Ascends (λ m. m) (c.row.number + 1) (answered_numbers cs)
+        → Ascends (λ m. m) n (cons_option (option_map (λ _. c.row.number) o) (answered_numbers cs))
+    by None rest = let first = up.0 in ascends_from (λ m. m) n (c.row.number + 1) (answered_numbers cs) (omega (arith, first)) rest
+    by (Some date) rest = (up.0, rest)
+
+-- and are those of the keys of their answers
+key_numbers : (cs : List (Owned ChallengeRow)) → map (λ k. k.challenge) (key_rows cs) ≡ answered_numbers (map bare_row cs)
+key_numbers [] = refl
+key_numbers (c ∷ cs) = by c.row.answered (key_numbers cs)
+  where
+    by : (o : Option Answer) → map (λ k. k.challenge) (key_rows cs) ≡ answered_numbers (map bare_row cs)
+        → map (λ k. k.challenge) (cons_option (option_map (λ a. record { challenge = c.row.number; thumb = a.thumb }) o) (key_rows cs))
+        ≡ cons_option (option_map (λ _. c.row.number) (option_map (λ a. a.date) o)) (answered_numbers (map bare_row cs))
+    by None rest = rest
+    by (Some answer) rest = ap (λ ns. c.row.number ∷ ns) rest
+
+-- ---- the rows of a book
+
+module _ (rows : FlatRows) (T : Tables) (book : IsBookOf rows T) (by_key : AreByKey rows) where
+  accounts_same : rows.accounts ≡ T.accounts
+  accounts_same =
+      same_ascending (λ a. a.number) 0 1 rows.accounts T.accounts by_key.accounts book.is_book.in_order.accounts book.has_rows.accounts
+
+  orders_up : Ascends (λ o. o.number) 1 (map without_listed T.orders)
+  orders_up = ascends_map (λ o. o.number) (λ o. o.number) without_listed (λ o. refl) 1 T.orders book.is_book.in_order.orders
+
+  orders_same : rows.orders ≡ map without_listed T.orders
+  orders_same = same_ascending (λ o. o.number) 0 1 rows.orders (map without_listed T.orders) by_key.orders orders_up book.has_rows.orders
+
+  authorizations_up : Ascends (λ a. a.number) 1 (map without_challenges T.authorizations)
+  authorizations_up =
+      ascends_map (λ a. a.number) (λ a. a.number) without_challenges (λ a. refl) 1 T.authorizations book.is_book.in_order.authorizations
+
+  authorizations_same : rows.authorizations ≡ map without_challenges T.authorizations
+  authorizations_same =
+      same_ascending (λ a. a.number) 0 1 rows.authorizations (map without_challenges T.authorizations) by_key.authorizations authorizations_up
+      book.has_rows.authorizations
+
+  -- an account that is found is among those that were shown
+  account_among : (n : ℕ) → IsSome (account_on T n) → IsAmong (map (λ a. a.number) rows.accounts) n
+  account_among n found =
+      subst (λ l. IsAmong (map (λ (a : AccountRow). a.number) l) n) (sym accounts_same) (among_found (λ (a : AccountRow). a.number) n T.accounts found)
+
+  -- so it is of orders
+  order_numbers : map (λ o. o.number) rows.orders ≡ map (λ o. o.number) T.orders
+  order_numbers = ap (map (λ o. o.number)) orders_same ∙ map-map (λ (o : OrderRow). o.number) without_listed T.orders
+
+  -- and of authorizations
+  authorization_numbers : map (λ a. a.number) rows.authorizations ≡ map (λ a. a.number) T.authorizations
+  authorization_numbers = ap (map (λ a. a.number)) authorizations_same ∙ map-map (λ (a : AuthorizationRow). a.number) without_challenges T.authorizations
+
+  authorization_among : (n : ℕ) → IsSome (authorization_on T n) → IsAmong (map (λ a. a.number) rows.authorizations) n
+  authorization_among n found =
+      subst (λ ns. IsAmong ns n) (sym authorization_numbers) (among_found (λ (a : AuthorizationRow). a.number) n T.authorizations found)
+
+  orders_are : AreOrders T.meta.counters.orders (map (λ a. a.number) rows.accounts) rows.orders
+  orders_are = subst (AreOrders T.meta.counters.orders (map (λ a. a.number) rows.accounts)) (sym orders_same) (record {
+    table = (orders_up, each-map (λ o. o.number < T.meta.counters.orders + 1) without_listed T.orders book.is_book.sound.counters.orders);
+    accounts_found = each-map (λ o. IsAmong (map (λ a. a.number) rows.accounts) o.account) without_listed T.orders
+        (each (λ o. IsSome (account_on T o.account)) (λ o. IsAmong (map (λ a. a.number) rows.accounts) o.account) T.orders
+        (λ o found. account_among o.account found) book.is_book.sound.references.orders);
+  })
+
+  authorizations_are : AreAuthorizations T.meta.counters.authorizations (map (λ a. a.number) rows.accounts) rows.authorizations
+  authorizations_are = subst (AreAuthorizations T.meta.counters.authorizations (map (λ a. a.number) rows.accounts)) (sym authorizations_same) (record {
+    table = (
+      authorizations_up,
+      each-map (λ a. a.number < T.meta.counters.authorizations + 1) without_challenges T.authorizations book.is_book.sound.counters.authorizations,
+    );
+    accounts_found = each-map (λ a. IsAmong (map (λ a. a.number) rows.accounts) a.account) without_challenges T.authorizations
+        (each (λ a. IsSome (account_on T a.account)) (λ a. IsAmong (map (λ a. a.number) rows.accounts) a.account) T.authorizations
+        (λ a found. account_among a.account found) book.is_book.sound.references.authorizations);
+  })
+
+  -- what holds of each that an order lists holds of all that was shown
+  each_listed : (Q : Owned Listed → Type 0) → EachOf (λ o. EachOf (λ l. Q (record { owner = o.number; row = l })) o.listed) T.orders → EachOf Q rows.listed
+  each_listed Q h =
+      each_moved Q (listed_rows T.orders) rows.listed (IsPermutation-sym rows.listed (listed_rows T.orders) book.has_rows.listed)
+      (each_child (λ (o : OrderRow). o.number) (λ o. o.listed) Q T.orders h)
+
+  listed_are : AreListed (map (λ o. o.number) rows.orders) (map (λ a. a.number) rows.authorizations) rows.listed
+  listed_are = record {
+    places = places_rise 0 0 rows.listed by_key.listed;
+    orders_found = each_listed (λ l. IsAmong (map (λ o. o.number) rows.orders) l.owner)
+        (each (λ o. IsAmong (map (λ o. o.number) T.orders) o.number) (λ o. EachOf (λ _. IsAmong (map (λ o. o.number) rows.orders) o.number) o.listed) T.orders
+        (λ o among. each_all (λ _. IsAmong (map (λ o. o.number) rows.orders) o.number) o.listed
+        (λ _. subst (λ ns. IsAmong ns o.number) (sym order_numbers) among))
+        (all_among (λ (o : OrderRow). o.number) 1 T.orders book.is_book.in_order.orders));
+    authorizations_found = each_listed (λ l. IsAmong (map (λ a. a.number) rows.authorizations) l.row.authorization)
+        (each (λ o. EachOf (λ l. IsSome (authorization_on T l.authorization)) o.listed)
+        (λ o. EachOf (λ l. IsAmong (map (λ a. a.number) rows.authorizations) l.authorization) o.listed) T.orders
+        (λ o found. each (λ l. IsSome (authorization_on T l.authorization)) (λ l. IsAmong (map (λ a. a.number) rows.authorizations) l.authorization) o.listed
+        (λ l. authorization_among l.authorization) found) book.is_book.sound.references.listed);
+  }
+
+  -- so it is of challenges
+  each_challenge : (Q : Owned BareChallenge → Type 0)
+      → EachOf (λ a. EachOf (λ c. Q (bare_row (record { owner = a.number; row = c }))) a.challenges) T.authorizations → EachOf Q rows.challenges
+  each_challenge Q h =
+      let all = challenge_rows T.authorizations in
+      each_moved Q (map bare_row all) rows.challenges (IsPermutation-sym rows.challenges (map bare_row all) book.has_rows.challenges)
+      (each-map Q bare_row all (each_child (λ (a : AuthorizationRow). a.number) (λ a. a.challenges) (λ c. Q (bare_row c)) T.authorizations h))
+
+  challenges_are : AreChallenges T.meta.counters.challenges (map (λ a. a.number) rows.authorizations) rows.challenges
+  challenges_are = record {
+    table = (
+      from_one (λ c. c.row.number) 0 rows.challenges by_key.challenges
+          (each_challenge (λ c. 1 ≤ c.row.number)
+          (each (λ a. Ascends (λ c. c.number) 1 a.challenges) (λ a. EachOf (λ c. 1 ≤ c.number) a.challenges) T.authorizations
+          (λ a up. none_zero (λ (c : ChallengeRow). c.number) 1 a.challenges (omega arith) up) book.is_book.in_order.challenges)),
+      each_challenge (λ c. c.row.number < T.meta.counters.challenges + 1) book.is_book.sound.counters.challenges,
+    );
+    authorizations_found = each_challenge (λ c. IsAmong (map (λ a. a.number) rows.authorizations) c.owner)
+        (each (λ a. IsAmong (map (λ a. a.number) T.authorizations) a.number)
+        (λ a. EachOf (λ _. IsAmong (map (λ a. a.number) rows.authorizations) a.number) a.challenges) T.authorizations
+        (λ a among. each_all (λ _. IsAmong (map (λ a. a.number) rows.authorizations) a.number) a.challenges
+        (λ _. subst (λ ns. IsAmong ns a.number) (sym authorization_numbers) among))
+        (all_among (λ (a : AuthorizationRow). a.number) 1 T.authorizations book.is_book.in_order.authorizations));
+  }
+
+  keys_are : map (λ k. k.challenge) rows.keys ≡ answered_numbers rows.challenges
+  keys_are =
+      let all = challenge_rows T.authorizations in
+      let numbers = map (λ (k : AnswerKey). k.challenge) rows.keys in
+      let of_keys : IsPermutation numbers (answered_numbers (map bare_row all)) =
+      subst (IsPermutation numbers) (key_numbers all) (IsPermutation-map (λ k. k.challenge) rows.keys (key_rows all) book.has_rows.keys) in
+      let of_challenges = picked-permutation answered_number (map bare_row all) rows.challenges
+      (IsPermutation-sym rows.challenges (map bare_row all) book.has_rows.challenges) in
+      same_ascending (λ n. n) 0 0 numbers (answered_numbers rows.challenges)
+      (ascends_map (λ k. k.challenge) (λ n. n) (λ (k : AnswerKey). k.challenge) (λ k. refl) 0 rows.keys by_key.keys)
+      (answered_up 0 rows.challenges by_key.challenges)
+      (IsPermutation-trans numbers (answered_numbers (map bare_row all)) (answered_numbers rows.challenges) of_keys of_challenges)
+
+  are : AreBookRows T.meta rows
+  are = record {
+    metas = same_single rows.metas T.meta book.has_rows.metas;
+    nonces = subst (IsTable (λ n. n.serial) T.meta.counters.nonces)
+        (sym (same_ascending (λ n. n.serial) 0 1 rows.nonces T.nonces by_key.nonces book.is_book.in_order.nonces book.has_rows.nonces))
+        (book.is_book.in_order.nonces, book.is_book.sound.counters.nonces);
+    accounts = subst (AreAccounts T.meta.counters.accounts) (sym accounts_same) (record {
+      table = (book.is_book.in_order.accounts, book.is_book.sound.counters.accounts);
+      keys = book.is_book.sound.distinct.keys;
+    });
+    orders = orders_are;
+    authorizations = authorizations_are;
+    listed = listed_are;
+    challenges = challenges_are;
+    keys = keys_are;
+  }
+
+-- they are so
+pub books_have_rows : BooksHaveRows
+books_have_rows = are
