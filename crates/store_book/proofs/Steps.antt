@@ -20,33 +20,28 @@ ascends_more number n top [] row up below from above = (from, tt)
 ascends_more number n top (x ∷ rows) row up below from above =
     let low = below.0 in (up.0, ascends_more number (number x + 1) top rows row up.1 below.1 (omega arith) above)
 
--- what holds of all holds of the last
-pub each_last : {X : Type 0} (P : X → Type 0) (rows : List X) (row : X) → EachOf P (rows ++ row ∷ []) → P row
-each_last P [] row h = h.0
-each_last P (x ∷ rows) row h = each_last P rows row h.1
+-- what holds of all holds of one
+pub each_at : {X : Type 0} (P : X → Type 0) (rows : List X) (row : X) (rest : List X) → EachOf P (rows ++ row ∷ rest) → P row
+each_at P [] row rest h = h.0
+each_at P (x ∷ rows) row rest h = each_at P rows row rest h.1
 
--- and of those before it
-pub each_before : {X : Type 0} (P : X → Type 0) (rows : List X) (row : X) → EachOf P (rows ++ row ∷ []) → EachOf P rows
-each_before P [] row h = tt
-each_before P (x ∷ rows) row h = (h.0, each_before P rows row h.1)
-
--- of what ascends the last is above those before it
-above_before : {X : Type 0} (number : X → ℕ) (n : ℕ) (rows : List X) (row : X) → Ascends number n (rows ++ row ∷ [])
+-- of what ascends each is above those before it
+above_before : {X : Type 0} (number : X → ℕ) (n : ℕ) (rows : List X) (row : X) (rest : List X) → Ascends number n (rows ++ row ∷ rest)
     → (n ≤ number row) × Below number (number row) rows
-above_before number n [] row up = (up.0, tt)
-above_before number n (x ∷ rows) row up =
-    let later = above_before number (number x + 1) rows row up.1 in
+above_before number n [] row rest up = (up.0, tt)
+above_before number n (x ∷ rows) row rest up =
+    let later = above_before number (number x + 1) rows row rest up.1 in
     let first = up.0 in
     let above = later.0 in
     (omega (arith, first, above), (omega (arith, above), later.1))
 
 -- a row of a table behind those so far counts on
-pub counts_on : {X : Type 0} (number : X → ℕ) (first now : Counter) (rows : List X) (row : X) → IsUpTo number first now rows
-    → IsTable number first.last (rows ++ row ∷ []) → (now.top < number row) × (number row ≤ now.last)
-counts_on number first now rows row up table =
-    let behind = above_before number 1 rows row table.0 in
+pub counts_on : {X : Type 0} (number : X → ℕ) (first now : Counter) (rows : List X) (row : X) (rest : List X) → IsUpTo number first now rows
+    → IsTable number first.last (rows ++ row ∷ rest) → (now.top < number row) × (number row ≤ now.last)
+counts_on number first now rows row rest up table =
+    let behind = above_before number 1 rows row rest table.0 in
     let from = behind.0 in
-    let given = each_last (λ x. number x < first.last + 1) rows row table.1 in
+    let given = each_at (λ x. number x < first.last + 1) rows row rest table.1 in
     let last = up.last in
     (up.reached (number row) (omega (arith, from)) behind.1, omega (arith, given, last))
 
@@ -63,7 +58,7 @@ up_to_more number first old new rows row counts up =
       below = each-append (λ x. number x < new.top + 1) rows (row ∷ [])
           (each (λ x. number x < old.top + 1) (λ x. number x < new.top + 1) rows (λ x low. omega (arith, low, above, top)) up.below)
           (omega (arith, top), tt);
-      reached = λ n some low. let next = each_last (λ x. number x < n) rows row low in omega (arith, top, next);
+      reached = λ n some low. let next = each_at (λ x. number x < n) rows row [] low in omega (arith, top, next);
     }
 
 -- rows behind the last one are a table
@@ -146,29 +141,30 @@ placed_more rows row order place next up =
     further r (inr next) (inr here) = inr (here.0 ∙ sym next.0, let low = here.1 in let high = next.1 in omega (arith, low, high))
 
 -- what is placed behind those so far and one more is placed behind that
-pub placed_behind : (order place : ℕ) (rows : List (Owned Listed)) (row next : Owned Listed) → PlacedFrom order place ((rows ++ row ∷ []) ++ next ∷ [])
-    → IsPlacedNext row.owner row.row.place next.owner next.row.place
-placed_behind order place [] row next placed = placed.1.0
-placed_behind order place (r ∷ rows) row next placed = placed_behind r.owner r.row.place rows row next placed.1
+pub placed_behind : (order place : ℕ) (rows : List (Owned Listed)) (row next : Owned Listed) (rest : List (Owned Listed))
+    → PlacedFrom order place ((rows ++ row ∷ []) ++ next ∷ rest) → IsPlacedNext row.owner row.row.place next.owner next.row.place
+placed_behind order place [] row next rest placed = placed.1.0
+placed_behind order place (r ∷ rows) row next rest placed = placed_behind r.owner r.row.place rows row next rest placed.1
 
 -- a row of a table behind those so far, of one of these owners, is taken
 pub owned_fine : {X E : Type 0} (number owner : X → ℕ) (row : X) (old : Counter) (owners numbers : List ℕ) (taken : Result Bool E)
     → IfOk taken (λ passes. old.top < number row → number row ≤ old.last → Rise owners → IsAmong owners (owner row) → passes ≡ Bool.true)
-    → IfOk taken (λ passes. (first : Counter) (first_owners : List ℕ) (rows : List X) → AreOwned number owner first old owners first_owners numbers rows
-    → Rise first_owners → IsTable number first.last (rows ++ row ∷ []) → EachOf (λ x. IsAmong first_owners (owner x)) (rows ++ row ∷ []) → passes ≡ Bool.true)
+    → IfOk taken (λ passes. (first : Counter) (first_owners : List ℕ) (rows rest : List X) → AreOwned number owner first old owners first_owners numbers rows
+    → Rise first_owners → IsTable number first.last (rows ++ row ∷ rest) → EachOf (λ x. IsAmong first_owners (owner x)) (rows ++ row ∷ rest)
+    → passes ≡ Bool.true)
 owned_fine number owner row old owners numbers (Ok passes) fine =
-    λ first first_owners rows so_far rise table found.
-    let on = counts_on number first old rows row so_far.0 table in
+    λ first first_owners rows rest so_far rise table found.
+    let on = counts_on number first old rows row rest so_far.0 table in
     fine on.0 on.1 (subst Rise (sym so_far.2) rise) (subst (λ l. IsAmong l (owner row)) (sym so_far.2)
-    (each_last (λ x. IsAmong first_owners (owner x)) rows row found))
+    (each_at (λ x. IsAmong first_owners (owner x)) rows row rest found))
 owned_fine number owner row old owners numbers (Err e) fine = tt
 
 -- the key behind those so far is the next one
-pub next_key : (rows : List AnswerKey) (row : AnswerKey) (left all rest : List ℕ) → map (λ k. k.challenge) rows ++ left ≡ all
-    → map (λ k. k.challenge) (rows ++ row ∷ []) ++ rest ≡ all → left ≡ row.challenge ∷ rest
-next_key [] row left all rest so_far begins = so_far ∙ sym begins
-next_key (k ∷ rows) row left all rest so_far begins =
-    next_key rows row left (map (λ k. k.challenge) (rows ++ row ∷ []) ++ rest) rest (let same = so_far ∙ sym begins in cc) refl
+pub next_key : (rows : List AnswerKey) (row : AnswerKey) (rest : List AnswerKey) (left all : List ℕ) → map (λ k. k.challenge) rows ++ left ≡ all
+    → map (λ k. k.challenge) (rows ++ row ∷ rest) ≡ all → left ≡ row.challenge ∷ map (λ k. k.challenge) rest
+next_key [] row rest left all so_far are = so_far ∙ sym are
+next_key (k ∷ rows) row rest left all so_far are =
+    next_key rows row rest left (map (λ k. k.challenge) (rows ++ row ∷ rest)) (let same = so_far ∙ sym are in cc) refl
 
 -- behind all there is none
 pub none_behind : (ks left : List ℕ) → ks ++ left ≡ ks → left ≡ []

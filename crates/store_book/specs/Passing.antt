@@ -1,5 +1,5 @@
 -- Rows that pass one after the other.
-use Rattle.std.specs.Prelude.{◌≡◌, ◌+◌, ◌<◌, ◌≤◌, ◌⊎◌, ◌++◌, ℕ, List, [], ◌∷◌, Option, None, Some}
+use Rattle.std.specs.Prelude.{◌≡◌, ◌+◌, ◌<◌, ◌≤◌, ◌⊎◌, ℕ, List, [], ◌∷◌, Option, None, Some}
 use Rattle.model_laws.specs.Ordered.{Ascends, Below}
 use Rattle.store_columns.specs.declared.columns.Owned.{Owned}
 use Rattle.desk_model.specs.declared.rows.{Counters.Counters, Listed.Listed, Meta.Meta}
@@ -48,10 +48,6 @@ pub record ArePlaced (order place : ℕ) (orders authorizations : List ℕ) (row
 -- there is one row
 abbrev pub IsOneRow : List Meta → Type 0
 IsOneRow rows = (meta : Meta) × (rows ≡ meta ∷ [])
-
--- these numbers begin those
-abbrev pub Begin : List ℕ → List ℕ → Type 0
-Begin numbers all = (rest : List ℕ) × (numbers ++ rest ≡ all)
 
 -- these are the counters of the one row that there is
 pub record IsOnlyRow (kept : Counters) (rows : List Meta) : Type 0 where

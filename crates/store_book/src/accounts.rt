@@ -42,8 +42,6 @@ impl RowCheck<AccountColumns> for AccountCheck {
 
     ghost IsWhole = { λ first rows kept. AreAccounts first.counter.last rows × (kept ≡ map (λ a. a.number) rows) };
 
-    ghost MayBegin = { λ first rows. IsTable (λ a. a.number) first.counter.last rows };
-
     ghost AreAll = { λ first rows. AreAccounts first.counter.last rows };
 
     fn passes(&mut self, row: AccountRow) -> Result<bool, AllocError> {

@@ -1,6 +1,6 @@
 //! The rows of `chall_key`.
 ghost use Rattle.std.specs.Prelude.{◌≡◌, ◌++◌, map};
-ghost use Rattle.store_book.specs.{BookRows.AreKeys, Passing.Begin};
+ghost use Rattle.store_book.specs.BookRows.{AreKeys};
 
 use crate::numbers::Numbers;
 use crate::row_check::RowCheck;
@@ -30,8 +30,6 @@ impl<'a> RowCheck<ChallKeyColumns> for KeyCheck<'a> {
     ghost Passed = { λ first now rows. map (λ k. k.challenge) rows ++ now.left.now ≡ first.left.now };
 
     ghost IsWhole = { λ first rows kept. AreKeys first.left.now rows };
-
-    ghost MayBegin = { λ first rows. Begin (map (λ k. k.challenge) rows) first.left.now };
 
     ghost AreAll = { λ first rows. AreKeys first.left.now rows };
 

@@ -1,5 +1,5 @@
 //! The rows of `ord_authz`.
-ghost use Rattle.std.specs.Prelude.{◌≡◌, ◌++◌, [], ◌∷◌, IsTrue};
+ghost use Rattle.std.specs.Prelude.{◌≡◌, ◌++◌, ◌∷◌, IsTrue, List};
 ghost use Rattle.desk_model.specs.Kept.{EachOf};
 ghost use Rattle.store_book.specs.BookRows.{AreListed, IsAmong, PlacesRise};
 ghost use Rattle.store_book.specs.Passing.{ArePlaced, IsPlacedNext, IsPlacedUpTo, ListedRow, PlacedFrom};
@@ -50,11 +50,9 @@ impl<'a> RowCheck<OrderAuthzColumns> for ListedCheck<'a> {
     ghost Passed = { λ first now rows. PlacesRise rows × EachOf (IsPlacedUpTo now.order now.place) rows
         × (now.orders.now ≡ first.orders.now) × (now.authorizations.now ≡ first.authorizations.now)
         × EachOf (λ l. IsAmong first.orders.now l.owner) rows × EachOf (λ l. IsAmong first.authorizations.now l.row.authorization) rows
-        × ((row : ListedRow) → PlacedFrom first.order first.place (rows ++ row ∷ []) → IsPlacedNext now.order now.place row.owner row.row.place) };
+        × ((row : ListedRow) (rest : List ListedRow) → PlacedFrom first.order first.place (rows ++ row ∷ rest) → IsPlacedNext now.order now.place row.owner row.row.place) };
 
     ghost IsWhole = { λ first rows kept. AreListed first.orders.now first.authorizations.now rows };
-
-    ghost MayBegin = { λ first rows. ArePlaced first.order first.place first.orders.now first.authorizations.now rows };
 
     ghost AreAll = { λ first rows. ArePlaced first.order first.place first.orders.now first.authorizations.now rows };
 

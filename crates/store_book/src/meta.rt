@@ -29,8 +29,6 @@ impl RowCheck<MetaColumns> for MetaCheck {
 
     ghost IsWhole = { λ first rows kept. IsOnlyRow kept rows };
 
-    ghost MayBegin = { λ first rows. IsOneRow rows };
-
     ghost AreAll = { λ first rows. IsOneRow rows };
 
     fn passes(&mut self, row: Meta) -> Result<bool, AllocError> {

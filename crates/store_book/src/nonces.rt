@@ -33,8 +33,6 @@ impl RowCheck<NonceColumns> for NonceCheck {
 
     ghost IsWhole = { λ first rows kept. IsTable (λ n. n.serial) first.counter.last rows };
 
-    ghost MayBegin = { λ first rows. IsTable (λ n. n.serial) first.counter.last rows };
-
     ghost AreAll = { λ first rows. IsTable (λ n. n.serial) first.counter.last rows };
 
     fn passes(&mut self, row: Nonce) -> Result<bool, AllocError> {

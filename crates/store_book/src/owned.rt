@@ -58,9 +58,7 @@ impl<'a> RowCheck<OrderColumns> for OwnedCheck<'a> {
 
     ghost IsWhole = { λ first rows kept. AreOrders first.counter.last first.owners.now rows × (kept ≡ map (λ o. o.number) rows) };
 
-    ghost MayBegin = { λ first rows. Rise first.owners.now × AreOrders first.counter.last first.owners.now rows };
-
-    ghost AreAll = { λ first rows. AreOrders first.counter.last first.owners.now rows };
+    ghost AreAll = { λ first rows. Rise first.owners.now × AreOrders first.counter.last first.owners.now rows };
 
     fn passes(&mut self, row: OrderRow) -> Result<bool, AllocError> {
         self.takes(row.number, row.account)
@@ -79,9 +77,7 @@ impl<'a> RowCheck<AuthzColumns> for OwnedCheck<'a> {
 
     ghost IsWhole = { λ first rows kept. AreAuthorizations first.counter.last first.owners.now rows × (kept ≡ map (λ a. a.number) rows) };
 
-    ghost MayBegin = { λ first rows. Rise first.owners.now × AreAuthorizations first.counter.last first.owners.now rows };
-
-    ghost AreAll = { λ first rows. AreAuthorizations first.counter.last first.owners.now rows };
+    ghost AreAll = { λ first rows. Rise first.owners.now × AreAuthorizations first.counter.last first.owners.now rows };
 
     fn passes(&mut self, row: AuthorizationRow) -> Result<bool, AllocError> {
         self.takes(row.number, row.account)
@@ -134,9 +130,7 @@ impl<'a> RowCheck<ChallColumns> for ChallengeCheck<'a> {
 
     ghost IsWhole = { λ first rows kept. AreChallenges first.counter.last first.authorizations.now rows × (kept ≡ answered_numbers rows) };
 
-    ghost MayBegin = { λ first rows. Rise first.authorizations.now × AreChallenges first.counter.last first.authorizations.now rows };
-
-    ghost AreAll = { λ first rows. AreChallenges first.counter.last first.authorizations.now rows };
+    ghost AreAll = { λ first rows. Rise first.authorizations.now × AreChallenges first.counter.last first.authorizations.now rows };
 
     fn passes(&mut self, row: Owned<BareChallenge>) -> Result<bool, AllocError> {
         if !self.counter.passes(row.row.number) || !self.authorizations.has(row.owner) {

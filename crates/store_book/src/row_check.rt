@@ -15,14 +15,11 @@ pub trait RowCheck<C: Columns>: Drop {
     // What these rows are, as this is kept of them, where they passed from here on.
     ghost IsWhole: { Self → List C.Row → Self.Kept → Type 0 };
 
-    // These rows, from here on, may begin a book's table.
-    ghost MayBegin: { Self → List C.Row → Type 0 };
-
     // These rows, from here on, are a book's table.
     ghost AreAll: { Self → List C.Row → Type 0 };
 
-    /// Whether the next row passes, as it does where with those before it it may begin a book's table. Behind one that does not,
-    /// nothing is said of the others.
+    /// Whether the next row passes, as it does where those before it, it and others behind it are a book's table. Behind one that
+    /// does not, nothing is said of the others.
     ///
     /// # Errors
     ///
@@ -30,8 +27,8 @@ pub trait RowCheck<C: Columns>: Drop {
     fn passes(&mut self, row: C::Row) -> Result<bool, AllocError>
         ensures passed { IfOk result (λ passes. IsTrue passes → (first : Self) (rows : List C.Row) → Passed first self.old rows
             → Passed first self.new (rows ++ row ∷ [])) }
-        ensures fine { IfOk result (λ passes. (first : Self) (rows : List C.Row) → Passed first self.old rows
-            → MayBegin first (rows ++ row ∷ []) → IsTrue passes) };
+        ensures fine { IfOk result (λ passes. (first : Self) (rows rest : List C.Row) → Passed first self.old rows
+            → AreAll first (rows ++ row ∷ rest) → IsTrue passes) };
 
     /// What is kept of the rows that passed, behind the last one, if they are a whole table, as all rows of a book are.
     ///

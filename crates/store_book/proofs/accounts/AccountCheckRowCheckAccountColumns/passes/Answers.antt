@@ -10,6 +10,6 @@ returns-clause-passed c _ first rows so_far = (
 )
 
 pub returns-then-not-passes-clause-fine : goal.returns-then-not-passes-clause-fine
-returns-then-not-passes-clause-fine c first rows so_far table =
-    let on = counts_on (λ a. a.number) first.counter c.args.self.now.counter rows c.args.row so_far.0 table in
+returns-then-not-passes-clause-fine c first rows rest so_far are =
+    let on = counts_on (λ a. a.number) first.counter c.args.self.now.counter rows c.args.row rest so_far.0 are.table in
     absurd (let x = sym c.if-not-passes.true ∙ c.passes.ensures.fine on.0 on.1 in cc)

@@ -6,6 +6,6 @@ returns-clause-passed c passes first rows so_far = up_to_more (λ n. n.serial) f
     (c.passes.ensures.counts passes) so_far
 
 pub returns-clause-fine : goal.returns-clause-fine
-returns-clause-fine c first rows so_far table =
-    let on = counts_on (λ n. n.serial) first.counter c.args.self.now.counter rows c.args.row so_far table in
+returns-clause-fine c first rows rest so_far table =
+    let on = counts_on (λ n. n.serial) first.counter c.args.self.now.counter rows c.args.row rest so_far table in
     c.passes.ensures.fine on.0 on.1

@@ -13,4 +13,4 @@ pub returns-clause-fine : goal.returns-clause-fine
 returns-clause-fine c =
     told_by c.takes.result (owned_fine (λ o. o.number) (λ o. o.account) c.args.row c.args.self.now.counter c.args.self.now.owners.now
     c.args.self.now.numbers c.takes.result c.takes.ensures.fine)
-    (λ passes so first rows so_far begins. so first.counter first.owners.now rows so_far begins.0 begins.1.table begins.1.accounts_found)
+    (λ passes so first rows rest so_far are. so first.counter first.owners.now rows rest so_far are.0 are.1.table are.1.accounts_found)
