@@ -6,10 +6,12 @@ use Rattle.sqlite.specs.{Effect.Database, Order.Row, Store.Ghosts}
 use Rattle.sqlite.specs.Held.{Held, state}
 use Rattle.sqlite.specs.State.{HasCleanDisk, IsUnchanged}
 use Rattle.sqlite.specs.declared.error.Error.{Error}
+use Rattle.store_columns.specs.declared.columns.FlatRows.{FlatRows}
 use Rattle.desk_model.specs.Tables.{Tables}
+use Rattle.desk_model.specs.declared.rows.Meta.{Meta}
 use Rattle.sql_read.specs.AllTables.{FailsAtFirst, FailsAtTable}
 use Rattle.sql_read.specs.BookShown.{Checks, FailsIn, HoldsIn}
-use Rattle.sql_read.specs.Checking.{ShowsTable}
+use Rattle.sql_read.specs.{Checking.ShowsTable, Only.ShowsBookRowsOnly}
 use Rattle.sql_read.specs.Failures.{FailsHere, HasTexts, IsMet, IsOutOfMemory, IsReadable, MayRead}
 use Rattle.sql_read.specs.declared.formats.Format.{Format}
 use Rattle.sql_read.specs.declared.formats.Format.TheVariants.{First, Second}
@@ -49,16 +51,17 @@ module _ {S : Type 0} (g : Ghosts S) where
   in_format First here e fails = fails
   in_format Second here e fails = inl fails
 
-  module _ {format : Format} {P : Database → Type 0} {old new : Held S} where
+  module _ {format : Format} {P : Database → Type 0} {N : Database → Meta → FlatRows → Type 0} {old new : Held S} where
     -- the reading of a table failed
     pub checks_failed : {e : Error} {r : Result Bool Error} {text : List ℕ} {Fits : Row → Type 0}
         → ((T : Tables) → HoldsIn format (state g old).now T → HasTexts T → IsReadable g old text Fits)
         → (FailsHere g old text Fits e → FailsIn format g old e) → IsErr r → IsErrAnd r (λ x. x ≡ e)
         → (HasCleanDisk (state g new) → MayRead (state g old) → IsReadable g old text Fits → IsFailure e)
         → (HasCleanDisk (state g new) → IsOutOfMemory e ⊎ FailsHere g old text Fits e)
-        → (HasCleanDisk (state g new) → IsMet (state g old) (state g new) e) → Asks (state g old) (state g new) → Checks g format old new P r
+        → (HasCleanDisk (state g new) → IsMet (state g old) (state g new) e) → Asks (state g old) (state g new) → Checks g format old new P N r
     checks_failed {e} {r} readable at is_err same fails refused met asks = record {
       known = λ clean. IfOk-from_err r _ is_err;
+      none = λ clean. IfOk-from_err r _ is_err;
       fails = λ clean T has may texts. failed_as r e IsFailure (fails clean may (readable T has texts)) same;
       refused = λ clean. failed_as r e (λ e. IsOutOfMemory e ⊎ FailsIn format g old e) (elim (refused clean) [
         | inl memory ↦ inl memory
@@ -70,10 +73,13 @@ module _ {S : Type 0} (g : Ghosts S) where
     }
 
     -- a row did not pass
-    pub checks_stopped : (HasCleanDisk (state g new) → IsUnchanged (state g old) (state g new)) → Asks (state g old) (state g new)
-        → Checks g format old new P (Ok false)
-    checks_stopped same asks = record {
+    pub checks_stopped : (HasCleanDisk (state g new) → (meta : Meta) (rows : FlatRows) → ShowsBookRowsOnly g (state g old).now format meta rows
+        → N (state g old).now meta rows → ⊥)
+        → (HasCleanDisk (state g new) → IsUnchanged (state g old) (state g new)) → Asks (state g old) (state g new)
+        → Checks g format old new P N (Ok false)
+    checks_stopped none same asks = record {
       known = λ clean is. absurd (cc is);
+      none = λ clean _. none clean;
       fails = λ clean T has may texts. tt;
       refused = λ clean. tt;
       met = λ clean. tt;
@@ -82,11 +88,12 @@ module _ {S : Type 0} (g : Ghosts S) where
     }
 
   -- all rows of the last table passed
-  pub checks_last : {format : Format} {P : Database → Type 0} {old new : Held S} → (HasCleanDisk (state g new) → P (state g old).now)
+  pub checks_last : {format : Format} {P : Database → Type 0} {N : Database → Meta → FlatRows → Type 0} {old new : Held S} → (HasCleanDisk (state g new) → P (state g old).now)
       → (HasCleanDisk (state g new) → IsUnchanged (state g old) (state g new)) → Asks (state g old) (state g new)
-      → Checks g format old new P (Ok true)
+      → Checks g format old new P N (Ok true)
   checks_last known same asks = record {
     known = λ clean _. known clean;
+    none = λ clean is. absurd (cc is);
     fails = λ clean T has may texts. tt;
     refused = λ clean. tt;
     met = λ clean. tt;
@@ -95,11 +102,14 @@ module _ {S : Type 0} (g : Ghosts S) where
   }
 
   -- all rows of this table passed, and then those below it are checked
-  pub checks_then : {format : Format} {P Q : Database → Type 0} {old mid new : Held S} {r : Result Bool Error}
-      → Checks g format mid new Q r → (HasCleanDisk (state g mid) → Q (state g old).now → P (state g old).now)
-      → (HasCleanDisk (state g mid) → IsUnchanged (state g old) (state g mid)) → Asks (state g old) (state g mid) → Checks g format old new P r
-  checks_then {format} {P} {Q} {old} {mid} {new} {r} rest so same asks = record {
+  pub checks_then : {format : Format} {P Q : Database → Type 0} {N M : Database → Meta → FlatRows → Type 0} {old mid new : Held S} {r : Result Bool Error}
+      → Checks g format mid new Q M r → (HasCleanDisk (state g mid) → Q (state g old).now → P (state g old).now)
+      → (HasCleanDisk (state g mid) → (meta : Meta) (rows : FlatRows) → ShowsBookRowsOnly g (state g old).now format meta rows
+      → N (state g old).now meta rows → M (state g old).now meta rows)
+      → (HasCleanDisk (state g mid) → IsUnchanged (state g old) (state g mid)) → Asks (state g old) (state g mid) → Checks g format old new P N r
+  checks_then {format} {P} {Q} {N} {M} {old} {mid} {new} {r} rest so kept same asks = record {
     known = λ clean. told r (honest clean) (rest.known clean);
+    none = λ clean. stopped r (honest clean) (rest.none clean);
     fails = λ clean T has may texts.
         let still = same (honest clean) in
         rest.fails clean T (subst (λ db. HoldsIn format db T) (sym still.0.now_is) has) (may_read_still (state g old) (state g mid) still asks may) texts;
@@ -119,6 +129,14 @@ module _ {S : Type 0} (g : Ghosts S) where
           → IfOk r (λ known. IsTrue known → P (state g old).now)
       told (Ok known) clean q = λ is. so clean (subst Q (same clean).0.now_is (q is))
       told (Err e) clean q = tt
+
+      NoneOf : (Database → Meta → FlatRows → Type 0) → Database → Bool → Type 0
+      NoneOf K db known = known ≡ false → (meta : Meta) (rows : FlatRows) → ShowsBookRowsOnly g db format meta rows → K db meta rows → ⊥
+
+      stopped : (r : Result Bool Error) → HasCleanDisk (state g mid) → IfOk r (NoneOf M (state g mid).now) → IfOk r (NoneOf N (state g old).now)
+      stopped (Ok known) clean none = λ is meta rows shows are.
+          (subst (λ db. NoneOf M db known) (same clean).0.now_is none) is meta rows shows (kept clean meta rows shows are)
+      stopped (Err e) clean none = tt
 
 -- a table of which more is known
 pub table_as : {S C R : Type 0} {g : Ghosts S} {text : List ℕ} {spelled : Row → C} {write : R → C} {IsStored : R → Type 0} {db : Database}

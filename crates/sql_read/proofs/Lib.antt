@@ -1,4 +1,5 @@
 pub mod AboveRows
+pub mod AllRows
 pub mod Answered
 pub mod Asking
 pub mod BookChecks
@@ -10,6 +11,7 @@ pub mod FirstLoading
 pub mod FirstTables
 pub mod FormatLemmas
 pub mod FoundRows
+pub mod HeldBooks
 pub mod KeptRows
 pub mod KeyRows
 pub mod KeyedReadings

@@ -38,7 +38,7 @@ use Rattle.sql_read.proofs.TableColumns.{listed_back, listed_fits, listed_projec
 -- ---- by order, then by place
 
 -- a row beside its order and its place
-abbrev placed : Owned Listed → Output
+abbrev pub placed : Owned Listed → Output
 placed l = (Int (pos l.owner) ∷ Int (pos l.row.place) ∷ [], listed_cells l)
 
 -- how a query orders two rows
@@ -98,7 +98,7 @@ listed_above k n (o ∷ os) low up = own o.listed (listed_above k (o.number + 1)
     own (l ∷ ls) rest = (omega (arith, low, up.0), own ls rest)
 
 -- what orders list is in strict order, where their numbers ascend, and the places of each
-listed_strictly : (tests : List Term) (n : ℕ) (os : List OrderRow) → Ascends (λ o. o.number) n os → EachOf (λ o. Ascends (λ l. l.place) 1 o.listed) os
+pub listed_strictly : (tests : List Term) (n : ℕ) (os : List OrderRow) → Ascends (λ o. o.number) n os → EachOf (λ o. Ascends (λ l. l.place) 1 o.listed) os
     → IsStrictlySortedBy (ranks tests) (listed_rows os)
 unfolding IsStrictlySortedBy
 listed_strictly tests n [] up places = tt

@@ -43,3 +43,8 @@ unchanged_after (Err e) a b c p h = tt
 pub not_true : (b : Bool) → ¬ IsTrue b → b ≡ false
 not_true true h = absurd (h refl)
 not_true false h = refl
+
+-- one that cannot fail to hold
+pub surely : (b : Bool) → ¬ (b ≡ false) → IsTrue b
+surely true h = refl
+surely false h = absurd (h refl)

@@ -1,6 +1,6 @@
 -- Rows that are read and checked one after the other.
 use Rattle.std.proofs.Common.{◌≡◌, ℕ, inl, inr, List, [], ◌∷◌, ◌++◌, map, None, Option, Result, Ok, Err, append-nil, append_assoc, refl, sym, ap, subst, ◌∙◌}
-use Rattle.std.specs.Prelude.{Bool, IfSome, OnErr, Some}
+use Rattle.std.specs.Prelude.{Bool, IfSome, IsSome, OnErr, Some}
 use Rattle.sqlite.specs.{Effect.Database, Listing.understood, Order.Row, Store.Ghosts, Schema.Schema}
 use Rattle.sqlite.specs.Given.{HasBegun, HasGiven, IsRefused, Returns}
 use Rattle.sqlite.specs.Held.{Held, state}
@@ -9,9 +9,12 @@ use Rattle.sqlite.specs.declared.error.Error.{Error}
 use Rattle.sqlite.proofs.{Callers.unchanged_then, StateLemmas.survives_weaker}
 use Rattle.sqlite_resolve.specs.declared.{compiled.Compiled.Compiled, error.CompileError.CompileError}
 use Rattle.model_laws.proofs.Basics.{each-append}
+use Rattle.desk_model.specs.Kept.{EachOf}
+use Rattle.store_columns.specs.Laws.{AreToldApart}
+use Rattle.store_columns.proofs.RowsApart.{table-apart}
 use Rattle.sql_schema.specs.Stays.{Asks}
 use Rattle.sql_schema.proofs.StaysLemmas.{stays_unchanged}
-use Rattle.sql_read.specs.Checking.{GoesOn, HasGivenRows, ShowsTable}
+use Rattle.sql_read.specs.Checking.{AreFirst, GoesOn, HasGivenRows, ShowsOnly, ShowsTable, Stops}
 use Rattle.sql_read.specs.{Failures.IsMet, Selecting.IsQuery}
 use Rattle.sql_read.proofs.{Asking.stays_failed, MetFaults.query_met}
 use Rattle.sql_read.proofs.Selecting.{commits_none, none_understood}
@@ -128,3 +131,62 @@ pub whole_kept : {S C R K X : Type 0} (g : Ghosts S) (text : List ℕ) (spelled 
 whole_kept g text spelled write IsStored Passed IsWhole db check after new shows None whole = tt
 whole_kept g text spelled write IsStored Passed IsWhole db check after new shows (Some kept) whole =
     record { rows = shows.rows; shown = shows.shown; stored = shows.stored; is = whole check shows.rows (shows.is check [] new) }
+
+-- ---- rows that do not pass
+
+-- behind rows of a table, the row that is its next
+pub record IsNext {C R : Type 0} (spelled : Row → C) (write : R → C) (Fits : Row → Type 0) (IsStored : R → Type 0) (row : Row) (rows all : List R) : Type 0 where
+  pub next : R
+  pub rest : List R
+  pub are : all ≡ rows ++ next ∷ rest
+  pub spells : spelled row ≡ write next
+  pub fits : Fits row
+  pub stored : IsStored next
+
+pub next_row : {C R : Type 0} (spelled : Row → C) (write : R → C) (Fits : Row → Type 0) (IsStored : R → Type 0) → AreToldApart write IsStored
+    → (given : List Row) (row : Row) (rows all : List R) → map spelled given ≡ map write rows → EachOf IsStored rows → EachOf IsStored all
+    → AreFirst spelled write Fits (given ++ row ∷ []) all → IsNext spelled write Fits IsStored row rows all
+next_row spelled write Fits IsStored apart [] row [] [] same kept stored first = absurd first
+next_row spelled write Fits IsStored apart [] row [] (x ∷ all) same kept stored first =
+    record { next = x; rest = all; are = refl; spells = first.0; fits = first.1; stored = stored.0 }
+next_row spelled write Fits IsStored apart [] row (y ∷ rows) all same kept stored first = absurd (cc same)
+next_row spelled write Fits IsStored apart (r ∷ given) row [] all same kept stored first = absurd (cc same)
+next_row spelled write Fits IsStored apart (r ∷ given) row (y ∷ rows) [] same kept stored first = absurd first
+next_row spelled write Fits IsStored apart (r ∷ given) row (y ∷ rows) (x ∷ all) same kept stored first =
+    let one : spelled r ≡ write y = cc same in
+    let others : map spelled given ≡ map write rows = cc same in
+    let is : x ≡ y = apart x y stored.0 kept.0 (sym first.0 ∙ one) in
+    let it = next_row spelled write Fits IsStored apart given row rows all others kept.1 stored.1 first.2 in
+    record { next = it.next; rest = it.rest; are = λ i. is i ∷ it.are i; spells = it.spells; fits = it.fits; stored = it.stored }
+
+module _ {S C R : Type 0} (g : Ghosts S) (text : List ℕ) (spelled : Row → C) (write : R → C) (Fits : Row → Type 0) (IsStored : R → Type 0)
+    (apart : AreToldApart write IsStored) where
+  -- a table shows the rows that it alone shows
+  pub shown_same : {P : List R → Type 0} (conn : Held S) (table : ShowsTable g text spelled write IsStored (state g conn).now P) (all : List R)
+      → EachOf IsStored all → ShowsOnly g text spelled write Fits (state g conn).now all → table.rows ≡ all
+  shown_same conn table all stored only =
+      let it = table.shown conn refl in
+      table-apart write IsStored apart table.rows all table.stored stored (it.columns ∙ only.whole it.before it.after it.rows it.same it.shown)
+
+  module _ {K : Type 0} (Passed : K → K → List R → Type 0) (AreAll : K → List R → Type 0) where
+    -- a row that did not pass is of no whole table
+    pub stops_all : (old mid new : Held S) (before check : K) (row : Row)
+        → (so_far : HasGivenRows g text spelled write IsStored old mid (GoesOn Passed before check))
+        → HasGiven g text [] new (so_far.given ++ row ∷ []) → IsUnchanged (state g mid) (state g new)
+        → (Fits row → (found : R) → IsStored found → spelled row ≡ write found → Stops Passed AreAll check found)
+        → (all : List R) → EachOf IsStored all → ShowsOnly g text spelled write Fits (state g old).now all → Passed before before [] → AreAll before all → ⊥
+    stops_all old mid new before check row so_far gives same stops all stored only begun are =
+        let first = only.first new (so_far.given ++ row ∷ []) (same.0.now_is ∙ so_far.same.0.now_is) gives in
+        let it = next_row spelled write Fits IsStored apart so_far.given row so_far.rows all so_far.columns so_far.stored stored first in
+        stops it.fits it.next it.stored it.spells before so_far.rows it.rest (so_far.is before [] begun) (subst (AreAll before) it.are are)
+
+    -- nor are rows that passed, of which nothing is kept
+    pub none_kept : {X : Type 0} (conn : Held S) (check after : K) → Passed check check []
+        → ShowsTable g text spelled write IsStored (state g conn).now (GoesOn Passed check after) → (kept : Option X)
+        → ((first : K) (rows : List R) → Passed first after rows → AreAll first rows → IsSome kept)
+        → kept ≡ None → (all : List R) → EachOf IsStored all → ShowsOnly g text spelled write Fits (state g conn).now all → AreAll check all → ⊥
+    none_kept conn check after begun table (Some kept) fine none all stored only are = absurd (cc none)
+    none_kept conn check after begun table None fine none all stored only are =
+        let same = shown_same conn table all stored only in
+        let some = fine check table.rows (table.is check [] begun) (subst (AreAll check) (sym same) are) in
+        absurd (cc some)

@@ -1,24 +1,31 @@
 -- What the readings of whole tables give in either format; they fail for memory or the disk alone.
-use Rattle.std.proofs.Common.{◌≡◌, ℕ, ◌∷◌, [], List, map, true, filter, refl, sym, subst, ◌∙◌}
+use Rattle.std.proofs.Common.{◌≡◌, ℕ, ◌∷◌, ◌++◌, [], List, map, true, filter, refl, sym, ap, subst, ◌∙◌}
+use Rattle.std.specs.Prelude.{IsTrue}
+use Rattle.std.proofs.lemmas.{List.map-id, Simd.map-map}
 use Rattle.std.specs.List.Sorted.{IsPermutation}
 use Rattle.std.proofs.lemmas.List.Sorted.{All-permutation, IsPermutation-map, IsPermutation-sym, IsPermutation-trans}
 use Rattle.sqlite.specs.Held.{Held, state}
-use Rattle.sqlite.specs.{Schema.Schema, State.Shown, Store.Ghosts}
+use Rattle.sqlite.specs.{Clock.timed, Given.HasGiven, Listing.understood, Schema.Schema, State.Shown, Store.Ghosts}
+use Rattle.sqlite.proofs.Callers.{EndsIn, begins_shown, command_of, given_begin}
 use Rattle.sqlite.specs.declared.types.Value.TheVariants.{Int}
-use Rattle.sqlite_value.specs.Order.{Row}
+use Rattle.sqlite_value.specs.{Order.Row, declared.keys.Key.Key}
+use Rattle.sqlite_sql.specs.Term.{Term}
 use Rattle.sqlite_sql.specs.Query.{Output}
 use Rattle.store_columns.specs.Columns.{listed_columns}
 use Rattle.store_columns.specs.Flat.{challenge_rows, key_rows, listed_rows}
 use Rattle.store_columns.specs.declared.{columns.OrderAuthzColumns.OrderAuthzColumns, columns.Owned.Owned}
-use Rattle.model_laws.proofs.Basics.{each_all}
-use Rattle.desk_model.specs.Tables.{Tables}
+use Rattle.model_laws.proofs.Basics.{each_all, each_of_map}
+use Rattle.desk_model.specs.{Kept.EachOf, Tables.Tables}
 use Rattle.desk_model.specs.declared.rows.Listed.{Listed}
 use Rattle.sql_tables.specs.Hidden.{hidden, row_of}
 use Rattle.sql_tables.specs.Holds.{Holds, HoldsListed}
 use Rattle.sql_tables.specs.Images.{listed_cells, listed_params}
-use Rattle.sql_tables.specs.Layouts.{challenge_layout, key_layout}
+use Rattle.sql_tables.specs.Layouts.{IsRising, challenge_layout, key_layout, order_layout}
 use Rattle.sql_tables.specs.Sorted.{sorted_by}
+use Rattle.store_book.specs.IsBook.{IsBook}
 use Rattle.sql_read.specs.{AllTables.AreFirstReadable, BookShown.HoldsIn, Shown.IsShown}
+use Rattle.sql_read.specs.Checking.{AreFirst, ShowsOnly}
+use Rattle.sql_read.proofs.ListedOrder.{listed_strictly, placed}
 use Rattle.sql_read.specs.Failures.{HasTexts, IsReadable}
 use Rattle.sql_read.specs.Spelled.{FitsListed, listed_in}
 use Rattle.sql_read.specs.declared.formats.Format.{Format}
@@ -31,7 +38,7 @@ use Rattle.sql_schema.specs.declared.meta.TheConstants as meta
 use Rattle.sql_schema.specs.declared.nonces.TheConstants as nonce
 use Rattle.sql_schema.specs.declared.orders.TheConstants as ord
 use Rattle.sql_schema.specs.declared.listed.TheConstants as ord_authz
-use Rattle.sql_read.proofs.Answered.{all_rows, answers, by, picked, shown_somehow}
+use Rattle.sql_read.proofs.Answered.{IsReading, all_rows, answers, by, compiled_alone, picked, shown_in_order, shown_somehow}
 use Rattle.sql_read.proofs.{Failing.reading_fails, FoundRows.Keeps, Lists.filter-all}
 use Rattle.sql_read.proofs.KeptRows.{accounts_kept, authorizations_kept, challenges_kept, format_kept, keys_kept, nonces_kept, number_of, orders_kept}
 use Rattle.sql_read.proofs.KeptRows.{schema_of}
@@ -42,15 +49,49 @@ use Rattle.sql_read.proofs.TableColumns.{all_fit, listed_back, listed_fits, list
 use Rattle.sql_read.proofs.TableFacts.{IsReadingOf, TableFacts, account_facts, authorization_facts, challenge_facts, columns, key_facts}
 use Rattle.sql_read.proofs.TableFacts.{formatted_facts, nonce_facts, order_facts}
 
+-- ---- rows that come one after the other
+
+-- those that a query of one table has given are the first of an answer
+given_front : {S : Type 0} (g : Ghosts S) (text : List ℕ) {schema : Schema} {tree : ℕ} {project : List Term} {order : List (Term × Key)}
+    → IsReading schema all_rows text tree [] project order [] → (conn : Held S) (given : List Row) → (state g conn).now.schema ≡ schema
+    → HasGiven g text [] conn given → (tail : List Row) × Shown text [] (state g conn) (state g conn) (given ++ tail)
+unfolding HasGiven
+given_front g text reading conn given there gives =
+    let command = compiled_alone text _ reading.means in
+    let opened : IsTrue (state g conn).is_open = gives.0.is_open in
+    begins_shown text [] (state g conn) (state g conn) given (given_begin g text [] conn given gives)
+    (
+      record { was_open = opened; is_open = opened; now_is = refl; committed_is = refl; mode = refl },
+      record { changes = refl; last_rowid = refl },
+      refl,
+    )
+    (λ c db it source.
+    subst (λ k. EndsIn k db (timed [] c.formats it.now)) (sym (ap command_of (sym it.is) ∙ ap (λ s. command_of (understood s text)) there ∙ command.is)) tt)
+
+-- and so the first of a table's rows
+first_rows : {X R C : Type 0} (bare : X → R) (write : R → C) (spelled : Row → C) (row : C → Row) → ((c : C) → spelled (row c) ≡ c)
+    → (HasText : C → Type 0) (Fits : Row → Type 0) → ((c : C) → HasText c → Fits (row c)) → (given tail : List Row) (xs : List X)
+    → given ++ tail ≡ map (λ x. row (write (bare x))) xs → EachOf (λ x. HasText (write (bare x))) xs → AreFirst spelled write Fits given (map bare xs)
+first_rows bare write spelled row back HasText Fits fits [] tail xs same texts = tt
+first_rows bare write spelled row back HasText Fits fits (r ∷ given) tail [] same texts = absurd (cc same)
+first_rows bare write spelled row back HasText Fits fits (r ∷ given) tail (x ∷ xs) same texts =
+    let one : r ≡ row (write (bare x)) = cc same in
+    let others : given ++ tail ≡ map (λ x. row (write (bare x))) xs = cc same in (
+      ap spelled one ∙ back (write (bare x)),
+      subst Fits (sym one) (fits (write (bare x)) texts.0),
+      first_rows bare write spelled row back HasText Fits fits given tail xs others texts.1,
+    )
+
 -- ---- a table by number
 
--- over the database of this connection a reading of a whole table shows these rows, and fails for memory or the disk alone
+-- over the database of this connection a reading of a whole table shows these rows alone, and fails for memory or the disk alone
 pub record IsWhole {S X R C : Type 0} (g : Ghosts S) (t : TableFacts X R C) (text : List ℕ) (here : Held S) (T : Tables) (xs : List X) : Type 0 where
   pub columns_are : (all : List C) → IsShown g text t.spelled here all → all ≡ map (columns t) xs
   pub readable : HasTexts T → IsReadable g here text t.Fits
+  pub only : HasTexts T → ShowsOnly g text t.spelled t.write t.Fits (state g here).now (map t.bare xs)
 
 -- one does
-whole : {S X R C : Type 0} (g : Ghosts S) (t : TableFacts X R C) (text : List ℕ) (here : Held S) (T : Tables) (xs : List X) {schema : Schema}
+pub whole : {S X R C : Type 0} (g : Ghosts S) (t : TableFacts X R C) (text : List ℕ) (here : Held S) (T : Tables) (xs : List X) {schema : Schema}
     → IsReadingOf t schema all_rows text [] [] → Keeps schema t (state g here).now T xs → IsWhole g t text here T xs
 whole {S} {X} {R} {C} g t text here T xs {schema} reading keeps =
     let moved : (before : Held S) → (state g before).now ≡ (state g here).now → HasRowsIn schema t.layout (state g before).now xs =
@@ -64,6 +105,17 @@ whole {S} {X} {R} {C} g t text here T xs {schema} reading keeps =
           (λ rows h.
           all_fit (columns t) t.is.row t.HasText t.Fits t.fits xs rows (keeps.texts texts)
           (shown_whole t text reading (state g before) (state g after) xs rows (moved before same) h));
+      only = λ texts. record {
+        first = λ conn given same gives.
+            let it = given_front g text reading conn given (moved conn same).there gives in
+            first_rows t.bare t.write t.spelled t.is.row t.is.back t.HasText t.Fits t.fits given it.0 xs
+            (shown_whole t text reading (state g conn) (state g conn) xs (given ++ it.0) (moved conn same) it.1)
+            (each_of_map t.HasText (columns t) xs (keeps.texts texts));
+        whole = λ old new given same h.
+            columns_of t.spelled t.is.row (columns t) t.is.back xs given
+            (shown_whole t text reading (state g old) (state g new) xs given (moved old same) h)
+            ∙ sym (map-map t.write t.bare xs);
+      };
     }
 
 module _ {S : Type 0} (g : Ghosts S) (here : Held S) (T : Tables) (format : Format) (has : HoldsIn format (state g here).now T) where
@@ -146,6 +198,41 @@ module _ {S : Type 0} (g : Ghosts S) (here : Held S) (T : Tables) (format : Form
       let all = all_fit listed_columns listed_params (λ _. Unit {0}) FitsListed listed_fits ls (map listed_cells ls)
       (each_all (λ _. Unit {0}) (map listed_columns ls) (λ _. tt)) refl in
       All-permutation FitsListed (map listed_cells ls) rows (listed_cells_shown before after rows same h) all)
+
+module _ {S : Type 0} (g : Ghosts S) (here : Held S) (T : Tables) (format : Format) (has : HoldsIn format (state g here).now T) (book : IsBook T) where
+  -- the numbers of the orders rise
+  numbers_rise : (f : Format) (before : Held S) → HoldsIn f (state g before).now T → IsRising order_layout.key T.orders
+  numbers_rise First before has = has.rising.orders
+  numbers_rise Second before has = has.rising.orders
+
+  -- what orders list is shown by order, then by place
+  listed_in_turn : (before after : Held S) (rows : List Row) → (state g before).now ≡ (state g here).now
+      → Shown ord_authz.SELECT.now [] (state g before) (state g after) rows → rows ≡ map listed_cells (listed_rows T.orders)
+  listed_in_turn before after rows same h =
+      let order = by 1 ∷ by 2 ∷ [] in
+      let there = listed_at g here T format has before same in
+      let held = there.1 in
+      let ts = held.numbered in
+      let ls = listed_rows T.orders in
+      shown_in_order (picked 6 [] listed_project order) placed (filter (λ _. true) (map row_of ts)) ls rows
+      (subst (λ l. IsPermutation l ls) (sym (filter-all (map row_of ts))) held.same)
+      (listed_strictly [] 0 T.orders (numbers_rise format here has) book.in_order.places)
+      (answers (hidden listed_cells) row_of 6 [] listed_project order [] (λ _. true) placed (λ _. refl) (λ _. refl)
+      ord_authz.SELECT.now (listed_reading format) (λ _. refl) (state g before) (state g after) ts rows there.0 held.has h)
+
+  -- and alone
+  pub listed_only : ShowsOnly g ord_authz.SELECT.now listed_in listed_columns FitsListed (state g here).now (listed_rows T.orders)
+  listed_only =
+      let ls = listed_rows T.orders in
+      record {
+        first = λ conn given same gives.
+            let it = given_front g ord_authz.SELECT.now (listed_reading format) conn given (listed_at g here T format has conn same).0 gives in
+            subst (AreFirst listed_in listed_columns FitsListed given) (map-id ls)
+            (first_rows (λ l. l) listed_columns listed_in listed_params listed_back (λ _. Unit {0}) FitsListed listed_fits given it.0 ls
+            (listed_in_turn conn conn (given ++ it.0) same it.1) (each_all (λ _. Unit {0}) ls (λ _. tt)));
+        whole = λ old new given same h.
+            columns_of listed_in listed_params listed_columns listed_back ls given (listed_in_turn old new given same h);
+      }
 
 -- each table that both formats have
 pub first_readable : {S : Type 0} (g : Ghosts S) (here : Held S) (T : Tables) (format : Format) → HoldsIn format (state g here).now T → HasTexts T

@@ -1,5 +1,5 @@
 -- What readings of all tables, row by row, tell of the database.
-use Rattle.std.specs.Prelude.{◌⊎◌, ℕ, Bool, List, Result, IfErr, IfOk, IsTrue, OnOk, map}
+use Rattle.std.specs.Prelude.{◌≡◌, ◌⊎◌, ℕ, Bool, false, List, Result, IfErr, IfOk, IsTrue, OnOk, map}
 use Rattle.sqlite.specs.{Effect.Database, Store.Ghosts}
 use Rattle.sqlite.specs.Held.{Held, state}
 use Rattle.sqlite.specs.State.{HasCleanDisk, IsUnchanged}
@@ -10,11 +10,12 @@ use Rattle.store_columns.specs.Columns.{account_columns, authorization_columns, 
 use Rattle.store_columns.specs.Columns.{listed_columns, meta_columns, nonce_columns, order_columns}
 use Rattle.store_columns.specs.Limits.{IsStoredAccount, IsStoredAuthorization, IsStoredChallenge, IsStoredKey, IsStoredListed}
 use Rattle.store_columns.specs.Limits.{IsStoredMeta, IsStoredNonce, IsStoredOrder}
+use Rattle.store_columns.specs.declared.columns.FlatRows.{FlatRows}
 use Rattle.model_laws.specs.Ordered.{IsTable}
 use Rattle.desk_model.specs.Tables.{Tables}
-use Rattle.desk_model.specs.declared.rows.Counters.{Counters}
+use Rattle.desk_model.specs.declared.rows.{Counters.Counters, Meta.Meta}
 use Rattle.sql_read.specs.AllTables.{FailsAtFirst, FailsAtTable}
-use Rattle.sql_read.specs.Checking.{ShowsTable}
+use Rattle.sql_read.specs.{Checking.ShowsTable, Only.ShowsBookRowsOnly}
 use Rattle.sql_read.specs.Failures.{HasTexts, IsMet, IsOutOfMemory, MayRead}
 use Rattle.sql_read.specs.declared.formats.Format.{Format}
 use Rattle.sql_read.specs.declared.formats.Format.TheVariants.{First, Second}
@@ -87,9 +88,13 @@ module _ {S : Type 0} (g : Ghosts S) (db : Database) where
     pub table : ShowsTable g meta.SELECT.now meta_in meta_columns IsStoredMeta db (IsOnlyRow last)
     pub nonces : ShowsNonces Second last
 
--- where the answer is yes, this is so of the database; a reading fails for memory or the disk alone, where it held a desk in this format
-pub record Checks {S : Type 0} (g : Ghosts S) (format : Format) (old new : Held S) (P : Database → Type 0) (result : Result Bool Error) : Type 0 where
+-- where the answer is yes, this is so of the database; where it is no, it shows alone no rows of a book of which that is known; a reading
+-- fails for memory or the disk alone, where it held a desk in this format
+pub record Checks {S : Type 0} (g : Ghosts S) (format : Format) (old new : Held S) (P : Database → Type 0) (Known : Database → Meta → FlatRows → Type 0)
+    (result : Result Bool Error) : Type 0 where
   pub known : HasCleanDisk (state g new) → IfOk result (λ known. IsTrue known → P (state g old).now)
+  pub none : HasCleanDisk (state g new) → IfOk result (λ known. known ≡ false → (meta : Meta) (rows : FlatRows)
+      → ShowsBookRowsOnly g (state g old).now format meta rows → Known (state g old).now meta rows → ⊥)
   pub fails : HasCleanDisk (state g new) → (T : Tables) → HoldsIn format (state g old).now T → MayRead (state g old) → HasTexts T → IfErr result IsFailure
   pub refused : HasCleanDisk (state g new) → IfErr result (λ e. IsOutOfMemory e ⊎ FailsIn format g old e)
   pub met : HasCleanDisk (state g new) → IfErr result (IsMet (state g old) (state g new))

@@ -11,6 +11,7 @@ pub mod Held
 pub mod Keys
 pub mod LookUpFaults
 pub mod Looking
+pub mod Only
 pub mod Queries
 pub mod Reads
 pub mod Selecting

@@ -1,16 +1,18 @@
 //! The rows of all tables, read and checked one after the other: whether they are known to be those of a book.
-ghost use Rattle.std.specs.Prelude.{◌≡◌, ◌⊎◌, [], ◌∷◌, IfErr, IfOk, IfSome, IsTrue, OnOk};
+ghost use Rattle.std.specs.Prelude.{◌≡◌, ◌⊎◌, [], ◌∷◌, false, IfErr, IfOk, IfSome, IsTrue, List, None, OnOk, map};
 ghost use Rattle.sqlite.specs.State.{HasCleanDisk, IsUnchanged};
 ghost use Rattle.sqlite.specs.Held.{state};
 ghost use Rattle.sql_schema.specs.{Failing.IsFailure, Stays.Asks};
-ghost use Rattle.sql_read.specs.Checking.{GoesOn, ShowsTable};
+ghost use Rattle.sql_read.specs.Checking.{GoesOn, ShowsOnly, ShowsTable, Stops};
 ghost use Rattle.sql_read.specs.Failures.{FailsHere, IsMet, IsOutOfMemory, IsReadable, MayRead, HasTexts};
 ghost use Rattle.sql_read.specs.{Selecting.IsQuery, AllTables.FailsAtTable, Held.ForHeld, Shown.AreShown, declared.formats.Format.TheVariants.Second as second};
 ghost use Rattle.store_columns.specs.declared.columns.StoredRows.{StoredRows};
-ghost use Rattle.desk_model.specs.Tables.{Tables};
+ghost use Rattle.store_columns.specs.Laws.{AreToldApart};
+ghost use Rattle.desk_model.specs.{Kept.EachOf, Tables.Tables};
 ghost use Rattle.sql_read.specs.BookShown.{Checks, ShowsAccounts, ShowsAuthorizations, ShowsBookRows, ShowsChallenges, ShowsKeys, ShowsListed, ShowsNonces};
 ghost use Rattle.sql_read.specs.BookShown.{ShowsOrders};
-ghost use Rattle.store_book.specs.IsBook.{IsBookOfStored};
+ghost use Rattle.store_book.specs.{BookRows.answered_numbers, IsBook.IsBookOfStored, IsBook.IsStoredBook};
+ghost use Rattle.sql_read.specs.Only.{ShowsOnlyBook, ShowsOnlyMetas};
 
 use crate::formats::Format;
 use crate::rows::Selected;
@@ -32,6 +34,7 @@ use store_columns::{
 // The columns of a row, or `None` where it has values of other kinds.
 fn columns_of<C: Selected>(row: &Row) -> Result<Option<C>, Error>
     ensures read { IfOk result (λ columns. IfSome columns (λ columns. columns ≡ C.spelled row.now)) }
+    ensures none { IfOk result (λ columns. columns ≡ None → C.Fits row.now → ⊥) }
     ensures fails { IfErr result IsOutOfMemory }
 {
     match C::of(row) {
@@ -49,8 +52,11 @@ fn check_row<C: Selected, K: RowCheck<C>>(
     row: &Row,
     check: &mut K,
 ) -> Result<bool, Error>
+    requires apart { AreToldApart C.Columns.write C.Columns.IsStored }
     ensures passed { IfOk result (λ passes. IsTrue passes → (found : C.Row) × C.Columns.IsStored found × (C.spelled row.now ≡ C.Columns.write found)
         × GoesOn K.Passed check.old check.new (found ∷ [])) }
+    ensures stopped { IfOk result (λ passes. passes ≡ false → C.Fits row.now → (found : C.Row) → C.Columns.IsStored found
+        → C.spelled row.now ≡ C.Columns.write found → Stops K.Passed K.AreAll check.old found) }
     ensures fails { IfErr result IsOutOfMemory }
 {
     let Some(columns) = columns_of::<C>(row)? else {
@@ -62,16 +68,21 @@ fn check_row<C: Selected, K: RowCheck<C>>(
     Ok(check.passes(found)?)
 }
 
-// Whether each row that a query shows passes, one after the other; the first that does not ends the query.
+// Whether each row that a query shows passes, one after the other; the first that does not ends the query. More rows than can be
+// counted fail as what memory has no room for.
 fn check_each<S: Alter, C: Selected, K: RowCheck<C>>(
     alloc: Global,
     conn: &mut Connection<S>,
     text: &str,
     check: &mut K,
 ) -> Result<bool, Error>
-    requires { IsQuery text.now }
+    requires query { IsQuery text.now }
+    requires apart { AreToldApart C.Columns.write C.Columns.IsStored }
     ensures passed { HasCleanDisk (state S.Store conn.new) → IfOk result (λ passes. IsTrue passes
         → ShowsTable S.Store text.now C.spelled C.Columns.write C.Columns.IsStored (state S.Store conn.old).now (GoesOn K.Passed check.old check.new)) }
+    ensures stopped { HasCleanDisk (state S.Store conn.new) → IfOk result (λ passes. passes ≡ false → (all : List C.Row) → EachOf C.Columns.IsStored all
+        → ShowsOnly S.Store text.now C.spelled C.Columns.write C.Fits (state S.Store conn.old).now all → K.Passed check.old check.old []
+        → K.AreAll check.old all → ⊥) }
     ensures fails { HasCleanDisk (state S.Store conn.new) → MayRead (state S.Store conn.old) → IsReadable S.Store conn.old text.now C.Fits
         → IfErr result IsFailure }
     ensures refused { HasCleanDisk (state S.Store conn.new) → IfErr result (λ e. IsOutOfMemory e ⊎ FailsHere S.Store conn.old text.now C.Fits e) }
@@ -88,10 +99,11 @@ fn check_each<S: Alter, C: Selected, K: RowCheck<C>>(
             return Ok(false);
         }
     }
-    Ok(false)
+    Err(Error::SqliteFailure(ErrorCode::OutOfMemory))
 }
 
-/// What is kept of the table that a query shows, or `None` where a row of it does not pass; the rows are read one after the other.
+/// What is kept of the table that a query shows, or `None` where its rows are no whole table, and then it shows no other; the rows
+/// are read one after the other, up to the first that does not pass.
 ///
 /// # Errors
 ///
@@ -103,9 +115,12 @@ pub fn check_table<S: Alter, C: Selected, K: RowCheck<C>>(
     check: K,
 ) -> Result<Option<K::Kept>, Error>
     requires query { IsQuery text.now }
+    requires apart { AreToldApart C.Columns.write C.Columns.IsStored }
     requires begun { K.Passed check check [] }
     ensures whole { HasCleanDisk (state S.Store conn.new) → IfOk result (λ kept. IfSome kept (λ kept.
         ShowsTable S.Store text.now C.spelled C.Columns.write C.Columns.IsStored (state S.Store conn.old).now (λ rows. K.IsWhole check rows kept))) }
+    ensures none { HasCleanDisk (state S.Store conn.new) → IfOk result (λ kept. kept ≡ None → (all : List C.Row) → EachOf C.Columns.IsStored all
+        → ShowsOnly S.Store text.now C.spelled C.Columns.write C.Fits (state S.Store conn.old).now all → K.AreAll check all → ⊥) }
     ensures fails { HasCleanDisk (state S.Store conn.new) → MayRead (state S.Store conn.old) → IsReadable S.Store conn.old text.now C.Fits
         → IfErr result IsFailure }
     ensures refused { HasCleanDisk (state S.Store conn.new) → IfErr result (λ e. IsOutOfMemory e ⊎ FailsHere S.Store conn.old text.now C.Fits e) }
@@ -129,7 +144,8 @@ fn check_keys<S: Alter>(
     conn: &mut Connection<S>,
     answered: &Numbers,
 ) -> Result<bool, Error>
-    ensures { Checks S.Store second conn.old conn.new (λ db. ShowsKeys S.Store db answered.now) result }
+    ensures { Checks S.Store second conn.old conn.new (λ db. ShowsKeys S.Store db answered.now)
+        (λ _ meta rows. answered.now ≡ answered_numbers rows.challenges) result }
 {
     let check = KeyCheck::new(answered);
     let Some(()) = check_table::<S, ChallKeyColumns, _>(alloc, conn, keys::SELECT, check)? else {
@@ -145,7 +161,8 @@ fn check_challenges<S: Alter>(
     last: Counters,
     authorizations: &Numbers,
 ) -> Result<bool, Error>
-    ensures { Checks S.Store format conn.old conn.new (λ db. ShowsChallenges S.Store db format last authorizations.now) result }
+    ensures { Checks S.Store format conn.old conn.new (λ db. ShowsChallenges S.Store db format last authorizations.now)
+        (λ _ meta rows. (last ≡ meta.counters) × (authorizations.now ≡ map (λ a. a.number) rows.authorizations)) result }
 {
     let check = ChallengeCheck::new(alloc, last.challenges, authorizations);
     let Some(answered) = check_table::<S, ChallColumns, _>(alloc, conn, challenges::SELECT, check)?
@@ -166,7 +183,9 @@ fn check_listed<S: Alter>(
     orders: &Numbers,
     authorizations: &Numbers,
 ) -> Result<bool, Error>
-    ensures { Checks S.Store format conn.old conn.new (λ db. ShowsListed S.Store db format last orders.now authorizations.now) result }
+    ensures { Checks S.Store format conn.old conn.new (λ db. ShowsListed S.Store db format last orders.now authorizations.now)
+        (λ _ meta rows. (last ≡ meta.counters) × (orders.now ≡ map (λ o. o.number) rows.orders)
+        × (authorizations.now ≡ map (λ a. a.number) rows.authorizations)) result }
 {
     let check = ListedCheck::new(orders, authorizations);
     let Some(()) = check_table::<S, OrderAuthzColumns, _>(alloc, conn, listed::SELECT, check)?
@@ -184,7 +203,9 @@ fn check_authorizations<S: Alter>(
     accounts: &Numbers,
     orders: &Numbers,
 ) -> Result<bool, Error>
-    ensures { Checks S.Store format conn.old conn.new (λ db. ShowsAuthorizations S.Store db format last accounts.now orders.now) result }
+    ensures { Checks S.Store format conn.old conn.new (λ db. ShowsAuthorizations S.Store db format last accounts.now orders.now)
+        (λ _ meta rows. (last ≡ meta.counters) × (accounts.now ≡ map (λ a. a.number) rows.accounts)
+        × (orders.now ≡ map (λ o. o.number) rows.orders)) result }
 {
     let check = OwnedCheck::new(alloc, last.authorizations, accounts);
     let Some(authorizations) = check_table::<S, AuthzColumns, _>(
@@ -206,7 +227,8 @@ fn check_orders<S: Alter>(
     last: Counters,
     accounts: &Numbers,
 ) -> Result<bool, Error>
-    ensures { Checks S.Store format conn.old conn.new (λ db. ShowsOrders S.Store db format last accounts.now) result }
+    ensures { Checks S.Store format conn.old conn.new (λ db. ShowsOrders S.Store db format last accounts.now)
+        (λ _ meta rows. (last ≡ meta.counters) × (accounts.now ≡ map (λ a. a.number) rows.accounts)) result }
 {
     let check = OwnedCheck::new(alloc, last.orders, accounts);
     let Some(orders) = check_table::<S, OrderColumns, _>(alloc, conn, orders::SELECT, check)? else {
@@ -221,7 +243,8 @@ fn check_accounts<S: Alter>(
     format: Format,
     last: Counters,
 ) -> Result<bool, Error>
-    ensures { Checks S.Store format conn.old conn.new (λ db. ShowsAccounts S.Store db format last) result }
+    ensures { Checks S.Store format conn.old conn.new (λ db. ShowsAccounts S.Store db format last)
+        (λ _ meta rows. last ≡ meta.counters) result }
 {
     let check = AccountCheck::new(alloc, last.accounts);
     let Some(accounts) = check_table::<S, AccountColumns, _>(alloc, conn, accounts::SELECT, check)?
@@ -238,7 +261,8 @@ pub(crate) fn check_nonces<S: Alter>(
     format: Format,
     last: Counters,
 ) -> Result<bool, Error>
-    ensures { Checks S.Store format conn.old conn.new (λ db. ShowsNonces S.Store db format last) result }
+    ensures { Checks S.Store format conn.old conn.new (λ db. ShowsNonces S.Store db format last)
+        (λ _ meta rows. last ≡ meta.counters) result }
 {
     let check = NonceCheck::new(last.nonces);
     let Some(()) = check_table::<S, NonceColumns, _>(alloc, conn, nonces::SELECT, check)? else {
@@ -248,7 +272,8 @@ pub(crate) fn check_nonces<S: Alter>(
 }
 
 fn check_meta<S: Alter>(alloc: Global, conn: &mut Connection<S>) -> Result<bool, Error>
-    ensures { Checks S.Store second conn.old conn.new (λ db. ShowsBookRows S.Store db) result }
+    ensures { Checks S.Store second conn.old conn.new (λ db. ShowsBookRows S.Store db)
+        (λ db meta rows. ShowsOnlyMetas S.Store db rows.metas) result }
 {
     let check = MetaCheck::new();
     let Some(last) = check_table::<S, MetaColumns, _>(alloc, conn, meta::SELECT, check)? else {
@@ -257,8 +282,8 @@ fn check_meta<S: Alter>(alloc: Global, conn: &mut Connection<S>) -> Result<bool,
     check_nonces(alloc, conn, Format::Second, last)
 }
 
-/// Whether the rows of the tables are known to be those of a book: in the order of their keys each passes. One row is held at a
-/// time, and of the rows before it the numbers and the keys of accounts.
+/// Whether the rows of the tables are those of a book: in the order of their keys each passes; they are read up to the first that
+/// does not. One row is held at a time, and of the rows before it the numbers and the keys of accounts.
 ///
 /// # Errors
 ///
@@ -266,6 +291,9 @@ fn check_meta<S: Alter>(alloc: Global, conn: &mut Connection<S>) -> Result<bool,
 pub fn has_book_rows<S: Alter>(alloc: Global, conn: &mut Connection<S>) -> Result<bool, Error>
     ensures book { HasCleanDisk (state S.Store conn.new) → IfOk result (λ known. IsTrue known
         → (stored : StoredRows) × AreShown S.Store conn.old stored × (T : Tables) × IsBookOfStored stored T) }
+    ensures none { HasCleanDisk (state S.Store conn.new) → IfOk result (λ known. known ≡ false → (T : Tables)
+        → ShowsOnlyBook S.Store (state S.Store conn.old).now T → ⊥) }
+    ensures found { ForHeld (state S.Store conn.old) (state S.Store conn.new) (λ T. IsStoredBook T → IfOk result IsTrue) }
     ensures fails { ForHeld (state S.Store conn.old) (state S.Store conn.new) (λ T. MayRead (state S.Store conn.old) → HasTexts T → IfErr result IsFailure) }
     ensures refused { HasCleanDisk (state S.Store conn.new) → IfErr result (λ e. IsOutOfMemory e ⊎ FailsAtTable S.Store conn.old e) }
     ensures met { HasCleanDisk (state S.Store conn.new) → IfErr result (IsMet (state S.Store conn.old) (state S.Store conn.new)) }

@@ -1,5 +1,8 @@
-use Rattle.std.proofs.Common.{ap, inl, inr}
+use Rattle.std.proofs.Common.{ap, inl, inr, map, subst, sym, ◌∙◌}
+use Rattle.store_book.specs.BookRows.{AreAccounts}
+use Rattle.store_columns.proofs.RowsApart.{accounts-apart}
 use Rattle.sql_read.specs.declared.formats.Format.TheVariants.{Second}
+use Rattle.sql_read.proofs.Streaming.{shown_same}
 use Rattle.sql_read.proofs.BookChecks.{checks_failed, checks_stopped, checks_then, in_format}
 use Rattle.sql_read.proofs.{Readings.accounts_reading, ShownTables.accounts_shown, WholeTables.accounts_whole}
 use Rattle.sql_read.proofs.checked.check_accounts.Goals as goal
@@ -7,11 +10,22 @@ use Rattle.sql_read.proofs.checked.check_accounts.Goals as goal
 pub check_table-requires-clause-query : goal.check_table-requires-clause-query
 check_table-requires-clause-query g c = (accounts_reading Second).selecting
 
+pub check_table-requires-clause-apart : goal.check_table-requires-clause-apart
+check_table-requires-clause-apart g c = accounts-apart
+
 pub returns : goal.returns
 returns g c =
     checks_then g.S.Store c.check_orders.ensures (λ clean rest. accounts_shown g.S.Store _ c.args.format c.args.last _ c.in-Some.accounts
     (ap (λ k. k.last) c.new-check.ensures.counter)
-    (rw c.in-Some.is at (c.in_ok-accounts.ensures.whole clean)) rest) c.in_ok-accounts.ensures.unchanged c.in_ok-accounts.ensures.asks
+    (rw c.in-Some.is at (c.in_ok-accounts.ensures.whole clean)) rest)
+    (λ clean meta rows shows kept.
+    let table = rw c.in-Some.is at (c.in_ok-accounts.ensures.whole clean) in (
+      kept,
+      table.is.1
+      ∙ ap (map (λ a. a.number)) (shown_same g.S.Store _ _ _ _ _ accounts-apart c.args.conn.now table rows.accounts shows.stored.accounts
+      shows.only.accounts),
+    ))
+    c.in_ok-accounts.ensures.unchanged c.in_ok-accounts.ensures.asks
 
 pub returns-in_err-accounts : goal.returns-in_err-accounts
 returns-in_err-accounts g c =
@@ -20,4 +34,8 @@ returns-in_err-accounts g c =
     c.in_err-accounts.ensures.fails c.in_err-accounts.ensures.refused c.in_err-accounts.ensures.met c.in_err-accounts.ensures.asks
 
 pub returns-in_default : goal.returns-in_default
-returns-in_default g c = checks_stopped g.S.Store c.in_ok-accounts.ensures.unchanged c.in_ok-accounts.ensures.asks
+returns-in_default g c = checks_stopped g.S.Store
+    (λ clean meta rows shows kept.
+    c.in_ok-accounts.ensures.none clean c.in_default.is rows.accounts shows.stored.accounts shows.only.accounts
+    (subst (λ n. AreAccounts n rows.accounts) (sym (ap (λ k. k.last) c.new-check.ensures.counter ∙ ap (λ k. k.accounts) kept)) shows.are.accounts))
+    c.in_ok-accounts.ensures.unchanged c.in_ok-accounts.ensures.asks

@@ -1,5 +1,7 @@
-use Rattle.std.proofs.Common.{ap, inl, inr}
+use Rattle.std.proofs.Common.{ap, inl, inr, map, ◌∙◌}
+use Rattle.store_columns.proofs.RowsApart.{authorizations-apart}
 use Rattle.sql_read.specs.declared.formats.Format.TheVariants.{Second}
+use Rattle.sql_read.proofs.{AllRows.all_authorizations, Streaming.shown_same}
 use Rattle.sql_read.proofs.BookChecks.{checks_failed, checks_stopped, checks_then, in_format}
 use Rattle.sql_read.proofs.{Readings.authorizations_reading, ShownTables.authorizations_shown, WholeTables.authorizations_whole}
 use Rattle.sql_read.proofs.checked.check_authorizations.Goals as goal
@@ -7,11 +9,23 @@ use Rattle.sql_read.proofs.checked.check_authorizations.Goals as goal
 pub check_table-requires-clause-query : goal.check_table-requires-clause-query
 check_table-requires-clause-query g c = (authorizations_reading Second).selecting
 
+pub check_table-requires-clause-apart : goal.check_table-requires-clause-apart
+check_table-requires-clause-apart g c = authorizations-apart
+
 pub returns : goal.returns
 returns g c =
     checks_then g.S.Store c.check_listed.ensures (λ clean rest. authorizations_shown g.S.Store _ c.args.format c.args.last _ _ c.args.accounts.now
     c.args.orders.now c.in-Some.authorizations (ap (λ k. k.last) c.new-check.ensures.counter) c.new-check.ensures.owners
-    (rw c.in-Some.is at (c.in_ok-authorizations.ensures.whole clean)) rest) c.in_ok-authorizations.ensures.unchanged c.in_ok-authorizations.ensures.asks
+    (rw c.in-Some.is at (c.in_ok-authorizations.ensures.whole clean)) rest)
+    (λ clean meta rows shows kept.
+    let table = rw c.in-Some.is at (c.in_ok-authorizations.ensures.whole clean) in (
+      kept.0,
+      kept.2,
+      table.is.1
+      ∙ ap (map (λ a. a.number)) (shown_same g.S.Store _ _ _ _ _ authorizations-apart c.args.conn.now table rows.authorizations
+      shows.stored.authorizations shows.only.authorizations),
+    ))
+    c.in_ok-authorizations.ensures.unchanged c.in_ok-authorizations.ensures.asks
 
 pub returns-in_err-authorizations : goal.returns-in_err-authorizations
 returns-in_err-authorizations g c =
@@ -20,4 +34,9 @@ returns-in_err-authorizations g c =
     c.in_err-authorizations.ensures.fails c.in_err-authorizations.ensures.refused c.in_err-authorizations.ensures.met c.in_err-authorizations.ensures.asks
 
 pub returns-in_default : goal.returns-in_default
-returns-in_default g c = checks_stopped g.S.Store c.in_ok-authorizations.ensures.unchanged c.in_ok-authorizations.ensures.asks
+returns-in_default g c = checks_stopped g.S.Store
+    (λ clean meta rows shows kept.
+    c.in_ok-authorizations.ensures.none clean c.in_default.is rows.authorizations shows.stored.authorizations shows.only.authorizations
+    (all_authorizations shows.are _ _ (ap (λ k. k.last) c.new-check.ensures.counter ∙ ap (λ k. k.authorizations) kept.0)
+    (c.new-check.ensures.owners ∙ kept.1)))
+    c.in_ok-authorizations.ensures.unchanged c.in_ok-authorizations.ensures.asks

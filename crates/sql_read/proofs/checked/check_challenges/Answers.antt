@@ -1,7 +1,10 @@
-use Rattle.std.proofs.Common.{ap, inr, subst, sym}
+use Rattle.std.proofs.Common.{◌≡◌, ap, inr, subst, sym, ◌∙◌}
 use Rattle.sqlite.specs.Held.{state}
+use Rattle.store_book.specs.BookRows.{answered_numbers}
+use Rattle.store_columns.proofs.RowsApart.{challenges-apart}
 use Rattle.sql_read.specs.BookShown.{Checks, ShowsKeysIn}
 use Rattle.sql_read.specs.declared.formats.Format.TheVariants.{Second}
+use Rattle.sql_read.proofs.{AllRows.all_challenges, Streaming.shown_same}
 use Rattle.sql_read.proofs.BookChecks.{checks_failed, checks_last, checks_stopped, checks_then, in_format}
 use Rattle.sql_read.proofs.{Readings.challenges_reading, ShownTables.challenges_shown, WholeTables.challenges_whole}
 use Rattle.sql_read.proofs.checked.check_challenges.Goals as goal
@@ -9,14 +12,23 @@ use Rattle.sql_read.proofs.checked.check_challenges.Goals as goal
 pub check_table-requires-clause-query : goal.check_table-requires-clause-query
 check_table-requires-clause-query g c = (challenges_reading Second).selecting
 
+pub check_table-requires-clause-apart : goal.check_table-requires-clause-apart
+check_table-requires-clause-apart g c = challenges-apart
+
 pub returns : goal.returns
 returns g c =
     checks_then g.S.Store
-    (subst (λ f. Checks g.S.Store f c.check_table.new.conn c.check_keys.new.conn (λ db. ShowsKeysIn g.S.Store db f c.in-Some.answered) c.check_keys.result)
+    (subst (λ f. Checks g.S.Store f c.check_table.new.conn c.check_keys.new.conn (λ db. ShowsKeysIn g.S.Store db f c.in-Some.answered)
+    (λ _ meta rows. c.in-Some.answered ≡ answered_numbers rows.challenges) c.check_keys.result)
     (sym c.in-Second.is) c.check_keys.ensures) (λ clean rest.
     challenges_shown g.S.Store _ c.args.format c.args.last _ _ c.args.authorizations.now c.in-Some.answered (ap (λ k. k.last) c.new-check.ensures.counter)
     c.new-check.ensures.authorizations
     (rw c.in-Some.is at (c.in_ok-answered.ensures.whole clean)) rest)
+    (λ clean meta rows shows kept.
+    let table = rw c.in-Some.is at (c.in_ok-answered.ensures.whole clean) in
+    table.is.1
+    ∙ ap answered_numbers (shown_same g.S.Store _ _ _ _ _ challenges-apart c.args.conn.now table rows.challenges shows.stored.challenges
+    shows.only.challenges))
     c.in_ok-answered.ensures.unchanged c.in_ok-answered.ensures.asks
 
 pub returns-in-First : goal.returns-in-First
@@ -35,4 +47,9 @@ returns-in_err-answered g c =
     c.in_err-answered.ensures.fails c.in_err-answered.ensures.refused c.in_err-answered.ensures.met c.in_err-answered.ensures.asks
 
 pub returns-in_default : goal.returns-in_default
-returns-in_default g c = checks_stopped g.S.Store c.in_ok-answered.ensures.unchanged c.in_ok-answered.ensures.asks
+returns-in_default g c = checks_stopped g.S.Store
+    (λ clean meta rows shows kept.
+    c.in_ok-answered.ensures.none clean c.in_default.is rows.challenges shows.stored.challenges shows.only.challenges
+    (all_challenges shows.are _ _ (ap (λ k. k.last) c.new-check.ensures.counter ∙ ap (λ k. k.challenges) kept.0)
+    (c.new-check.ensures.authorizations ∙ kept.1)))
+    c.in_ok-answered.ensures.unchanged c.in_ok-answered.ensures.asks

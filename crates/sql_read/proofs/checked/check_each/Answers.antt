@@ -7,11 +7,12 @@ use Rattle.sql_read.specs.Failures.{FailsHere, IsMet, IsOutOfMemory}
 use Rattle.sql_read.proofs.MetFaults.{met_behind, query_met}
 use Rattle.sql_read.proofs.Results.{failed_as}
 use Rattle.sql_read.proofs.Streaming.{asks_begun, asks_refused, begun_query, given_all, given_more, given_none, met_refused, refused_query}
+use Rattle.sql_read.proofs.Streaming.{stops_all}
 use Rattle.sql_read.proofs.checked.check_each.Goals as goal
 
 pub returns-in_err-rows-clause-asks : goal.returns-in_err-rows-clause-asks
 returns-in_err-rows-clause-asks g c =
-    asks_refused g.S.Store c.args.text.now c.requires c.query.result c.args.conn.now c.query.follows.lender-at-none _ c.in_err-rows.was
+    asks_refused g.S.Store c.args.text.now c.requires.query c.query.result c.args.conn.now c.query.follows.lender-at-none _ c.in_err-rows.was
     c.query.follows.holds-at-none
 
 pub loop-init : goal.loop-init
@@ -20,9 +21,9 @@ loop-init g c =
     let store = g.S.Store in
     let text = c.args.text.now in (
       refl,
-      asks_begun store text c.requires c.args.conn.now _ made.begun made.mode made.survives,
+      asks_begun store text c.requires.query c.args.conn.now _ made.begun made.mode made.survives,
       λ clean. given_none store text g.C.Selected.spelled g.C.Columns.write g.C.Columns.IsStored g.K.RowCheck.Passed c.args.conn.now _ c.args.check.now
-          (begun_query store text c.requires c.args.conn.now _ (made.begun clean)),
+          (begun_query store text c.requires.query c.args.conn.now _ (made.begun clean)),
     )
 
 pub returns-in_default-clause-passed : goal.returns-in_default-clause-passed
@@ -63,7 +64,7 @@ returns-in_err-rows-clause-met g c clean =
     let new = c.query.follows.lender-at-none in
     let e = c.in_err-rows.field-0.0 in
     failed_as c.from_residual.result e (IsMet (state store c.args.conn.now) (state store new))
-    (met_refused store c.args.text.now c.requires c.query.result c.args.conn.now new e c.in_err-rows.was c.query.follows.holds-at-none clean)
+    (met_refused store c.args.text.now c.requires.query c.query.result c.args.conn.now new e c.in_err-rows.was c.query.follows.holds-at-none clean)
     c.from_residual.ensures.1
 
 pub returns-in_err-row-clause-met : goal.returns-in_err-row-clause-met
@@ -78,7 +79,7 @@ returns-in_err-row-clause-met g c =
     let was = c.loop.invariant.2 (omega (arith, clean, moved.survives.clean)) in
     let fails = (rw c.in_err-row.was at (moved.err clean)) c.args.text.now [] was.given was.gives in
     failed_as c.from_residual-in_err-row.result e (IsMet old now)
-    (met_behind old mid now e c.loop.invariant.1 (query_met c.args.text.now [] mid now e c.requires fails)) c.from_residual-in_err-row.ensures.1 in
+    (met_behind old mid now e c.loop.invariant.1 (query_met c.args.text.now [] mid now e c.requires.query fails)) c.from_residual-in_err-row.ensures.1 in
     search (rules, whole)
 
 pub returns-in_err-rows-clause-refused : goal.returns-in_err-rows-clause-refused
@@ -92,7 +93,7 @@ returns-in_err-rows-clause-refused g c clean =
       before = old;
       after = new;
       same = refl;
-      fails = inl (refused_query store c.args.text.now c.requires c.query.result old new e c.in_err-rows.was c.query.follows.holds-at-none clean);
+      fails = inl (refused_query store c.args.text.now c.requires.query c.query.result old new e c.in_err-rows.was c.query.follows.holds-at-none clean);
     }))
     c.from_residual.ensures.1
 
@@ -111,3 +112,16 @@ returns-in_err-row-clause-refused g c =
     failed_as c.from_residual-in_err-row.result e (λ e. IsOutOfMemory e ⊎ FailsHere store old c.args.text.now g.C.Selected.Fits e)
     (inr (record { before = mid; after = now; same = was.same.0.now_is; fails = inl fails })) c.from_residual-in_err-row.ensures.1 in
     search (rules, whole)
+
+pub returns-then-not-branch-clause-stopped : goal.returns-then-not-branch-clause-stopped
+returns-then-not-branch-clause-stopped g c clean _ all stored only begun are =
+    let store = g.S.Store in
+    let moved = c.next.follows.holds-at-none in
+    let mid = c.loop.rows.conn.now in
+    let now = c.next.follows.lender-at-none.conn.now in
+    let late : HasCleanDisk (state store now) = search rules in
+    let was = c.loop.invariant.2 (omega (arith, late, moved.survives.clean)) in
+    let gives = (rw (c.in_ok-row.was, c.in-Some.is) at (moved.ok late)) c.args.text.now [] was.given was.gives in
+    stops_all store c.args.text.now g.C.Selected.spelled g.C.Columns.write g.C.Selected.Fits g.C.Columns.IsStored c.requires.apart
+    g.K.RowCheck.Passed g.K.RowCheck.AreAll c.args.conn.now mid now c.args.check.now c.loop.check c.in-Some.row.now was gives
+    (rw c.in_ok-row.was at (moved.same late)) (c.in_ok-check_row.ensures.stopped c.if-not-branch.true) all stored only begun are

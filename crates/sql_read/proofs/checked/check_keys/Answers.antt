@@ -1,4 +1,5 @@
-use Rattle.std.proofs.Common.{inr, subst}
+use Rattle.std.proofs.Common.{inr, subst, sym, ◌∙◌}
+use Rattle.store_columns.proofs.RowsApart.{keys-apart}
 use Rattle.store_book.specs.BookRows.{AreKeys}
 use Rattle.sql_read.proofs.BookChecks.{checks_failed, checks_last, checks_stopped, table_as}
 use Rattle.sql_read.proofs.{Readings.keys_reading, WholeTables.keys_whole}
@@ -6,6 +7,9 @@ use Rattle.sql_read.proofs.checked.check_keys.Goals as goal
 
 pub check_table-requires-clause-query : goal.check_table-requires-clause-query
 check_table-requires-clause-query g c = keys_reading.selecting
+
+pub check_table-requires-clause-apart : goal.check_table-requires-clause-apart
+check_table-requires-clause-apart g c = keys-apart
 
 pub returns : goal.returns
 returns g c =
@@ -20,4 +24,8 @@ returns-in_err-check_table g c =
     c.in_err-check_table.ensures.fails c.in_err-check_table.ensures.refused c.in_err-check_table.ensures.met c.in_err-check_table.ensures.asks
 
 pub returns-in_default : goal.returns-in_default
-returns-in_default g c = checks_stopped g.S.Store c.in_ok-check_table.ensures.unchanged c.in_ok-check_table.ensures.asks
+returns-in_default g c = checks_stopped g.S.Store
+    (λ clean meta rows shows kept.
+    c.in_ok-check_table.ensures.none clean c.in_default.is rows.keys shows.stored.keys shows.only.keys
+    (shows.are.keys ∙ sym kept ∙ sym c.new-check.ensures))
+    c.in_ok-check_table.ensures.unchanged c.in_ok-check_table.ensures.asks

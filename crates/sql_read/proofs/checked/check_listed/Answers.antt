@@ -1,6 +1,8 @@
-use Rattle.std.proofs.Common.{inl, inr, subst}
+use Rattle.std.proofs.Common.{inl, inr, subst, ◌∙◌}
+use Rattle.store_columns.proofs.RowsApart.{listed-apart}
 use Rattle.store_book.specs.BookRows.{AreListed}
 use Rattle.sql_read.specs.declared.formats.Format.TheVariants.{Second}
+use Rattle.sql_read.proofs.AllRows.{all_listed}
 use Rattle.sql_read.proofs.BookChecks.{checks_failed, checks_stopped, checks_then, in_format, table_as}
 use Rattle.sql_read.proofs.{Readings.listed_reading, WholeTables.listed_readable}
 use Rattle.sql_read.proofs.checked.check_listed.Goals as goal
@@ -8,13 +10,16 @@ use Rattle.sql_read.proofs.checked.check_listed.Goals as goal
 pub check_table-requires-clause-query : goal.check_table-requires-clause-query
 check_table-requires-clause-query g c = (listed_reading Second).selecting
 
+pub check_table-requires-clause-apart : goal.check_table-requires-clause-apart
+check_table-requires-clause-apart g c = listed-apart
+
 pub returns : goal.returns
 returns g c = checks_then g.S.Store c.check_challenges.ensures (λ clean rest. record {
   table = table_as (rw c.in-Some.is at (c.in_ok-check_table.ensures.whole clean))
       (λ rows is. subst (λ l. AreListed l c.args.authorizations.now rows) c.new-check.ensures.orders
       (subst (λ l. AreListed c.new-check.result.orders.now l rows) c.new-check.ensures.authorizations is));
   challenges = rest;
-}) c.in_ok-check_table.ensures.unchanged c.in_ok-check_table.ensures.asks
+}) (λ clean meta rows shows kept. (kept.0, kept.2)) c.in_ok-check_table.ensures.unchanged c.in_ok-check_table.ensures.asks
 
 pub returns-in_err-check_table : goal.returns-in_err-check_table
 returns-in_err-check_table g c =
@@ -23,4 +28,9 @@ returns-in_err-check_table g c =
     c.in_err-check_table.ensures.fails c.in_err-check_table.ensures.refused c.in_err-check_table.ensures.met c.in_err-check_table.ensures.asks
 
 pub returns-in_default : goal.returns-in_default
-returns-in_default g c = checks_stopped g.S.Store c.in_ok-check_table.ensures.unchanged c.in_ok-check_table.ensures.asks
+returns-in_default g c = checks_stopped g.S.Store
+    (λ clean meta rows shows kept.
+    c.in_ok-check_table.ensures.none clean c.in_default.is rows.listed shows.stored.listed shows.only.listed
+    (all_listed shows.are shows.by_key _ _ _ _ c.new-check.ensures.order c.new-check.ensures.place (c.new-check.ensures.orders ∙ kept.1)
+    (c.new-check.ensures.authorizations ∙ kept.2)))
+    c.in_ok-check_table.ensures.unchanged c.in_ok-check_table.ensures.asks

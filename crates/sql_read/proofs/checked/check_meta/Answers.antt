@@ -1,4 +1,6 @@
-use Rattle.std.proofs.Common.{inl}
+use Rattle.std.proofs.Common.{inl, ◌∙◌}
+use Rattle.store_columns.proofs.RowsApart.{metas-apart}
+use Rattle.sql_read.proofs.{AllRows.counters_kept, Streaming.shown_same}
 use Rattle.sql_read.proofs.BookChecks.{checks_failed, checks_stopped, checks_then}
 use Rattle.sql_read.specs.declared.formats.Format.TheVariants.{Second}
 use Rattle.sql_read.proofs.{Readings.meta_reading, WholeTables.meta_whole}
@@ -7,12 +9,20 @@ use Rattle.sql_read.proofs.checked.check_meta.Goals as goal
 pub check_table-requires-clause-query : goal.check_table-requires-clause-query
 check_table-requires-clause-query g c = (meta_reading Second).selecting
 
+pub check_table-requires-clause-apart : goal.check_table-requires-clause-apart
+check_table-requires-clause-apart g c = metas-apart
+
 pub returns : goal.returns
 returns g c = checks_then g.S.Store c.check_nonces.ensures (λ clean rest. record {
   last = c.in-Some.last;
   table = rw c.in-Some.is at (c.in_ok-last.ensures.whole clean);
   nonces = rest;
-}) c.in_ok-last.ensures.unchanged c.in_ok-last.ensures.asks
+})
+    (λ clean meta rows shows only.
+    let table = rw c.in-Some.is at (c.in_ok-last.ensures.whole clean) in
+    counters_kept c.in-Some.last table.rows meta table.is
+    (shown_same g.S.Store _ _ _ _ _ metas-apart c.args.conn.now table rows.metas shows.stored.metas only ∙ shows.are.metas))
+    c.in_ok-last.ensures.unchanged c.in_ok-last.ensures.asks
 
 pub returns-in_err-last : goal.returns-in_err-last
 returns-in_err-last g c =
@@ -21,4 +31,6 @@ returns-in_err-last g c =
     c.in_err-last.ensures.fails c.in_err-last.ensures.refused c.in_err-last.ensures.met c.in_err-last.ensures.asks
 
 pub returns-in_default : goal.returns-in_default
-returns-in_default g c = checks_stopped g.S.Store c.in_ok-last.ensures.unchanged c.in_ok-last.ensures.asks
+returns-in_default g c = checks_stopped g.S.Store
+    (λ clean meta rows shows only. c.in_ok-last.ensures.none clean c.in_default.is rows.metas shows.stored.metas only (meta, shows.are.metas))
+    c.in_ok-last.ensures.unchanged c.in_ok-last.ensures.asks

@@ -1,4 +1,5 @@
-use Rattle.std.proofs.Common.{inl, inr, subst}
+use Rattle.std.proofs.Common.{ap, inl, inr, subst, sym, ◌∙◌}
+use Rattle.store_columns.proofs.RowsApart.{nonces-apart}
 use Rattle.model_laws.specs.Ordered.{IsTable}
 use Rattle.sql_read.specs.declared.formats.Format.TheVariants.{Second}
 use Rattle.sql_read.proofs.BookChecks.{checks_failed, checks_stopped, checks_then, in_format, table_as}
@@ -8,12 +9,15 @@ use Rattle.sql_read.proofs.checked.check_nonces.Goals as goal
 pub check_table-requires-clause-query : goal.check_table-requires-clause-query
 check_table-requires-clause-query g c = (nonces_reading Second).selecting
 
+pub check_table-requires-clause-apart : goal.check_table-requires-clause-apart
+check_table-requires-clause-apart g c = nonces-apart
+
 pub returns : goal.returns
 returns g c = checks_then g.S.Store c.check_accounts.ensures (λ clean rest. record {
   table = table_as (rw c.in-Some.is at (c.in_ok-check_table.ensures.whole clean))
       (λ rows is. subst (λ k. IsTable (λ n. n.serial) k.counter.last rows) c.new-check.ensures is);
   accounts = rest;
-}) c.in_ok-check_table.ensures.unchanged c.in_ok-check_table.ensures.asks
+}) (λ clean meta rows shows kept. kept) c.in_ok-check_table.ensures.unchanged c.in_ok-check_table.ensures.asks
 
 pub returns-in_err-check_table : goal.returns-in_err-check_table
 returns-in_err-check_table g c =
@@ -22,4 +26,9 @@ returns-in_err-check_table g c =
     c.in_err-check_table.ensures.fails c.in_err-check_table.ensures.refused c.in_err-check_table.ensures.met c.in_err-check_table.ensures.asks
 
 pub returns-in_default : goal.returns-in_default
-returns-in_default g c = checks_stopped g.S.Store c.in_ok-check_table.ensures.unchanged c.in_ok-check_table.ensures.asks
+returns-in_default g c = checks_stopped g.S.Store
+    (λ clean meta rows shows kept.
+    c.in_ok-check_table.ensures.none clean c.in_default.is rows.nonces shows.stored.nonces shows.only.nonces
+    (subst (λ n. IsTable (λ n. n.serial) n rows.nonces)
+    (sym (ap (λ k. k.counter.last) c.new-check.ensures ∙ ap (λ k. k.nonces) kept)) shows.are.nonces))
+    c.in_ok-check_table.ensures.unchanged c.in_ok-check_table.ensures.asks

@@ -1,5 +1,7 @@
-use Rattle.std.proofs.Common.{ap, inl, inr}
+use Rattle.std.proofs.Common.{ap, inl, inr, map, ◌∙◌}
+use Rattle.store_columns.proofs.RowsApart.{orders-apart}
 use Rattle.sql_read.specs.declared.formats.Format.TheVariants.{Second}
+use Rattle.sql_read.proofs.{AllRows.all_orders, Streaming.shown_same}
 use Rattle.sql_read.proofs.BookChecks.{checks_failed, checks_stopped, checks_then, in_format}
 use Rattle.sql_read.proofs.{Readings.orders_reading, ShownTables.orders_shown, WholeTables.orders_whole}
 use Rattle.sql_read.proofs.checked.check_orders.Goals as goal
@@ -7,11 +9,22 @@ use Rattle.sql_read.proofs.checked.check_orders.Goals as goal
 pub check_table-requires-clause-query : goal.check_table-requires-clause-query
 check_table-requires-clause-query g c = (orders_reading Second).selecting
 
+pub check_table-requires-clause-apart : goal.check_table-requires-clause-apart
+check_table-requires-clause-apart g c = orders-apart
+
 pub returns : goal.returns
 returns g c =
     checks_then g.S.Store c.check_authorizations.ensures (λ clean rest. orders_shown g.S.Store _ c.args.format c.args.last _ _ c.args.accounts.now
     c.in-Some.orders (ap (λ k. k.last) c.new-check.ensures.counter) c.new-check.ensures.owners
-    (rw c.in-Some.is at (c.in_ok-orders.ensures.whole clean)) rest) c.in_ok-orders.ensures.unchanged c.in_ok-orders.ensures.asks
+    (rw c.in-Some.is at (c.in_ok-orders.ensures.whole clean)) rest)
+    (λ clean meta rows shows kept.
+    let table = rw c.in-Some.is at (c.in_ok-orders.ensures.whole clean) in (
+      kept.0,
+      kept.1,
+      table.is.1
+      ∙ ap (map (λ o. o.number)) (shown_same g.S.Store _ _ _ _ _ orders-apart c.args.conn.now table rows.orders shows.stored.orders shows.only.orders),
+    ))
+    c.in_ok-orders.ensures.unchanged c.in_ok-orders.ensures.asks
 
 pub returns-in_err-orders : goal.returns-in_err-orders
 returns-in_err-orders g c =
@@ -20,4 +33,9 @@ returns-in_err-orders g c =
     c.in_err-orders.ensures.fails c.in_err-orders.ensures.refused c.in_err-orders.ensures.met c.in_err-orders.ensures.asks
 
 pub returns-in_default : goal.returns-in_default
-returns-in_default g c = checks_stopped g.S.Store c.in_ok-orders.ensures.unchanged c.in_ok-orders.ensures.asks
+returns-in_default g c = checks_stopped g.S.Store
+    (λ clean meta rows shows kept.
+    c.in_ok-orders.ensures.none clean c.in_default.is rows.orders shows.stored.orders shows.only.orders
+    (all_orders shows.are _ _ (ap (λ k. k.last) c.new-check.ensures.counter ∙ ap (λ k. k.orders) kept.0)
+    (c.new-check.ensures.owners ∙ kept.1)))
+    c.in_ok-orders.ensures.unchanged c.in_ok-orders.ensures.asks

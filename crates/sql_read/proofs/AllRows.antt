@@ -1,0 +1,53 @@
+-- What a book's rows are to the checks of its tables, behind those before them.
+use Rattle.std.proofs.Common.{◌≡◌, ℕ, List, [], ◌∷◌, map, refl, sym, ap, subst, subst₂, ◌∙◌}
+use Rattle.store_columns.specs.declared.columns.{BareChallenge.BareChallenge, FlatRows.FlatRows, Owned.Owned}
+use Rattle.model_laws.proofs.RowLists.{ascends_map}
+use Rattle.desk_model.specs.declared.rows.{AccountRow.AccountRow, AuthorizationRow.AuthorizationRow, Counters.Counters, Meta.Meta, OrderRow.OrderRow}
+use Rattle.store_book.specs.BookRows.{AreAuthorizations, AreBookRows, AreChallenges, AreKeys, AreOrders, Rise, answered_numbers}
+use Rattle.store_book.specs.{ByKey.AreByKey, Passing.ArePlaced, Passing.IsOnlyRow}
+
+-- the counters that were kept of the one row are the book's
+pub counters_kept : (kept : Counters) (rows : List Meta) (meta : Meta) → IsOnlyRow kept rows → rows ≡ meta ∷ [] → kept ≡ meta.counters
+counters_kept kept rows meta is are =
+    let same : is.meta ≡ meta = (let both = sym is.alone ∙ are in cc) in
+    is.counters ∙ ap (λ m. m.counters) same
+
+module _ {meta : Meta} {rows : FlatRows} (are : AreBookRows meta rows) where
+  -- the numbers of accounts rise, and so on
+  accounts_rise : Rise (map (λ a. a.number) rows.accounts)
+  accounts_rise = ascends_map (λ a. a.number) (λ n. n) (λ (a : AccountRow). a.number) (λ a. refl) 1 rows.accounts are.accounts.table.0
+
+  orders_rise : Rise (map (λ o. o.number) rows.orders)
+  orders_rise = ascends_map (λ o. o.number) (λ n. n) (λ (o : OrderRow). o.number) (λ o. refl) 1 rows.orders are.orders.table.0
+
+  authorizations_rise : Rise (map (λ a. a.number) rows.authorizations)
+  authorizations_rise =
+      ascends_map (λ a. a.number) (λ n. n) (λ (a : AuthorizationRow). a.number) (λ a. refl) 1 rows.authorizations are.authorizations.table.0
+
+  -- the orders, of the accounts that were kept
+  pub all_orders : (n : ℕ) (owners : List ℕ) → n ≡ meta.counters.orders → owners ≡ map (λ a. a.number) rows.accounts
+      → Rise owners × AreOrders n owners rows.orders
+  all_orders n owners counted kept =
+      subst₂ (λ n l. Rise l × AreOrders n l rows.orders) (sym counted) (sym kept) (accounts_rise, are.orders)
+
+  -- the authorizations
+  pub all_authorizations : (n : ℕ) (owners : List ℕ) → n ≡ meta.counters.authorizations → owners ≡ map (λ a. a.number) rows.accounts
+      → Rise owners × AreAuthorizations n owners rows.authorizations
+  all_authorizations n owners counted kept =
+      subst₂ (λ n l. Rise l × AreAuthorizations n l rows.authorizations) (sym counted) (sym kept) (accounts_rise, are.authorizations)
+
+  -- what the orders list
+  pub all_listed : (by_key : AreByKey rows) (order place : ℕ) (orders authorizations : List ℕ) → order ≡ 0 → place ≡ 0
+      → orders ≡ map (λ o. o.number) rows.orders
+      → authorizations ≡ map (λ a. a.number) rows.authorizations → ArePlaced order place orders authorizations rows.listed
+  all_listed by_key order place orders authorizations zero none kept held =
+      let placed : ArePlaced 0 0 (map (λ o. o.number) rows.orders) (map (λ a. a.number) rows.authorizations) rows.listed =
+      record { orders_rise = orders_rise; authorizations_rise = authorizations_rise; placed = by_key.listed; listed = are.listed } in
+      subst₂ (λ o p. ArePlaced o p orders authorizations rows.listed) (sym zero) (sym none)
+      (subst₂ (λ os bs. ArePlaced 0 0 os bs rows.listed) (sym kept) (sym held) placed)
+
+  -- the challenges
+  pub all_challenges : (n : ℕ) (owners : List ℕ) → n ≡ meta.counters.challenges → owners ≡ map (λ a. a.number) rows.authorizations
+      → Rise owners × AreChallenges n owners rows.challenges
+  all_challenges n owners counted kept =
+      subst₂ (λ n l. Rise l × AreChallenges n l rows.challenges) (sym counted) (sym kept) (authorizations_rise, are.challenges)
