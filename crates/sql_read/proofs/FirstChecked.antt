@@ -1,23 +1,29 @@
 -- Readings of a desk in format 1 one after the other, and the row of it that is read before the rows that it counts are checked.
-use Rattle.std.proofs.Common.{◌≡◌, ◌⊎◌, inl, inr, ◌∷◌, [], map, Option, Some, None, Result, Ok, Err, IfSome, sym, ap, subst, ◌∙◌, arith}
+use Rattle.std.proofs.Common.{◌≡◌, ◌⊎◌, inl, inr, ◌∷◌, [], map, MatchOption, Option, Some, None, Result, Ok, Err, sym, ap, subst, ◌∙◌, arith}
+use Rattle.std.proofs.lemmas.Simd.{map-map}
 use Rattle.std.specs.Prelude.{IsSome}
 use Rattle.sqlite.specs.Held.{Held, state}
 use Rattle.sqlite.specs.State.{HasCleanDisk, IsUnchanged}
 use Rattle.sqlite.specs.Store.{Ghosts}
 use Rattle.sqlite.specs.declared.error.Error.{Error}
 use Rattle.store_book.specs.IsBook.{IsBookOfStored, IsStoredBook}
-use Rattle.store_columns.specs.Columns.{meta_columns}
+use Rattle.store_book.specs.BookRows.{AreBookRows}
+use Rattle.store_book.proofs.KeyedRows.{books_have_rows}
+use Rattle.store_columns.specs.{Columns.meta_columns, Limits.IsStoredMeta}
+use Rattle.desk_model.specs.Kept.{EachOf}
 use Rattle.store_columns.specs.declared.columns.StoredRows.{StoredRows}
 use Rattle.store_columns.proofs.RowsApart.{metas-apart}
 use Rattle.desk_model.specs.Tables.{Tables}
 use Rattle.desk_model.specs.declared.rows.Meta.{Meta}
 use Rattle.sql_read.specs.{AllTables.FailsAtFirst, Reads.Reads}
 use Rattle.sql_read.specs.Failures.{IsMet, IsOutOfMemory, MayRead}
-use Rattle.sql_read.specs.First.{AreFirstShown, raised_meta}
-use Rattle.sql_read.specs.FirstRows.{IsFirstMeta, IsFirstReadable}
+use Rattle.sql_read.specs.First.{AreFirstShown, ShowsFirstMeta, raised_meta}
+use Rattle.sql_read.specs.FirstRows.{HasNoFirstBook, HasNoFirstMeta, HasNoRowsWith, IsFirstMeta, IsFirstReadable}
+use Rattle.sql_read.specs.Only.{ShowsOnlyFirstMetas, ShowsOnlyRows}
+use Rattle.sql_read.specs.Spelled.{meta_in}
 use Rattle.sql_read.specs.declared.formats.Format.TheVariants.{First}
-use Rattle.sql_read.proofs.{BookChecks.first_still, BookOfShown.first_book_shown, Failing.may_read_still, MetFaults.met_behind, WholeTables.meta_whole}
-use Rattle.sql_read.proofs.Results.{fails_then, found_then, read_then, unchanged_after}
+use Rattle.sql_read.proofs.{BookChecks.first_still, BookOfShown.first_book_shown, Failing.may_read_still, HeldBooks.held_first_only, MetFaults.met_behind}
+use Rattle.sql_read.proofs.Results.{either_then, fails_then, read_then, unchanged_after}
 use Rattle.sql_schema.specs.{Failing.IsFailure, Stays.Asks}
 use Rattle.sql_schema.proofs.StaysLemmas.{asks_then}
 use Rattle.sql_tables.specs.Holds.{HoldsFirst}
@@ -54,13 +60,13 @@ module _ {S A : Type 0} (g : Ghosts S) {old new : Held S} {P : A → Type 0} {Re
 
 module _ {S A : Type 0} (g : Ghosts S) where
   -- a table was read, and then the others
-  pub tables_then : (P Q : A → Type 0) (old mid new : Held S) (r : Result (Option A) Error)
-      → (HasCleanDisk (state g mid) → (a : A) → Q a → P a)
+  pub tables_then : {N M : Type 0} (P Q : A → Type 0) (old mid new : Held S) (r : Result (Option A) Error)
+      → (HasCleanDisk (state g mid) → (a : A) → Q a → P a) → (HasCleanDisk (state g mid) → M → N)
       → (HasCleanDisk (state g mid) → IsUnchanged (state g old) (state g mid)) → Asks (state g old) (state g mid)
-      → Reads g mid new (λ found. IfSome found Q) (IsFirstReadable g mid) (FailsAtRows g mid) r
-      → Reads g old new (λ found. IfSome found P) (IsFirstReadable g old) (FailsAtRows g old) r
-  tables_then P Q old mid new r so same asks rest = record {
-    shown = λ clean. read_then r (rest.shown clean) (λ found is. found_then found is (so (honest clean)));
+      → Reads g mid new (λ found. MatchOption found M Q) (IsFirstReadable g mid) (FailsAtRows g mid) r
+      → Reads g old new (λ found. MatchOption found N P) (IsFirstReadable g old) (FailsAtRows g old) r
+  tables_then P Q old mid new r so none same asks rest = record {
+    shown = λ clean. read_then r (rest.shown clean) (λ found is. either_then found is (none (honest clean)) (so (honest clean)));
     fails = λ clean may is. let still = same (honest clean) in
         rest.fails clean (may_read_still (state g old) (state g mid) still asks may)
         (record { tables = is.tables; holds = subst (λ db. HoldsFirst db is.tables) (sym still.0.now_is) is.holds; texts = is.texts });
@@ -80,16 +86,46 @@ module _ {S A : Type 0} (g : Ghosts S) where
 
 module _ {S : Type 0} (g : Ghosts S) where
   -- there is a book of what was shown
-  pub has_first_book : (conn : Held S) (found : Option Meta) → IfSome found (IsFirstMeta g conn) → IsSome found
+  pub has_first_book : (N : Type 0) (conn : Held S) (found : Option Meta) → MatchOption found N (IsFirstMeta g conn) → IsSome found
       → (stored : StoredRows) × AreFirstShown g conn stored × (T : Tables) × IsBookOfStored stored T
-  has_first_book conn None is some = absurd (let never = some in cc)
-  has_first_book conn (Some row) is some = first_book_shown g conn row is.shown is.shows
+  has_first_book N conn None is some = absurd (let never = some in cc)
+  has_first_book N conn (Some row) is some = first_book_shown g conn row is.shown is.shows
+
+  -- the row that was shown is the one that is shown alone
+  row_same : (conn : Held S) (row other : Meta) → ShowsFirstMeta g conn row → IsStoredMeta other → ShowsOnlyFirstMetas g (state g conn).now (other ∷ [])
+      → row ≡ other
+  row_same conn row other shown stored only =
+      let it = shown.shown in
+      let same : map meta_columns (row ∷ []) ≡ map meta_columns (other ∷ []) =
+      sym shown.raised ∙ ap (map raised_meta) it.columns ∙ map-map raised_meta meta_in it.rows
+      ∙ only.whole it.before it.after it.rows it.same it.shown in
+      metas-apart row other shown.stored stored (let both = same in cc)
+
+  -- no row of a desk is shown alone, or no rows with the one that was shown
+  pub no_meta : (conn : Held S) → HasNoFirstMeta g conn → HasNoFirstBook g conn
+  no_meta conn none T only =
+      let alone = (books_have_rows only.rows T only.book only.by_key).metas in
+      none T.meta (subst (EachOf IsStoredMeta) alone only.stored.metas).0 (subst (ShowsOnlyFirstMetas g (state g conn).now) alone only.metas)
+
+  pub no_rows : (conn mid : Held S) (row : Meta) → (state g mid).now ≡ (state g conn).now → ShowsFirstMeta g conn row → HasNoRowsWith g mid row
+      → HasNoFirstBook g conn
+  no_rows conn mid row still shown none T only =
+      let are = books_have_rows only.rows T only.book only.by_key in
+      let alone = are.metas in
+      let same = row_same conn row T.meta shown (subst (EachOf IsStoredMeta) alone only.stored.metas).0
+      (subst (ShowsOnlyFirstMetas g (state g conn).now) alone only.metas) in
+      none only.rows (record {
+        stored = only.stored;
+        by_key = only.by_key;
+        are = subst (λ m. AreBookRows m only.rows) (sym same) are;
+        only = subst (λ db. ShowsOnlyRows g db First only.rows) (sym still) only.only;
+      })
 
   -- of a desk it is the desk's
-  pub meta_is : (conn : Held S) (T : Tables) → HoldsFirst (state g conn).now T → IsStoredBook T → (found : Option Meta) → IfSome found (IsFirstMeta g conn)
-      → IfSome found (λ row. row ≡ T.meta)
-  meta_is conn T has book None is = tt
+  pub meta_is : (conn : Held S) (T : Tables) → HoldsFirst (state g conn).now T → IsStoredBook T → (found : Option Meta)
+      → MatchOption found (HasNoFirstBook g conn) (IsFirstMeta g conn) → found ≡ Some T.meta
+  meta_is conn T has book None is = absurd (is T (held_first_only g conn T book has))
   meta_is conn T has book (Some row) is =
-      let same : map meta_columns (row ∷ []) ≡ map meta_columns (T.meta ∷ []) =
-      sym is.shown.raised ∙ ap (map raised_meta) ((meta_whole g conn T First has).columns_are _ is.shown.shown) in
-      metas-apart row T.meta is.shown.stored book.stored.metas.0 (let both = same in cc)
+      let only = held_first_only g conn T book has in
+      let alone = (books_have_rows only.rows T only.book only.by_key).metas in
+      ap Some (row_same conn row T.meta is.shown book.stored.metas.0 (subst (ShowsOnlyFirstMetas g (state g conn).now) alone only.metas))

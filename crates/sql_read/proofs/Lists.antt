@@ -66,18 +66,3 @@ pub map_moved : {A B : Type 0} (key : A → ℕ) (f : A → B) (xs : List A) (al
     → IsPermutation all (map f xs)
 map_moved key f xs all apart are =
     subst (λ ys. IsPermutation ys (map f xs)) (sym are) (IsPermutation-map f (sorted_by key xs) xs (sorted_moves key xs apart))
-
--- what is made of some items
-picked_flat : {X Y : Type 0} (h : X → Option Y) (xs : List X) → flat_map (λ x. cons_option (h x) []) xs ≡ filter_map h xs
-picked_flat h [] = refl
-picked_flat {X} {Y} h (x ∷ xs) = by (h x) (picked_flat h xs)
-  where
-    by : (o : Option Y) → flat_map (λ x. cons_option (h x) []) xs ≡ filter_map h xs
-        → cons_option o [] ++ flat_map (λ x. cons_option (h x) []) xs ≡ cons_option o (filter_map h xs)
-    by None same = same
-    by (Some y) same = ap (λ l. y ∷ l) same
-
--- moves with them
-pub picked_moved : {X Y : Type 0} (h : X → Option Y) (xs ys : List X) → IsPermutation xs ys → IsPermutation (filter_map h xs) (filter_map h ys)
-picked_moved h xs ys moved =
-    rw (sym (picked_flat h xs), sym (picked_flat h ys)) (IsPermutation-flat_map (λ x. cons_option (h x) []) xs ys moved)

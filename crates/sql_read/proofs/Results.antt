@@ -1,5 +1,5 @@
 -- Results, and tests.
-use Rattle.std.proofs.Common.{◌≡◌, Bool, true, false, IsTrue, IfErr, IfOk, IfSome, IsErrAnd, OnOk, Option, Some, None, Result, Ok, Err, ap, refl, subst, sym}
+use Rattle.std.proofs.Common.{◌≡◌, Bool, true, false, IsTrue, IfErr, IfOk, IfSome, IsErrAnd, MatchOption, OnOk, Option, Some, None, Result, Ok, Err, ap, refl, subst, sym}
 use Rattle.sqlite.specs.State.{State, IsUnchanged}
 use Rattle.sqlite.proofs.Callers.{unchanged_then}
 
@@ -12,6 +12,27 @@ read_then (Err e) p f = tt
 pub found_then : {A : Type 0} (found : Option A) {P Q : A → Type 0} → IfSome found P → ((a : A) → P a → Q a) → IfSome found Q
 found_then (Some a) p f = f a p
 found_then None p f = tt
+
+-- what two clauses say of a result
+pub read_both : {A E : Type 0} (r : Result A E) {P Q R : A → Type 0} → IfOk r P → IfOk r Q → ((a : A) → P a → Q a → R a) → IfOk r R
+read_both (Ok a) p q f = f a p q
+read_both (Err e) p q f = tt
+
+-- what is so of what was found, or where nothing was
+pub found_or : {A : Type 0} (N : Type 0) (P : A → Type 0) (found : Option A) → IfSome found P → (found ≡ None → N) → MatchOption found N P
+found_or N P (Some a) p n = p
+found_or N P None p n = n refl
+
+-- says more of either
+pub either_then : {A : Type 0} (found : Option A) {N M : Type 0} {P Q : A → Type 0} → MatchOption found N P → (N → M) → ((a : A) → P a → Q a)
+    → MatchOption found M Q
+either_then (Some a) p n f = f a p
+either_then None p n f = n p
+
+-- where nothing was found
+pub none_said : {A : Type 0} (N : Type 0) (P : A → Type 0) (found : Option A) → MatchOption found N P → found ≡ None → N
+none_said N P (Some a) p is = absurd (cc is)
+none_said N P None p is = p
 
 -- what a failure of a result says
 pub fails_then : {A E : Type 0} (r : Result A E) {P Q : E → Type 0} → IfErr r P → ((e : E) → P e → Q e) → IfErr r Q

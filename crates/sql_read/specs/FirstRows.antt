@@ -1,14 +1,28 @@
 -- The row of the desk in format 1, with rows that were checked.
-use Rattle.std.specs.Prelude.{◌≡◌}
+use Rattle.std.specs.Prelude.{◌≡◌, [], ◌∷◌}
 use Rattle.sqlite.specs.Held.{Held, state}
 use Rattle.sqlite.specs.Store.{Ghosts}
 use Rattle.desk_model.specs.Tables.{Tables}
 use Rattle.desk_model.specs.declared.rows.Meta.{Meta}
+use Rattle.store_columns.specs.{Limits.IsStoredMeta, declared.columns.FlatRows.FlatRows}
+use Rattle.sql_read.specs.Only.{ShowsBookRowsOnly, ShowsOnlyFirstBook, ShowsOnlyFirstMetas}
 use Rattle.sql_read.specs.{BookShown.ShowsNonces, Failures.HasTexts, First.ShowsFirstMeta}
 use Rattle.sql_read.specs.declared.formats.Format.TheVariants.{First}
 use Rattle.sql_tables.specs.Holds.{HoldsFirst}
 
 module _ {S : Type 0} (g : Ghosts S) (conn : Held S) where
+  -- no book's rows in format 1 are all that the database shows
+  abbrev pub HasNoFirstBook : Type 0
+  HasNoFirstBook = (T : Tables) → ShowsOnlyFirstBook g (state g conn).now T → ⊥
+
+  -- no row of a desk is all that it shows in `meta`
+  abbrev pub HasNoFirstMeta : Type 0
+  HasNoFirstMeta = (row : Meta) → IsStoredMeta row → ShowsOnlyFirstMetas g (state g conn).now (row ∷ []) → ⊥
+
+  -- no rows of a book with this row are all that it shows in the other tables
+  abbrev pub HasNoRowsWith : Meta → Type 0
+  HasNoRowsWith meta = (rows : FlatRows) → ShowsBookRowsOnly g (state g conn).now First meta rows → ⊥
+
   -- the database holds tables in format 1, whose texts are UTF-8
   pub record IsFirstReadable : Type 0 where
     pub tables : Tables

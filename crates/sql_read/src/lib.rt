@@ -24,7 +24,7 @@ pub use authorizations::{
 };
 pub use checked::{check_table, has_book_rows};
 pub use fault::ReadFault;
-pub use first::{first_meta, load_first};
+pub use first::first_meta;
 pub use format::is_newer;
 pub use meta::meta_row;
 pub use nonces::{earliest_issue, find_nonces};

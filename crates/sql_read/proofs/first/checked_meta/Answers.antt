@@ -2,7 +2,7 @@ use Rattle.std.proofs.Common.{inl, inr, subst, sym}
 use Rattle.sql_read.specs.{BookShown.ShowsNonces, First.ShowsFirstMeta}
 use Rattle.sql_read.specs.FirstRows.{IsFirstMeta, IsWithRows}
 use Rattle.sql_read.specs.declared.formats.Format.TheVariants.{First}
-use Rattle.sql_read.proofs.FirstChecked.{reads_err, reads_ok, tables_then}
+use Rattle.sql_read.proofs.FirstChecked.{no_meta, no_rows, reads_err, reads_ok, tables_then}
 use Rattle.sql_read.proofs.WholeTables.{meta_whole}
 use Rattle.sql_read.proofs.first.checked_meta.Goals as goal
 
@@ -17,12 +17,13 @@ returns-in-Ok-Some g c =
       shown = subst (ShowsFirstMeta store old) (sym is.same) (first.shown clean);
       shows = subst (λ db. ShowsNonces store db First row.counters) (first.unchanged clean).0.now_is is.shows;
     })
+    (λ clean none. no_rows store old mid c.in-Ok-Some.meta (first.unchanged clean).0.now_is (first.shown clean) none)
     first.unchanged first.asks c.with_checked_rows.ensures
 
 pub returns-in-Ok-None : goal.returns-in-Ok-None
 returns-in-Ok-None g c =
     let first = rw c.in-Ok-None.field-0-is at c.in-Ok-None.ensures in
-    reads_ok g.S.Store (λ clean. tt) first.unchanged first.asks
+    reads_ok g.S.Store (λ clean. no_meta g.S.Store c.args.conn.now (first.shown clean)) first.unchanged first.asks
 
 pub returns-in-Err : goal.returns-in-Err
 returns-in-Err g c =

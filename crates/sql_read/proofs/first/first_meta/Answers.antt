@@ -1,14 +1,18 @@
 use Rattle.sql_read.proofs.FirstChecked.{has_first_book, meta_is}
-use Rattle.sql_read.proofs.Results.{read_then}
+use Rattle.sql_read.specs.FirstRows.{IsFirstMeta}
+use Rattle.sql_read.proofs.Results.{none_said, read_then}
 use Rattle.sql_read.proofs.first.first_meta.Goals as goal
 
 pub returns-clause-book : goal.returns-clause-book
 returns-clause-book g c clean =
-    read_then c.checked_meta.result (c.checked_meta.ensures.shown clean) (λ known is some. has_first_book g.S.Store c.args.conn.now known is some)
+    read_then c.checked_meta.result (c.checked_meta.ensures.shown clean) (λ known is some. has_first_book g.S.Store _ c.args.conn.now known is some)
 
 pub returns-clause-found : goal.returns-clause-found
 returns-clause-found g c clean T has book =
     read_then c.checked_meta.result (c.checked_meta.ensures.shown clean) (λ known is. meta_is g.S.Store c.args.conn.now T has book known is)
+
+pub returns-clause-none : goal.returns-clause-none
+returns-clause-none g c clean = read_then c.checked_meta.result (c.checked_meta.ensures.shown clean) (λ known is none. none_said _ (IsFirstMeta g.S.Store c.args.conn.now) known is none)
 
 pub returns-clause-fails : goal.returns-clause-fails
 returns-clause-fails g c clean T has may texts = c.checked_meta.ensures.fails clean may (record { tables = T; holds = has; texts = texts })

@@ -1,10 +1,14 @@
-use Rattle.std.proofs.Common.{inl, inr, refl}
+use Rattle.std.proofs.Common.{◌≡◌, ◌≢◌, [], ◌∷◌, inl, inr, map, refl, ap, ◌∙◌}
+use Rattle.store_columns.specs.{Columns.meta_columns, Limits.IsStoredMeta}
+use Rattle.desk_model.specs.declared.rows.Meta.{Meta}
+use Rattle.std.proofs.lemmas.Simd.{map-map}
+use Rattle.sql_read.specs.First.{raised_meta}
 use Rattle.sqlite.specs.Held.{state}
 use Rattle.sql_read.specs.Spelled.{FitsMeta, meta_in}
 use Rattle.sql_read.proofs.{FirstChecked.reads_err, Looking.columns_as, Looking.query_as, Readings.meta_reading, ShownRows.shown_now}
 use Rattle.sql_read.proofs.MetFaults.{memory_is_none, no_device}
 use Rattle.sql_read.specs.declared.formats.Format.TheVariants.{Second}
-use Rattle.sql_read.proofs.Results.{fails_then, found_then, read_then}
+use Rattle.sql_read.proofs.Results.{either_then, fails_then, found_or, read_both, read_then}
 use Rattle.sql_schema.specs.declared.meta.TheConstants as meta
 use Rattle.sql_read.proofs.first.read_first_meta.Goals as goal
 
@@ -20,7 +24,12 @@ returns-in-Ok g c =
     record {
       shown = λ clean.
           let it = read.shown clean in
-          read_then r c.only_meta.ensures.row (λ found is. found_then found is (λ row both. record {
+          read_both r c.only_meta.ensures.row c.only_meta.ensures.none (λ found is none.
+          either_then found
+          (found_or ((row : Meta) → IsStoredMeta row → map raised_meta c.in-Ok.read ≢ map meta_columns (row ∷ []))
+          (λ row. IsStoredMeta row × (map raised_meta c.in-Ok.read ≡ map meta_columns (row ∷ []))) found is none) (λ none row stored only.
+          none row stored (ap (map raised_meta) it.2 ∙ map-map raised_meta meta_in it.0 ∙ only.whole old new it.0 refl it.1))
+          (λ row both. record {
             read = c.in-Ok.read;
             shown = shown_now g.S.Store meta.SELECT.now meta_in old new it.0 _ it.1 it.2;
             raised = both.1;

@@ -15,4 +15,4 @@ returns-in-Ok-true g c =
 pub returns-in-Ok-false : goal.returns-in-Ok-false
 returns-in-Ok-false g c =
     let checks = rw c.in-Ok-false.field-0-test at c.in-Ok-false.ensures in
-    reads_ok g.S.Store (λ clean. tt) checks.unchanged checks.asks
+    reads_ok g.S.Store (λ clean rows shows. checks.none clean refl c.args.meta rows shows refl) checks.unchanged checks.asks
