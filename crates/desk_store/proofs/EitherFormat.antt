@@ -8,7 +8,8 @@ use Rattle.sqlite.specs.State.{State, HasCleanDisk, IsUnchanged, Survives}
 use Rattle.sqlite_schema.specs.Names.{same_name}
 use Rattle.desk_model.specs.Tables.{Tables}
 use Rattle.sql_read.proofs.BookChecks.{table_still, first_still as fails_first}
-use Rattle.sql_read.proofs.{FirstLoading.first_before, ShownRows.shown_before}
+use Rattle.sql_read.specs.Only.{ShowsOnlyBook, ShowsOnlyFirstBook}
+use Rattle.sql_read.proofs.FirstLoading.{first_before}
 use Rattle.sql_write.specs.Committing.{GoesBack}
 use Rattle.sql_schema.proofs.StaysLemmas.{stays_then, stays_unchanged}
 use Rattle.sql_schema.specs.Names.{has_all_indexes, uses_key_table}
@@ -157,12 +158,12 @@ module _ {S : Type 0} (g : Ghosts S) where
   -- that no book has the rows was so before a call that changed nothing, too
   pub no_book_still : (old mid : Held S) → (state g mid).now ≡ (state g old).now → ShowsNoBook g mid → ShowsNoBook g old
   no_book_still old mid same (inl it) = inl (record { error = it.error; fails = table_still g old mid it.error same it.fails; other = it.other })
-  no_book_still old mid same (inr (stored, shown, none)) = inr (stored, shown_before g old mid stored same shown, none)
+  no_book_still old mid same (inr none) = inr (λ T only. none T (subst (λ db. ShowsOnlyBook g db T) (sym same) only))
 
   -- and of format 1
   pub no_first_still : (old mid : Held S) → (state g mid).now ≡ (state g old).now → ShowsNoFirstBook g mid → ShowsNoFirstBook g old
   no_first_still old mid same (inl it) = inl (record { error = it.error; fails = fails_first g old mid it.error same it.fails; other = it.other })
-  no_first_still old mid same (inr (stored, shown, none)) = inr (stored, first_before g old mid stored same shown, none)
+  no_first_still old mid same (inr none) = inr (λ T only. none T (subst (λ db. ShowsOnlyFirstBook g db T) (sym same) only))
 
   -- and that there is no desk
   pub no_desk_still : (old mid : Held S) → (state g mid).now ≡ (state g old).now → ShowsNoDesk g mid → ShowsNoDesk g old

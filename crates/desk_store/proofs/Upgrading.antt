@@ -1,16 +1,13 @@
 -- What an upgrade leaves of a desk.
-use Rattle.std.proofs.Common.{◌≡◌, IfOk, Result, Ok, Err, ap, arith, sym, subst, ◌∙◌}
+use Rattle.std.proofs.Common.{◌≡◌, arith, sym, subst, ◌∙◌}
 use Rattle.sqlite.proofs.StateLemmas.{survives_then}
 use Rattle.sqlite.specs.State.{State, HasCleanDisk, IsUnchanged, Survives}
 use Rattle.desk_model.specs.Tables.{Tables}
 use Rattle.sql_schema.specs.Stays.{Asks}
 use Rattle.sql_write.specs.Committing.{IsLeft}
 use Rattle.desk_store.specs.Desks.{AreOfDesk}
-use Rattle.sql_upgrade.specs.FirstDesks.{HasFirst, IsAdded, IsFirstDesk, IsOfBook, UpgradesDesk}
+use Rattle.sql_upgrade.specs.FirstDesks.{HasFirst, IsAdded, IsFirstDesk, UpgradesDesk}
 use Rattle.sql_upgrade.specs.declared.additions.Additions.{Additions}
-use Rattle.sql_upgrade.proofs.FirstDesksKept.{books_have_additions}
-use Rattle.store_laws.proofs.BlankBooks.{blank_books}
-use Rattle.store_laws.specs.Blank.{blank}
 
 -- a call that changed nothing leaves the desk in format 1
 pub first_unchanged : (old new : State) (T : Tables) → new.step_limit ≡ old.step_limit → IsUnchanged old new → HasFirst old T → HasFirst new T
@@ -21,16 +18,6 @@ first_unchanged old new T limit same has = record {
   settled = same.0.now_is ∙ has.settled ∙ sym same.0.committed_is;
   desk = subst (λ db. IsFirstDesk db T) (sym same.0.now_is) has.desk;
 }
-
--- the book of its rows has them without the keys of answers
-pub same_blank : (T B : Tables) → B ≡ blank T → blank T ≡ blank B
-same_blank T B is = sym (ap blank is ∙ blank_books.twice T)
-
--- so what is made of that book is added to the desk
-pub added_by_book : {E : Type 0} (s : State) (B : Tables) (made : Result Additions E) → IfOk made (IsOfBook B)
-    → ((T : Tables) → HasFirst s T → B ≡ blank T) → IfOk made (λ additions. (T : Tables) → HasFirst s T → IsAdded additions T)
-added_by_book s B (Ok additions) is book = λ T has. books_have_additions B additions is s.now T has.desk (same_blank T B (book T has))
-added_by_book s B (Err why) is book = tt
 
 -- what a stop in an upgrade leaves, behind a call that changed nothing, is the same desk
 pub upgrade_left : (old mid new : State) (additions : Additions) → Asks old mid → (HasCleanDisk mid → IsUnchanged old mid)
@@ -43,9 +30,3 @@ upgrade_left old mid new additions asked same added left =
     let first = first_unchanged old mid T asked.survives.limit (same there) has in
     (it.0, it.1, record { holds = it.2 T first.desk (added there T has); book = first.desk.book }))
     asked.survives left
-
--- what is added to a desk was added to it before a call that changed nothing
-pub added_behind : {E : Type 0} (old mid : State) (r : Result Additions E) → mid.step_limit ≡ old.step_limit → IsUnchanged old mid
-    → IfOk r (λ additions. (T : Tables) → HasFirst mid T → IsAdded additions T) → IfOk r (λ additions. (T : Tables) → HasFirst old T → IsAdded additions T)
-added_behind old mid (Ok additions) limit same added = λ T has. added T (first_unchanged old mid T limit same has)
-added_behind old mid (Err why) limit same added = tt

@@ -8,6 +8,7 @@ use Rattle.store_columns.specs.declared.columns.StoredRows.{StoredRows}
 use Rattle.desk_model.specs.Tables.{Tables}
 use Rattle.sql_read.specs.AllTables.{FailsAtFirst, FailsAtTable}
 use Rattle.sql_read.specs.{First.AreFirstShown, Failures.MayRead, Shown.AreShown}
+use Rattle.sql_read.specs.Only.{ShowsOnlyBook, ShowsOnlyFirstBook}
 use Rattle.sql_read.specs.Format.{FailsToShowFormat, IsNewer, IsOfLaterFormat, ShowsFormats}
 use Rattle.sql_write.specs.{Committing.GoesBack, Numbers.FitsUpgrade, Statements.upgrade_statements}
 use Rattle.sql_schema.specs.Names.{has_all_indexes, uses_key_table}
@@ -69,15 +70,13 @@ module _ {S : Type 0} (g : Ghosts S) where
     pub refused : FailsToShowFormat (state g conn) (state g after) error
     pub other : cause_of error ≡ cause.Other
 
-  -- the reading of a table was refused, or no book has the rows that the database showed
+  -- the reading of a table was refused, or no book's rows, by key, are all that the database shows
   abbrev pub ShowsNoBook : Held S → Type 0
-  ShowsNoBook conn =
-      RefusesReading (FailsAtTable g conn) ⊎ ((stored : StoredRows) × AreShown g conn stored × ((book : Tables) → IsBookOfStored stored book → ⊥))
+  ShowsNoBook conn = RefusesReading (FailsAtTable g conn) ⊎ ((book : Tables) → ShowsOnlyBook g (state g conn).now book → ⊥)
 
   -- so it is of the tables of format 1
   abbrev pub ShowsNoFirstBook : Held S → Type 0
-  ShowsNoFirstBook conn =
-      RefusesReading (FailsAtFirst g conn) ⊎ ((stored : StoredRows) × AreFirstShown g conn stored × ((book : Tables) → IsBookOfStored stored book → ⊥))
+  ShowsNoFirstBook conn = RefusesReading (FailsAtFirst g conn) ⊎ ((book : Tables) → ShowsOnlyFirstBook g (state g conn).now book → ⊥)
 
   -- what the database lacks to be a desk: an index, or a book in the format that its table of keys tells
   abbrev pub ShowsNoDesk : Held S → Type 0

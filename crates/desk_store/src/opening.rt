@@ -14,16 +14,15 @@ ghost use Rattle.desk_store.specs.Opening.{FailedToOpen, FailedToWiden, HasLater
 ghost use Rattle.desk_store.specs.Opening.{OpensKnown, ReadsDesk, ReadsFirst, RefusesFormat, ShowsKnownFormat, ShowsNewerFormat};
 ghost use Rattle.desk_store.specs.Opening.{ShowsNoDesk, ShowsNoFirstBook, ShowsNoLaterFormat};
 ghost use Rattle.desk_store.specs.declared.open_fault.OpenFault.TheVariants.{NewerFormat as newer_format, NotADesk as not_a_desk, Storage as of_storage};
-ghost use Rattle.sql_upgrade.specs.FirstDesks.{BringsDesk, HasFirst, HasSecond, IsAdded, IsOfBook, UpgradesDesk};
-ghost use Rattle.store_laws.specs.Blank.{blank};
+ghost use Rattle.sql_upgrade.specs.FirstDesks.{BringsDesk, HasFirst, HasSecond, IsAdded, UpgradesDesk};
 ghost use Rattle.store_book.specs.IsBook.{IsBookOfStored};
 
 use crate::faults::{EngineCause, cause_of, memory_fault, saving_fault};
 use crate::open_fault::OpenFault;
 use desk_book::Book;
-use sql_read::{has_book_rows, is_newer, load_first, load_stored};
+use sql_read::{has_book_rows, is_newer, load_stored};
 use sql_schema::{has_indexes, uses_key_table};
-use sql_upgrade::{Additions, book_additions, read_additions, upgrade};
+use sql_upgrade::{Additions, read_additions, upgrade};
 use sqlite::{Alter, Connection, Error};
 use std::alloc::Global;
 use store_api::StorageFault;
@@ -97,47 +96,8 @@ pub(crate) fn read_book<S: Alter>(
     }
 }
 
-// The book of the tables of format 1, with zeros in the place of the keys of answers. It fails as `read_book` does.
-fn read_first<S: Alter>(alloc: Global, conn: &mut Connection<S>) -> Result<Book, OpenFault>
-    ensures book { HasCleanDisk (state S.Store conn.new) → IfOk result (λ book. (T : Tables) → HasFirst (state S.Store conn.old) T → book ≡ blank T) }
-    ensures reads { ReadsFirst S.Store conn.old conn.new result }
-{
-    match load_first(alloc, conn) {
-        Ok(stored) => book_of(alloc, stored),
-        Err(error) => Err(opening_fault(conn, error)),
-    }
-}
-
-// What is added to the desk of this book.
-fn additions_of(alloc: Global, book: Book) -> Result<Additions, OpenFault>
-    ensures of_book { IfOk result (IsOfBook book) }
-    ensures fault { IfErr result (λ why. why ≡ of_storage memory) }
-{
-    let additions = book_additions(alloc, &book);
-    drop(book);
-    match additions {
-        Ok(additions) => Ok(additions),
-        Err(_refused) => Err(OpenFault::Storage(StorageFault::Memory)),
-    }
-}
-
-// What today's format adds to the desk, by the book of its rows. It fails as `read_book` does.
-fn additions_by_book<S: Alter>(
-    alloc: Global,
-    conn: &mut Connection<S>,
-) -> Result<Additions, OpenFault>
-    ensures added { HasCleanDisk (state S.Store conn.new)
-        → IfOk result (λ additions. (T : Tables) → HasFirst (state S.Store conn.old) T → IsAdded additions T) }
-    ensures reads { ReadsFirst S.Store conn.old conn.new result }
-{
-    match read_first(alloc, conn) {
-        Ok(book) => additions_of(alloc, book),
-        Err(fault) => Err(fault),
-    }
-}
-
-// What today's format adds to the desk. The rows are read one after the other, so that of each no more than what is added is held;
-// where one does not pass so, the book of them all tells. It fails as `read_book` does.
+// What today's format adds to the desk. The rows are read one after the other, so that of each no more than what is added is held.
+// It fails as `read_book` does.
 fn find_additions<S: Alter>(alloc: Global, conn: &mut Connection<S>) -> Result<Additions, OpenFault>
     ensures added { HasCleanDisk (state S.Store conn.new)
         → IfOk result (λ additions. (T : Tables) → HasFirst (state S.Store conn.old) T → IsAdded additions T) }
@@ -145,7 +105,7 @@ fn find_additions<S: Alter>(alloc: Global, conn: &mut Connection<S>) -> Result<A
 {
     match read_additions(alloc, conn) {
         Ok(Some(additions)) => Ok(additions),
-        Ok(None) => additions_by_book(alloc, conn),
+        Ok(None) => Err(OpenFault::NotADesk),
         Err(error) => Err(opening_fault(conn, error)),
     }
 }
@@ -202,27 +162,13 @@ fn upgrade_desk<S: Alter>(alloc: Global, conn: &mut Connection<S>) -> Result<(),
     }
 }
 
-// That the rows are a book's: the book is made of them all.
-fn check_book<S: Alter>(alloc: Global, conn: &mut Connection<S>) -> Result<(), OpenFault>
-    ensures { ReadsDesk S.Store conn.old conn.new result }
-{
-    match read_book(alloc, conn) {
-        Ok(book) => {
-            drop(book);
-            Ok(())
-        }
-        Err(fault) => Err(fault),
-    }
-}
-
-// That the rows are a book's. They are read one after the other, so that no more than their numbers are held; where one does not
-// pass so, the book of them all tells.
+// That the rows are a book's. They are read one after the other, so that no more than their numbers are held.
 fn check_rows<S: Alter>(alloc: Global, conn: &mut Connection<S>) -> Result<(), OpenFault>
     ensures { ReadsDesk S.Store conn.old conn.new result }
 {
     match has_book_rows(alloc, conn) {
         Ok(true) => Ok(()),
-        Ok(false) => check_book(alloc, conn),
+        Ok(false) => Err(OpenFault::NotADesk),
         Err(error) => Err(opening_fault(conn, error)),
     }
 }

@@ -1,17 +1,13 @@
 -- A desk in format 1, made format 2, is the same desk.
-use Rattle.std.proofs.Common.{◌≡◌, [], false, Result, Ok, Err, OnOk, sym, ap, subst, ◌∙◌}
+use Rattle.std.proofs.Common.{◌≡◌, false, Result, Ok, Err, OnOk, sym, subst, ◌∙◌}
 use Rattle.sqlite.specs.{State.State, Tree.Trees, Effect.Database}
 use Rattle.sql_write.specs.Committing.{HasCommitted, IsLeft}
-use Rattle.store_columns.specs.Flat.{challenge_rows, key_rows}
 use Rattle.model_laws.proofs.FirstKeys.{rows_under}
-use Rattle.model_laws.specs.Placing.{puts}
 use Rattle.desk_model.specs.{History.clock, Tables.Tables}
-use Rattle.sql_upgrade.specs.FirstDesks.{BooksHaveAdditions, BringsDesk, PicturesAreFirstDesks, UpgradesDesk}
+use Rattle.sql_upgrade.specs.FirstDesks.{BringsDesk, PicturesAreFirstDesks, UpgradesDesk}
 use Rattle.sql_upgrade.specs.declared.additions.Additions.{Additions}
 use Rattle.sql_write.specs.Upgrading.{Upgrades}
-use Rattle.sql_tables.proofs.{AnswerKeys.keys_apart, Sorting.puts_sorted}
-use Rattle.sql_tables.specs.{Holds.Holds, Layouts.key_layout}
-use Rattle.sql_upgrade.proofs.FirstKeysFound.{blank_keys, first_keys_are}
+use Rattle.sql_tables.specs.Holds.{Holds}
 use Rattle.store_laws.proofs.FlatTexts.{picture_is_stored_book}
 
 -- the tables of a legal history in which no account got another key are such a desk
@@ -21,17 +17,6 @@ pictures_are_first db F legal keeps holds = record {
   book = picture_is_stored_book F legal;
   keys = rows_under F legal.each keeps (clock F);
 }
-
--- a book of such a desk has what is added
-pub books_have_additions : BooksHaveAdditions
-books_have_additions B additions of_book db T desk same =
-    let all = key_rows (challenge_rows T.authorizations) in
-    let keys : additions.keys.items ≡ all = of_book.keys ∙ sym (blank_keys T B same) ∙ first_keys_are T desk.keys in
-    record {
-      meta = of_book.meta ∙ sym (ap (λ (t : Tables). t.meta) same);
-      keys = ap (λ ks. puts key_layout.key ks []) keys
-          ∙ puts_sorted key_layout.key all (keys_apart (challenge_rows T.authorizations) desk.holds.rising.challenges);
-    }
 
 -- so what was written makes format 2 of each desk to which it is added
 pub desks_upgrade : (additions : Additions) (old new : Database) → Upgrades additions.meta additions.keys.items old new → UpgradesDesk additions old new

@@ -1,6 +1,6 @@
 pub mod FirstDesksKept
-pub mod FirstKeysFound
 pub mod FoundKeysAre
+pub mod KeysThere
 pub mod KeyReadings
 pub mod PassedRows
 pub mod PickedRows

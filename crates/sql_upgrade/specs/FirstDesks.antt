@@ -6,9 +6,7 @@ use Rattle.desk_model.specs.{Entry.History, Legal.Legal}
 use Rattle.desk_model.specs.Tables.{Tables, picture}
 use Rattle.sql_write.specs.{Committing.IsLeft, Upgrading.AreKeysOf}
 use Rattle.sql_tables.specs.Holds.{Holds, HoldsFirst}
-use Rattle.sql_upgrade.specs.FirstKeys.{first_keys}
 use Rattle.sql_upgrade.specs.declared.additions.Additions.{Additions}
-use Rattle.store_laws.specs.Blank.{blank}
 use Rattle.store_book.specs.IsBook.{IsStoredBook}
 
 -- the database holds these tables in format 1, and they are a book that a file can hold, whatever statuses its rows store; format 1
@@ -31,19 +29,9 @@ pub record IsAdded (additions : Additions) (T : Tables) : Type 0 where
 abbrev pub AreOfDesks : Database → Additions → Type 0
 AreOfDesks db additions = (T : Tables) → IsFirstDesk db T → IsAdded additions T
 
--- they are the row of a book, and the keys of its answers, each the one that the account has
-pub record IsOfBook (B : Tables) (additions : Additions) : Type 0 where
-  pub meta : additions.meta ≡ B.meta
-  pub keys : additions.keys.items ≡ first_keys B
-
 -- whatever desk the database holds in format 1 to which these are added, it then holds it in format 2
 abbrev pub UpgradesDesk : Additions → Database → Database → Type 0
 UpgradesDesk additions old new = (T : Tables) → IsFirstDesk old T → IsAdded additions T → Holds new T
-
--- so they are added to the desk of a book, whatever keys of answers this has
-abbrev pub BooksHaveAdditions : Type 0
-BooksHaveAdditions =
-    (B : Tables) (additions : Additions) → IsOfBook B additions → (db : Database) (T : Tables) → IsFirstDesk db T → blank T ≡ blank B → IsAdded additions T
 
 -- ---- over a connection
 

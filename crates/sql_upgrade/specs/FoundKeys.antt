@@ -1,14 +1,16 @@
 -- The keys of answers, found by rows as they come.
-use Rattle.std.specs.Prelude.{◌≡◌, ◌==◌, ℕ, List, [], map, find, filter_map, Option, option_and_then, option_map}
+use Rattle.std.specs.Prelude.{◌≡◌, ◌==◌, ℕ, List, [], map, find, filter_map, IfSome, IsSome, Option, option_and_then, option_map}
 use Rattle.sqlite.specs.{Effect.Database, Store.Ghosts}
 use Rattle.store_columns.specs.Columns.{account_columns, authorization_columns, challenge_columns}
-use Rattle.store_columns.specs.Limits.{IsStoredAccount, IsStoredAuthorization, IsStoredChallenge}
-use Rattle.store_columns.specs.declared.columns.{AnswerKey.AnswerKey, BareChallenge.BareChallenge, Owned.Owned}
+use Rattle.store_columns.specs.Limits.{AreStored, IsStoredAccount, IsStoredAuthorization, IsStoredChallenge}
+use Rattle.store_columns.specs.declared.columns.{AnswerKey.AnswerKey, BareChallenge.BareChallenge, FlatRows.FlatRows, Owned.Owned}
 use Rattle.model_laws.specs.Placing.{puts}
-use Rattle.desk_model.specs.Keys.{thumbprint}
+use Rattle.desk_model.specs.{Keys.thumbprint, Kept.EachOf}
 use Rattle.desk_model.specs.declared.rows.{AccountRow.AccountRow, AuthorizationRow.AuthorizationRow}
-use Rattle.sql_read.specs.Checking.{ShowsTable}
-use Rattle.sql_read.specs.Spelled.{account_in, authorization_in, challenge_in}
+use Rattle.sql_read.specs.Checking.{ShowsOnly, ShowsTable}
+use Rattle.sql_read.specs.Only.{ShowsOnlyRows}
+use Rattle.sql_read.specs.Spelled.{FitsChallenge, account_in, authorization_in, challenge_in}
+use Rattle.sql_read.specs.declared.formats.Format.TheVariants.{First}
 use Rattle.sql_schema.specs.declared.accounts.TheConstants as account
 use Rattle.sql_schema.specs.declared.authorizations.TheConstants as authz
 use Rattle.sql_schema.specs.declared.challenges.TheConstants as chall
@@ -46,7 +48,28 @@ row_key accounts thumbs c = option_and_then (λ _. found_key accounts thumbs c.o
 abbrev pub row_keys : List AuthorizationAccount → List AccountThumb → List (Owned BareChallenge) → List AnswerKey
 row_keys accounts thumbs rows = filter_map (row_key accounts thumbs) rows
 
+-- it is found, where the row was answered
+abbrev pub HasKey : List AuthorizationAccount → List AccountThumb → Owned BareChallenge → Type 0
+HasKey accounts thumbs c = IfSome c.row.answered (λ _. IsSome (found_key accounts thumbs c.owner c.row.number))
+
 module _ {S : Type 0} (g : Ghosts S) (db : Database) where
+  -- no challenges that were each answered under a key that is found are all that is shown
+  abbrev pub LacksAnswers : List AuthorizationAccount → List AccountThumb → Type 0
+  LacksAnswers accounts thumbs =
+      (all : List (Owned BareChallenge)) → EachOf IsStoredChallenge all
+      → ShowsOnly g chall.SELECT.now challenge_in challenge_columns FitsChallenge db all → EachOf (HasKey accounts thumbs) all → ⊥
+
+  -- nor with their authorizations
+  abbrev pub LacksOwners : List AccountThumb → Type 0
+  LacksOwners thumbs =
+      (rows : FlatRows) → AreStored rows → ShowsOnlyRows g db First rows → EachOf (HasKey (account_rows rows.authorizations) thumbs) rows.challenges → ⊥
+
+  -- nor with the accounts of these
+  abbrev pub LacksThumbs : Type 0
+  LacksThumbs =
+      (rows : FlatRows) → AreStored rows → ShowsOnlyRows g db First rows
+      → EachOf (HasKey (account_rows rows.authorizations) (thumb_rows rows.accounts)) rows.challenges → ⊥
+
   -- the keys are those of the challenges that were shown
   abbrev pub ShowsAnswers : List AuthorizationAccount → List AccountThumb → List AnswerKey → Type 0
   ShowsAnswers accounts thumbs keys =

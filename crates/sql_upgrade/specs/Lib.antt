@@ -1,4 +1,3 @@
 pub mod Checked
 pub mod FirstDesks
-pub mod FirstKeys
 pub mod FoundKeys

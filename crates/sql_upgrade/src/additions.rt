@@ -1,23 +1,22 @@
 //! What format 2 adds to a desk of format 1.
-ghost use Rattle.std.specs.Prelude.{◌⊎◌, IfErr, IfOk, IfSome, IsSome, OnOk};
+ghost use Rattle.std.specs.Prelude.{◌≡◌, ◌⊎◌, IfErr, IfOk, IfSome, IsSome, MatchOption, None, OnOk};
 ghost use Rattle.sqlite.specs.State.{HasCleanDisk, IsUnchanged};
 ghost use Rattle.sqlite.specs.Held.{state};
 ghost use Rattle.desk_model.specs.Tables.{Tables};
-ghost use Rattle.sql_read.specs.{AllTables.FailsAtFirst, FirstRows.IsFirstReadable, Reads.Reads};
+ghost use Rattle.sql_read.specs.{AllTables.FailsAtFirst, FirstRows.HasNoFirstBook, FirstRows.IsFirstReadable, Reads.Reads};
 ghost use Rattle.sql_read.specs.Failures.{HasTexts, IsMet, IsOutOfMemory, MayRead};
 ghost use Rattle.sql_read.specs.First.{AreFirstShown, ForFirst};
 ghost use Rattle.sql_schema.specs.{Failing.IsFailure, Stays.Asks};
-ghost use Rattle.sql_upgrade.specs.{Checked.AreChecked, FoundKeys.HasKeys};
-ghost use Rattle.sql_upgrade.specs.FirstDesks.{AreOfDesks, IsOfBook};
-ghost use Rattle.store_book.specs.IsBook.{IsBookOfStored};
+ghost use Rattle.sql_upgrade.specs.{Checked.AreChecked, FoundKeys.HasKeys, FoundKeys.LacksThumbs};
+ghost use Rattle.sql_upgrade.specs.FirstDesks.{AreOfDesks};
+ghost use Rattle.store_book.specs.IsBook.{IsBookOfStored, IsStoredBook};
 ghost use Rattle.store_columns.specs.declared.columns.StoredRows.{StoredRows};
 
-use crate::answer_keys::{first_keys, read_keys};
-use desk_book::Book;
+use crate::answer_keys::read_keys;
 use desk_model::Meta;
 use sql_read::first_meta;
 use sqlite::{Alter, Connection, Error};
-use std::alloc::{AllocError, Global};
+use std::alloc::Global;
 use store_columns::AnswerKey;
 
 /// What format 2 adds to a desk of format 1: the format in the row of the desk, and the keys of all answers.
@@ -35,8 +34,8 @@ fn with_keys<S: Alter>(
     conn: &mut Connection<S>,
     meta: Meta,
 ) -> Result<Option<Additions>, Error>
-    ensures { Reads S.Store conn.old conn.new (λ found. IfSome found (HasKeys S.Store (state S.Store conn.old).now meta))
-        (IsFirstReadable S.Store conn.old) (λ e. IsOutOfMemory e ⊎ FailsAtFirst S.Store conn.old e) result }
+    ensures { Reads S.Store conn.old conn.new (λ found. MatchOption found (LacksThumbs S.Store (state S.Store conn.old).now)
+        (HasKeys S.Store (state S.Store conn.old).now meta)) (IsFirstReadable S.Store conn.old) (λ e. IsOutOfMemory e ⊎ FailsAtFirst S.Store conn.old e) result }
 {
     match read_keys(alloc, conn) {
         Ok(Some(keys)) => Ok(Some(Additions { meta, keys })),
@@ -50,7 +49,7 @@ fn checked_additions<S: Alter>(
     alloc: Global,
     conn: &mut Connection<S>,
 ) -> Result<Option<Additions>, Error>
-    ensures { Reads S.Store conn.old conn.new (λ found. IfSome found (AreChecked S.Store conn.old))
+    ensures { Reads S.Store conn.old conn.new (λ found. MatchOption found (HasNoFirstBook S.Store conn.old) (AreChecked S.Store conn.old))
         (IsFirstReadable S.Store conn.old) (λ e. IsOutOfMemory e ⊎ FailsAtFirst S.Store conn.old e) result }
 {
     match first_meta(alloc, conn) {
@@ -60,8 +59,9 @@ fn checked_additions<S: Alter>(
     }
 }
 
-/// What is added, where the rows of the tables of format 1 are known to be those of a book: in the order of their keys each passes.
-/// One row is held at a time; of the rows before it numbers, thumbprints and the keys of accounts, and the keys of answers.
+/// What is added, where the rows of the tables of format 1 are those of a book: in the order of their keys each passes; they are read
+/// up to the first that does not. One row is held at a time; of the rows before it numbers, thumbprints and the keys of accounts, and
+/// the keys of answers.
 ///
 /// # Errors
 ///
@@ -74,6 +74,8 @@ pub fn read_additions<S: Alter>(
         → (stored : StoredRows) × AreFirstShown S.Store conn.old stored × (T : Tables) × IsBookOfStored stored T) }
     ensures added { HasCleanDisk (state S.Store conn.new)
         → IfOk result (λ known. IfSome known (AreOfDesks (state S.Store conn.old).now)) }
+    ensures none { HasCleanDisk (state S.Store conn.new) → IfOk result (λ known. known ≡ None → HasNoFirstBook S.Store conn.old) }
+    ensures found { ForFirst (state S.Store conn.old) (state S.Store conn.new) (λ T. IsStoredBook T → IfOk result IsSome) }
     ensures fails { ForFirst (state S.Store conn.old) (state S.Store conn.new) (λ T. MayRead (state S.Store conn.old) → HasTexts T → IfErr result IsFailure) }
     ensures refused { HasCleanDisk (state S.Store conn.new) → IfErr result (λ e. IsOutOfMemory e ⊎ FailsAtFirst S.Store conn.old e) }
     ensures met { HasCleanDisk (state S.Store conn.new) → IfErr result (IsMet (state S.Store conn.old) (state S.Store conn.new)) }
@@ -81,17 +83,4 @@ pub fn read_additions<S: Alter>(
     ensures asks { Asks (state S.Store conn.old) (state S.Store conn.new) }
 {
     checked_additions(alloc, conn)
-}
-
-/// What is added to the desk of this book; whatever keys of answers it has, they are not looked at.
-///
-/// # Errors
-///
-/// Where there is no memory for it.
-pub fn book_additions(alloc: Global, book: &Book) -> Result<Additions, AllocError>
-    ensures { IfOk result (IsOfBook book.now) }
-{
-    let keys = first_keys(alloc, book)?;
-    let meta = book.meta().clone()?;
-    Ok(Additions { meta, keys })
 }

@@ -1,19 +1,15 @@
-//! The keys of all answers in format 1: by rows that are read one after the other, or those that the accounts have, where no account
-//! ever got another.
-ghost use Rattle.std.specs.Prelude.{◌≡◌, ◌⊎◌, IfSome, filter_map, IfOk};
+//! The keys of all answers in format 1, those that the accounts have, by rows that are read one after the other.
+ghost use Rattle.std.specs.Prelude.{◌⊎◌, MatchOption};
 ghost use Rattle.sqlite.specs.Held.{state};
 ghost use Rattle.sql_read.specs.{AllTables.FailsAtFirst, Failures.IsOutOfMemory, FirstRows.IsFirstReadable, Reads.Reads};
-ghost use Rattle.sql_upgrade.specs.FoundKeys.{ShowsAnswers, ShowsOwners, ShowsThumbs};
-ghost use Rattle.sql_upgrade.specs.FirstKeys.{first_keys, key_under};
+ghost use Rattle.sql_upgrade.specs.FoundKeys.{LacksAnswers, LacksOwners, LacksThumbs, ShowsAnswers, ShowsOwners, ShowsThumbs};
 
 use crate::key_checks::{AccountThumb, AnswerCheck, AuthorizationAccount, OwnerCheck, ThumbCheck};
-use desk_book::{Book, Table};
-use desk_model::ChallengeRow;
-use keys::text_thumbprint;
+use desk_book::Table;
 use sql_read::check_table;
 use sql_schema::{accounts, authorizations, challenges};
 use sqlite::{Alter, Connection, Error};
-use std::alloc::{AllocError, Global};
+use std::alloc::Global;
 use store_columns::{AccountColumns, AnswerKey, AuthzColumns, ChallColumns};
 
 // The keys of the challenges, by the accounts of authorizations and the thumbprints of their keys.
@@ -24,7 +20,8 @@ fn keys_of_challenges<S: Alter>(
     thumbs: &Table<AccountThumb>,
 ) -> Result<Option<Vec<AnswerKey>>, Error>
     ensures { Reads S.Store conn.old conn.new
-        (λ found. IfSome found (λ keys. ShowsAnswers S.Store (state S.Store conn.old).now accounts.now thumbs.now keys.items))
+        (λ found. MatchOption found (LacksAnswers S.Store (state S.Store conn.old).now accounts.now thumbs.now)
+        (λ keys. ShowsAnswers S.Store (state S.Store conn.old).now accounts.now thumbs.now keys.items))
         (IsFirstReadable S.Store conn.old) (λ e. IsOutOfMemory e ⊎ FailsAtFirst S.Store conn.old e) result }
 {
     let check = AnswerCheck::new(alloc, accounts, thumbs);
@@ -38,7 +35,8 @@ fn keys_of_authorizations<S: Alter>(
     thumbs: &Table<AccountThumb>,
 ) -> Result<Option<Vec<AnswerKey>>, Error>
     ensures { Reads S.Store conn.old conn.new
-        (λ found. IfSome found (λ keys. ShowsOwners S.Store (state S.Store conn.old).now thumbs.now keys.items))
+        (λ found. MatchOption found (LacksOwners S.Store (state S.Store conn.old).now thumbs.now)
+        (λ keys. ShowsOwners S.Store (state S.Store conn.old).now thumbs.now keys.items))
         (IsFirstReadable S.Store conn.old) (λ e. IsOutOfMemory e ⊎ FailsAtFirst S.Store conn.old e) result }
 {
     let check = OwnerCheck::new(alloc);
@@ -60,7 +58,8 @@ pub(crate) fn read_keys<S: Alter>(
     conn: &mut Connection<S>,
 ) -> Result<Option<Vec<AnswerKey>>, Error>
     ensures { Reads S.Store conn.old conn.new
-        (λ found. IfSome found (λ keys. ShowsThumbs S.Store (state S.Store conn.old).now keys.items))
+        (λ found. MatchOption found (LacksThumbs S.Store (state S.Store conn.old).now)
+        (λ keys. ShowsThumbs S.Store (state S.Store conn.old).now keys.items))
         (IsFirstReadable S.Store conn.old) (λ e. IsOutOfMemory e ⊎ FailsAtFirst S.Store conn.old e) result }
 {
     let check = ThumbCheck::new(alloc);
@@ -69,48 +68,4 @@ pub(crate) fn read_keys<S: Alter>(
         Ok(None) => Ok(None),
         Err(error) => Err(error),
     }
-}
-
-// ---- where no account ever got another key
-
-// The key of a challenge's answer, under the key of this canonical text.
-fn key_under(key: &str, row: &ChallengeRow) -> Option<AnswerKey>
-    ensures { result ≡ key_under key.now row.now }
-{
-    match row.answered {
-        Some(_) => {
-            let thumb = text_thumbprint(key);
-            Some(AnswerKey {
-                challenge: row.number,
-                thumb,
-            })
-        }
-        None => None,
-    }
-}
-
-// The keys of the answers of challenges.
-fn keys_under(alloc: Global, key: &str, rows: &[ChallengeRow]) -> Result<Vec<AnswerKey>, AllocError>
-    ensures { IfOk result (λ keys. keys.items ≡ filter_map (key_under key.now) rows.now) }
-{
-    rows.iter()
-        .filter_map(|row| key_under(key, row))
-        .collect(alloc)
-}
-
-/// The keys of all answers of a book, each the one that the account has.
-///
-/// # Errors
-///
-/// Where there is no memory for them.
-pub(crate) fn first_keys(alloc: Global, book: &Book) -> Result<Vec<AnswerKey>, AllocError>
-    ensures { IfOk result (λ keys. keys.items ≡ first_keys book.now) }
-{
-    let mut keys = Vec::new(alloc);
-    for row in book.authorizations().iter() {
-        let key = book.account_key(row.account);
-        let mut more = keys_under(alloc, key, row.challenges.as_slice())?;
-        keys.append(&mut more)?;
-    }
-    Ok(keys)
 }

@@ -1,6 +1,7 @@
 //! The keys of answers, found by rows as they come: by those of accounts, of authorizations and of challenges.
-ghost use Rattle.std.specs.Prelude.{◌≡◌, ◌++◌, [], OnOk, option_to_list};
-ghost use Rattle.sql_upgrade.specs.FoundKeys.{account_of, account_rows, found_key, row_key, row_keys, thumb_of, thumb_rows};
+ghost use Rattle.std.specs.Prelude.{◌≡◌, ◌++◌, [], OnOk, option_to_list, ⊤};
+ghost use Rattle.desk_model.specs.Kept.{EachOf};
+ghost use Rattle.sql_upgrade.specs.FoundKeys.{HasKey, account_of, account_rows, found_key, row_key, row_keys, thumb_of, thumb_rows};
 
 use desk_book::{Row, Table};
 use desk_model::{AccountRow, AuthorizationRow};
@@ -78,9 +79,7 @@ impl RowCheck<AccountColumns> for ThumbCheck {
 
     ghost IsWhole = { λ first rows kept. kept ≡ thumb_rows rows };
 
-    ghost MayBegin = { λ first rows. ⊥ };
-
-    ghost AreAll = { λ first rows. ⊥ };
+    ghost AreAll = { λ first rows. ⊤ };
 
     fn passes(&mut self, row: AccountRow) -> Result<bool, AllocError> {
         self.thumbs.put(thumb_of(&row))?;
@@ -126,9 +125,7 @@ impl RowCheck<AuthzColumns> for OwnerCheck {
 
     ghost IsWhole = { λ first rows kept. kept ≡ account_rows rows };
 
-    ghost MayBegin = { λ first rows. ⊥ };
-
-    ghost AreAll = { λ first rows. ⊥ };
+    ghost AreAll = { λ first rows. ⊤ };
 
     fn passes(&mut self, row: AuthorizationRow) -> Result<bool, AllocError> {
         self.accounts.put(account_of(&row))?;
@@ -208,9 +205,7 @@ impl<'a> RowCheck<ChallColumns> for AnswerCheck<'a> {
 
     ghost IsWhole = { λ first rows kept. kept.items ≡ row_keys first.accounts.now first.thumbs.now rows };
 
-    ghost MayBegin = { λ first rows. ⊥ };
-
-    ghost AreAll = { λ first rows. ⊥ };
+    ghost AreAll = { λ first rows. EachOf (HasKey first.accounts.now first.thumbs.now) rows };
 
     fn passes(&mut self, row: Owned<BareChallenge>) -> Result<bool, AllocError> {
         let key = self.row_key(&row);

@@ -7,6 +7,6 @@ mod key_checks;
 mod laws;
 mod upgrading;
 
-pub use additions::{Additions, book_additions, read_additions};
+pub use additions::{Additions, read_additions};
 pub use laws::first_desks_upgrade;
 pub use upgrading::upgrade;

@@ -1,8 +1,8 @@
-use Rattle.std.proofs.Common.{inl}
+use Rattle.std.proofs.Common.{inl, inr, refl, sym, ◌∙◌}
 use Rattle.sql_read.specs.AllTables.{FailsAtTable}
 use Rattle.sqlite.specs.Held.{state}
 use Rattle.desk_store.proofs.{Books.may_read, OpeningFaults.refused_reading}
-use Rattle.desk_store.proofs.RowReadings.{desk_kept, reading_failed, reading_made, reads_later}
+use Rattle.desk_store.proofs.RowReadings.{reading_failed, reading_made}
 use Rattle.desk_store.proofs.opening.check_rows.Goals as goal
 
 pub returns-in-Ok-true : goal.returns-in-Ok-true
@@ -14,8 +14,12 @@ returns-in-Ok-true g c =
 
 pub returns-in-Ok-false : goal.returns-in-Ok-false
 returns-in-Ok-false g c =
-    reads_later g.S.Store c.args.conn.now c.has_book_rows.new.conn c.check_book.new.conn c.check_book.result c.has_book_rows.ensures.asks
-    c.in-Ok-false.ensures.unchanged (desk_kept g.S.Store c.args.conn.now c.has_book_rows.new.conn) c.check_book.ensures
+    reading_made g.S.Store (Unit {0}) c.args.conn.now c.has_book_rows.new.conn _ (inr (refl, tt)) c.has_book_rows.ensures.asks
+    c.in-Ok-false.ensures.unchanged (λ clean. tt)
+    (λ clean _. (
+      inr (c.in-Ok-false.ensures.none clean c.in-Ok-false.field-0-test),
+      λ T has. absurd (let never = sym c.in-Ok-false.field-0-test ∙ c.in-Ok-false.ensures.found clean T has.desk.holds has.desk.book in cc),
+    ))
 
 pub returns-in-Err : goal.returns-in-Err
 returns-in-Err g c =

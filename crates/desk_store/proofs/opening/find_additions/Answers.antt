@@ -1,23 +1,15 @@
-use Rattle.std.proofs.Common.{arith, inl, refl, subst, sym}
+use Rattle.std.proofs.Common.{inl, inr, refl, subst, sym}
 use Rattle.std.specs.Prelude.{IsSome}
-use Rattle.sqlite.specs.{Held.state, State.HasCleanDisk}
+use Rattle.sqlite.specs.Held.{state}
 use Rattle.sql_read.specs.AllTables.{FailsAtFirst}
-use Rattle.desk_store.proofs.{FirstBooks.first_may_read, OpeningFaults.refused_reading, Upgrading.added_behind}
-use Rattle.desk_store.proofs.RowReadings.{first_kept, reading_failed, reading_made, reads_later}
+use Rattle.desk_store.proofs.{FirstBooks.first_may_read, OpeningFaults.refused_reading}
+use Rattle.desk_store.proofs.RowReadings.{reading_failed, reading_made}
 use Rattle.desk_store.proofs.opening.find_additions.Goals as goal
 
 pub returns-in-Ok-Some-clause-added : goal.returns-in-Ok-Some-clause-added
 returns-in-Ok-Some-clause-added g c clean T has =
     let added = rw c.in-Ok-Some.field-0-is at (c.in-Ok-Some.ensures.added clean) in
     added T has.desk
-
-pub returns-in-Ok-None-clause-added : goal.returns-in-Ok-None-clause-added
-returns-in-Ok-None-clause-added g c clean =
-    let old = state g.S.Store c.args.conn.now in
-    let mid = state g.S.Store c.read_additions.new.conn in
-    let clean_mid : HasCleanDisk mid = let le = c.additions_by_book.ensures.reads.asks.survives.clean in omega (arith, clean, le) in
-    added_behind old mid c.additions_by_book.result c.read_additions.ensures.asks.survives.limit (c.in-Ok-None.ensures.unchanged clean_mid)
-    (c.additions_by_book.ensures.added clean)
 
 pub returns-in-Ok-Some-clause-reads : goal.returns-in-Ok-Some-clause-reads
 returns-in-Ok-Some-clause-reads g c =
@@ -28,9 +20,14 @@ returns-in-Ok-Some-clause-reads g c =
 
 pub returns-in-Ok-None-clause-reads : goal.returns-in-Ok-None-clause-reads
 returns-in-Ok-None-clause-reads g c =
-    reads_later g.S.Store c.args.conn.now c.read_additions.new.conn c.additions_by_book.new.conn c.additions_by_book.result
-    c.read_additions.ensures.asks c.in-Ok-None.ensures.unchanged (first_kept g.S.Store c.args.conn.now c.read_additions.new.conn)
-    c.additions_by_book.ensures.reads
+    reading_made g.S.Store (Unit {0}) c.args.conn.now c.read_additions.new.conn _ (inr (refl, tt)) c.read_additions.ensures.asks
+    c.in-Ok-None.ensures.unchanged (λ clean. tt)
+    (λ clean _. (
+      inr (c.in-Ok-None.ensures.none clean c.in-Ok-None.field-0-is),
+      λ T has.
+          let some = subst IsSome c.in-Ok-None.field-0-is (c.in-Ok-None.ensures.found clean T has.desk.holds has.desk.book) in
+          absurd (cc some),
+    ))
 
 pub returns-in-Err-clause-reads : goal.returns-in-Err-clause-reads
 returns-in-Err-clause-reads g c =

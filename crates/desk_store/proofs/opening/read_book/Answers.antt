@@ -1,7 +1,7 @@
 use Rattle.std.proofs.Common.{inl, inr}
 use Rattle.sqlite.specs.Held.{state}
 use Rattle.sql_read.specs.AllTables.{FailsAtTable}
-use Rattle.desk_store.proofs.Books.{book_told, book_shown, has_book, may_read}
+use Rattle.desk_store.proofs.Books.{book_told, book_shown, has_book, may_read, only_book_shown}
 use Rattle.desk_store.proofs.OpeningFaults.{book_keeps_open, refused_reading}
 use Rattle.desk_store.proofs.RowReadings.{reading_failed, reading_made}
 use Rattle.desk_store.proofs.opening.read_book.Goals as goal
@@ -16,7 +16,7 @@ returns-in-Ok-clause-reads g c =
     c.in-Ok.ensures.unchanged
     (λ clean. book_shown g.S.Store c.args.conn.now c.in-Ok.stored c.book_of.result c.book_of.ensures.book (c.in-Ok.ensures.shown clean))
     (λ clean none. (
-      inr (c.in-Ok.stored, c.in-Ok.ensures.shown clean, none),
+      inr (λ T only. none T (only_book_shown g.S.Store c.args.conn.now c.in-Ok.stored T (c.in-Ok.ensures.shown clean) only)),
       λ T has. none T (has_book (state g.S.Store c.args.conn.now) T has c.in-Ok.stored (c.in-Ok.ensures.found clean)),
     ))
 

@@ -1,9 +1,9 @@
-use Rattle.std.proofs.Common.{◌≡◌, IfSome, refl, subst, sym, ◌∙◌}
+use Rattle.std.proofs.Common.{◌≡◌, refl, subst, sym, ◌∙◌}
 use Rattle.std.specs.Prelude.{IsSome}
 use Rattle.sqlite.specs.Held.{state}
 use Rattle.sql_upgrade.specs.Checked.{AreChecked}
-use Rattle.sql_upgrade.specs.FoundKeys.{HasKeys, ShowsThumbs}
-use Rattle.sql_upgrade.proofs.FoundKeysAre.{found_keys_are}
+use Rattle.sql_upgrade.specs.FoundKeys.{HasKeys, LacksThumbs, ShowsThumbs}
+use Rattle.sql_upgrade.proofs.{FoundKeysAre.found_keys_are, KeysThere.no_keys}
 use Rattle.sql_read.proofs.FirstChecked.{reads_err, reads_ok, tables_then}
 use Rattle.sql_upgrade.proofs.additions.checked_additions.Goals as goal
 
@@ -22,16 +22,18 @@ returns-in-Ok-Some g c =
       book = book.2;
       is_book = book.3;
       added = λ T desk.
-          let same : IfSome c.in-Ok-Some.field-0 (λ row. row ≡ T.meta) = c.in-Ok-Some.ensures.found clean T desk.holds desk.book in
+          let both = sym c.in-Ok-Some.field-0-is ∙ c.in-Ok-Some.ensures.found clean T desk.holds desk.book in
+          let same : c.in-Ok-Some.meta ≡ T.meta = cc both in
           record {
-            meta = has.same ∙ (rw c.in-Ok-Some.field-0-is at same);
+            meta = has.same ∙ same;
             keys = found_keys_are store old T desk additions.keys.items found;
           };
     })
+    (λ clean lacks. no_keys store old (subst (LacksThumbs store) (c.in-Ok-Some.ensures.unchanged clean).0.now_is lacks))
     c.in-Ok-Some.ensures.unchanged c.in-Ok-Some.ensures.asks c.with_keys.ensures
 
 pub returns-in-Ok-None : goal.returns-in-Ok-None
-returns-in-Ok-None g c = reads_ok g.S.Store (λ clean. tt) c.in-Ok-None.ensures.unchanged c.in-Ok-None.ensures.asks
+returns-in-Ok-None g c = reads_ok g.S.Store (λ clean. c.in-Ok-None.ensures.none clean c.in-Ok-None.field-0-is) c.in-Ok-None.ensures.unchanged c.in-Ok-None.ensures.asks
 
 pub returns-in-Err : goal.returns-in-Err
 returns-in-Err g c =

@@ -15,4 +15,4 @@ returns-in-Ok-Some g c =
 pub returns-in-Ok-None : goal.returns-in-Ok-None
 returns-in-Ok-None g c =
     let keys = rw c.in-Ok-None.field-0-is at c.in-Ok-None.ensures in
-    reads_ok g.S.Store (λ clean. tt) keys.unchanged keys.asks
+    reads_ok g.S.Store keys.shown keys.unchanged keys.asks
