@@ -46,6 +46,10 @@ module _ {S : Type 0} (g : Ghosts S) (db : Database) where
     pub challenges : ShowsOnly g chall.SELECT.now challenge_in challenge_columns FitsChallenge db rows.challenges
     pub keys : ShowsOnlyKeys format rows.keys
 
+  -- in those of format 1
+  abbrev pub ShowsOnlyFirstRows : FlatRows → Type 0
+  ShowsOnlyFirstRows rows = ShowsOnlyRows First rows
+
   -- and they are such as a book has, in their limits and by key
   pub record ShowsBookRowsOnly (format : Format) (meta : Meta) (rows : FlatRows) : Type 0 where
     pub stored : AreStored rows

@@ -1,6 +1,6 @@
 -- A book's rows in format 1 have the keys of their answers.
 use Rattle.std.proofs.Common.{◌≡◌, ℕ, Bool, true, false, cond, List, [], ◌∷◌, map, Option, Some, None, refl, sym, subst, subst₂}
-use Rattle.std.specs.Prelude.{◌==◌, IfSome, IsSome, find, option_and_then, option_map}
+use Rattle.std.specs.Prelude.{◌==◌, IfSome, IsSome, is_some, find, option_and_then, option_map}
 use Rattle.sqlite.specs.Held.{Held, state}
 use Rattle.sqlite.specs.Store.{Ghosts}
 use Rattle.store_columns.specs.declared.columns.{AnswerKey.AnswerKey, BareChallenge.BareChallenge, FlatRows.FlatRows, Owned.Owned}
@@ -73,10 +73,14 @@ no_keys g conn lacks T only =
 
 -- a key that is there is not missing
 pub key_there : (accounts others : List AuthorizationAccount) (thumbs marks : List AccountThumb) (c : Owned BareChallenge) (key : Option AnswerKey)
-    → others ≡ accounts → marks ≡ thumbs → key ≡ row_key others marks c → HasKey accounts thumbs c → IsSome c.row.answered → IsSome key
+    → others ≡ accounts → marks ≡ thumbs → key ≡ row_key others marks c → HasKey accounts thumbs c → IsSome c.row.answered → is_some key ≡ false → ⊥
 key_there accounts others thumbs marks c key same alike is has answered =
-    subst IsSome (sym is) (subst₂ (λ os ts. IsSome (row_key os ts c)) (sym same) (sym alike) (by c.row.answered has answered))
+    missing key (subst IsSome (sym is) (subst₂ (λ os ts. IsSome (row_key os ts c)) (sym same) (sym alike) (by c.row.answered has answered)))
   where
+    missing : (o : Option AnswerKey) → IsSome o → is_some o ≡ false → ⊥
+    missing None some none = absurd (cc some)
+    missing (Some k) some none = absurd (cc none)
+
     by : (o : Option ℕ) → IfSome o (λ _. IsSome (found_key accounts thumbs c.owner c.row.number)) → IsSome o
         → IsSome (option_and_then (λ _. found_key accounts thumbs c.owner c.row.number) o)
     by None has some = absurd (cc some)

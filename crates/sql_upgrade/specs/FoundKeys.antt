@@ -8,9 +8,8 @@ use Rattle.model_laws.specs.Placing.{puts}
 use Rattle.desk_model.specs.{Keys.thumbprint, Kept.EachOf}
 use Rattle.desk_model.specs.declared.rows.{AccountRow.AccountRow, AuthorizationRow.AuthorizationRow}
 use Rattle.sql_read.specs.Checking.{ShowsOnly, ShowsTable}
-use Rattle.sql_read.specs.Only.{ShowsOnlyRows}
+use Rattle.sql_read.specs.Only.{ShowsOnlyFirstRows}
 use Rattle.sql_read.specs.Spelled.{FitsChallenge, account_in, authorization_in, challenge_in}
-use Rattle.sql_read.specs.declared.formats.Format.TheVariants.{First}
 use Rattle.sql_schema.specs.declared.accounts.TheConstants as account
 use Rattle.sql_schema.specs.declared.authorizations.TheConstants as authz
 use Rattle.sql_schema.specs.declared.challenges.TheConstants as chall
@@ -62,12 +61,12 @@ module _ {S : Type 0} (g : Ghosts S) (db : Database) where
   -- nor with their authorizations
   abbrev pub LacksOwners : List AccountThumb → Type 0
   LacksOwners thumbs =
-      (rows : FlatRows) → AreStored rows → ShowsOnlyRows g db First rows → EachOf (HasKey (account_rows rows.authorizations) thumbs) rows.challenges → ⊥
+      (rows : FlatRows) → AreStored rows → ShowsOnlyFirstRows g db rows → EachOf (HasKey (account_rows rows.authorizations) thumbs) rows.challenges → ⊥
 
   -- nor with the accounts of these
   abbrev pub LacksThumbs : Type 0
   LacksThumbs =
-      (rows : FlatRows) → AreStored rows → ShowsOnlyRows g db First rows
+      (rows : FlatRows) → AreStored rows → ShowsOnlyFirstRows g db rows
       → EachOf (HasKey (account_rows rows.authorizations) (thumb_rows rows.accounts)) rows.challenges → ⊥
 
   -- the keys are those of the challenges that were shown

@@ -1,7 +1,7 @@
 use Rattle.std.proofs.Common.{◌≡◌, ap, inl, inr, subst, sym, ◌∙◌}
 use Rattle.store_columns.proofs.RowsApart.{accounts-apart}
 use Rattle.desk_model.specs.Kept.{EachOf}
-use Rattle.sql_read.specs.{Only.ShowsOnlyRows, declared.formats.Format.TheVariants.First}
+use Rattle.sql_read.specs.Only.{ShowsOnlyFirstRows}
 use Rattle.sql_read.proofs.Streaming.{shown_same}
 use Rattle.sql_read.proofs.FirstTables.{accounts_selected, first_accounts}
 use Rattle.sqlite.specs.Held.{state}
@@ -33,7 +33,7 @@ returns-in-Ok-Some g c =
     let table = rw c.in-Ok-Some.field-0-is at (c.in-Ok-Some.ensures.whole clean) in
     let are = table.is
     ∙ ap thumb_rows (shown_same g.S.Store _ _ _ _ _ accounts-apart c.args.conn.now table rows.accounts stored.accounts only.accounts) in
-    lacks rows stored (subst (λ db. ShowsOnlyRows g.S.Store db First rows) (sym still) only)
+    lacks rows stored (subst (λ db. ShowsOnlyFirstRows g.S.Store db rows) (sym still) only)
     (subst (λ ts. EachOf (HasKey (account_rows rows.authorizations) ts) rows.challenges) (sym are) have))
     c.in-Ok-Some.ensures.unchanged c.in-Ok-Some.ensures.asks c.keys_of_authorizations.ensures
 

@@ -1,6 +1,8 @@
-use Rattle.std.proofs.Common.{sym, ◌∙◌}
-use Rattle.sql_upgrade.specs.FoundKeys.{row_key}
-use Rattle.sql_upgrade.proofs.PassedRows.{pick_more}
+use Rattle.std.proofs.Common.{ap, sym, ◌∙◌}
+use Rattle.std.specs.Prelude.{not}
+use Rattle.sql_upgrade.specs.FoundKeys.{HasKey, row_key}
+use Rattle.store_book.proofs.Steps.{each_at}
+use Rattle.sql_upgrade.proofs.{KeysThere.key_there, PassedRows.pick_more}
 use Rattle.sql_upgrade.proofs.key_checks.AnswerCheckRowCheckChallColumns.passes.Goals as goal
 
 pub returns-clause-passed : goal.returns-clause-passed
@@ -10,3 +12,9 @@ returns-clause-passed c _ first rows so_far = (
   so_far.1,
   so_far.2,
 )
+
+pub returns-then-is_some-clause-fine : goal.returns-then-is_some-clause-fine
+returns-then-is_some-clause-fine c first rows rest so_far are =
+    absurd (key_there first.accounts.now c.args.self.now.accounts.now first.thumbs.now c.args.self.now.thumbs.now c.args.row c.row_key-key.result
+    so_far.1 so_far.2 c.row_key-key.ensures (each_at (HasKey first.accounts.now first.thumbs.now) rows c.args.row rest are)
+    (sym c.is_some.ensures ∙ c.if-is_some.true) (c.is_none.ensures ∙ ap not c.if-is_none.true))
