@@ -14,14 +14,13 @@ use Rattle.model_laws.specs.Ordered.{IsTable}
 use Rattle.desk_model.specs.{Kept.EachOf, Tables.Tables}
 use Rattle.desk_model.specs.declared.rows.{Counters.Counters, Meta.Meta}
 use Rattle.sql_read.specs.BookShown.{ShowsBookRows, ShowsNonces}
-use Rattle.sql_read.specs.First.{AreFirstShown, ShowsFirstMeta, blank_key}
+use Rattle.sql_read.specs.First.{AreFirstShown, ShowsFirstMeta, blank_key, zeros}
 use Rattle.sql_read.specs.Shown.{AreShown, IsShown}
 use Rattle.sql_read.specs.Spelled.{meta_in}
 use Rattle.sql_read.specs.declared.formats.Format.{Format}
 use Rattle.sql_read.specs.declared.formats.Format.TheVariants.{First, Second}
 use Rattle.sql_schema.specs.declared.meta.TheConstants as text
 use Rattle.store_book.specs.IsBook.{IsBookOfStored}
-use Rattle.store_laws.specs.Blank.{zeros}
 
 -- ---- the rows of either format
 

@@ -1,5 +1,5 @@
 -- Readings of a desk in format 1, whose rows count as those of today's format.
-use Rattle.std.specs.Prelude.{◌≡◌, ℤ, List, [], ◌∷◌, map, filter_map, if◌then◌else◌, Option, option_map}
+use Rattle.std.specs.Prelude.{◌≡◌, ℕ, ℤ, List, [], ◌∷◌, map, filter_map, if◌then◌else◌, Option, option_map, replicate}
 use Rattle.std.specs.Ordering.{int_eq}
 use Rattle.sqlite.specs.{Held.Held, Store.Ghosts}
 use Rattle.sqlite.specs.State.{State, HasCleanDisk}
@@ -18,7 +18,6 @@ use Rattle.sql_schema.specs.declared.nonces.TheConstants as nonce
 use Rattle.sql_schema.specs.declared.orders.TheConstants as ord
 use Rattle.sql_schema.specs.declared.listed.TheConstants as ord_authz
 use Rattle.sql_tables.specs.Holds.{HoldsFirst}
-use Rattle.store_laws.specs.Blank.{zeros}
 
 -- what is so of whatever tables the database held in format 1, where the disk is honest
 abbrev pub ForFirst : State → State → (Tables → Type 0) → Type 0
@@ -31,6 +30,10 @@ raised format = if int_eq format first_format then known_format else first_forma
 -- and so the row of `meta`
 abbrev pub raised_meta : MetaColumns → MetaColumns
 raised_meta c = record c { format = raised c.format }
+
+-- in the place of a thumbprint
+abbrev pub zeros : List ℕ
+zeros = replicate 32 0
 
 -- zeros in the place of the key of an answer
 abbrev pub blank_key : ChallColumns → Option ChallKeyColumns

@@ -1,4 +1,3 @@
-pub mod BlankBooks
 pub mod Books
 pub mod Columns
 pub mod FlatTexts

@@ -8,7 +8,6 @@ use Rattle.desk_model.specs.Kept.{EachOf, Kept, restricted}
 use Rattle.desk_model.specs.Legal.{EachFollows, Legal}
 use Rattle.desk_model.specs.Tables.{Tables, picture, tables_at}
 use Rattle.desk_model.specs.declared.entry.Entry.{Entry}
-use Rattle.store_laws.specs.Blank.{BlankBooks}
 use Rattle.store_laws.specs.InLimits.{AreInLimits, IsPutInLimits}
 use Rattle.store_laws.specs.Told.{AreReorderedColumns, IsOnlyBookOf}
 use Rattle.store_book.specs.IsBook.{IsBook, IsStoredBook}
@@ -39,5 +38,3 @@ pub record PicturesAreBooks : Type 0 where
   pub stored_books : (F : History) → Legal F → IsStoredBook (picture F)
   -- the rows of a desk's picture are in their limits, table by table
   pub picture : (F : History) → Legal F → AreStored (flat (picture F))
-  -- the same of tables whose answers tell no keys
-  pub blank : BlankBooks

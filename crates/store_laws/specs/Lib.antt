@@ -1,4 +1,3 @@
-pub mod Blank
 pub mod InLimits
 pub mod Laws
 pub mod Told

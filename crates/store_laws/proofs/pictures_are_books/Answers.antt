@@ -1,4 +1,4 @@
-use Rattle.store_laws.proofs.{BlankBooks.blank_books, Books.tables_book, Records.records_in_limits}
+use Rattle.store_laws.proofs.{Books.tables_book, Records.records_in_limits}
 use Rattle.store_laws.proofs.Columns.{book_told, picture_told}
 use Rattle.store_laws.proofs.FlatTexts.{picture_is_stored_book, tables_are_texts}
 use Rattle.store_laws.proofs.Rows.{flat_stored, parts_in_limits, picture_stored, tables_in_limits}
@@ -16,6 +16,5 @@ returns c =
       texts = tables_are_texts;
       told = book_told;
       one_book = picture_told;
-      blank = blank_books;
       stored_books = picture_is_stored_book;
     }
