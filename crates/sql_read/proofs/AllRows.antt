@@ -1,9 +1,9 @@
 -- What a book's rows are to the checks of its tables, behind those before them.
-use Rattle.std.proofs.Common.{◌≡◌, ℕ, List, [], ◌∷◌, map, refl, sym, ap, subst, subst₂, ◌∙◌}
-use Rattle.store_columns.specs.declared.columns.{BareChallenge.BareChallenge, FlatRows.FlatRows, Owned.Owned}
+use Rattle.std.proofs.Common.{◌≡◌, ℕ, List, [], ◌∷◌, map, refl, sym, ap, subst₂, ◌∙◌}
+use Rattle.store_columns.specs.declared.columns.FlatRows.{FlatRows}
 use Rattle.model_laws.proofs.RowLists.{ascends_map}
 use Rattle.desk_model.specs.declared.rows.{AccountRow.AccountRow, AuthorizationRow.AuthorizationRow, Counters.Counters, Meta.Meta, OrderRow.OrderRow}
-use Rattle.store_book.specs.BookRows.{AreAuthorizations, AreBookRows, AreChallenges, AreKeys, AreOrders, Rise, answered_numbers}
+use Rattle.store_book.specs.BookRows.{AreAuthorizations, AreBookRows, AreChallenges, AreOrders, Rise}
 use Rattle.store_book.specs.{ByKey.AreByKey, Passing.ArePlaced, Passing.IsOnlyRow}
 
 -- the counters that were kept of the one row are the book's

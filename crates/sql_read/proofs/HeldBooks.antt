@@ -1,9 +1,8 @@
 -- Held tables show the rows of their book alone.
-use Rattle.std.proofs.Common.{◌≡◌, ◌<◌, ◌+◌, inl, inr, ℕ, List, [], ◌∷◌, ◌++◌, map, refl, sym, ap, subst, ◌∙◌, arith}
-use Rattle.std.specs.List.Sorted.{IsPermutation}
+use Rattle.std.proofs.Common.{◌≡◌, ◌<◌, ◌+◌, inl, inr, ℕ, List, [], ◌∷◌, ◌++◌, map, refl, ap, subst, arith}
 use Rattle.std.proofs.lemmas.List.{map-id}
 use Rattle.std.proofs.lemmas.List.Sorted.{IsPermutation-map, IsPermutation-refl}
-use Rattle.sqlite.specs.{Effect.Database, Order.Row, Store.Ghosts}
+use Rattle.sqlite.specs.{Order.Row, Store.Ghosts}
 use Rattle.sqlite.specs.Held.{Held, state}
 use Rattle.store_columns.specs.Columns.{account_columns, first_format, key_columns, meta_columns, nonce_columns}
 use Rattle.store_columns.specs.Flat.{bare_row, challenge_rows, key_rows, listed_rows, owned_by, without_challenges, without_listed}
@@ -12,8 +11,7 @@ use Rattle.store_columns.specs.declared.columns.{FlatRows.FlatRows, Owned.Owned}
 use Rattle.model_laws.specs.Ordered.{Ascends}
 use Rattle.model_laws.proofs.RowLists.{ascends_map}
 use Rattle.desk_model.specs.{Kept.EachOf, Tables.Tables}
-use Rattle.desk_model.specs.declared.rows.{AuthorizationRow.AuthorizationRow, ChallengeRow.ChallengeRow, Listed.Listed, Meta.Meta, OrderRow.OrderRow}
-use Rattle.sql_schema.specs.Schema.{desk_schema}
+use Rattle.desk_model.specs.declared.rows.{Listed.Listed, OrderRow.OrderRow}
 use Rattle.sql_schema.specs.declared.accounts.TheConstants as account
 use Rattle.sql_schema.specs.declared.keys.TheConstants as chall_key
 use Rattle.sql_schema.specs.declared.meta.TheConstants as meta
@@ -23,7 +21,7 @@ use Rattle.sql_tables.specs.Images.{formatted_columns}
 use Rattle.sql_tables.specs.Layouts.{challenge_layout, key_layout}
 use Rattle.sql_tables.specs.Sorted.{sorted_by}
 use Rattle.sql_tables.proofs.{AnswerKeys.keys_apart, Sorting.each_sorted, Sorting.sorted_moves, Sorting.sorted_rises}
-use Rattle.store_book.specs.{ByKey.AreByKey, IsBook.IsBook, IsBook.IsBookOf, IsBook.IsStoredBook, Passing.PlacedFrom}
+use Rattle.store_book.specs.{ByKey.AreByKey, IsBook.IsBookOf, IsBook.IsStoredBook, Passing.PlacedFrom}
 use Rattle.sql_read.specs.BookShown.{HoldsIn}
 use Rattle.sql_read.specs.Checking.{AreFirst, ShowsOnly}
 use Rattle.sql_read.specs.First.{raised_meta}

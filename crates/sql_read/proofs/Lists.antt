@@ -1,11 +1,9 @@
 -- Lists: maps, filters and their order.
-use Rattle.std.proofs.Common.{◌≡◌, ℕ, zero, suc, take, List, [], ◌∷◌, ◌++◌, map, filter, Bool, true, false, cond, Option, Some, None, refl, sym, ap, subst}
-use Rattle.std.specs.List.{cons_option, filter_map, flat_map}
+use Rattle.std.proofs.Common.{◌≡◌, ℕ, zero, suc, take, List, [], ◌∷◌, map, filter, Bool, true, false, cond, Option, Some, None, refl, sym, ap, subst}
 use Rattle.std.specs.List.Sorted.{IsPermutation}
 use Rattle.std.proofs.lemmas.List.Sorted.{IsPermutation-map, IsPermutation-refl}
 use Rattle.std.proofs.lemmas.List.{take-map}
 use Rattle.sqlite_sql.specs.Query.{limited}
-use Rattle.sqlite_trees.proofs.ListLemmas.{IsPermutation-flat_map}
 use Rattle.model_laws.proofs.Basics.{each-map, each_of_map}
 use Rattle.model_laws.specs.Distinct.{Distinct}
 use Rattle.desk_model.specs.Kept.{EachOf}

@@ -59,8 +59,7 @@ unfolding HasGiven
 given_front g text reading conn given there gives =
     let command = compiled_alone text _ reading.means in
     let opened : IsTrue (state g conn).is_open = gives.0.is_open in
-    begins_shown text [] (state g conn) (state g conn) given (given_begin g text [] conn given gives)
-    (
+    begins_shown text [] (state g conn) (state g conn) given (given_begin g text [] conn given gives) (
       record { was_open = opened; is_open = opened; now_is = refl; committed_is = refl; mode = refl },
       record { changes = refl; last_rowid = refl },
       refl,

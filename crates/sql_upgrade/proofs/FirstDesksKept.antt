@@ -3,7 +3,7 @@ use Rattle.std.proofs.Common.{◌≡◌, false, Result, Ok, Err, OnOk, sym, subs
 use Rattle.sqlite.specs.{State.State, Tree.Trees, Effect.Database}
 use Rattle.sql_write.specs.Committing.{HasCommitted, IsLeft}
 use Rattle.model_laws.proofs.FirstKeys.{rows_under}
-use Rattle.desk_model.specs.{History.clock, Tables.Tables}
+use Rattle.desk_model.specs.History.{clock}
 use Rattle.sql_upgrade.specs.FirstDesks.{BringsDesk, PicturesAreFirstDesks, UpgradesDesk}
 use Rattle.sql_upgrade.specs.declared.additions.Additions.{Additions}
 use Rattle.sql_write.specs.Upgrading.{Upgrades}

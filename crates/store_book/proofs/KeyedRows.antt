@@ -1,15 +1,14 @@
 -- The rows of a book that stand by key keep their counters and find what they refer to.
-use Rattle.std.proofs.Common.{◌≡◌, ◌<◌, ◌≤◌, ◌+◌, inl, inr, ℕ, List, [], ◌∷◌, ◌++◌, map, Option, Some, None, All, refl, sym, ap, subst, ◌∙◌, arith}
-use Rattle.std.specs.Prelude.{◌==◌, find, filter_map, IsSome, option_map}
+use Rattle.std.proofs.Common.{◌≡◌, ◌<◌, ◌≤◌, ◌+◌, inl, inr, ℕ, List, [], ◌∷◌, map, Option, Some, None, All, refl, sym, ap, subst, ◌∙◌, arith}
+use Rattle.std.specs.Prelude.{◌==◌, find, IsSome, option_map}
 use Rattle.std.specs.List.{cons_option, flat_map}
 use Rattle.std.specs.List.Sorted.{IsPermutation}
 use Rattle.std.proofs.lemmas.List.Elements.{All-cons, All-head, All-nil, All-tail}
 use Rattle.std.proofs.lemmas.List.Sorted.{All-permutation, IsPermutation-map, IsPermutation-sym, IsPermutation-trans}
 use Rattle.std.proofs.lemmas.Simd.{map-map}
-use Rattle.store_columns.specs.Flat.{answer_key, bare_row, challenge_rows, key_rows, listed_rows, owned_by, without_challenges, without_listed}
+use Rattle.store_columns.specs.Flat.{bare_row, challenge_rows, key_rows, listed_rows, owned_by, without_challenges, without_listed}
 use Rattle.store_columns.specs.declared.columns.{AnswerKey.AnswerKey, BareChallenge.BareChallenge, FlatRows.FlatRows, Owned.Owned}
-use Rattle.model_laws.specs.Distinct.{Distinct}
-use Rattle.model_laws.specs.Ordered.{Ascends, Below, IsTable}
+use Rattle.model_laws.specs.Ordered.{Ascends, IsTable}
 use Rattle.model_laws.proofs.Basics.{each, each-append, each-map, each_all, find-map}
 use Rattle.model_laws.proofs.RowLists.{ascends_found, ascends_from, ascends_map}
 use Rattle.desk_model.specs.{Kept.EachOf, Tables.Tables}

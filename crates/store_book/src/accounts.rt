@@ -1,6 +1,6 @@
 //! The rows of `account`.
 ghost use Rattle.std.specs.Prelude.{◌≡◌, ◌↔◌, [], IfOk, IsTrue, map};
-ghost use Rattle.model_laws.specs.{Distinct.Distinct, Ordered.IsTable};
+ghost use Rattle.model_laws.specs.Distinct.{Distinct};
 ghost use Rattle.store_book.specs.{BookRows.AreAccounts, Passing.IsUpTo};
 
 use crate::counter::Counter;

@@ -22,8 +22,8 @@ returns g c =
     let table = rw c.in-Some.is at (c.in_ok-accounts.ensures.whole clean) in (
       kept,
       table.is.1
-      ∙ ap (map (λ a. a.number)) (shown_same g.S.Store _ _ _ _ _ accounts-apart c.args.conn.now table rows.accounts shows.stored.accounts
-      shows.only.accounts),
+          ∙ ap (map (λ a. a.number)) (shown_same g.S.Store _ _ _ _ _ accounts-apart c.args.conn.now table rows.accounts shows.stored.accounts
+          shows.only.accounts),
     ))
     c.in_ok-accounts.ensures.unchanged c.in_ok-accounts.ensures.asks
 

@@ -22,8 +22,8 @@ returns g c =
       kept.0,
       kept.2,
       table.is.1
-      ∙ ap (map (λ a. a.number)) (shown_same g.S.Store _ _ _ _ _ authorizations-apart c.args.conn.now table rows.authorizations
-      shows.stored.authorizations shows.only.authorizations),
+          ∙ ap (map (λ a. a.number)) (shown_same g.S.Store _ _ _ _ _ authorizations-apart c.args.conn.now table rows.authorizations
+          shows.stored.authorizations shows.only.authorizations),
     ))
     c.in_ok-authorizations.ensures.unchanged c.in_ok-authorizations.ensures.asks
 

@@ -22,7 +22,7 @@ returns g c =
       kept.0,
       kept.1,
       table.is.1
-      ∙ ap (map (λ o. o.number)) (shown_same g.S.Store _ _ _ _ _ orders-apart c.args.conn.now table rows.orders shows.stored.orders shows.only.orders),
+          ∙ ap (map (λ o. o.number)) (shown_same g.S.Store _ _ _ _ _ orders-apart c.args.conn.now table rows.orders shows.stored.orders shows.only.orders),
     ))
     c.in_ok-orders.ensures.unchanged c.in_ok-orders.ensures.asks
 

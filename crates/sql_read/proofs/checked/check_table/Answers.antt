@@ -1,4 +1,3 @@
-use Rattle.std.proofs.Common.{refl}
 use Rattle.sql_read.proofs.Streaming.{none_kept, whole_kept}
 use Rattle.sql_read.proofs.checked.check_table.Goals as goal
 

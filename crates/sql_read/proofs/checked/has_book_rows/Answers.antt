@@ -1,6 +1,5 @@
 use Rattle.store_book.proofs.KeyedRows.{books_have_rows}
 use Rattle.sql_read.proofs.{BookOfShown.book_shown, HeldBooks.held_only, Results.read_then, Results.surely}
-use Rattle.std.proofs.Common.{refl}
 use Rattle.sql_read.proofs.checked.has_book_rows.Goals as goal
 
 pub returns-clause-book : goal.returns-clause-book

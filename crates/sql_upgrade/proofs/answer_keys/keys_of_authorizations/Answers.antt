@@ -1,4 +1,4 @@
-use Rattle.std.proofs.Common.{◌≡◌, ap, inl, inr, subst, sym, ◌∙◌}
+use Rattle.std.proofs.Common.{ap, inl, inr, subst, sym, ◌∙◌}
 use Rattle.store_columns.specs.Columns.{challenge_columns}
 use Rattle.store_columns.proofs.RowsApart.{authorizations-apart}
 use Rattle.desk_model.specs.Kept.{EachOf}

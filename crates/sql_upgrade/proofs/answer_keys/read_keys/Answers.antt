@@ -1,4 +1,4 @@
-use Rattle.std.proofs.Common.{◌≡◌, ap, inl, inr, subst, sym, ◌∙◌}
+use Rattle.std.proofs.Common.{ap, inl, inr, subst, sym, ◌∙◌}
 use Rattle.store_columns.proofs.RowsApart.{accounts-apart}
 use Rattle.desk_model.specs.Kept.{EachOf}
 use Rattle.sql_read.specs.Only.{ShowsOnlyFirstRows}
