@@ -67,14 +67,6 @@ book_is_known Other (Ok book) is newer = absurd cc
 book_is_known Other (Err why) (inl memory) newer = absurd (let e = memory in cc)
 book_is_known Other (Err why) (inr none) newer = absurd (let e = none.0 in cc)
 
--- nor do they shut the connection
-pub book_keeps_open : {R : Type 0} (Other : Type 0) (result : Result R OpenFault)
-    → IfErr result (λ why. (why ≡ Storage fault.Memory) ⊎ ((why ≡ NotADesk) × Other))
-    → result ≡ Err (Storage fault.Reopen) → ⊥
-book_keeps_open Other (Ok book) is shut = absurd cc
-book_keeps_open Other (Err why) (inl memory) shut = absurd (let e = memory in cc)
-book_keeps_open Other (Err why) (inr none) shut = absurd (let e = none.0 in cc)
-
 -- the store failed by this
 pub same_storage : (a b : StorageFault) → Storage a ≡ Storage b → a ≡ b
 same_storage a b same = cc

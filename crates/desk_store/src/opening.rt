@@ -7,7 +7,7 @@ ghost use Rattle.sql_read.specs.Format.{IsNewer, ShowsFormats};
 ghost use Rattle.sql_write.specs.Committing.{GoesBack, IsLeft};
 ghost use Rattle.sql_schema.specs.{Names.uses_key_table, Stays.Asks};
 ghost use Rattle.store_api.specs.declared.fault.StorageFault.TheVariants.{Memory as memory, Reopen as reopen};
-ghost use Rattle.desk_store.specs.Causes.{IsMetFault, IsOfOpening, IsShut, IsSilent, cause_of};
+ghost use Rattle.desk_store.specs.Causes.{IsMetFault, IsOfOpening, IsSilent, cause_of};
 ghost use Rattle.desk_store.specs.Desks.{AreOfDesk, HasDesk};
 ghost use Rattle.desk_store.specs.Making.{IsOfStorage};
 ghost use Rattle.desk_store.specs.Opening.{FailedToOpen, FailedToWiden, HasLaterFormat, ShowsFirstBook};
@@ -15,19 +15,15 @@ ghost use Rattle.desk_store.specs.Opening.{OpensKnown, ReadsDesk, ReadsFirst, Re
 ghost use Rattle.desk_store.specs.Opening.{ShowsNoDesk, ShowsNoFirstBook, ShowsNoLaterFormat};
 ghost use Rattle.desk_store.specs.declared.open_fault.OpenFault.TheVariants.{NewerFormat as newer_format, NotADesk as not_a_desk, Storage as of_storage};
 ghost use Rattle.sql_upgrade.specs.FirstDesks.{BringsDesk, HasFirst, HasSecond, IsAdded, UpgradesDesk};
-ghost use Rattle.store_book.specs.IsBook.{IsBookOfStored};
 
 use crate::faults::{EngineCause, cause_of, memory_fault, saving_fault};
 use crate::open_fault::OpenFault;
-use desk_book::Book;
-use sql_read::{has_book_rows, is_newer, load_stored};
+use sql_read::{has_book_rows, is_newer};
 use sql_schema::{has_indexes, uses_key_table};
 use sql_upgrade::{Additions, read_additions, upgrade};
 use sqlite::{Alter, Connection, Error};
 use std::alloc::Global;
 use store_api::StorageFault;
-use store_book::{RowsFault, from_rows};
-use store_columns::StoredRows;
 
 // The fault of a reading that failed in opening.
 fn opening_fault<S: Alter>(conn: &mut Connection<S>, error: Error) -> OpenFault
@@ -65,39 +61,11 @@ fn check_format<S: Alter>(conn: &mut Connection<S>) -> Result<(), OpenFault>
     }
 }
 
-// The book of the rows that were read.
-fn book_of(alloc: Global, stored: StoredRows) -> Result<Book, OpenFault>
-    ensures book { IfOk result (λ book. IsBookOfStored stored book) }
-    ensures fault { IfErr result (λ why. (why ≡ of_storage memory) ⊎ ((why ≡ not_a_desk) × ((T : Tables) → IsBookOfStored stored T → ⊥))) }
-{
-    match from_rows(alloc, stored) {
-        Ok(book) => Ok(book),
-        Err(RowsFault::NotABook) => Err(OpenFault::NotADesk),
-        Err(RowsFault::Memory) => Err(OpenFault::Storage(StorageFault::Memory)),
-    }
-}
-
-/// The book of the tables.
-///
-/// # Errors
-///
-/// `NotADesk` where the tables are no desk's, `Storage` where the store failed.
-pub(crate) fn read_book<S: Alter>(
-    alloc: Global,
-    conn: &mut Connection<S>,
-) -> Result<Book, OpenFault>
-    ensures book { HasCleanDisk (state S.Store conn.new) → IfOk result (λ book. (T : Tables) → HasDesk (state S.Store conn.old) T → book ≡ T) }
-    ensures reads { ReadsDesk S.Store conn.old conn.new result }
-    ensures shut { HasCleanDisk (state S.Store conn.new) → result ≡ Err (of_storage reopen) → IsShut S.Store conn.old conn.new }
-{
-    match load_stored(alloc, conn) {
-        Ok(stored) => book_of(alloc, stored),
-        Err(error) => Err(opening_fault(conn, error)),
-    }
-}
-
 // What today's format adds to the desk. The rows are read one after the other, so that of each no more than what is added is held.
-// It fails as `read_book` does.
+//
+// # Errors
+//
+// `NotADesk` where the tables are no desk's, `Storage` where the store failed.
 fn find_additions<S: Alter>(alloc: Global, conn: &mut Connection<S>) -> Result<Additions, OpenFault>
     ensures added { HasCleanDisk (state S.Store conn.new)
         → IfOk result (λ additions. (T : Tables) → HasFirst (state S.Store conn.old) T → IsAdded additions T) }

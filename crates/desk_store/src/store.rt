@@ -11,7 +11,7 @@ ghost use Rattle.sql_read.specs.{Failures.MayRead, Held.ForHeld, LookUpFaults.Is
 ghost use Rattle.store_api.specs.Sight.{ForTables, Keeps, Reads};
 ghost use Rattle.store_api.specs.Storing.{Loads, Saves, SavesOf};
 ghost use Rattle.store_api.specs.declared.fault.StorageFault.TheVariants.{Memory as memory, Reopen as reopen};
-ghost use Rattle.desk_store.specs.Causes.{Failed, FailedToChange, IsMetFault};
+ghost use Rattle.desk_store.specs.Causes.{Failed, FailedToChange};
 ghost use Rattle.desk_store.specs.Desks.{HasDesk, store_sight};
 ghost use Rattle.desk_store.specs.Making.{FailedToMake, IsNewDesk, IsOfStorage};
 ghost use Rattle.desk_store.specs.Opening.{FailedToOpen, HasLaterFormat, IsUpgraded, IsWhole, IsWholeFirst, ShowsKnownFormat, ShowsNewerFormat, RefusesFormat};
@@ -24,7 +24,7 @@ use crate::faults::{reading_fault, saving_fault};
 use crate::known::Known;
 use crate::making::make_desk;
 use crate::open_fault::OpenFault;
-use crate::opening::{open_desk, read_book};
+use crate::opening::open_desk;
 use desk_book::Book;
 use desk_model::{Change, Clock, Policy};
 use sql_read::{ReadFault, meta_row};
@@ -32,7 +32,7 @@ use sql_schema::uses_names;
 use sql_write::save_all;
 use sqlite::{Alter, Connection};
 use std::alloc::Global;
-use store_api::{ParsedCall, Storage, StorageFault, load_enough, load_part};
+use store_api::{ParsedCall, Storage, StorageFault, load_enough, load_part, whole_book};
 
 /// The tables of a desk over a connection, which is in no transaction between two calls.
 #[derive(Drop)]
@@ -160,14 +160,8 @@ impl<S: Alter> Store<S> {
         ensures reads { Reads (store_sight S.Store) self.old self.new result }
         ensures book { ForTables (store_sight S.Store) self.old self.new (λ T. IfOk result (λ book. book ≡ T)) }
         ensures failed { IfErr result (Failed S.Store None self.old.conn self.new.conn) }
-        ensures met { ForTables (store_sight S.Store) self.old self.new (λ T.
-            IfErr result (λ why. IsMetFault (state S.Store self.old.conn) (state S.Store self.new.conn) (of_storage why))) }
     {
-        match read_book(alloc, &mut self.conn) {
-            Ok(book) => Ok(book),
-            Err(OpenFault::Storage(fault)) => Err(fault),
-            Err(OpenFault::NotADesk | OpenFault::NewerFormat) => Err(StorageFault::Device),
-        }
+        whole_book(alloc, self)
     }
 
     /// The policy that the desk was made with.

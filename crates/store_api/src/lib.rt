@@ -20,4 +20,4 @@ pub use identifiers::{CallFault, ParsedCall};
 pub use laws::touched_rows_are_a_book;
 pub use look_ups::{Found, LookUps, RowsAbove};
 pub use storage::Storage;
-pub use touched::{load_part, touched_book};
+pub use touched::{load_part, touched_book, whole_book};

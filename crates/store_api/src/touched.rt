@@ -170,6 +170,28 @@ pub fn touched_book<S: LookUps>(
     ))
 }
 
+/// The book of all rows. It fails as `touched_book` does.
+pub fn whole_book<S: LookUps>(alloc: Global, source: &mut S) -> Result<Book, StorageFault>
+    ensures reads { Reads S.sight source.old source.new result }
+    ensures whole { ForTables S.sight source.old source.new (λ T. IsOrdered T → IfOk result (λ book. book ≡ T)) }
+{
+    let meta = source.meta_row(alloc)?;
+    let mut rows = Rows {
+        nonces: Table::new(alloc),
+        accounts: Table::new(alloc),
+        authorizations: Table::new(alloc),
+        orders: Table::new(alloc),
+    };
+    add_all_rows(alloc, source, &mut rows)?;
+    Ok(Book::of_tables(
+        meta,
+        rows.nonces,
+        rows.accounts,
+        rows.authorizations,
+        rows.orders,
+    ))
+}
+
 /// A part for the call, whatever legal history's picture the source has: the book of exactly the rows that it touches.
 ///
 /// # Errors
