@@ -17,7 +17,6 @@ pub mod KeyRows
 pub mod KeyedReadings
 pub mod ListedOrder
 pub mod Lists
-pub mod Loading
 pub mod Looking
 pub mod LookUpFaults
 pub mod LookUpReadings
@@ -26,7 +25,6 @@ pub mod MetFaults
 pub mod NestLemmas
 pub mod ReadValues
 pub mod Readings
-pub mod ReadsChain
 pub mod Results
 pub mod Selecting
 pub mod ShownRows

@@ -1,14 +1,13 @@
 -- Lists: maps, filters and their order.
-use Rattle.std.proofs.Common.{◌≡◌, ℕ, zero, suc, take, List, [], ◌∷◌, map, filter, Bool, true, false, cond, Option, Some, None, refl, sym, ap, subst}
+use Rattle.std.proofs.Common.{◌≡◌, ℕ, zero, suc, take, List, [], ◌∷◌, map, filter, Bool, true, false, cond, Option, Some, None, refl, ap, subst}
 use Rattle.std.specs.List.Sorted.{IsPermutation}
-use Rattle.std.proofs.lemmas.List.Sorted.{IsPermutation-map, IsPermutation-refl}
+use Rattle.std.proofs.lemmas.List.Sorted.{IsPermutation-refl}
 use Rattle.std.proofs.lemmas.List.{take-map}
 use Rattle.sqlite_sql.specs.Query.{limited}
 use Rattle.model_laws.proofs.Basics.{each-map, each_of_map}
-use Rattle.model_laws.specs.Distinct.{Distinct}
 use Rattle.desk_model.specs.Kept.{EachOf}
 use Rattle.sql_tables.specs.Sorted.{sorted_by}
-use Rattle.sql_tables.proofs.Sorting.{each_sorted, sorted_moves}
+use Rattle.sql_tables.proofs.Sorting.{each_sorted}
 
 -- maps that agree
 pub map-same : {A B : Type 0} (f g : A → B) (xs : List A) → ((x : A) → f x ≡ g x) → map f xs ≡ map g xs
@@ -58,9 +57,3 @@ limited-map f (Some n) xs = take-map f n xs
 -- what holds of what a map gives of each row holds of what it gives of each sorted
 pub each_map_sorted : {A B : Type 0} (key : A → ℕ) (f : A → B) (P : B → Type 0) (xs : List A) → EachOf P (map f xs) → EachOf P (map f (sorted_by key xs))
 each_map_sorted key f P xs h = each-map P f (sorted_by key xs) (each_sorted key (λ x. P (f x)) xs (each_of_map P f xs h))
-
--- what a map gives of sorted rows of different numbers is what it gives of these rows, in some order
-pub map_moved : {A B : Type 0} (key : A → ℕ) (f : A → B) (xs : List A) (all : List B) → Distinct key xs → all ≡ map f (sorted_by key xs)
-    → IsPermutation all (map f xs)
-map_moved key f xs all apart are =
-    subst (λ ys. IsPermutation ys (map f xs)) (sym are) (IsPermutation-map f (sorted_by key xs) xs (sorted_moves key xs apart))

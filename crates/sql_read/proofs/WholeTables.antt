@@ -13,7 +13,7 @@ use Rattle.sqlite_sql.specs.Term.{Term}
 use Rattle.sqlite_sql.specs.Query.{Output}
 use Rattle.store_columns.specs.Columns.{listed_columns}
 use Rattle.store_columns.specs.Flat.{challenge_rows, key_rows, listed_rows}
-use Rattle.store_columns.specs.declared.{columns.OrderAuthzColumns.OrderAuthzColumns, columns.Owned.Owned}
+use Rattle.store_columns.specs.declared.columns.Owned.{Owned}
 use Rattle.model_laws.proofs.Basics.{each_all, each_of_map}
 use Rattle.desk_model.specs.{Kept.EachOf, Tables.Tables}
 use Rattle.desk_model.specs.declared.rows.Listed.{Listed}
@@ -23,7 +23,7 @@ use Rattle.sql_tables.specs.Images.{listed_cells, listed_params}
 use Rattle.sql_tables.specs.Layouts.{IsRising, challenge_layout, key_layout, order_layout}
 use Rattle.sql_tables.specs.Sorted.{sorted_by}
 use Rattle.store_book.specs.IsBook.{IsBook}
-use Rattle.sql_read.specs.{AllTables.AreFirstReadable, BookShown.HoldsIn, Shown.IsShown}
+use Rattle.sql_read.specs.{BookShown.HoldsIn, Shown.IsShown}
 use Rattle.sql_read.specs.Checking.{AreFirst, ShowsOnly}
 use Rattle.sql_read.proofs.ListedOrder.{listed_strictly, placed}
 use Rattle.sql_read.specs.Failures.{HasTexts, IsReadable}
@@ -177,17 +177,6 @@ module _ {S : Type 0} (g : Ghosts S) (here : Held S) (T : Tables) (format : Form
       IsPermutation-trans (map listed_cells (listed_rows T.orders)) (map listed_cells (map row_of ts)) rows
       (IsPermutation-map listed_cells (listed_rows T.orders) (map row_of ts) (IsPermutation-sym (map row_of ts) (listed_rows T.orders) held.same)) cells
 
-  -- and so read
-  pub listed_columns_are : (all : List OrderAuthzColumns) → IsShown g ord_authz.SELECT.now listed_in here all
-      → IsPermutation all (map listed_columns (listed_rows T.orders))
-  listed_columns_are all it =
-      let ls = listed_rows T.orders in
-      let told = IsPermutation-map listed_in (map listed_cells ls) it.rows (listed_cells_shown it.before it.after it.rows it.same it.shown) in
-      let first : map listed_in (map listed_cells ls) ≡ map listed_columns ls =
-      columns_of listed_in listed_params listed_columns listed_back ls (map listed_cells ls) refl in
-      IsPermutation-sym (map listed_columns ls) all
-      (subst (IsPermutation (map listed_columns ls)) (sym it.columns) (subst (λ cs. IsPermutation cs (map listed_in it.rows)) first told))
-
   -- its reading fails for memory or the disk alone
   pub listed_readable : IsReadable g here ord_authz.SELECT.now FitsListed
   listed_readable before after e same may =
@@ -232,15 +221,3 @@ module _ {S : Type 0} (g : Ghosts S) (here : Held S) (T : Tables) (format : Form
         whole = λ old new given same h.
             columns_of listed_in listed_params listed_columns listed_back ls given (listed_in_turn old new given same h);
       }
-
--- each table that both formats have
-pub first_readable : {S : Type 0} (g : Ghosts S) (here : Held S) (T : Tables) (format : Format) → HoldsIn format (state g here).now T → HasTexts T
-    → AreFirstReadable g here
-first_readable g here T format has texts =
-    let metas = (meta_whole g here T format has).readable texts in
-    let nonces = (nonces_whole g here T format has).readable texts in
-    let accounts = (accounts_whole g here T format has).readable texts in
-    let orders = (orders_whole g here T format has).readable texts in
-    let listed = listed_readable g here T format has in
-    let authorizations = (authorizations_whole g here T format has).readable texts in
-    ((((((metas, nonces), accounts), orders), listed), authorizations), (challenges_whole g here T format has).readable texts)

@@ -1,11 +1,5 @@
 //! The formats of a file.
 
-use desk_model::Sequence;
-use store_columns::{
-    AccountColumns, AuthzColumns, ChallColumns, MetaColumns, NonceColumns, OrderAuthzColumns,
-    OrderColumns,
-};
-
 /// Which tables a file has.
 #[derive(Clone, Copy)]
 pub(crate) enum Format {
@@ -13,16 +7,4 @@ pub(crate) enum Format {
     First,
     /// Today's: beside them that of the keys of answers.
     Second,
-}
-
-/// The columns of the tables that both formats have.
-#[derive(Drop)]
-pub(crate) struct FirstTables {
-    pub(crate) metas: Sequence<MetaColumns>,
-    pub(crate) nonces: Sequence<NonceColumns>,
-    pub(crate) accounts: Sequence<AccountColumns>,
-    pub(crate) orders: Sequence<OrderColumns>,
-    pub(crate) authzs: Sequence<AuthzColumns>,
-    pub(crate) order_authzs: Sequence<OrderAuthzColumns>,
-    pub(crate) challs: Sequence<ChallColumns>,
 }

@@ -1,4 +1,4 @@
-//! The rows of a desk, read from the tables of its database: looked up by queries, read whole, or checked one after the other.
+//! The rows of a desk, read from the tables of its database: looked up by queries, or checked one after the other.
 //! `desk_store` answers look-ups and opens a file by it, and `sql_upgrade` reads a file of format 1.
 #![tactic(auto)]
 
@@ -14,7 +14,6 @@ mod meta;
 mod nonces;
 mod orders;
 mod rows;
-mod stored;
 mod values;
 
 pub use accounts::{account_above, find_accounts};
@@ -30,4 +29,3 @@ pub use meta::meta_row;
 pub use nonces::{earliest_issue, find_nonces};
 pub use orders::{bare_orders_of, earliest_order_end, find_orders, order_above, orders_listing};
 pub use rows::Selected;
-pub use stored::load_stored;
