@@ -88,7 +88,8 @@ module _ {S : Type 0} (g : Ghosts S) where
     }
 
   -- all rows of the last table passed
-  pub checks_last : {format : Format} {P : Database → Type 0} {N : Database → Meta → FlatRows → Type 0} {old new : Held S} → (HasCleanDisk (state g new) → P (state g old).now)
+  pub checks_last : {format : Format} {P : Database → Type 0} {N : Database → Meta → FlatRows → Type 0} {old new : Held S}
+      → (HasCleanDisk (state g new) → P (state g old).now)
       → (HasCleanDisk (state g new) → IsUnchanged (state g old) (state g new)) → Asks (state g old) (state g new)
       → Checks g format old new P N (Ok true)
   checks_last known same asks = record {

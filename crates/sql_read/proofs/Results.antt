@@ -1,5 +1,6 @@
 -- Results, and tests.
-use Rattle.std.proofs.Common.{◌≡◌, Bool, true, false, IsTrue, IfErr, IfOk, IfSome, IsErrAnd, MatchOption, OnOk, Option, Some, None, Result, Ok, Err, ap, refl, subst, sym}
+use Rattle.std.proofs.Common.{◌≡◌, Bool, true, false, IsTrue, IfErr, IfOk, IfSome, IsErrAnd, MatchOption, OnOk, Option, Some, None}
+use Rattle.std.proofs.Common.{Result, Ok, Err, ap, refl, subst, sym}
 use Rattle.sqlite.specs.State.{State, IsUnchanged}
 use Rattle.sqlite.proofs.Callers.{unchanged_then}
 

@@ -135,7 +135,8 @@ whole_kept g text spelled write IsStored Passed IsWhole db check after new shows
 -- ---- rows that do not pass
 
 -- behind rows of a table, the row that is its next
-pub record IsNext {C R : Type 0} (spelled : Row → C) (write : R → C) (Fits : Row → Type 0) (IsStored : R → Type 0) (row : Row) (rows all : List R) : Type 0 where
+pub record IsNext {C R : Type 0} (spelled : Row → C) (write : R → C) (Fits : Row → Type 0) (IsStored : R → Type 0) (row : Row)
+    (rows all : List R) : Type 0 where
   pub next : R
   pub rest : List R
   pub are : all ≡ rows ++ next ∷ rest

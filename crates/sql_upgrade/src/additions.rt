@@ -35,7 +35,8 @@ fn with_keys<S: Alter>(
     meta: Meta,
 ) -> Result<Option<Additions>, Error>
     ensures { Reads S.Store conn.old conn.new (λ found. MatchOption found (LacksThumbs S.Store (state S.Store conn.old).now)
-        (HasKeys S.Store (state S.Store conn.old).now meta)) (IsFirstReadable S.Store conn.old) (λ e. IsOutOfMemory e ⊎ FailsAtFirst S.Store conn.old e) result }
+        (HasKeys S.Store (state S.Store conn.old).now meta)) (IsFirstReadable S.Store conn.old)
+        (λ e. IsOutOfMemory e ⊎ FailsAtFirst S.Store conn.old e) result }
 {
     match read_keys(alloc, conn) {
         Ok(Some(keys)) => Ok(Some(Additions { meta, keys })),

@@ -50,7 +50,8 @@ impl<'a> RowCheck<OrderAuthzColumns> for ListedCheck<'a> {
     ghost Passed = { λ first now rows. PlacesRise rows × EachOf (IsPlacedUpTo now.order now.place) rows
         × (now.orders.now ≡ first.orders.now) × (now.authorizations.now ≡ first.authorizations.now)
         × EachOf (λ l. IsAmong first.orders.now l.owner) rows × EachOf (λ l. IsAmong first.authorizations.now l.row.authorization) rows
-        × ((row : ListedRow) (rest : List ListedRow) → PlacedFrom first.order first.place (rows ++ row ∷ rest) → IsPlacedNext now.order now.place row.owner row.row.place) };
+        × ((row : ListedRow) (rest : List ListedRow) → PlacedFrom first.order first.place (rows ++ row ∷ rest)
+        → IsPlacedNext now.order now.place row.owner row.row.place) };
 
     ghost IsWhole = { λ first rows kept. AreListed first.orders.now first.authorizations.now rows };
 

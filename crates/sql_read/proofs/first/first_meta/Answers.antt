@@ -12,7 +12,9 @@ returns-clause-found g c clean T has book =
     read_then c.checked_meta.result (c.checked_meta.ensures.shown clean) (λ known is. meta_is g.S.Store c.args.conn.now T has book known is)
 
 pub returns-clause-none : goal.returns-clause-none
-returns-clause-none g c clean = read_then c.checked_meta.result (c.checked_meta.ensures.shown clean) (λ known is none. none_said _ (IsFirstMeta g.S.Store c.args.conn.now) known is none)
+returns-clause-none g c clean =
+    read_then c.checked_meta.result (c.checked_meta.ensures.shown clean) (λ known is none.
+    none_said _ (IsFirstMeta g.S.Store c.args.conn.now) known is none)
 
 pub returns-clause-fails : goal.returns-clause-fails
 returns-clause-fails g c clean T has may texts = c.checked_meta.ensures.fails clean may (record { tables = T; holds = has; texts = texts })

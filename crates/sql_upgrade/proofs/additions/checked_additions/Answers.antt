@@ -33,7 +33,8 @@ returns-in-Ok-Some g c =
     c.in-Ok-Some.ensures.unchanged c.in-Ok-Some.ensures.asks c.with_keys.ensures
 
 pub returns-in-Ok-None : goal.returns-in-Ok-None
-returns-in-Ok-None g c = reads_ok g.S.Store (λ clean. c.in-Ok-None.ensures.none clean c.in-Ok-None.field-0-is) c.in-Ok-None.ensures.unchanged c.in-Ok-None.ensures.asks
+returns-in-Ok-None g c =
+    reads_ok g.S.Store (λ clean. c.in-Ok-None.ensures.none clean c.in-Ok-None.field-0-is) c.in-Ok-None.ensures.unchanged c.in-Ok-None.ensures.asks
 
 pub returns-in-Err : goal.returns-in-Err
 returns-in-Err g c =
