@@ -6,8 +6,8 @@ use Rattle.std.specs.Io.BufRead.{DropsThrough, drop_through, first_piece}
 use Rattle.std.specs.Io.Buffered.{reader_buffer, reader_capacity, reader_inner, reader_remaining}
 use Rattle.std.specs.Io.KnownBytes.{Appends, IsAtEnd, prepend_known}
 use Rattle.std.specs.declared.io.buffered.BufReader.{BufReader}
-use Rattle.app_batch.specs.InTurn.{AnswersEach, AnswersFirst, AnswersLine, AnswersLines, AreLines, Stops, StopsBehind, no_line, not_one, one_line_more}
-use Rattle.app_batch.specs.InTurn.{one_more, silent, unwritten}
+use Rattle.app_batch.specs.InTurn.{AnswersEach, AnswersFirst, AnswersLine, AnswersLines, AreLines, IsNextLine, Stops, StopsBehind, no_line, not_one}
+use Rattle.app_batch.specs.InTurn.{one_line_more, one_more, silent, unwritten}
 use Rattle.app_batch.specs.Said.{Answered, Says}
 use Rattle.app_batch.specs.declared.fault.AnswerFault.{AnswerFault}
 use Rattle.desk.specs.State.{DeskState}
@@ -46,6 +46,15 @@ read_more (Some bytes) (Some xs) next lines left line before some rest =
     let same : xs ≡ left = cc (before.unread) in
     rw (some.1, same) (record { read = one_line_more (before.read) (rw same at some.0); unread = rw same at rest })
 
+-- the line that was read is the first of those that are left
+pub read_next : (bytes now : Option (List ℕ)) (lines : List (List ℕ)) (left line : List ℕ) → IsReadTo bytes now lines left
+    → IfSome now (λ xs. (xs ≢ []) × (line ≡ first_piece 10 xs)) → IsNextLine bytes left line
+read_next None now lines left line before some = tt
+read_next (Some bytes) None lines left line before some = absurd (cc (before.unread))
+read_next (Some bytes) (Some xs) lines left line before some =
+    let same : xs ≡ left = cc (before.unread) in
+    subst (λ l. (l ≢ []) × (line ≡ first_piece 10 l)) same some
+
 -- ---- the desk and the writer
 
 module _ {S C : Type 0} (v : Sight S C) where
@@ -55,9 +64,9 @@ module _ {S C : Type 0} (v : Sight S C) where
       → Answered v items old line answered new → IfOk answered (λ said. OnOk result (Appends was is (items said ++ 10 ∷ [])))
       → IfErr answered (λ why. IsErr result × (is ≡ was)) → AnswersLine v line was is old new result
   line_answered items line was is old new (Ok said) (Ok done) says written none = (items said, says, written)
-  line_answered items line was is old new (Ok said) (Err e) says written none = unwritten line (items said) says
+  line_answered items line was is old new (Ok said) (Err e) says written none = unwritten (items said) says
   line_answered items line was is old new (Err why) (Ok done) says written none = absurd (cc none.0)
-  line_answered items line was is old new (Err why) (Err e) says written none = silent line why says none.1
+  line_answered items line was is old new (Err why) (Err e) says written none = silent why says none.1
 
   -- lines that were answered so far: which, what was said to them, and what the reader still gives
   pub record IsAnsweredTo (bytes now was is : Option (List ℕ)) (old new : DeskState S) : Type 0 where
@@ -113,8 +122,8 @@ module _ {S C : Type 0} (v : Sight S C) where
       }
 
   -- and then came what was not answered
-  pub stops_behind : (bytes now was mid is : Option (List ℕ)) (old between new : DeskState S) → IsAnsweredTo bytes now was mid old between
-      → Stops v mid is between new → StopsBehind v bytes was is old new
+  pub stops_behind : (bytes now was mid is : Option (List ℕ)) (old between new : DeskState S) → (a : IsAnsweredTo bytes now was mid old between)
+      → Stops v bytes a.left mid is between new → StopsBehind v bytes was is old new
   stops_behind bytes now was mid is old between new a s =
       record { left = a.left; mid = between; written = mid; first = first_of bytes now was mid old between a; stops = s }
 

@@ -13,6 +13,10 @@ pub data AreLines (bytes : List ℕ) : List (List ℕ) → List ℕ → Type 0 w
   one_line_more : {lines : List (List ℕ)} {left : List ℕ} → AreLines bytes lines left → left ≢ []
       → AreLines bytes (lines ++ first_piece 10 left ∷ []) (drop_through 10 left)
 
+-- the first line of a reader's last bytes, without its end, where its bytes are known
+abbrev pub IsNextLine : (bytes : Option (List ℕ)) → (left line : List ℕ) → Type 0
+IsNextLine bytes left line = IfSome bytes (λ _. (left ≢ []) × (line ≡ first_piece 10 left))
+
 module _ {S C : Type 0} (v : Sight S C) where
   -- these lines were answered, one after the other, and this is what was said to them, each text with its end
   pub data AnswersEach (old : DeskState S) : List (List ℕ) → List ℕ → DeskState S → Type 0 where
@@ -28,11 +32,15 @@ module _ {S C : Type 0} (v : Sight S C) where
     pub answered : AnswersEach old lines said new
     pub written : Appends was is said
 
-  -- the next line could not be read, or was not answered, and the writer is as it was; or it was answered, but that could not be written
-  pub data Stops (was is : Option (List ℕ)) (old new : DeskState S) : Type 0 where
-    unread : new ≡ old → is ≡ was → Stops was is old new
-    silent : (line : List ℕ) (why : AnswerFault) → SaysNothing v old line why new → is ≡ was → Stops was is old new
-    unwritten : (line text : List ℕ) → Says v old line text new → Stops was is old new
+  -- a line was not answered, and the writer is as it was; or it was answered, but that could not be written
+  pub data StopsAt (line : List ℕ) (was is : Option (List ℕ)) (old new : DeskState S) : Type 0 where
+    silent : (why : AnswerFault) → SaysNothing v old line why new → is ≡ was → StopsAt line was is old new
+    unwritten : (text : List ℕ) → Says v old line text new → StopsAt line was is old new
+
+  -- of these last bytes of a reader the next line could not be read, and nothing was done; or it was, and was not told its answer
+  pub data Stops (bytes : Option (List ℕ)) (left : List ℕ) (was is : Option (List ℕ)) (old new : DeskState S) : Type 0 where
+    unread : new ≡ old → is ≡ was → Stops bytes left was is old new
+    untold : (line : List ℕ) → IsNextLine bytes left line → StopsAt line was is old new → Stops bytes left was is old new
 
   -- lines were answered, and then came one that was not
   pub record StopsBehind (bytes was is : Option (List ℕ)) (old new : DeskState S) : Type 0 where
@@ -40,7 +48,7 @@ module _ {S C : Type 0} (v : Sight S C) where
     pub mid : DeskState S
     pub written : Option (List ℕ)
     pub first : AnswersFirst bytes was left written old mid
-    pub stops : Stops written is mid new
+    pub stops : Stops bytes left written is mid new
 
   -- all lines were answered; or the first ones, and then came one that was not
   abbrev pub AnswersLines : {E : Type 0} (bytes was is : Option (List ℕ)) (old new : DeskState S) → Result Unit E → Type 0
@@ -50,4 +58,4 @@ module _ {S C : Type 0} (v : Sight S C) where
   -- what became of one line
   abbrev pub AnswersLine : {E : Type 0} (line : List ℕ) (was is : Option (List ℕ)) (old new : DeskState S) → Result Unit E → Type 0
   AnswersLine line was is old new (Ok done) = (text : List ℕ) × Says v old line text new × Appends was is (text ++ 10 ∷ [])
-  AnswersLine line was is old new (Err why) = Stops was is old new
+  AnswersLine line was is old new (Err why) = StopsAt line was is old new

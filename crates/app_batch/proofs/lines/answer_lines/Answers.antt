@@ -1,7 +1,7 @@
 use Rattle.std.proofs.Common.{refl, rules, ◌∙◌}
 use Rattle.std.specs.Io.Buffered.{reader_remaining}
-use Rattle.app_batch.specs.InTurn.{unread}
-use Rattle.app_batch.proofs.Turning.{answered_all, answered_more, answered_none, remaining_anew, stops_behind, told_stop}
+use Rattle.app_batch.specs.InTurn.{unread, untold}
+use Rattle.app_batch.proofs.Turning.{answered_all, answered_more, answered_none, read_next, remaining_anew, stops_behind, told_stop}
 use Rattle.desk.proofs.SeeingDesks.{same_policy, seen_once_more, seen_untouched}
 use Rattle.app_batch.proofs.lines.answer_lines.Goals as goal
 
@@ -69,10 +69,14 @@ returns-in_err-answer_line-clause-answered g c =
     let was = g.W.Write.contents c.args.writer.now in
     let mid = g.W.Write.contents c.loop-number.writer in
     let is = g.W.Write.contents c.answer_line.new.writer in
+    let now = reader_remaining g.R.Read.remaining c.loop-number.reader in
+    let so_far = c.loop-number.invariant.answered in
     told_stop g.K.Storage.sight bytes was is c.args.desk.now c.answer_line.new.desk c.from_residual-in_err-answer_line.result
     c.from_residual-in_err-answer_line.ensures.0
-    (stops_behind g.K.Storage.sight bytes (reader_remaining g.R.Read.remaining c.loop-number.reader) was mid is c.args.desk.now c.loop-number.desk
-    c.answer_line.new.desk c.loop-number.invariant.answered c.in_err-answer_line.ensures.answered)
+    (stops_behind g.K.Storage.sight bytes now was mid is c.args.desk.now c.loop-number.desk c.answer_line.new.desk c.loop-number.invariant.answered
+    (untold c.as_slice.result.now
+    (read_next bytes now so_far.lines so_far.left c.as_slice.result.now so_far.read
+    (rw (c.as_slice.ensures.value) (c.in_ok-next_line.ensures.line (search rules)))) c.in_err-answer_line.ensures.answered))
 
 pub returns-clause-answered : goal.returns-clause-answered
 returns-clause-answered g c =
