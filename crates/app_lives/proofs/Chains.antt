@@ -142,29 +142,48 @@ module _ {S C : Type 0} (v : Sight S C) where
   pub no_call : (P : List Told → Type 0) → P [] → (old new : DeskState S) → new ≡ old → AreCalls P old new
   no_call P none old new same = subst (AreCalls P old) (sym same) (record { told = []; answered = not_one; says = none })
 
-  -- these, or one more
-  abbrev pub OrOneMore : (P : List Told → Type 0) → List Told → Type 0
-  OrOneMore P told = (earlier : List Told) × P earlier × ((told ≡ earlier) ⊎ ((last : Told) × (told ≡ last ∷ earlier)))
+  -- these, or one more, of which this is so
+  abbrev pub OrOneMore : (P : List Told → Type 0) (L : Told → Type 0) → List Told → Type 0
+  OrOneMore P L told = (earlier : List Told) × P earlier × ((told ≡ earlier) ⊎ ((last : Told) × (told ≡ last ∷ earlier) × L last))
+
+  module _ (P : List Told → Type 0) (L : Told → Type 0) (old mid new : DeskState S) where
+    -- none more
+    pub none_more : new ≡ mid → AreCalls P old mid → AreCalls (OrOneMore P L) old new
+    none_more same before =
+        subst (AreCalls (OrOneMore P L) old) (sym same) (of_calls (OrOneMore P L) before (before.told, before.says, inl refl))
+
+    -- one more that was replied to
+    pub one_replied : (call : Call) (reply : Reply) → Meets v call mid new (Ok reply) → L (record { call = call; reply = reply }) → AreCalls P old mid
+        → AreCalls (OrOneMore P L) old new
+    one_replied call reply meets is before =
+        let last : Told = record { call = call; reply = reply } in
+        record {
+          told = last ∷ before.told;
+          answered = one_more call reply before.answered meets;
+          says = (before.told, before.says, inr (last, refl, is));
+        }
+
+    -- or that was declined
+    pub one_unanswered : (call : Call) (why : DeskFault) → Meets v call mid new (Err why) → AreCalls P old mid → AreCalls (OrOneMore P L) old new
+    one_unanswered call why meets before =
+        record { told = before.told; answered = one_declined call why before.answered meets; says = (before.told, before.says, inl refl) }
+
+  -- of which anything is so
+  abbrev pub AnyTold : Told → Type 0
+  AnyTold told = Unit {0}
 
   -- one more
   acts_more : (P : List Told → Type 0) (old mid new : DeskState S) (call : Call) (result : Result Reply DeskFault) → Meets v call mid new result
-      → AreCalls P old mid → AreCalls (OrOneMore P) old new
-  acts_more P old mid new call (Ok reply) meets before =
-      let last : Told = record { call = call; reply = reply } in
-      record {
-        told = last ∷ before.told;
-        answered = one_more call reply before.answered meets;
-        says = (before.told, before.says, inr (last, refl));
-      }
-  acts_more P old mid new call (Err why) meets before =
-      record { told = before.told; answered = one_declined call why before.answered meets; says = (before.told, before.says, inl refl) }
+      → AreCalls P old mid → AreCalls (OrOneMore P AnyTold) old new
+  acts_more P old mid new call (Ok reply) meets before = one_replied P AnyTold old mid new call reply meets tt before
+  acts_more P old mid new call (Err why) meets before = one_unanswered P AnyTold old mid new call why meets before
 
   -- one more, or none
-  pub once_more : (P : List Told → Type 0) (old mid new : DeskState S) → AreCalls P old mid → ActsOnce v mid new → AreCalls (OrOneMore P) old new
-  once_more P old mid new before (inl same) =
-      subst (AreCalls (OrOneMore P) old) (sym same) (of_calls (OrOneMore P) before (before.told, before.says, inl refl))
+  pub once_more : (P : List Told → Type 0) (old mid new : DeskState S) → AreCalls P old mid → ActsOnce v mid new
+      → AreCalls (OrOneMore P AnyTold) old new
+  once_more P old mid new before (inl same) = none_more P AnyTold old mid new same before
   once_more P old mid new before (inr one) = acts_more P old mid new one.call one.result one.meets before
 
-  -- of which anything is so
+  -- of all of which anything is so
   abbrev pub Any : List Told → Type 0
   Any told = Unit {0}

@@ -5,11 +5,13 @@ use Rattle.std.proofs.Common.{◌≡◌, ◌∙◌, ◌⊎◌, ℕ, zero, suc, L
 use Rattle.sqlite.specs.{Files.over_files, Recovery.Image, Tree.Trees}
 use Rattle.sqlite_disk.specs.declared.Disk as disk
 use Rattle.sqlite_store.specs.declared.store.FileStore.{FileStore}
-use Rattle.app_batch.proofs.Acting.{line_acts}
 use Rattle.app_batch.specs.InTurn as batch
 use Rattle.app_batch.specs.LineRequests.{IsRequestOf, call_of}
-use Rattle.app_batch.specs.Said.{RepliesTo, Says}
-use Rattle.app_batch.specs.InTurn.{AnswersEach, AnswersFirst, AreLines, Stops, StopsBehind, not_one, one_more, silent, unread, unwritten}
+use Rattle.app_batch.specs.Said.{DeclinesTo, LacksMemory, RepliesTo, SaysNothing}
+use Rattle.app_batch.specs.declared.lines.AnswerFault.{AnswerFault}
+use Rattle.app_batch.specs.declared.lines.AnswerFault.TheVariants as answerfault
+use Rattle.app_batch.specs.InTurn.{AnswersEach, AnswersFirst, AreLines, IsNextLine, Stops, StopsAt, StopsBehind, not_one, one_more, silent, unread, untold}
+use Rattle.app_batch.specs.InTurn.{unwritten}
 use Rattle.app_words.specs.declared.command.Revocation.{Revocation}
 use Rattle.app_tasks.specs.Deeds.{Adopts, AnswersLines, AnswersReader, BehindClock, ByDesk, FailsToAdopt, IsTold, Revokes, RevokesTarget, Serves}
 use Rattle.app_tasks.specs.Deeds.{ServesCount, adopted, ask_of, clocked, clockless, served, unadopted, unserved}
@@ -35,9 +37,10 @@ use Rattle.http_routes.specs.Lines.{Spells, line_text}
 use Rattle.http_routes.specs.declared.{lines.Line.Line, request.Request.Request}
 use Rattle.http_routes.specs.declared.request.Request.TheVariants as request
 use Rattle.app_lives.specs.Left.{IsOver, LeavesDesk, LeavesLife, LivesOn, WordsLeave}
-use Rattle.app_lives.specs.Told.{TellsAny, TellsBatch, TellsLines, TellsRevocation, asked, no_line, refused}
+use Rattle.app_lives.specs.Told.{IsOfNext, TellsAny, TellsBatch, TellsLines, TellsRevocation, asked, no_line, refused}
 use Rattle.app_lives.proofs.Copies.{copies_hold_desk}
-use Rattle.app_lives.proofs.Chains.{Any, AreCalls, OrOneMore, honest_at_first, left_behind, no_call, of_calls, once_more}
+use Rattle.app_lives.proofs.Chains.{Any, AreCalls, OrOneMore, honest_at_first, left_behind, no_call, none_more, of_calls, once_more, one_replied}
+use Rattle.app_lives.proofs.Chains.{one_unanswered}
 
 -- no line was read
 none_read : (bytes : Option (List ℕ)) → IfSome bytes (λ xs. AreLines xs [] (unwrap_or bytes []))
@@ -46,10 +49,6 @@ none_read (Some xs) = batch.no_line
 
 module _ {S C : Type 0} (v : Sight S C) where
   -- ---- lines
-
-  -- a line, whatever became of it
-  said_acts : (mid new : DeskState S) (line text : List ℕ) → Says v mid line text new → ActsOnce v mid new
-  said_acts mid new line text says = line_acts v (λ (t : List ℕ). t) mid new line (Ok text) says
 
   -- a line that was answered
   one_line : (old mid new : DeskState S) (lines : List (List ℕ)) (said line : List ℕ) (reply : Reply) (l : Line) (q : Request)
@@ -79,16 +78,41 @@ module _ {S C : Type 0} (v : Sight S C) where
       (lines_calls old mid first told before))
 
   -- and one that was not
-  stop_calls : (P : List Told → Type 0) (was is : Option (List ℕ)) (old mid new : DeskState S) → AreCalls v P old mid → Stops v was is mid new
-      → AreCalls v (OrOneMore v P) old new
-  stop_calls P was is old mid new before (unread same kept) = once_more v P old mid new before (inl same)
-  stop_calls P was is old mid new before (silent line why says kept) =
-      once_more v P old mid new before (line_acts v (λ (t : List ℕ). t) mid new line (Err why) says)
-  stop_calls P was is old mid new before (unwritten line text says) = once_more v P old mid new before (said_acts mid new line text says)
+  module _ (P : List Told → Type 0) (bytes : Option (List ℕ)) (left line : List ℕ) (next : IsNextLine bytes left line) (old mid new : DeskState S)
+      (before : AreCalls v P old mid) where
+    replied_next : (reply : Reply) (l : Line) (q : Request) → Spells line l → IsRequestOf l q → RepliesTo v mid l q reply new
+        → AreCalls v (OrOneMore v P (IsOfNext bytes left)) old new
+    replied_next reply l (request.Asks what) spells asks replies =
+        one_replied v P (IsOfNext bytes left) old mid new (call_of l what) reply replies
+        (line, next, record { line = l; what = what; spells = spells; asks = asks; call = refl }) before
+    replied_next reply l (request.Refused why) spells asks replies = none_more v P (IsOfNext bytes left) old mid new replies.1 before
+
+    declined_next : (why : DeskFault) (l : Line) (q : Request) → DeclinesTo v mid l q why new → AreCalls v (OrOneMore v P (IsOfNext bytes left)) old new
+    declined_next why l (request.Asks what) declines = one_unanswered v P (IsOfNext bytes left) old mid new (call_of l what) why declines before
+    declined_next why l (request.Refused refusal) declines = absurd declines
+
+    lacking_next : LacksMemory v mid line new → AreCalls v (OrOneMore v P (IsOfNext bytes left)) old new
+    lacking_next (inl same) = none_more v P (IsOfNext bytes left) old mid new same before
+    lacking_next (inr is) = replied_next is.0 is.1.line is.1.request is.1.spells is.1.asks is.1.replies
+
+    silent_next : (why : AnswerFault) → SaysNothing v mid line why new → AreCalls v (OrOneMore v P (IsOfNext bytes left)) old new
+    silent_next answerfault.NotACall is = none_more v P (IsOfNext bytes left) old mid new is.1 before
+    silent_next (answerfault.Desk why) is = declined_next why is.line is.request is.declines
+    silent_next answerfault.Memory is = lacking_next is
+
+    untold_next : (was is : Option (List ℕ)) → StopsAt v line was is mid new → AreCalls v (OrOneMore v P (IsOfNext bytes left)) old new
+    untold_next was is (silent why says kept) = silent_next why says
+    untold_next was is (unwritten text says) = replied_next says.0 says.1.line says.1.request says.1.spells says.1.asks says.1.replies
+
+  stop_calls : (P : List Told → Type 0) (bytes : Option (List ℕ)) (left : List ℕ) (was is : Option (List ℕ)) (old mid new : DeskState S)
+      → AreCalls v P old mid → Stops v bytes left was is mid new → AreCalls v (OrOneMore v P (IsOfNext bytes left)) old new
+  stop_calls P bytes left was is old mid new before (unread same kept) = none_more v P (IsOfNext bytes left) old mid new same before
+  stop_calls P bytes left was is old mid new before (untold line next stops) = untold_next P bytes left line next old mid new before was is stops
 
   -- the first lines of a reader, and one call more at most
   of_first : (bytes was written is : Option (List ℕ)) (left : List ℕ) (desk mid ended : DeskState S) (how : Result ℕ Fault)
-      → (first : AnswersFirst v bytes was left written desk mid) → (are : AreCalls v (OrOneMore v (TellsLines first.lines first.said)) desk ended)
+      → (first : AnswersFirst v bytes was left written desk mid)
+      → (are : AreCalls v (OrOneMore v (TellsLines first.lines first.said) (IsOfNext bytes left)) desk ended)
       → (how ≡ Ok 0 → (left ≡ []) × (are.told ≡ are.says.0)) → (is ≡ written) ⊎ (how ≡ Ok 1) → AreCalls v (TellsBatch bytes was is how) desk ended
   of_first bytes was written is left desk mid ended how first are whole ends =
       of_calls v (TellsBatch bytes was is how) are (record {
@@ -110,7 +134,8 @@ module _ {S C : Type 0} (v : Sight S C) where
       → AreCalls v (TellsBatch bytes was is how) desk ended
   all_lines bytes was is desk ended how first =
       let are : AreCalls v (TellsLines first.lines first.said) desk ended = lines_calls desk ended first.lines first.said first.answered in
-      of_first bytes was is is [] desk ended ended how first (of_calls v (OrOneMore v (TellsLines first.lines first.said)) are (are.told, are.says, inl refl))
+      of_first bytes was is is [] desk ended ended how first
+      (of_calls v (OrOneMore v (TellsLines first.lines first.said) (IsOfNext bytes [])) are (are.told, are.says, inl refl))
       (λ _. (refl, refl)) (inl refl)
 
   first_lines : (bytes was is : Option (List ℕ)) (desk ended : DeskState S) (how : Result ℕ Fault) → how ≡ Ok 1 → StopsBehind v bytes was is desk ended
@@ -118,7 +143,7 @@ module _ {S C : Type 0} (v : Sight S C) where
   first_lines bytes was is desk ended how one stops =
       let first : AnswersFirst v bytes was stops.left stops.written desk stops.mid = stops.first in
       of_first bytes was stops.written is stops.left desk stops.mid ended how first
-      (stop_calls (TellsLines first.lines first.said) stops.written is desk stops.mid ended
+      (stop_calls (TellsLines first.lines first.said) bytes stops.left stops.written is desk stops.mid ended
       (lines_calls desk stops.mid first.lines first.said first.answered) stops.stops) (λ none. absurd (cc (one, none))) (inr one)
 
   batch_calls : (bytes was is : Option (List ℕ)) (desk ended : DeskState S) (how : Result ℕ Fault) → AnswersLines v bytes was is desk ended how

@@ -1,7 +1,7 @@
 -- What is said to the lines of a batch, and the replies that it tells.
 use Rattle.std.specs.Prelude.{◌≡◌, ◌≢◌, ◌⊎◌, ℕ, List, [], ◌∷◌, ◌++◌, Option, None, IfSome, Result, Ok}
 use Rattle.std.specs.Io.KnownBytes.{Appends}
-use Rattle.app_batch.specs.InTurn.{AreLines}
+use Rattle.app_batch.specs.InTurn.{AreLines, IsNextLine}
 use Rattle.app_batch.specs.LineRequests.{IsRequestOf, call_of}
 use Rattle.app_words.specs.declared.command.Revocation.{Revocation}
 use Rattle.app_tasks.specs.{Deeds.ask_of, declared.fault.Fault.Fault}
@@ -25,8 +25,20 @@ pub data TellsLines : (lines : List (List ℕ)) (said : List ℕ) (told : List T
       → (bytes : List ℕ) (l : Line) (why : RequestRefusal) → Spells bytes l → IsRequestOf l (request.Refused why)
       → TellsLines (lines ++ bytes ∷ []) (said ++ (line_text (refused_reply why) ++ 10 ∷ [])) told
 
+-- a reply of the desk's to what this line asks
+pub record IsOfLine (bytes : List ℕ) (told : Told) : Type 0 where
+  pub line : Line
+  pub what : Ask
+  pub spells : Spells bytes line
+  pub asks : IsRequestOf line (request.Asks what)
+  pub call : told.call ≡ call_of line what
+
+-- to the first of these last lines of a reader, where its bytes are known
+abbrev pub IsOfNext : (bytes : Option (List ℕ)) → (unread : List ℕ) → Told → Type 0
+IsOfNext bytes unread told = (line : List ℕ) × IsNextLine bytes unread line × IsOfLine line told
+
 -- the lines were read of a reader with these bytes, where they are known, and what was said to them was written behind these; the replies
--- of the desk are those, and one more at most, which was not said. With 0 every line was read, and each reply said, and nothing else was
+-- of the desk are those, and one more at most, to the next line, which was not said. With 0 every line was read, and each reply said, and nothing else was
 -- written; with 1 a text may be written in part
 pub record TellsBatch (bytes was is : Option (List ℕ)) (how : Result ℕ Fault) (told : List Told) : Type 0 where
   pub lines : List (List ℕ)
@@ -37,7 +49,7 @@ pub record TellsBatch (bytes was is : Option (List ℕ)) (how : Result ℕ Fault
   pub appended : Appends was written said
   pub telling : List Told
   pub tells : TellsLines lines said telling
-  pub all : (told ≡ telling) ⊎ ((last : Told) × (told ≡ last ∷ telling))
+  pub all : (told ≡ telling) ⊎ ((last : Told) × (told ≡ last ∷ telling) × IsOfNext bytes unread last)
   pub whole : how ≡ Ok 0 → (unread ≡ []) × (told ≡ telling)
   pub ends : (is ≡ written) ⊎ (how ≡ Ok 1)
 

@@ -10,6 +10,7 @@ use Rattle.http_routes.specs.declared.request.Request.TheVariants as request
 use Rattle.http_wire.specs.declared.call.ReplyForm.{ReplyForm}
 use Rattle.desk_http.specs.Serving.{HasAnswer, Responds, ServesBy}
 use Rattle.desk_http.specs.declared.{serving.Unanswered.Unanswered, serving.IoFault.IoFault, serving.Served.Served, overseeing.ReplySummary.ReplySummary}
+use Rattle.desk_http.specs.declared.clients.MomentBound.{MomentBound}
 use Rattle.desk_http.specs.declared.serving.Unanswered.TheVariants as cause
 use Rattle.desk_http.specs.InTurn.{Ends, IsClosedBy, ServesClient, ended_by, fault_after, fault_of, parsed, if_closes, unread}
 
@@ -51,12 +52,13 @@ module _ {S C : Type 0} (v : Sight S C) (causes : Causes S) (at : ℕ) (random :
   served_ends base form (Some cause.Text) written summary s = answer_ends (Ok s.0.0) s.0.1
 
 -- by a connection, whatever became of it
-pub client_ends : {S C : Type 0} (v : Sight S C) (causes : Causes S) (served : Result Served IoFault) (old new : DeskState S) → old.is_closed ≡ false
-    → ServesClient v causes None None None old new served → EndsBy (fault_after served new.is_closed) new
-client_ends v causes (Ok served) old new opened (unread same kept failed) = absurd (cc failed)
-client_ends v causes (Ok served) old new opened (parsed s) =
+pub client_ends : {S C : Type 0} (v : Sight S C) (causes : Causes S) (bound : MomentBound) (came : ℕ) (asked : Option ℕ) (served : Result Served IoFault)
+    (next : MomentBound) (old new : DeskState S) → old.is_closed ≡ false
+    → ServesClient v causes bound came None None None old new asked served next → EndsBy (fault_after served new.is_closed) new
+client_ends v causes bound came asked (Ok served) next old new opened (unread same kept none failed stays) = absurd (cc failed)
+client_ends v causes bound came asked (Ok served) next old new opened (parsed s at about follows) =
     let does = s.does in served_ends v causes s.at s.random old new opened new.policy.base does.0 served.cause served.written served.summary does.2
-client_ends v causes (Err why) old new opened s = reopens_if new.is_closed new refl
+client_ends v causes bound came asked (Err why) next old new opened s = reopens_if new.is_closed new refl
 
 -- and so by how the serving of it ends
 pub ends_next : {S : Type 0} (why : Option DeskFault) (kept : Bool) (desk : DeskState S) → EndsBy why desk → Ends (ended_by why kept) desk

@@ -1,5 +1,5 @@
 -- What serving connections one after the other does to a desk.
-use Rattle.std.specs.Prelude.{◌≡◌, ◌⊎◌, ◌<◌, ◌≤◌, ℕ, length, List, zero, suc, Bool, true, false, Option, Some, None, Result, Ok, Err, MatchResult}
+use Rattle.std.specs.Prelude.{◌≡◌, ◌⊎◌, ◌<◌, ℕ, length, List, zero, suc, Bool, true, false, Option, Some, None, Result, Ok, Err, IsTrue, MatchResult}
 use Rattle.std.specs.{Io.KnownBytes.Keeps, declared.alloc.AllocError.AllocError}
 use Rattle.store_api.specs.{Sight.Sight, Storing.Causes}
 use Rattle.desk.specs.{Faults.closes, State.DeskState, declared.fault.DeskFault.DeskFault}
@@ -10,7 +10,10 @@ use Rattle.desk_model.specs.declared.call.Target.TheVariants as to
 use Rattle.http_routes.specs.declared.request.Request.{Request}
 use Rattle.http_routes.specs.declared.request.Request.TheVariants as request
 use Rattle.http_wire.specs.declared.call.ParsedRequest.{ParsedRequest}
+use Rattle.desk_http.specs.MomentBounds.{followed, moment_for}
+use Rattle.desk_http.specs.Noted.{IsNoteOf, Note, object_asked}
 use Rattle.desk_http.specs.Serving.{Breaks, IsParsedOf, Serves}
+use Rattle.desk_http.specs.declared.{clients.MomentBound.MomentBound, overseeing.Watch.Watch}
 use Rattle.desk_http.specs.declared.{serving.Unanswered.Unanswered, serving.IoFault.IoFault, serving.Served.Served, serve_fault.ServeFault.ServeFault}
 use Rattle.desk_http.specs.declared.serving.Unanswered.TheVariants as cause
 use Rattle.desk_http.specs.declared.serving.IoFault.TheVariants as iofault
@@ -70,37 +73,71 @@ module _ {S C : Type 0} (v : Sight S C) (causes : Causes S) where
   abbrev pub ServesAt : ℕ → (known before after : Option (List ℕ)) → (old new : DeskState S) → Result Served IoFault → Type 0
   ServesAt at known before after old new served = (it : ServesParsed known before after old new served) × (it.at ≡ at)
 
-  -- a client whose request could not be read, and then nothing was done, or was served
-  pub data ServesClient (known before after : Option (List ℕ)) (old new : DeskState S) (served : Result Served IoFault) : Type 0 where
-    unread : new ≡ old → Keeps before after → served ≡ Err iofault.Read → ServesClient known before after old new served
-    parsed : ServesParsed known before after old new served → ServesClient known before after old new served
+  -- and this what was read
+  abbrev pub ServesRead : ℕ → ParsedRequest → (known before after : Option (List ℕ)) → (old new : DeskState S) → Result Served IoFault → Type 0
+  ServesRead at parsed known before after old new served =
+      (it : ServesParsed known before after old new served) × (it.at ≡ at) × (it.parsed ≡ parsed)
 
-  -- one connection, and the fault by which the desk is closed after it, if it is. A socket tells neither what its client sends nor what it
-  -- was given
-  abbrev pub ServesOne : Option DeskFault → DeskState S → DeskState S → Type 0
-  ServesOne why old new =
-      (served : Result Served IoFault) × ServesClient None None None old new served × (fault_after served new.is_closed ≡ why)
+  -- a client that came at a moment of the machine, by what is then known of the moment: its request could not be read, and then nothing was
+  -- done; or it was served at the moment that the bound gives, and the bound follows. What it asked about is told, too
+  pub data ServesClient (bound : MomentBound) (came : ℕ) (known before after : Option (List ℕ)) (old new : DeskState S) (asked : Option ℕ)
+      (served : Result Served IoFault) (next : MomentBound) : Type 0 where
+    unread :
+        new ≡ old → Keeps before after → asked ≡ None → served ≡ Err iofault.Read → next ≡ bound
+        → ServesClient bound came known before after old new asked served next
+    parsed :
+        (s : ServesParsed known before after old new served) → s.at ≡ moment_for bound came → asked ≡ object_asked s.parsed.request
+        → next ≡ followed bound came → ServesClient bound came known before after old new asked served next
 
-  -- so many connections, one after the other, none of which closed the desk
-  abbrev pub ServesMany : ℕ → DeskState S → DeskState S → Type 0
-  ServesMany zero old new = new ≡ old
-  ServesMany (suc n) old new = (mid : DeskState S) × ServesMany n old mid × ServesOne None mid new
+  module _ {O : Type 0} (takes : O → Note → O → Type 0) where
+    -- one connection, by the watch before and after: the fault by which the desk is closed after it, if it is, and whether its note was kept,
+    -- which then is of what was served. A socket tells neither what its client sends nor what it was given
+    pub record ServesOne (why : Option DeskFault) (kept : Bool) (old : DeskState S) (was : Watch O) (new : DeskState S) (is : Watch O) : Type 0 where
+      pub came : ℕ
+      pub asked : Option ℕ
+      pub served : Result Served IoFault
+      pub serves : ServesClient was.bound came None None None old new asked served is.bound
+      pub closed : fault_after served new.is_closed ≡ why
+      pub noted : IsTrue kept → (note : Note) × IsNoteOf came asked served note × takes was.overseer note is.overseer
 
-  -- all connections; or fewer, and then the one by whose fault the desk is closed, or a failure of the machine; or up to one of which no
-  -- note is kept
-  abbrev pub ServesAll : ℕ → DeskState S → DeskState S → Result Unit ServeFault → Type 0
-  ServesAll most old new (Ok done) = ServesMany most old new
-  ServesAll most old new (Err (servefault.Desk why)) =
-      (n : ℕ) × (n < most) × (mid : DeskState S) × ServesMany n old mid × ServesOne (Some why) mid new
-  ServesAll most old new (Err servefault.Output) = (n : ℕ) × (n ≤ most) × ServesMany n old new
-  ServesAll most old new (Err machine) = (n : ℕ) × (n < most) × ServesMany n old new
+    -- so many connections, one after the other, none of which closed the desk, each with its note
+    abbrev pub ServesMany : ℕ → DeskState S → Watch O → DeskState S → Watch O → Type 0
+    ServesMany zero old was new is = (new ≡ old) × (is ≡ was)
+    ServesMany (suc n) old was new is =
+        (mid : DeskState S) × (between : Watch O) × ServesMany n old was mid between × ServesOne None true mid between new is
 
-  -- one connection of them
-  abbrev pub ServesNext : DeskState S → DeskState S → Result Unit ServeFault → Type 0
-  ServesNext old new (Ok done) = ServesOne None old new
-  ServesNext old new (Err (servefault.Desk why)) = ServesOne (Some why) old new
-  ServesNext old new (Err servefault.Output) = ServesOne None old new
-  ServesNext old new (Err machine) = new ≡ old
+    -- so many of them, and one more, by whose fault the desk is closed, if it is
+    pub record ServesUntil (most : ℕ) (why : Option DeskFault) (old : DeskState S) (was : Watch O) (new : DeskState S) (is : Watch O) : Type 0 where
+      pub count : ℕ
+      pub fewer : count < most
+      pub mid : DeskState S
+      pub between : Watch O
+      pub many : ServesMany count old was mid between
+      pub kept : Bool
+      pub last : ServesOne why kept mid between new is
+      pub unkept : why ≡ None → kept ≡ false
+
+    -- so many of them, and then the machine failed
+    pub record ServesFewer (most : ℕ) (old : DeskState S) (was : Watch O) (new : DeskState S) (is : Watch O) : Type 0 where
+      pub count : ℕ
+      pub fewer : count < most
+      pub between : Watch O
+      pub many : ServesMany count old was new between
+      pub overseer : is.overseer ≡ between.overseer
+
+    -- all connections; or fewer, and then the one by whose fault the desk is closed, or of which no note is kept, or a failure of the machine
+    abbrev pub ServesAll : ℕ → DeskState S → Watch O → DeskState S → Watch O → Result Unit ServeFault → Type 0
+    ServesAll most old was new is (Ok done) = ServesMany most old was new is
+    ServesAll most old was new is (Err (servefault.Desk why)) = ServesUntil most (Some why) old was new is
+    ServesAll most old was new is (Err servefault.Output) = ServesUntil most None old was new is
+    ServesAll most old was new is (Err machine) = ServesFewer most old was new is
+
+    -- one connection of them
+    abbrev pub ServesNext : DeskState S → Watch O → DeskState S → Watch O → Result Unit ServeFault → Type 0
+    ServesNext old was new is (Ok done) = ServesOne None true old was new is
+    ServesNext old was new is (Err (servefault.Desk why)) = (kept : Bool) × ServesOne (Some why) kept old was new is
+    ServesNext old was new is (Err servefault.Output) = ServesOne None false old was new is
+    ServesNext old was new is (Err machine) = (new ≡ old) × (is.overseer ≡ was.overseer)
 
 -- the desk is closed by a fault that closes
 pub record IsClosedBy {S : Type 0} (why : DeskFault) (desk : DeskState S) : Type 0 where

@@ -12,6 +12,7 @@ use Rattle.http_routes.specs.{Routes.HasNumber, declared.request.Request.Request
 use Rattle.http_routes.specs.declared.request.Request.TheVariants as request
 use Rattle.std.specs.declared.alloc.AllocError.{AllocError}
 use Rattle.desk_http.specs.declared.{serving.Unanswered.Unanswered, serving.IoFault.IoFault, serving.Served.Served, overseeing.ReplySummary.ReplySummary}
+use Rattle.desk_http.specs.declared.overseeing.Entry.{Entry}
 use Rattle.desk_http.specs.declared.serving.Unanswered.TheVariants as cause
 
 -- ---- the summary of a reply
@@ -120,6 +121,37 @@ located_or asked None = asked
 abbrev pub object_of : Option ℕ → Result Served IoFault → Option ℕ
 object_of asked (Ok served) = located_or asked served.summary
 object_of asked (Err why) = asked
+
+-- ---- a note
+
+-- what a note says of a connection that was served
+pub record Note : Type 0 where
+  pub at : ℕ
+  pub method : List ℕ
+  pub path : List ℕ
+  pub status : Option ℕ
+  pub number : Option ℕ
+  pub object : Option ℕ
+  pub micros : Option ℕ
+
+-- what an entry notes
+abbrev pub as_note : Entry → Note
+as_note e = record {
+  at = e.at;
+  method = e.method.now;
+  path = e.path.now;
+  status = e.status;
+  number = e.number;
+  object = e.object;
+  micros = e.micros;
+}
+
+-- it is of a connection that came at this moment, asked about this object, and was served so
+pub record IsNoteOf (came : ℕ) (asked : Option ℕ) (served : Result Served IoFault) (note : Note) : Type 0 where
+  pub at : note.at ≡ came
+  pub status : note.status ≡ outcome_status served
+  pub number : note.number ≡ outcome_number served
+  pub object : note.object ≡ object_of asked served
 
 -- ---- the first line of a request
 

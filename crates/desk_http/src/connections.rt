@@ -1,9 +1,9 @@
 //! Clients, one after the other.
 ghost use Rattle.std.specs.Prelude.{◌≡◌, ℕ, List, None, Option, false, IfErr, IfOk, unwrap_or};
 ghost use Rattle.desk_http.specs.declared.serve_fault.ServeFault.TheVariants as fault;
-ghost use Rattle.desk_http.specs.InTurn.{Ends, IsOfMachine, ServesAll, ServesAt, ServesClient, ServesNext, ended_by, fault_after, random_for};
-ghost use Rattle.desk_http.specs.MomentBounds.{admits, followed, moment_for};
-ghost use Rattle.desk_http.specs.Noted.{first_of, object_asked, object_of};
+ghost use Rattle.desk_http.specs.InTurn.{Ends, IsOfMachine, ServesAll, ServesClient, ServesNext, ServesRead, ended_by, fault_after, random_for};
+ghost use Rattle.desk_http.specs.MomentBounds.{admits, followed};
+ghost use Rattle.desk_http.specs.Noted.{IsNoteOf, as_note, first_of, object_asked, object_of};
 ghost use Rattle.desk_http.specs.Serving.{IsParsedOf};
 ghost use Rattle.desk.specs.SeenDesks.{IsSeenOn};
 
@@ -69,7 +69,7 @@ pub fn serve_all<M: Clock + RandomSource, K: Storage + Drop, O: Overseer, E: Wri
     errors: &mut E,
 ) -> Result<(), ServeFault>
     ensures policy { desk.new.policy ≡ desk.old.policy }
-    ensures served { ServesAll K.Storage.sight K.Storage.causes (unwrap_or count 18446744073709551615) desk.old desk.new result }
+    ensures served { ServesAll K.Storage.sight K.Storage.causes O.takes (unwrap_or count 18446744073709551615) desk.old watch.old desk.new watch.new result }
     ensures seen { IsSeenOn K.Storage.sight desk.old desk.new }
     ensures ends { desk.old.is_closed ≡ false → Ends result desk.new }
 {
@@ -98,9 +98,10 @@ fn serve_stream<M: Clock + RandomSource, K: Storage + Drop, O: Overseer, E: Writ
     errors: &mut E,
 ) -> Result<(), ServeFault>
     ensures policy { desk.new.policy ≡ desk.old.policy }
-    ensures served { ServesNext K.Storage.sight K.Storage.causes desk.old desk.new result }
+    ensures served { ServesNext K.Storage.sight K.Storage.causes O.takes desk.old watch.old desk.new watch.new result }
     ensures ends { desk.old.is_closed ≡ false → Ends result desk.new }
 {
+    let at = moment(machine)?;
     let mut reader = Noting::new(Patient::new(stream, machine, PATIENCE));
     let mut writer = Patient::new(stream, machine, PATIENCE);
     let (served, call) = serve_client(
@@ -108,6 +109,7 @@ fn serve_stream<M: Clock + RandomSource, K: Storage + Drop, O: Overseer, E: Writ
         machine,
         routes,
         watch,
+        at,
         &mut reader,
         &mut writer,
         desk,
@@ -153,7 +155,9 @@ fn entry_of<'e, M: Clock, R: Read + Drop>(
     reader: &'e Noting<R>,
     call: CallNote,
     served: Result<Served, IoFault>,
-) -> Entry<'e> {
+) -> Entry<'e>
+    ensures { IsNoteOf call.at call.object served (as_note result) }
+{
     Entry {
         at: call.at,
         method: reader.method(),
@@ -202,22 +206,24 @@ fn micros_since<M: Clock>(machine: &M, begun: Option<Instant>) -> Option<u64> {
     )
 }
 
-// Serves a client: it takes the machine's moment, reads one request, and writes the reply, if the desk is in its place.
+// Serves a client that came at a moment of the machine: it reads one request, and writes the reply, if the desk is in its place.
 fn serve_client<M: Clock + RandomSource, O: Overseer, R: Read, W: Write, K: Storage + Drop>(
     alloc: Global,
     machine: &M,
     routes: &mut Routes,
     watch: &mut Watch<O>,
+    at: u64,
     reader: &mut R,
     writer: &mut W,
     desk: &mut Desk<K>,
 ) -> Result<(Result<Served, IoFault>, CallNote), ServeFault>
     ensures policy { desk.new.policy ≡ desk.old.policy }
-    ensures served { IfOk result (λ r. ServesClient K.Storage.sight K.Storage.causes
-        (R.remaining reader.old) (W.contents writer.old) (W.contents writer.new) desk.old desk.new r.0) }
+    ensures served { IfOk result (λ r. ServesClient K.Storage.sight K.Storage.causes watch.old.bound at
+        (R.remaining reader.old) (W.contents writer.old) (W.contents writer.new) desk.old desk.new r.1.object r.0 watch.new.bound) }
+    ensures at { IfOk result (λ r. r.1.at ≡ at) }
+    ensures overseer { watch.new.overseer ≡ watch.old.overseer }
     ensures failed { IfErr result (λ e. IsOfMachine e × (desk.new ≡ desk.old)) }
 {
-    let at = moment(machine)?;
     match read_call_by(alloc, routes, reader) {
         Ok(parsed) => serve_in_place(alloc, machine, watch, writer, desk, at, parsed),
         Err(_) => Ok((Err(IoFault::Read), nothing_read(at))),
@@ -235,8 +241,10 @@ fn serve_in_place<M: Clock + RandomSource, O: Overseer, W: Write, K: Storage + D
     parsed: ParsedRequest,
 ) -> Result<(Result<Served, IoFault>, CallNote), ServeFault>
     ensures policy { desk.new.policy ≡ desk.old.policy }
-    ensures served { (known : Option (List ℕ)) → IsParsedOf known parsed → IfOk result (λ r. ServesAt K.Storage.sight K.Storage.causes
-        (moment_for watch.old.bound at) known (W.contents writer.old) (W.contents writer.new) desk.old desk.new r.0) }
+    ensures served { (known : Option (List ℕ)) → IsParsedOf known parsed → IfOk result (λ r. ServesClient K.Storage.sight K.Storage.causes watch.old.bound at
+        known (W.contents writer.old) (W.contents writer.new) desk.old desk.new r.1.object r.0 watch.new.bound) }
+    ensures at { IfOk result (λ r. r.1.at ≡ at) }
+    ensures overseer { watch.new.overseer ≡ watch.old.overseer }
     ensures followed { IfOk result (λ r. watch.new.bound ≡ followed watch.old.bound at) }
     ensures refused { admits watch.old.bound.latest watch.old.bound.step at ≡ false → desk.new ≡ desk.old }
     ensures failed { IfErr result (λ e. IsOfMachine e × (desk.new ≡ desk.old)) }
@@ -254,7 +262,8 @@ fn serve_in_place<M: Clock + RandomSource, O: Overseer, W: Write, K: Storage + D
 
 // What is noted where no call was read.
 fn nothing_read(at: u64) -> CallNote
-    ensures { result.object ≡ None }
+    ensures at { result.at ≡ at }
+    ensures object { result.object ≡ None }
 {
     CallNote {
         at,
@@ -265,7 +274,8 @@ fn nothing_read(at: u64) -> CallNote
 
 // What is noted of a call that was just read.
 fn note_of<M: Clock>(machine: &M, at: u64, parsed: &ParsedRequest) -> CallNote
-    ensures { result.object ≡ object_asked parsed.now.request }
+    ensures at { result.at ≡ at }
+    ensures object { result.object ≡ object_asked parsed.now.request }
 {
     CallNote {
         at,
@@ -297,8 +307,8 @@ fn serve_read<M: RandomSource, W: Write, K: Storage + Drop>(
     parsed: ParsedRequest,
 ) -> Result<Result<Served, IoFault>, ServeFault>
     ensures policy { desk.new.policy ≡ desk.old.policy }
-    ensures served { (known : Option (List ℕ)) → IsParsedOf known parsed → IfOk result (ServesAt K.Storage.sight K.Storage.causes
-        at known (W.contents writer.old) (W.contents writer.new) desk.old desk.new) }
+    ensures served { (known : Option (List ℕ)) → IsParsedOf known parsed → IfOk result (ServesRead K.Storage.sight K.Storage.causes
+        at parsed known (W.contents writer.old) (W.contents writer.new) desk.old desk.new) }
     ensures failed { IfErr result (λ e. (e ≡ fault.Random) × (desk.new ≡ desk.old)) }
 {
     let mut random = [0u8; MOST_RANDOM];

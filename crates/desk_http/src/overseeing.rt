@@ -1,6 +1,6 @@
 //! Who watches the serving of a desk, and what is noted of each connection, its requests and their replies.
-ghost use Rattle.std.specs.Prelude.{◌≡◌, ◌≢◌, ◌++◌, ℕ, List, MatchOption};
-ghost use Rattle.desk_http.specs.Noted.{IsLocated, IsPathOf, IsSummaryOf, IsUrlOf, refusal_number, shown, number_by, number_of_ask, number_of_cause};
+ghost use Rattle.std.specs.Prelude.{◌≡◌, ◌≢◌, ◌++◌, ℕ, IsTrue, List, MatchOption};
+ghost use Rattle.desk_http.specs.Noted.{IsLocated, IsPathOf, IsSummaryOf, IsUrlOf, Note, as_note, refusal_number, shown, number_by, number_of_ask, number_of_cause};
 ghost use Rattle.desk_http.specs.Noted.{number_of_office, number_of_target, outcome_number, outcome_status, status_by};
 
 use crate::clients::MomentBound;
@@ -202,11 +202,15 @@ pub struct Entry<'e> {
 
 /// Who watches the serving of a desk.
 pub trait Overseer {
+    // That it took this note: what it was before, and what it is then.
+    ghost takes: { Self → Note → Self → Type 0 };
+
     /// Whether the desk is where it was opened.
     fn is_in_place(&self) -> bool;
 
     /// Takes a note, and gives whether it is kept.
-    fn note(&mut self, entry: Entry<'_>) -> bool;
+    fn note(&mut self, entry: Entry<'_>) -> bool
+        ensures kept { IsTrue result → takes self.old (as_note entry.entry) self.new };
 }
 
 /// What goes along with the serving of a desk.

@@ -1,9 +1,14 @@
-use Rattle.std.proofs.Common.{◌∙◌, None}
+use Rattle.std.proofs.Common.{◌∙◌, ap, None, sym}
 use Rattle.desk_http.proofs.Refusing.{late_changes_nothing, refused_late}
+use Rattle.desk_http.specs.InTurn.{parsed}
+use Rattle.desk_http.specs.Noted.{object_asked}
 use Rattle.desk_http.proofs.connections.serve_in_place.Goals as goal
 
 pub returns-in-Ok-clause-served : goal.returns-in-Ok-clause-served
-returns-in-Ok-clause-served g c known is = let s = c.in-Ok.ensures.served known is in (s.0, s.1 ∙ c.moment_for-acting.ensures.moment)
+returns-in-Ok-clause-served g c known is =
+    let s = c.in-Ok.ensures.served known is in
+    parsed s.0 (s.1 ∙ c.moment_for-acting.ensures.moment) (c.note_of-call.ensures.object ∙ ap (λ h. object_asked h.request) (sym s.2))
+    c.moment_for-acting.ensures.followed
 
 pub returns-in-Ok-clause-refused : goal.returns-in-Ok-clause-refused
 returns-in-Ok-clause-refused g c is =

@@ -13,4 +13,5 @@ returns-clause-served g c = λ known is. (
     does = match_of _ _ c.serve_parsed.result (c.serve_parsed.ensures.served known is) (c.serve_parsed.ensures.failed known is);
   },
   refl,
+  refl,
 )
