@@ -8,7 +8,7 @@ use Rattle.desk.specs.{State.DeskState, declared.fault.DeskFault.DeskFault}
 use Rattle.http_routes.specs.declared.request.Request.{Request}
 use Rattle.http_routes.specs.declared.request.Request.TheVariants as request
 use Rattle.http_wire.specs.declared.call.ReplyForm.{ReplyForm}
-use Rattle.desk_http.specs.Serving.{Breaks, Fails, HasAnswer, IsAnswer, IsLeft, Responds, Serves, ServesBy, call_of}
+use Rattle.desk_http.specs.Serving.{Breaks, CutOffBy, Fails, HasAnswer, IsAnswer, Responds, Serves, ServesBy, call_of}
 use Rattle.desk_http.specs.declared.{serving.Unanswered.Unanswered, serving.IoFault.IoFault, serving.Served.Served, overseeing.ReplySummary.ReplySummary}
 use Rattle.desk_http.specs.declared.serving.Unanswered.TheVariants as cause
 use Rattle.desk_http.specs.declared.serving.IoFault.TheVariants as iofault
@@ -38,9 +38,10 @@ module _ {S C : Type 0} (v : Sight S C) (causes : Causes S) where
     fails_acts cause.Text old new f = answer_acts (Ok f.0) old new f.1
 
     -- the connection failed
-    left_acts : (old new : DeskState S) → IsLeft v causes at random None old new → ActsOnce v old new
-    left_acts old new (inl same) = inl same
-    left_acts old new (inr a) = answer_acts a.0 old new a.1
+    cut_acts : (base : List ℕ) (old new : DeskState S) (form : ReplyForm) (why : Option Unanswered)
+        → CutOffBy v causes at random base None None None old new form why → ActsOnce v old new
+    cut_acts base old new form None s = answer_acts (Ok s.0) old new s.1
+    cut_acts base old new form (Some why) s = fails_acts why old new s.0
 
     -- it was served
     served_acts : (base : List ℕ) (old new : DeskState S) (form : ReplyForm) (why : Option Unanswered) (written : Bool) (summary : Option ReplySummary)
@@ -50,8 +51,8 @@ module _ {S C : Type 0} (v : Sight S C) (causes : Causes S) where
 
     -- whatever became of it
     pub once_acts : (base : List ℕ) (old new : DeskState S) (served : Result Served IoFault)
-        → MatchResult served (λ s. Serves v causes at random base None None None old new s) (λ e. Breaks v causes at random None None None old new e)
+        → MatchResult served (λ s. Serves v causes at random base None None None old new s) (λ e. Breaks v causes at random base None None None old new e)
         → ActsOnce v old new
     once_acts base old new (Ok served) s = served_acts base old new s.0 served.cause served.written served.summary s.2
     once_acts base old new (Err iofault.Read) s = inl (s.0)
-    once_acts base old new (Err iofault.Write) s = left_acts old new s
+    once_acts base old new (Err iofault.Write) s = cut_acts base old new s.form s.cause s.by

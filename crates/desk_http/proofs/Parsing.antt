@@ -1,5 +1,5 @@
 -- From what was read to what is served.
-use Rattle.std.proofs.Common.{◌≡◌, ℕ, List, Option, Some, None, Result, Ok, Err, inl, inr}
+use Rattle.std.proofs.Common.{◌≡◌, ℕ, List, Option, Some, None, Result, Ok}
 use Rattle.std.specs.{Prelude.IfSome, declared.alloc.AllocError.AllocError}
 use Rattle.desk_model.specs.declared.reply.Reply.{Reply}
 use Rattle.store_api.specs.{Sight.Sight, Storing.Causes}
@@ -7,7 +7,7 @@ use Rattle.desk.specs.{State.DeskState, declared.fault.DeskFault.DeskFault}
 use Rattle.http_routes.specs.declared.request.Request.{Request}
 use Rattle.http_wire.specs.Spelled.{IsReplyForm, Spells}
 use Rattle.http_wire.specs.declared.call.ParsedRequest.{ParsedRequest}
-use Rattle.desk_http.specs.Serving.{Fails, HasAnswer, IsParsedOf, IsLeft, LacksReply, LacksText, ReadAnswer}
+use Rattle.desk_http.specs.Serving.{Fails, HasAnswer, IsParsedOf, LacksReply, LacksText, ReadAnswer}
 use Rattle.desk_http.specs.declared.serving.Unanswered.{Unanswered}
 use Rattle.desk_http.specs.declared.serving.Unanswered.TheVariants as cause
 
@@ -42,10 +42,3 @@ module _ {S C : Type 0} (v : Sight S C) (causes : Causes S) (at : ℕ) (random :
   fails old new (cause.Desk fault) is l = answered old new _ is l
   fails old new cause.Reading is l = l
   fails old new cause.Text is l = (l.0, answered old new _ is l.1)
-
-  -- and then the desk is as it was, or as the answer to the input left it
-  pub leaves : (old new : DeskState S) (why : Unanswered) → IsParsedOf known h
-      → LacksText v causes at random h.request why old new → IsLeft v causes at random known old new
-  leaves old new (cause.Desk fault) is l = inr (Err fault, answered old new (Err fault) is l)
-  leaves old new cause.Reading is l = inl l
-  leaves old new cause.Text is l = inr (Ok l.0, answered old new (Ok l.0) is l.1)

@@ -1,5 +1,5 @@
 -- A call at a moment past the last one changes nothing.
-use Rattle.std.proofs.Common.{◌≡◌, ◌<◌, ℕ, Bool, false, List, Option, None, Some, Result, Ok, Err, arith, inl, inr, subst, sym}
+use Rattle.std.proofs.Common.{◌≡◌, ◌<◌, ℕ, Bool, false, List, Option, None, Some, Result, Ok, Err, arith, subst, sym}
 use Rattle.std.specs.Prelude.{MatchResult}
 use Rattle.desk_model.specs.{Limits.last_moment, declared.reply.Reply.Reply}
 use Rattle.store_api.specs.{Sight.Sight, Storing.Causes}
@@ -10,7 +10,7 @@ use Rattle.http_wire.specs.declared.call.ReplyForm.{ReplyForm}
 use Rattle.desk_http.specs.{InTurn.ServesAt, declared.clients.MomentBound.MomentBound, declared.serving.Unanswered.Unanswered, declared.serving.IoFault.IoFault}
 use Rattle.desk_http.specs.declared.{serving.Served.Served, overseeing.ReplySummary.ReplySummary}
 use Rattle.desk_http.specs.MomentBounds.{admits, moment_for}
-use Rattle.desk_http.specs.Serving.{Breaks, Fails, HasAnswer, IsLeft, Responds, Serves, ServesBy}
+use Rattle.desk_http.specs.Serving.{Breaks, CutOffBy, Fails, HasAnswer, Responds, Serves, ServesBy}
 use Rattle.desk_http.specs.declared.serving.Unanswered.TheVariants as cause
 use Rattle.desk_http.specs.declared.serving.IoFault.TheVariants as iofault
 
@@ -31,9 +31,10 @@ module _ {S C : Type 0} (v : Sight S C) (causes : Causes S) (old new : DeskState
     fails_late cause.Text f = answer_late (Ok f.0) f.1
 
     -- where the connection failed
-    left_late : IsLeft v causes at random known old new → new ≡ old
-    left_late (inl same) = same
-    left_late (inr a) = answer_late a.0 a.1
+    cut_late : (base : List ℕ) (before after : Option (List ℕ)) (form : ReplyForm) (why : Option Unanswered)
+        → CutOffBy v causes at random base known before after old new form why → new ≡ old
+    cut_late base before after form None s = answer_late (Ok s.0) s.1
+    cut_late base before after form (Some why) s = fails_late why s.0
 
     -- where it was served
     served_late : (base : List ℕ) (before after : Option (List ℕ)) (form : ReplyForm) (why : Option Unanswered) (written : Bool) (summary : Option ReplySummary)
@@ -44,11 +45,11 @@ module _ {S C : Type 0} (v : Sight S C) (causes : Causes S) (old new : DeskState
     -- whatever became of it
     once_late : (base : List ℕ) (before after : Option (List ℕ)) (served : Result Served IoFault)
         → MatchResult served (λ s. Serves v causes at random base known before after old new s)
-        (λ e. Breaks v causes at random known before after old new e)
+        (λ e. Breaks v causes at random base known before after old new e)
         → new ≡ old
     once_late base before after (Ok served) s = served_late base before after s.0 served.cause served.written served.summary s.2
     once_late base before after (Err iofault.Read) s = s.0
-    once_late base before after (Err iofault.Write) s = left_late s
+    once_late base before after (Err iofault.Write) s = cut_late base before after s.form s.cause s.by
 
   -- a request that was served so late
   pub late_changes_nothing : (at : ℕ) (known before after : Option (List ℕ)) (served : Result Served IoFault) → last_moment < at

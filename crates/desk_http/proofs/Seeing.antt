@@ -1,5 +1,5 @@
 -- What serving connections one after the other does may be seen.
-use Rattle.std.proofs.Common.{◌≡◌, ℕ, zero, suc, Bool, true, false, Err, List, subst, sym, inl, Option, Some, None, Result}
+use Rattle.std.proofs.Common.{◌≡◌, ℕ, zero, suc, Bool, true, false, Err, subst, sym, inl, Option, Some, None, Result}
 use Rattle.store_api.specs.{Sight.Sight, Storing.Causes}
 use Rattle.desk.specs.{SeenDesks.IsSeenOn, State.DeskState, Meets.ActsOnce, declared.fault.DeskFault.DeskFault}
 use Rattle.desk.proofs.SeeingDesks.{seen_once_more, seen_untouched}

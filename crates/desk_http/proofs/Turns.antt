@@ -1,5 +1,5 @@
 -- Connections that are served one after the other.
-use Rattle.std.proofs.Common.{◌≡◌, ◌<◌, Err, ℕ, ◌+◌, Bool, true, Option, None, Some, add-one, arith, false, inl, inr, refl}
+use Rattle.std.proofs.Common.{◌≡◌, ◌<◌, Err, ℕ, ◌+◌, Bool, true, Option, None, Some, add-one, false, inl, inr, refl}
 use Rattle.store_api.specs.{Sight.Sight, Storing.Causes}
 use Rattle.desk.specs.{State.DeskState, declared.fault.DeskFault.DeskFault}
 use Rattle.desk_http.specs.InTurn.{IsOfMachine, ServesAll, ServesFewer, ServesMany, ServesNext, ServesOne, ended_by}

@@ -67,7 +67,8 @@ module _ {S C : Type 0} (v : Sight S C) (causes : Causes S) where
     pub random : List ℕ
     pub enough : length random ≡ random_for parsed.request
     pub does :
-        MatchResult served (Serves v causes at random new.policy.base known before after old new) (Breaks v causes at random known before after old new)
+        MatchResult served (Serves v causes at random new.policy.base known before after old new)
+        (Breaks v causes at random new.policy.base known before after old new)
 
   -- and that this was the moment of its call
   abbrev pub ServesAt : ℕ → (known before after : Option (List ℕ)) → (old new : DeskState S) → Result Served IoFault → Type 0

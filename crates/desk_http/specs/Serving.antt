@@ -1,5 +1,5 @@
 -- What serving one request does: what is written, and what the desk then is.
-use Rattle.std.specs.Prelude.{◌≡◌, ◌⊎◌, ◌<◌, ◌↔◌, ℕ, Bool, true, false, List, Option, Some, None, Result, Ok, Err, IfErr, IfSome, IsTrue}
+use Rattle.std.specs.Prelude.{◌≡◌, ◌<◌, ◌↔◌, ℕ, Bool, true, false, List, Option, Some, None, Result, Ok, Err, IfErr, IfSome, IsTrue, take}
 use Rattle.std.specs.Io.KnownBytes.{Appends, Keeps}
 use Rattle.std.specs.declared.alloc.AllocError.{AllocError}
 use Rattle.desk_model.specs.{Limits.last_moment, declared.call.Ask.Ask, declared.call.Call.Call, declared.reply.Reply.Reply}
@@ -38,11 +38,18 @@ abbrev pub index_for : Unanswered → ReplyForm → Bool
 index_for cause.Reading form = true
 index_for _ form = form.index
 
--- refusal 15 without a nonce, or nothing
+-- the text that says so, refusal 15 without a nonce
+abbrev pub fault_bytes : List ℕ → Bool → Bool → List ℕ
+fault_bytes base index head_only = reply_bytes base (refused_reply (refused_request refusal.ServerInternal allow.No index)) head_only
+
+-- that text, or nothing
 abbrev pub WritesFault : List ℕ → Bool → Bool → Option (List ℕ) → Option (List ℕ) → Bool → Type 0
-WritesFault base index head_only before after true =
-    Appends before after (reply_bytes base (refused_reply (refused_request refusal.ServerInternal allow.No index)) head_only)
+WritesFault base index head_only before after true = Appends before after (fault_bytes base index head_only)
 WritesFault base index head_only before after false = Keeps before after
+
+-- a beginning of a text was written, where the writer failed: nothing at least, and all of it at most
+abbrev pub AppendsBeginning : Option (List ℕ) → Option (List ℕ) → List ℕ → Type 0
+AppendsBeginning before after text = (count : ℕ) × Appends before after (take count text)
 
 -- there is a summary, and it is the reply's
 abbrev pub HasSummary : List ℕ → Reply → Option ReplySummary → Type 0
@@ -97,14 +104,25 @@ module _ {S C : Type 0} (v : Sight S C) (causes : Causes S) where
         (form : ReplyForm) × IfSome known (λ input. IsReplyForm input form)
         × ServesBy base known before after old new form served.cause served.written served.summary
 
-    -- the desk is as it was, or as its answer to the input's request left it
-    abbrev pub IsLeft : Option (List ℕ) → DeskState S → DeskState S → Type 0
-    IsLeft known old new = (new ≡ old) ⊎ ((result : Result Reply DeskFault) × HasAnswer known old new result)
+    -- the writer failed where the reply was written, or in its place that the desk could not act: a beginning of that was written
+    abbrev pub CutOffBy : List ℕ → Option (List ℕ) → Option (List ℕ) → Option (List ℕ) → DeskState S → DeskState S → ReplyForm
+        → Option Unanswered → Type 0
+    CutOffBy base known before after old new form None =
+        (reply : Reply) × HasAnswer known old new (Ok reply) × AppendsBeginning before after (reply_bytes base reply form.head_only)
+    CutOffBy base known before after old new form (Some why) =
+        Fails known old new why × AppendsBeginning before after (fault_bytes base (index_for why form) form.head_only)
 
-    -- where the reader fails nothing is done; where the writer fails the desk is as its answer left it
-    abbrev pub Breaks : Option (List ℕ) → Option (List ℕ) → Option (List ℕ) → DeskState S → DeskState S → IoFault → Type 0
-    Breaks known before after old new iofault.Read = (new ≡ old) × Keeps before after
-    Breaks known before after old new iofault.Write = IsLeft known old new
+    -- how what was cut off is written is the input's, too
+    pub record IsCutOff (base : List ℕ) (known before after : Option (List ℕ)) (old new : DeskState S) : Type 0 where
+      pub form : ReplyForm
+      pub formed : IfSome known (λ input. IsReplyForm input form)
+      pub cause : Option Unanswered
+      pub by : CutOffBy base known before after old new form cause
+
+    -- where the reader fails nothing is done; where the writer fails the desk is as its answer left it, and what was written begins its reply
+    abbrev pub Breaks : List ℕ → Option (List ℕ) → Option (List ℕ) → Option (List ℕ) → DeskState S → DeskState S → IoFault → Type 0
+    Breaks base known before after old new iofault.Read = (new ≡ old) × Keeps before after
+    Breaks base known before after old new iofault.Write = IsCutOff base known before after old new
 
     -- ---- steps
 

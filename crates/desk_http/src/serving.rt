@@ -1,12 +1,10 @@
 //! One request from a reader: read, answered by the desk, and its reply sent to a writer.
-ghost use Rattle.std.specs.Prelude.{◌≡◌, ◌+◌, ℕ, List, Option, IfOk, IfErr, MatchResult, Ok, OnOk};
+ghost use Rattle.std.specs.Prelude.{◌≡◌, ◌+◌, ℕ, List, Option, IfOk, IfErr, IsTrue, MatchResult, Ok, OnOk};
 ghost use Rattle.desk_model.specs.Limits.{longest_body, longest_head};
 ghost use Rattle.http_wire.specs.{Head.TakesAtMost, Replies.reply_bytes};
 ghost use Rattle.desk_http.specs.Serving.{Breaks, IsParsedOf, Serves, index_for, IsAnswer, LacksReply, LacksText, Responds, IsReplyTo, call_of};
-ghost use Rattle.desk_http.specs.Serving.{WritesFault};
+ghost use Rattle.desk_http.specs.Serving.{AppendsBeginning, WritesFault, fault_bytes};
 ghost use Rattle.std.specs.Io.KnownBytes.{Appends};
-ghost use Rattle.desk_model.specs.{declared.refusal.Refusal.TheVariants.ServerInternal, declared.reply.Allow.TheVariants.No};
-ghost use Rattle.http_routes.specs.Request.{refused_reply, refused_request};
 
 use crate::overseeing::{ReplySummary, summary_of};
 use desk::{Desk, DeskFault};
@@ -14,7 +12,7 @@ use desk_model::{Allow, Ask, Call, Refusal, Reply, Sequence};
 use http_routes::{Request, RequestRefusal, Routes};
 use http_wire::{ParsedRequest, ReplyForm, read_call_by, reply_text};
 use std::alloc::{AllocError, Global};
-use std::io::{Read, Write};
+use std::io::{ErrorKind, Read, Write};
 use store_api::Storage;
 use thiserror::Error;
 
@@ -50,7 +48,7 @@ pub fn serve_one<R: Read, W: Write, K: Storage + Drop>(
         Serves K.Storage.sight K.Storage.causes at random.now desk.new.policy.base
         (R.remaining reader.old) (W.contents writer.old) (W.contents writer.new) desk.old desk.new s) }
     ensures failed { IfErr result (λ e.
-        Breaks K.Storage.sight K.Storage.causes at random.now
+        Breaks K.Storage.sight K.Storage.causes at random.now desk.new.policy.base
         (R.remaining reader.old) (W.contents writer.old) (W.contents writer.new) desk.old desk.new e) }
     ensures taken { TakesAtMost (R.remaining reader.old) (R.remaining reader.new) (longest_head + longest_body) }
 {
@@ -77,7 +75,7 @@ pub fn serve_one_by<R: Read, W: Write, K: Storage + Drop>(
         Serves K.Storage.sight K.Storage.causes at random.now desk.new.policy.base
         (R.remaining reader.old) (W.contents writer.old) (W.contents writer.new) desk.old desk.new s) }
     ensures failed { IfErr result (λ e.
-        Breaks K.Storage.sight K.Storage.causes at random.now
+        Breaks K.Storage.sight K.Storage.causes at random.now desk.new.policy.base
         (R.remaining reader.old) (W.contents writer.old) (W.contents writer.new) desk.old desk.new e) }
     ensures taken { TakesAtMost (R.remaining reader.old) (R.remaining reader.new) (longest_head + longest_body) }
 {
@@ -105,7 +103,7 @@ pub fn serve_parsed<W: Write, K: Storage + Drop>(
         Serves K.Storage.sight K.Storage.causes at random.now desk.new.policy.base
         known (W.contents writer.old) (W.contents writer.new) desk.old desk.new s) }
     ensures failed { (known : Option (List ℕ)) → IsParsedOf known parsed → IfErr result (λ e.
-        Breaks K.Storage.sight K.Storage.causes at random.now
+        Breaks K.Storage.sight K.Storage.causes at random.now desk.new.policy.base
         known (W.contents writer.old) (W.contents writer.new) desk.old desk.new e) }
 {
     let form = parsed.form;
@@ -283,7 +281,8 @@ fn write_fault<W: Write>(
     head_only: bool,
 ) -> Result<bool, IoFault>
     ensures written { IfOk result (λ written. WritesFault base.now index head_only (W.contents writer.old) (W.contents writer.new) written) }
-    ensures failed { IfErr result (λ e. e ≡ IoFault.Write) }
+    ensures failed { IfErr result (λ e. (e ≡ IoFault.Write)
+        × AppendsBeginning (W.contents writer.old) (W.contents writer.new) (fault_bytes base.now index head_only)) }
 {
     match inability_text(alloc, base, index, head_only) {
         Ok(text) => match send(writer, text.as_slice()) {
@@ -301,7 +300,7 @@ fn inability_text(
     index: bool,
     head_only: bool,
 ) -> Result<Vec<u8>, AllocError>
-    ensures { IfOk result (λ text. text.items ≡ reply_bytes base.now (refused_reply (refused_request ServerInternal No index)) head_only) }
+    ensures { IfOk result (λ text. text.items ≡ fault_bytes base.now index head_only) }
 {
     let why = RequestRefusal {
         refusal: Refusal::ServerInternal,
@@ -318,13 +317,38 @@ fn inability_text(
 ///
 /// # Errors
 ///
-/// Where the writer fails.
+/// Where the writer fails: a beginning of the text is written then.
 pub(crate) fn send<W: Write>(writer: &mut W, text: &[u8]) -> Result<(), IoFault>
     ensures took { OnOk result (Appends (W.contents writer.old) (W.contents writer.new) text.now) }
-    ensures failed { IfErr result (λ e. e ≡ IoFault.Write) }
+    ensures failed { IfErr result (λ e. (e ≡ IoFault.Write) × AppendsBeginning (W.contents writer.old) (W.contents writer.new) text.now) }
 {
-    if writer.write_all(text).is_err() || writer.flush().is_err() {
+    if !write_text(writer, text) || writer.flush().is_err() {
         return Err(IoFault::Write);
     }
     Ok(())
+}
+
+// Writes a text, as far as the writer takes it, and gives whether that was all of it.
+fn write_text<W: Write>(writer: &mut W, text: &[u8]) -> bool
+    ensures whole { IsTrue result → Appends (W.contents writer.old) (W.contents writer.new) text.now }
+    ensures part { AppendsBeginning (W.contents writer.old) (W.contents writer.new) text.now }
+{
+    let mut done = 0;
+    for _ in 0..u64::MAX {
+        let rest = &text[done..];
+        if rest.is_empty() {
+            return true;
+        }
+        match writer.write(rest) {
+            Ok(0) => return false,
+            Ok(count) => done += count,
+            Err(error) => {
+                if error.kind() != ErrorKind::Interrupted {
+                    return false;
+                }
+            }
+        }
+    }
+    // No text takes so many writes.
+    false
 }

@@ -1,4 +1,4 @@
-use Rattle.std.proofs.Common.{refl, subst, sym, ◌∙◌}
+use Rattle.std.proofs.Common.{refl, subst}
 use Rattle.desk_http.proofs.Ending.{client_ends, ends_next}
 use Rattle.desk_http.proofs.Turns.{serves_next}
 use Rattle.desk_http.specs.InTurn.{fault_after}

@@ -1,5 +1,5 @@
-use Rattle.std.proofs.Common.{Ok, inr, refl, ◌∙◌}
-use Rattle.desk_http.proofs.Parsing.{answered, fails, leaves, form_parsed}
+use Rattle.std.proofs.Common.{None, Ok, Some, refl, ◌∙◌}
+use Rattle.desk_http.proofs.Parsing.{answered, fails, form_parsed}
 use Rattle.desk_http.proofs.serving.serve_parsed.Goals as goal
 
 pub returns-in-Ok-send-clause-served : goal.returns-in-Ok-send-clause-served
@@ -20,12 +20,19 @@ returns-in-Ok-send-clause-served g c known is =
 pub returns-in-Ok-clause-failed : goal.returns-in-Ok-clause-failed
 returns-in-Ok-clause-failed g c known is =
     let reply = c.in-Ok.ensures.reply in
-    rw (c.in-Err-send.ensures.failed)
-    (inr (
-      Ok reply.0,
-      answered g.K.Storage.sight g.K.Storage.causes c.args.at c.args.random.now known c.args.parsed c.args.desk.now c.reply_bytes.new.desk
-          (Ok reply.0) is reply.1,
-    ))
+    let failed = c.in-Err-send.ensures.failed in
+    rw (failed.0)
+    (record {
+      form = c.args.parsed.form;
+      formed = form_parsed known c.args.parsed is;
+      cause = None;
+      by = (
+        reply.0,
+        answered g.K.Storage.sight g.K.Storage.causes c.args.at c.args.random.now known c.args.parsed c.args.desk.now c.reply_bytes.new.desk
+            (Ok reply.0) is reply.1,
+        rw (c.as_slice.ensures.value ∙ reply.2) at failed.1,
+      );
+    })
 
 pub returns-in-Ok-write_fault-clause-served : goal.returns-in-Ok-write_fault-clause-served
 returns-in-Ok-write_fault-clause-served g c known is = (
@@ -41,6 +48,15 @@ returns-in-Ok-write_fault-clause-served g c known is = (
 
 pub returns-clause-failed : goal.returns-clause-failed
 returns-clause-failed g c known is =
-    rw (c.in-Err-write_fault.ensures.failed)
-    (leaves g.K.Storage.sight g.K.Storage.causes c.args.at c.args.random.now known c.args.parsed c.args.desk.now c.reply_bytes.new.desk c.in-Err.cause is
-    c.in-Err.ensures.reply)
+    let failed = c.in-Err-write_fault.ensures.failed in
+    rw (failed.0)
+    (record {
+      form = c.args.parsed.form;
+      formed = form_parsed known c.args.parsed is;
+      cause = Some c.in-Err.cause;
+      by = (
+        fails g.K.Storage.sight g.K.Storage.causes c.args.at c.args.random.now known c.args.parsed c.args.desk.now c.reply_bytes.new.desk c.in-Err.cause is
+            c.in-Err.ensures.reply,
+        rw (c.index_for-index.ensures, c.base.ensures) at failed.1,
+      );
+    })
