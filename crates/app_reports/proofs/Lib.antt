@@ -1,5 +1,6 @@
 pub mod Counting
 pub mod Listing
 pub mod Printing
+pub mod Reporting
 pub mod Searching
 pub mod SoFar

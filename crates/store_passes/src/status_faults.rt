@@ -1,5 +1,5 @@
 //! The status faults of a desk, one after the other.
-ghost use Rattle.std.specs.Prelude.{◌≡◌, ◌<◌, ◌^◌, IfOk, IfErr, IfSome, OnSome, None, Some};
+ghost use Rattle.std.specs.Prelude.{◌≡◌, ◌<◌, ◌^◌, IfOk, IfErr, IfSome, OnOk, OnSome, None, Some};
 ghost use Rattle.desk_model.specs.Tables.{Tables};
 ghost use Rattle.store_api.specs.Sight.{ForTables, IsCaused, LeavesStanding, Reads};
 ghost use Rattle.store_api.specs.declared.fault.StorageFault.{StorageFault as Fault};
@@ -69,6 +69,7 @@ impl<'a, S: RowsAbove> StatusFaults<'a, S> {
             IfOk result (λ found. IsNext found (faults_above T self.old.kind self.old.moment self.old.above)
             (faults_above T self.new.kind self.new.moment self.new.above))) }
         ensures onward { IfOk result (λ found. OnSome found (self.old.above < self.new.above × self.new.above < 2 ^ 64)) }
+        ensures unfailed { OnOk result (self.new.fault ≡ None) }
         ensures failed { IfErr result (λ fault. self.new.fault ≡ Some fault) }
         ensures again { (fault : Fault) → self.old.fault ≡ Some fault → (result ≡ Err fault) × (self.new ≡ self.old) }
     {
@@ -86,6 +87,7 @@ impl<'a, S: RowsAbove> StatusFaults<'a, S> {
             IfOk result (λ found. IsNext found (faults_above T self.old.kind self.old.moment self.old.above)
             (faults_above T self.new.kind self.new.moment self.new.above))) }
         ensures onward { IfOk result (λ found. OnSome found (self.old.above < self.new.above × self.new.above < 2 ^ 64)) }
+        ensures unfailed { OnOk result (self.new.fault ≡ self.old.fault) }
         ensures failed { IfErr result (λ fault. self.new.fault ≡ Some fault) }
     {
         while let Some(checked) = self.step(alloc)? {
@@ -105,6 +107,7 @@ impl<'a, S: RowsAbove> StatusFaults<'a, S> {
         ensures steps { ForTables S.sight self.old.source.now self.new.source.now (λ T. IsInOrder T →
             IfOk result (λ checked. Steps checked (faults_above T self.old.kind self.old.moment) self.old.above)) }
         ensures onward { IfOk result (λ checked. IfSome checked (λ c. self.old.above < c.number × self.new.above ≡ c.number × c.number < 2 ^ 64)) }
+        ensures unfailed { OnOk result (self.new.fault ≡ self.old.fault) }
         ensures failed { IfErr result (λ fault. self.new.fault ≡ Some fault) }
     {
         match check_after(alloc, self.source, self.kind, self.moment, self.above) {

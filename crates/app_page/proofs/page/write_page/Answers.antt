@@ -5,6 +5,8 @@ use Rattle.app_reports.specs.About.{statuses_said}
 use Rattle.app_page.specs.Page.{head_html, tables_html}
 use Rattle.app_page.specs.declared.texts.TheConstants as page
 use Rattle.app_reports.proofs.Printing.{on_ok}
+use Rattle.app_reports.proofs.Reporting.{report_failed, reports_then, stands_reported}
+use Rattle.store_api.proofs.Readings.{stands_both}
 use Rattle.app_page.proofs.page.write_page.Goals as goal
 
 -- the beginning, the counts, and the tables by the counters that stand in the desk's own row
@@ -28,3 +30,14 @@ returns-clause-printed g c honest T holds =
     (Appends-trans w2 w3 w4 page.COUNTED.now tables c.in_ok-write_text.ensures written)))
     (subst (λ k. OnOk c.write_tables.result (Appends w3 w4 (tables_html k T))) (c.in_ok-counters.ensures.counters begun T holds)
     (c.write_tables.ensures.printed honest T had))
+
+pub returns-in_err-write_statuses-clause-reads : goal.returns-in_err-write_statuses-clause-reads
+returns-in_err-write_statuses-clause-reads g c =
+    report_failed c.from_residual-in_err-write_statuses.result (stands_reported c.in_ok-counters.ensures.reads)
+    c.in_err-write_statuses.ensures.reads c.from_residual-in_err-write_statuses.ensures.1
+
+pub returns-clause-reads : goal.returns-clause-reads
+returns-clause-reads g c =
+    reports_then c.write_tables.result
+    (stands_both (stands_reported c.in_ok-counters.ensures.reads) (stands_reported c.in_ok-write_statuses.ensures.reads))
+    c.write_tables.ensures.reads

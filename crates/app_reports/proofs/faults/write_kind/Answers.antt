@@ -1,13 +1,16 @@
-use Rattle.std.proofs.Common.{rules, subst}
+use Rattle.std.proofs.Common.{Err, rules, subst}
 use Rattle.std.specs.Io.KnownBytes.{Appends}
 use Rattle.store_passes.specs.Left.{IsNext, faults_above, faults_of}
 use Rattle.app_reports.proofs.Printing.{writes_one}
+use Rattle.app_reports.proofs.Reporting.{look_up_failed, reads_caused}
+use Rattle.app_reports.specs.Reported.{Reports}
 use Rattle.app_reports.proofs.faults.write_kind.Goals as goal
 
 -- the next fault is told
 pub loop-fault-preserved : goal.loop-fault-preserved
 loop-fault-preserved g c = record {
   name = search rules;
+  unfailed = search rules;
   stands = search rules;
   found = search rules;
   printed = λ honest T holds now.
@@ -19,3 +22,11 @@ loop-fault-preserved g c = record {
       (subst (λ o. IsNext o left rest) c.in-Some.is next)
       (subst (Appends _ _) (c.parts_of.ensures c.args.form) c.in_ok-write_fault.ensures);
 }
+
+pub returns-in_err-fault-clause-reads : goal.returns-in_err-fault-clause-reads
+returns-in_err-fault-clause-reads g c =
+    let whole : Reports g.K.LookUps.sight c.args.source.now c.next.new.self.source.now c.from_residual.result =
+        look_up_failed c.from_residual.result c.loop-fault.invariant.stands
+        (reads_caused (Err c.in_err-fault.field-0.0) c.in_err-fault.ensures.reads (c.in_err-fault.ensures.caused c.loop-fault.invariant.unfailed))
+        c.from_residual.ensures.1 in
+    search (rules, whole)

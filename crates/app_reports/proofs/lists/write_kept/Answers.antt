@@ -3,6 +3,8 @@ use Rattle.model_lives.specs.Above.{above}
 use Rattle.store_passes.proofs.{Alls.books_in_order, Rows.all_above}
 use Rattle.store_passes.specs.Left.{IsRowAfter}
 use Rattle.app_reports.proofs.Listing.{lists_none, lists_turn}
+use Rattle.app_reports.proofs.Reporting.{report_failed}
+use Rattle.store_api.proofs.Readings.{stands_then}
 use Rattle.app_reports.proofs.lists.write_kept.Goals as goal
 
 -- all rows are above 0
@@ -29,3 +31,8 @@ loop-row-preserved g c = record {
       c.in-Some.row c.loop-row.count c.in_ok-count.count (c.loop-row.invariant.printed row_honest T holds)
       (next ∙ ap (λ n. c.in-Some.row ∷ above g.L.Item.Row.number n rows) (sym c.number-above.ensures)) (c.in_ok-count.ensures.turns honest T has);
 }
+
+pub returns-in_err-count-clause-reads : goal.returns-in_err-count-clause-reads
+returns-in_err-count-clause-reads g c =
+    report_failed c.from_residual-in_err-count.result (stands_then c.loop-row.invariant.stands c.in_ok-row.ensures.reads)
+    c.in_err-count.ensures.reads c.from_residual-in_err-count.ensures.1

@@ -8,6 +8,7 @@ invariant-loop-checked g l = record {
   name : l.self.source.ghost_name ≡ l.fn.self.source.ghost_name;
   kind : l.self.kind ≡ l.fn.self.kind;
   moment : l.self.moment ≡ l.fn.self.moment;
+  unfailed : l.self.fault ≡ l.fn.self.fault;
   onward : l.fn.self.above ≤ l.self.above;
   stands : Stands g.S.LookUps.sight l.fn.self.source.now l.self.source.now;
   found : ForTables g.S.LookUps.sight l.fn.self.source.now l.self.source.now (λ T. IsInOrder T
