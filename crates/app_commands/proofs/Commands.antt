@@ -4,7 +4,6 @@ use Rattle.std.specs.Prelude.{MatchOption, MatchResult}
 use Rattle.sqlite.specs.Recovery.{Image}
 use Rattle.sqlite_disk.specs.declared.Disk as disk
 use Rattle.app_words.specs.declared.command.Command.{Command}
-use Rattle.app_words.specs.declared.command.Command.TheVariants as command
 use Rattle.app_tasks.specs.{Filters.IsUnasked, Faults.IsOfOpening, declared.filters.Unasked.Unasked, declared.fault.Fault.Fault}
 use Rattle.app_tasks.specs.Deeds.{ChecksStatuses, ListsRows, form_of}
 use Rattle.app_commands.specs.Statuses.{Ends, EndsList, EndsMake, EndsOverFiles, EndsUnasked, IsToldMade, terms_in_memory}

@@ -1,13 +1,12 @@
 -- No word ends with a status above 3.
 use Rattle.std.proofs.Common.{◌≡◌, ◌≤◌, ℕ, List, Bool, true, false, Option, None, Some, Result, Ok, Err, IsErrAnd, zero, suc, arith, inl, inr, refl, subst, sym}
-use Rattle.std.proofs.Common.{unwrap_or}
 use Rattle.std.specs.Prelude.{if◌then◌else◌}
 use Rattle.sqlite.specs.Recovery.{Image}
 use Rattle.sqlite_disk.specs.declared.Disk as disk
-use Rattle.app_words.specs.declared.command.{Command.Command, Revocation.Revocation}
+use Rattle.app_words.specs.declared.command.{Command.Command, Revocation.Revocation, Serving.Serving}
 use Rattle.app_words.specs.declared.command.Command.TheVariants as command
 use Rattle.app_tasks.specs.Asked.{IsSaid, RevokesServed, refused, revoked, unheard}
-use Rattle.app_tasks.specs.Deeds.{AnswersReader, ChecksStatuses, ListsRows, RevokesTarget, ServesCount, TellsAbout, TellsPage, AnswersLines, ByDesk, IsTold}
+use Rattle.app_tasks.specs.Deeds.{AnswersReader, ChecksStatuses, ListsRows, RevokesTarget, ServesClients, TellsAbout, TellsPage, AnswersLines, ByDesk, IsTold}
 use Rattle.app_tasks.specs.Deeds.{Revokes, Serves, adopted, clocked, clockless, served, unadopted, unserved, how_checked, how_listed, how_served}
 use Rattle.app_tasks.specs.{Faults.IsOfOpening, declared.fault.Fault.Fault}
 use Rattle.app_commands.specs.Statuses.{EndsBackUp, IsToldCopied}
@@ -101,13 +100,12 @@ small_page was is S C D v causes rows old new how it = small_as how _ it.ends (s
 small_checks : (f : Form) → AreSmall (ChecksStatuses f)
 small_checks f was is S C D v causes rows old new how it = small_as how _ it.ends (small_checked it.checked)
 
-small_revoked : {S C : Type 0} (v : Sight S C) (what : Revocation) (desk ended : DeskState S) (how : Result ℕ Fault)
-    → Revokes v what desk ended how → IsSmall how
-small_revoked v what desk ended how (inl it) = small_as how _ it.1 (omega arith)
-small_revoked v what desk ended how (inr it) = small_told it.answer how it.told
+small_revoked : {S C : Type 0} (v : Sight S C) (what : Revocation) (at : ℕ) (desk ended : DeskState S) (how : Result ℕ Fault)
+    → Revokes v what at desk ended how → IsSmall how
+small_revoked v what at desk ended how it = small_told it.answer how it.told
 
-small_revokes : (what : Revocation) → AreSmall (RevokesTarget what)
-small_revokes what was is S C D v causes rows old new how it = small_by v was is (Revokes v what) (small_revoked v what) old new how it
+small_revokes : (what : Revocation) (at : ℕ) → AreSmall (RevokesTarget what at)
+small_revokes what at was is S C D v causes rows old new how it = small_by v was is (Revokes v what at) (small_revoked v what at) old new how it
 
 small_line : {S C : Type 0} (v : Sight S C) (bytes was is : Option (List ℕ)) (desk ended : DeskState S) (how : Result ℕ Fault)
     → AnswersLines v bytes was is desk ended how → IsSmall how
@@ -118,18 +116,17 @@ small_answers : (bytes : Option (List ℕ)) → AreSmall (AnswersReader bytes)
 small_answers bytes was is S C D v causes rows old new how it =
     small_by v was is (AnswersLines v bytes was is) (small_line v bytes was is) old new how it
 
-small_client : {S C : Type 0} (v : Sight S C) (causes : Causes S) (most : ℕ) (desk ended : DeskState S) (how : Result ℕ Fault)
-    → Serves v causes most desk ended how → IsSmall how
-small_client v causes most desk ended how (unserved same (inl is)) = small_as how _ is (omega arith)
-small_client v causes most desk ended how (unserved same (inr (inl is))) = small_as how _ is (omega arith)
-small_client v causes most desk ended how (unserved same (inr (inr is))) = small_as how _ is (omega arith)
-small_client v causes most desk ended how (served by seen all is) = small_as how _ is (small_served by)
+small_client : {S C : Type 0} (v : Sight S C) (causes : Causes S) (s : Serving) (clock : ℕ) (desk ended : DeskState S) (how : Result ℕ Fault)
+    → Serves v causes s clock desk ended how → IsSmall how
+small_client v causes s clock desk ended how (unserved same (inl it)) = small_as how _ it (omega arith)
+small_client v causes s clock desk ended how (unserved same (inr (inl it))) = small_as how _ it (omega arith)
+small_client v causes s clock desk ended how (unserved same (inr (inr it))) = small_as how _ it (omega arith)
+small_client v causes s clock desk ended how (served by bound seen all it) = small_as how _ it (small_served by)
 
-small_serves : (count : Option ℕ) → AreSmall (ServesCount count)
-small_serves count was is S C D v causes rows old new how (clockless why fails same) = omega arith
-small_serves count was is S C D v causes rows old new how (clocked end mid stands it) =
-    small_by v was is (Serves v causes (unwrap_or count 18446744073709551615)) (small_client v causes (unwrap_or count 18446744073709551615)) mid new end
-    it
+small_serves : (s : Serving) → AreSmall (ServesClients s)
+small_serves s was is S C D v causes rows old new how (clockless why fails same) = omega arith
+small_serves s was is S C D v causes rows old new how (clocked end clock mid stands found it) =
+    small_by v was is (Serves v causes s clock) (small_client v causes s clock) mid new end it
 
 -- a fault
 small_fault : (how : Result ℕ Fault) (P : Fault → Type 0) → IsErrAnd how P → IsSmall how
@@ -203,7 +200,7 @@ module _ {D : Type 0} (g : disk.Ghosts D) (image : Image) where
       → IsSmall how
   small_command bytes was is (command.Make file terms) how left it = small_make (terms_of terms) was is how left it
   small_command bytes was is (command.Serve file serving) how left it =
-      small_over (ServesCount serving.count) (small_serves serving.count) was is how left it
+      small_over (ServesClients serving) (small_serves serving) was is how left it
   small_command bytes was is (command.About file) how left (inl it) = small_as how _ it.1 (omega arith)
   small_command bytes was is (command.About file) how left (inr it) = small_over (TellsAbout it.0) (small_tells it.0) was is how left it.1
   small_command bytes was is (command.Page file) how left it = small_over TellsPage small_page was is how left it
@@ -215,7 +212,9 @@ module _ {D : Type 0} (g : disk.Ghosts D) (image : Image) where
   small_command bytes was is (command.Check file json) how left it =
       small_over (ChecksStatuses (form_of json)) (small_checks (form_of json)) was is how left it
   small_command bytes was is (command.BackUp file to) how left it = small_back_up was is how left it
-  small_command bytes was is (command.Revoke file target) how left it = small_over (RevokesTarget target) (small_revokes target) was is how left it
+  small_command bytes was is (command.Revoke file target) how left (inl it) = small_as how _ it.0 (omega arith)
+  small_command bytes was is (command.Revoke file target) how left (inr it) =
+      small_over (RevokesTarget target it.0) (small_revokes target it.0) was is how left it.1
   small_command bytes was is (command.RevokeServed port target) how left it = small_asked target was is how it.0
   small_command bytes was is (command.Batch (Some file)) how left it = small_over (AnswersReader bytes) (small_answers bytes) was is how left it
   small_command bytes was is (command.Batch None) how left it =

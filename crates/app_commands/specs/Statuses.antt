@@ -4,10 +4,12 @@ use Rattle.sqlite.specs.Recovery.{Image}
 use Rattle.sqlite_disk.specs.declared.Disk as disk
 use Rattle.app_words.specs.declared.command.{AuthorizationListing.AuthorizationListing, OrderListing.OrderListing, Command.Command, Syncs.Syncs}
 use Rattle.app_words.specs.declared.command.Command.TheVariants as command
+use Rattle.app_words.specs.declared.command.Revocation.{Revocation}
+use Rattle.desk_http.specs.declared.serve_fault.ServeFault.TheVariants as servefault
 use Rattle.app_words.specs.declared.command.Syncs.TheVariants as syncs
 use Rattle.app_tasks.specs.{Asked.RevokesServed, declared.filters.Unasked.Unasked, declared.fault.Fault.Fault}
 use Rattle.app_tasks.specs.Filters.{AreRight, AsksForAuthorizations, AsksForOrders, StandsForName}
-use Rattle.app_tasks.specs.Deeds.{AnswersReader, ChecksStatuses, ListsRows, RevokesTarget, ServesCount, TellsAbout, TellsPage, form_of}
+use Rattle.app_tasks.specs.Deeds.{AnswersReader, ChecksStatuses, ListsRows, RevokesTarget, ServesClients, TellsAbout, TellsPage, form_of}
 use Rattle.app_tasks.specs.{Faults.IsOfOpening, Faults.open_fault, GivenTerms.terms_of}
 use Rattle.app_tasks.specs.declared.filters.Unasked.TheVariants as unasked
 use Rattle.app_tasks.specs.declared.fault.Fault.TheVariants as fault
@@ -77,6 +79,11 @@ module _ {D : Type 0} (g : disk.Ghosts D) (image : Image) where
   EndsAbout was is how left =
       ((why : DeskFault) × (how ≡ Err (fault.Desk why)) × IsIdle was is left) ⊎ ((b : Beside) × EndsOverFiles (TellsAbout b) was is how left)
 
+  -- the machine told no moment; or the target was revoked at one
+  abbrev pub EndsRevoke : Revocation → (was is : Option (List ℕ)) → Result ℕ Fault → Left D g → Type 0
+  EndsRevoke what was is how left =
+      ((how ≡ Err (fault.Serve servefault.Clock)) × IsIdle was is left) ⊎ ((at : ℕ) × EndsOverFiles (RevokesTarget what at) was is how left)
+
   -- how a list ends whose words ask for nothing: by 2, or since there was no memory for them
   abbrev pub EndsUnasked : Unasked → (was is : Option (List ℕ)) → Result ℕ Fault → Left D g → Type 0
   EndsUnasked (unasked.Wrong why) was is how left = (how ≡ Ok 2) × IsIdle was is left
@@ -115,7 +122,7 @@ module _ {D : Type 0} (g : disk.Ghosts D) (image : Image) where
   -- these in the end, where that is known
   abbrev pub Ends : (bytes was is : Option (List ℕ)) → Command → Result ℕ Fault → Left D g → Type 0
   Ends bytes was is (command.Make file terms) how left = EndsMake (terms_of terms) was is how left
-  Ends bytes was is (command.Serve file serving) how left = EndsOverFiles (ServesCount serving.count) was is how left
+  Ends bytes was is (command.Serve file serving) how left = EndsOverFiles (ServesClients serving) was is how left
   Ends bytes was is (command.About file) how left = EndsAbout was is how left
   Ends bytes was is (command.Page file) how left = EndsOverFiles TellsPage was is how left
   Ends bytes was is (command.Status file listing) how left = EndsList (AreRight listing) (ListsOrders listing was is how left) was is how left
@@ -124,7 +131,7 @@ module _ {D : Type 0} (g : disk.Ghosts D) (image : Image) where
       EndsList (StandsForName listing.name) (ListsAuthorizations listing was is how left) was is how left
   Ends bytes was is (command.Check file json) how left = EndsOverFiles (ChecksStatuses (form_of json)) was is how left
   Ends bytes was is (command.BackUp file to) how left = EndsBackUp was is how left
-  Ends bytes was is (command.Revoke file target) how left = EndsOverFiles (RevokesTarget target) was is how left
+  Ends bytes was is (command.Revoke file target) how left = EndsRevoke target was is how left
   Ends bytes was is (command.RevokeServed port target) how left = RevokesServed target was is how × (left ≡ rest.Untouched)
   Ends bytes was is (command.Batch (Some file)) how left = EndsOverFiles (AnswersReader bytes) was is how left
   Ends bytes was is (command.Batch None) how left =

@@ -3,10 +3,10 @@ ghost use Rattle.std.specs.Prelude.{◌≡◌, ◌≤◌, IfErr, IfOk, MatchOpti
 ghost use Rattle.sqlite.specs.WalFiles.{image_at};
 ghost use Rattle.desk_model.specs.Terms.{are_terms};
 ghost use Rattle.desk.specs.declared.fault.DeskFault.TheVariants as deskfault;
-ghost use Rattle.app_tasks.specs.Deeds.{ChecksStatuses, ListsRows, ServesCount, TellsPage, form_of};
+ghost use Rattle.app_tasks.specs.Deeds.{ChecksStatuses, ListsRows, ServesClients, TellsPage, form_of};
 ghost use Rattle.app_tasks.specs.{Faults.IsOfOpening, GivenTerms.terms_of};
-ghost use Rattle.app_commands.specs.Statuses.{Ends, EndsAbout, EndsBy, EndsMake, EndsOverFiles, EndsUnasked, IsToldMade, status_of};
-ghost use Rattle.app_commands.specs.Statuses.{supposes, syncs_of, terms_in_memory};
+ghost use Rattle.app_commands.specs.Statuses.{Ends, EndsAbout, EndsBy, EndsMake, EndsOverFiles, EndsRevoke, EndsUnasked, IsToldMade};
+ghost use Rattle.app_commands.specs.Statuses.{status_of, supposes, syncs_of, terms_in_memory};
 ghost use Rattle.app_reports.specs.Listed.{roster};
 ghost use Rattle.app_files.specs.Endings.{EndsInMemory};
 ghost use Rattle.app_tasks.specs.declared.fault.Fault.TheVariants as fault;
@@ -22,7 +22,7 @@ use app_tasks::{
 };
 use app_words::{
     AUTHZ_LIFE, Asked, AuthorizationListing, Command, NONCE_LIFE, ORDER_LIFE, OrderListing,
-    Serving, SyncedFile, Syncs, Terms, WordsFault, read_words,
+    Revocation, Serving, SyncedFile, Syncs, Terms, WordsFault, read_words,
 };
 use desk::DeskFault;
 use desk_http::moment;
@@ -170,9 +170,7 @@ fn try_command<S: Start, R: Read + Drop, W: Write, E: Write>(
         }
         Command::Check { file, json } => check_file(rt, file, json, start, out, errors),
         Command::BackUp { file, to } => back_up(rt, file, to, start, out, errors),
-        Command::Revoke { file, target } => {
-            run_over_file(rt, file, start, Revoke { rt, target }, out)
-        }
+        Command::Revoke { file, target } => revoke_over(rt, file, target, start, out),
         Command::RevokeServed { port, target } => {
             (revoke_served(rt, port, target, out), Left::Untouched)
         }
@@ -223,7 +221,7 @@ fn serve_file<S: Start, W: Write, E: Write>(
     out: &mut W,
     errors: &mut E,
 ) -> (Result<u8, Fault>, Left<FileFrom<S>>)
-    ensures { EndsOverFiles ⟦<FileFrom<S> as Disk>⟧ (image_at S.Start) (ServesCount serving.count) (W.contents out.old) (W.contents out.new) result.0 result.1 }
+    ensures { EndsOverFiles ⟦<FileFrom<S> as Disk>⟧ (image_at S.Start) (ServesClients serving) (W.contents out.old) (W.contents out.new) result.0 result.1 }
 {
     let task = ServeConnections {
         rt,
@@ -270,6 +268,28 @@ fn log_len(rt: &HostRuntime, file: &str) -> Result<u64, DeskFault> {
             _ => Err(DeskFault::Device),
         },
     }
+}
+
+// Revokes an authorization or an account of the desk in a file, at the machine's clock, which is read once.
+fn revoke_over<S: Start, W: Write>(
+    rt: &HostRuntime,
+    file: &str,
+    target: Revocation,
+    start: S,
+    out: &mut W,
+) -> (Result<u8, Fault>, Left<FileFrom<S>>)
+    ensures { EndsRevoke ⟦<FileFrom<S> as Disk>⟧ (image_at S.Start) target (W.contents out.old) (W.contents out.new) result.0 result.1 }
+{
+    let at = match moment(rt) {
+        Ok(at) => at,
+        Err(fault) => return (Err(Fault::Serve(fault)), Left::Untouched),
+    };
+    let task = Revoke {
+        alloc: rt.alloc(),
+        target,
+        at,
+    };
+    run_over_file(rt, file, start, task, out)
 }
 
 // Shows the desk in a file as a page.

@@ -2,7 +2,7 @@
 use Rattle.std.proofs.Common.{◌∙◌, ℕ, List, ◌∷◌, ◌++◌, Result, ap₂, refl, subst, sym}
 use Rattle.sqlite.specs.Files.{over_files}
 use Rattle.sqlite_disk.specs.declared.Disk as disk
-use Rattle.app_tasks.specs.Deeds.{AnswersReader, ChecksStatuses, ListsRows, RevokesTarget, ServesCount, TellsAbout, TellsPage}
+use Rattle.app_tasks.specs.Deeds.{AnswersReader, ChecksStatuses, ListsRows, RevokesTarget, ServesClients, TellsAbout, TellsPage}
 use Rattle.app_tasks.specs.declared.fault.Fault.{Fault}
 use Rattle.desk.specs.Seen.{Told}
 use Rattle.model_lives.proofs.Extends.{histories_are_legal}
@@ -76,7 +76,7 @@ module _ {D : Type 0} (g : disk.Ghosts D) where
         authorizations = λ filter f was is.
             desk_stays_on (ListsRows (authorizations_roster filter f) was is) (all.authorizations filter f was is);
         check = λ f was is. desk_stays_on (ChecksStatuses f was is) (all.check f was is);
-        revoke = λ what was is. life_goes_on (RevokesTarget what was is) (TellsRevocation what) (all.revoke what was is);
+        revoke = λ what at was is. life_goes_on (RevokesTarget what at was is) (TellsRevocation what at) (all.revoke what at was is);
         batch = λ bytes was is. life_goes_on (AnswersReader bytes was is) (TellsBatch bytes was is) (all.batch bytes was is);
-        serve = λ count was is. life_goes_on (ServesCount count was is) TellsAny (all.serve count was is);
+        serve = λ s was is. life_goes_on (ServesClients s was is) TellsAny (all.serve s was is);
       }

@@ -1,7 +1,7 @@
 -- The words of the program as calls to a desk, and what they leave of its files.
 use Rattle.std.proofs.{KnownBytes.Appends-nil, Common.unwrap_or}
 use Rattle.std.specs.Prelude.{IfSome}
-use Rattle.std.proofs.Common.{◌≡◌, ◌∙◌, ◌⊎◌, ℕ, zero, suc, List, [], ◌∷◌, ◌++◌, false, Option, None, Some, Result, Ok, Err, inl, inr, refl, subst, sym}
+use Rattle.std.proofs.Common.{◌≡◌, ◌∙◌, ◌⊎◌, ℕ, zero, suc, List, [], ◌∷◌, ◌++◌, false, true, Option, None, Some, Result, Ok, Err, inl, inr, refl, subst, sym}
 use Rattle.sqlite.specs.{Files.over_files, Recovery.Image, Tree.Trees}
 use Rattle.sqlite_disk.specs.declared.Disk as disk
 use Rattle.sqlite_store.specs.declared.store.FileStore.{FileStore}
@@ -12,17 +12,17 @@ use Rattle.app_batch.specs.declared.lines.AnswerFault.{AnswerFault}
 use Rattle.app_batch.specs.declared.lines.AnswerFault.TheVariants as answerfault
 use Rattle.app_batch.specs.InTurn.{AnswersEach, AnswersFirst, AreLines, IsNextLine, Stops, StopsAt, StopsBehind, not_one, one_more, silent, unread, untold}
 use Rattle.app_batch.specs.InTurn.{unwritten}
-use Rattle.app_words.specs.declared.command.Revocation.{Revocation}
+use Rattle.app_words.specs.declared.command.{Revocation.Revocation, Serving.Serving}
 use Rattle.app_tasks.specs.Deeds.{Adopts, AnswersLines, AnswersReader, BehindClock, ByDesk, FailsToAdopt, IsTold, Revokes, RevokesTarget, Serves}
-use Rattle.app_tasks.specs.Deeds.{ServesCount, adopted, ask_of, clocked, clockless, served, unadopted, unserved}
+use Rattle.app_tasks.specs.Deeds.{ServesClients, TakesAny, adopted, ask_of, clocked, clockless, served, unadopted, unserved}
 use Rattle.app_tasks.specs.declared.fault.Fault.{Fault}
-use Rattle.desk_http.specs.InTurn.{ServesAll, ServesClient, ServesMany}
-use Rattle.desk_http.specs.InTurn as turn
-use Rattle.desk_http.specs.declared.{serve_fault.ServeFault.ServeFault, serving.IoFault.IoFault, serving.Served.Served}
+use Rattle.desk_http.specs.InTurn.{ServesAll, ServesFewer, ServesMany, ServesUntil}
+use Rattle.desk_http.specs.Noted.{Note}
+use Rattle.desk_http.specs.declared.{overseeing.Watch.Watch, serve_fault.ServeFault.ServeFault}
 use Rattle.desk_http.specs.declared.serve_fault.ServeFault.TheVariants as servefault
 use Rattle.desk.specs.{Answers.is_closed_after, Meets.ActsOnce, Seen.Told, State.DeskState, declared.fault.DeskFault.DeskFault}
 use Rattle.desk.specs.Office.{AnswersOffice, office_call}
-use Rattle.desk_http.proofs.Acting.{once_acts}
+use Rattle.desk_http.proofs.Seeing.{one_acts}
 use Rattle.desk_model.specs.{Entry.History, History.terms, Legal.Legal, Tables.picture, declared.refusal.Refusal.Refusal, declared.reply.Reply.Reply}
 use Rattle.store_api.proofs.Readings.{reads_then, stands_both}
 use Rattle.store_api.specs.Sight.{Keeps, Sight, Stands}
@@ -182,7 +182,7 @@ module _ {S C : Type 0} (v : Sight S C) where
   -- what an office asked of an open desk
   office_calls : (at : ℕ) (what : Revocation) (desk ended : DeskState S) (answer : Result (Option Refusal) DeskFault) (how : Result ℕ Fault)
       → desk.is_closed ≡ false → AnswersOffice v at (ask_of what) desk.store ended.store answer → ended.is_closed ≡ is_closed_after answer
-      → ended.policy ≡ desk.policy → IsTold answer how → AreCalls v (TellsRevocation what how) desk ended
+      → ended.policy ≡ desk.policy → IsTold answer how → AreCalls v (TellsRevocation what at how) desk ended
   office_calls at what desk ended (Ok refusal) how running answers flag policy told =
       record {
         told = record { call = office_call at (ask_of what); reply = answers.0 } ∷ [];
@@ -191,7 +191,7 @@ module _ {S C : Type 0} (v : Sight S C) where
           when_closed = λ closed. absurd (cc (running, closed));
           policy = policy;
         });
-        says = inr (at, answers.0, refl, λ well. sym answers.2 ∙ not_refused (Ok refusal) refusal how refl told well);
+        says = inr (answers.0, refl, λ well. sym answers.2 ∙ not_refused (Ok refusal) refusal how refl told well);
       }
   office_calls at what desk ended (Err why) how running answers flag policy told =
       record {
@@ -204,12 +204,9 @@ module _ {S C : Type 0} (v : Sight S C) where
         says = inl (refl, λ well. absurd (cc (told, well)));
       }
 
-  revoke_calls : (what : Revocation) (desk ended : DeskState S) (how : Result ℕ Fault) → desk.is_closed ≡ false → Revokes v what desk ended how
-      → AreCalls v (TellsRevocation what how) desk ended
-  revoke_calls what desk ended how running (inl it) =
-      no_call v (TellsRevocation what how) (inl (refl, λ well. absurd (let e = it.1 in cc (e, well)))) desk ended it.0
-  revoke_calls what desk ended how running (inr it) =
-      office_calls it.at what desk ended it.answer how running it.answers it.flag it.policy it.told
+  revoke_calls : (what : Revocation) (at : ℕ) (desk ended : DeskState S) (how : Result ℕ Fault) → desk.is_closed ≡ false
+      → Revokes v what at desk ended how → AreCalls v (TellsRevocation what at how) desk ended
+  revoke_calls what at desk ended how running it = office_calls at what desk ended it.answer how running it.answers it.flag it.policy it.told
 
   -- ---- connections
 
@@ -217,33 +214,38 @@ module _ {S C : Type 0} (v : Sight S C) where
   calls_on : (old mid new : DeskState S) → AreCalls v (Any v) old mid → ActsOnce v mid new → AreCalls v (Any v) old new
   calls_on old mid new before acts = of_calls v (Any v) (once_more v (Any v) old mid new before acts) tt
 
-  module _ (causes : Causes S) where
-    -- a connection does nothing to a desk, or what an answer to one call does
-    client_acts : (sent : Result Served IoFault) (old new : DeskState S) → ServesClient v causes None None None old new sent → ActsOnce v old new
-    client_acts sent old new (turn.unread same kept failed) = inl same
-    client_acts sent old new (turn.parsed s) = once_acts v causes s.at s.random new.policy.base old new sent s.does
-
+  module _ (causes : Causes S) {O : Type 0} (takes : O → Note → O → Type 0) where
     -- so many of them
-    many_calls : (n : ℕ) (old new : DeskState S) → ServesMany v causes n old new → AreCalls v (Any v) old new
-    many_calls zero old new same = no_call v (Any v) tt old new same
-    many_calls (suc n) old new many =
-        calls_on old many.0 new (many_calls n old many.0 many.1) (client_acts many.2.0 many.0 new many.2.1)
+    many_calls : (n : ℕ) (old new : DeskState S) (was is : Watch O) → ServesMany v causes takes n old was new is → AreCalls v (Any v) old new
+    many_calls zero old new was is same = no_call v (Any v) tt old new same.0
+    many_calls (suc n) old new was is many =
+        calls_on old many.0 new (many_calls n old many.0 was many.1 many.2) (one_acts v causes takes None true many.0 new many.1 is many.3)
+
+    -- up to one that ended the serving
+    until_calls : (most : ℕ) (why : Option DeskFault) (old new : DeskState S) (was is : Watch O) → ServesUntil v causes takes most why old was new is
+        → AreCalls v (Any v) old new
+    until_calls most why old new was is it =
+        calls_on old it.mid new (many_calls it.count old it.mid was it.between it.many) (one_acts v causes takes why it.kept it.mid new it.between is it.last)
+
+    fewer_calls : (most : ℕ) (old new : DeskState S) (was is : Watch O) → ServesFewer v causes takes most old was new is → AreCalls v (Any v) old new
+    fewer_calls most old new was is it = many_calls it.count old new was it.between it.many
 
     -- all, or up to one that ended the serving
-    all_calls : (most : ℕ) (old new : DeskState S) (ended : Result Unit ServeFault) → ServesAll v causes most old new ended → AreCalls v (Any v) old new
-    all_calls most old new (Ok all) it = many_calls most old new it
-    all_calls most old new (Err (servefault.Desk why)) it =
-        calls_on old it.2 new (many_calls it.0 old it.2 it.3) (client_acts it.4.0 it.2 new it.4.1)
-    all_calls most old new (Err servefault.Bind) it = many_calls it.0 old new it.2
-    all_calls most old new (Err servefault.Accept) it = many_calls it.0 old new it.2
-    all_calls most old new (Err servefault.Clock) it = many_calls it.0 old new it.2
-    all_calls most old new (Err servefault.Random) it = many_calls it.0 old new it.2
-    all_calls most old new (Err servefault.Output) it = many_calls it.0 old new it.2
-    all_calls most old new (Err servefault.Replaced) it = many_calls it.0 old new it.2
+    all_calls : (most : ℕ) (old new : DeskState S) (was is : Watch O) (ended : Result Unit ServeFault)
+        → ServesAll v causes takes most old was new is ended → AreCalls v (Any v) old new
+    all_calls most old new was is (Ok all) it = many_calls most old new was is it
+    all_calls most old new was is (Err (servefault.Desk why)) it = until_calls most (Some why) old new was is it
+    all_calls most old new was is (Err servefault.Output) it = until_calls most None old new was is it
+    all_calls most old new was is (Err servefault.Bind) it = fewer_calls most old new was is it
+    all_calls most old new was is (Err servefault.Accept) it = fewer_calls most old new was is it
+    all_calls most old new was is (Err servefault.Clock) it = fewer_calls most old new was is it
+    all_calls most old new was is (Err servefault.Random) it = fewer_calls most old new was is it
+    all_calls most old new was is (Err servefault.Replaced) it = fewer_calls most old new was is it
 
-    serve_calls : (most : ℕ) (desk ended : DeskState S) (how : Result ℕ Fault) → Serves v causes most desk ended how → AreCalls v (Any v) desk ended
-    serve_calls most desk ended how (unserved same is) = no_call v (Any v) tt desk ended same
-    serve_calls most desk ended how (served by seen all is) = all_calls most desk ended by all
+  serve_calls : (causes : Causes S) (s : Serving) (clock : ℕ) (desk ended : DeskState S) (how : Result ℕ Fault)
+      → Serves v causes s clock desk ended how → AreCalls v (Any v) desk ended
+  serve_calls causes s clock desk ended how (unserved same it) = no_call v (Any v) tt desk ended same
+  serve_calls causes s clock desk ended how (served by bound seen all it) = all_calls causes TakesAny _ desk ended _ _ by all
 
   -- ---- what is left behind a desk
 
@@ -300,13 +302,14 @@ module _ {S C : Type 0} (v : Sight S C) where
   }
 
   -- and what is done by it is done by a desk, whether the clock was to be read or not
-  behind_clock : (was is : Option (List ℕ)) (Does : DeskState S → DeskState S → Result ℕ Fault → Type 0) (old new : S) (how : Result ℕ Fault)
-      → BehindClock v was is (ByDesk v was is Does) old new how → ByDesk v was is Does old new how
+  behind_clock : (was is : Option (List ℕ)) (Does : ℕ → DeskState S → DeskState S → Result ℕ Fault → Type 0) (old new : S) (how : Result ℕ Fault)
+      → BehindClock v was is (λ clock. ByDesk v was is (Does clock)) old new how
+      → ByDesk v was is (λ desk ended outcome. (clock : ℕ) × Does clock desk ended outcome) old new how
   behind_clock was is Does old new how (clockless why fails same) = unadopted why fails same
-  behind_clock was is Does old new how (clocked end mid stands (unadopted why fails same)) =
+  behind_clock was is Does old new how (clocked end clock mid stands found (unadopted why fails same)) =
       unadopted why (record { why = fails.why; reads = reads_then (Err fails.why) stands fails.reads; fault = fails.fault }) same
-  behind_clock was is Does old new how (clocked end mid stands (adopted outcome desk ended adopts does back)) =
-      adopted outcome desk ended (adopts_behind old mid desk stands adopts) does back
+  behind_clock was is Does old new how (clocked end clock mid stands found (adopted outcome desk ended adopts does back)) =
+      adopted outcome desk ended (adopts_behind old mid desk stands adopts) (clock, does) back
 
   by_desk : (P : Result ℕ Fault → List Told → Type 0) (was is : Option (List ℕ)) → ((why : Fault) → is ≡ was → P (Err why) [])
       → (Does : DeskState S → DeskState S → Result ℕ Fault → Type 0)
@@ -366,11 +369,11 @@ module _ {D : Type 0} (g : disk.Ghosts D) where
   as_read F done over reads left may = (keeps_opened F done over (reads.honest over.honest)).left left.trees (reads.left over.honest left.trees may)
 
   -- each other word
-  revoke_leaves : (what : Revocation) (was is : Option (List ℕ)) → LivesOn g (RevokesTarget what was is) (TellsRevocation what)
-  revoke_leaves what was is bytes how done F over =
-      left_over (TellsRevocation what how) F done over
-      (by_desk stored (TellsRevocation what) was is (λ why same. inl (refl, λ well. absurd (cc well))) (Revokes stored what) (revoke_calls stored what)
-      F over.legal done.opened done.ended how done.did over.honest)
+  revoke_leaves : (what : Revocation) (at : ℕ) (was is : Option (List ℕ)) → LivesOn g (RevokesTarget what at was is) (TellsRevocation what at)
+  revoke_leaves what at was is bytes how done F over =
+      left_over (TellsRevocation what at how) F done over
+      (by_desk stored (TellsRevocation what at) was is (λ why same. inl (refl, λ well. absurd (cc well))) (Revokes stored what at)
+      (revoke_calls stored what at) F over.legal done.opened done.ended how done.did over.honest)
 
   batch_leaves : (bytes was is : Option (List ℕ)) → LivesOn g (AnswersReader bytes was is) (TellsBatch bytes was is)
   batch_leaves given was is bytes how done F over =
@@ -379,13 +382,12 @@ module _ {D : Type 0} (g : disk.Ghosts D) where
       (λ desk ended outcome running it. batch_calls stored given was is desk ended outcome it) F over.legal done.opened done.ended how done.did
       over.honest)
 
-  serve_leaves : (count : Option ℕ) (was is : Option (List ℕ)) → LivesOn g (ServesCount count was is) TellsAny
-  serve_leaves count was is bytes how done F over =
-      let most : ℕ = unwrap_or count 18446744073709551615 in
+  serve_leaves : (s : Serving) (was is : Option (List ℕ)) → LivesOn g (ServesClients s was is) TellsAny
+  serve_leaves s was is bytes how done F over =
       left_over (TellsAny how) F done over
-      (by_desk stored TellsAny was is (λ why same. tt) (Serves stored _ most)
-      (λ desk ended outcome running it. serve_calls stored _ most desk ended outcome it) F over.legal done.opened done.ended how
-      (behind_clock stored was is (Serves stored _ most) done.opened done.ended how done.did) over.honest)
+      (by_desk stored TellsAny was is (λ why same. tt) (λ desk ended outcome. (clock : ℕ) × Serves stored _ s clock desk ended outcome)
+      (λ desk ended outcome running it. serve_calls stored _ s it.0 desk ended outcome it.1) F over.legal done.opened done.ended how
+      (behind_clock stored was is (λ clock. Serves stored _ s clock) done.opened done.ended how done.did) over.honest)
 
   pub words_leave : WordsLeave g
   words_leave = record {

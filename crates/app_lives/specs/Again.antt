@@ -1,8 +1,8 @@
 -- Words of the program, one after the other, over the files that the one before left.
 use Rattle.std.specs.Prelude.{◌≡◌, ℕ, List, [], ◌∷◌, ◌++◌, Option, Result}
 use Rattle.sqlite_disk.specs.declared.Disk as disk
-use Rattle.app_words.specs.declared.command.Revocation.{Revocation}
-use Rattle.app_tasks.specs.Deeds.{AnswersReader, ChecksStatuses, ListsRows, RevokesTarget, ServesCount, TellsAbout, TellsPage}
+use Rattle.app_words.specs.declared.command.{Revocation.Revocation, Serving.Serving}
+use Rattle.app_tasks.specs.Deeds.{AnswersReader, ChecksStatuses, ListsRows, RevokesTarget, ServesClients, TellsAbout, TellsPage}
 use Rattle.app_tasks.specs.declared.fault.Fault.{Fault}
 use Rattle.desk.specs.Seen.{Told, replied}
 use Rattle.desk_model.specs.{Entry.History, Tables.picture, declared.call.Call.Call}
@@ -60,6 +60,6 @@ module _ {D : Type 0} (g : disk.Ghosts D) where
     pub accounts : (f : Form) (was is : Option (List ℕ)) → StaysOn (ListsRows (accounts_roster f) was is)
     pub authorizations : (filter : AuthorizationFilter) (f : Form) (was is : Option (List ℕ)) → StaysOn (ListsRows (authorizations_roster filter f) was is)
     pub check : (f : Form) (was is : Option (List ℕ)) → StaysOn (ChecksStatuses f was is)
-    pub revoke : (what : Revocation) (was is : Option (List ℕ)) → GoesOn (RevokesTarget what was is) (TellsRevocation what)
+    pub revoke : (what : Revocation) (at : ℕ) (was is : Option (List ℕ)) → GoesOn (RevokesTarget what at was is) (TellsRevocation what at)
     pub batch : (bytes was is : Option (List ℕ)) → GoesOn (AnswersReader bytes was is) (TellsBatch bytes was is)
-    pub serve : (count : Option ℕ) (was is : Option (List ℕ)) → GoesOn (ServesCount count was is) TellsAny
+    pub serve : (s : Serving) (was is : Option (List ℕ)) → GoesOn (ServesClients s was is) TellsAny

@@ -5,8 +5,8 @@ use Rattle.sqlite.specs.{Recovery.Image, WalReads.AreClean}
 use Rattle.sqlite_disk.specs.declared.Disk as disk
 use Rattle.sqlite_disk.specs.declared.Files.{Files}
 use Rattle.sqlite_store.specs.declared.store.FileStore.{FileStore}
-use Rattle.app_words.specs.declared.command.Revocation.{Revocation}
-use Rattle.app_tasks.specs.Deeds.{Adopts, AnswersReader, ChecksStatuses, FailsToAdopt, ListsRows, RevokesTarget, ServesCount, TellsAbout, TellsPage}
+use Rattle.app_words.specs.declared.command.{Revocation.Revocation, Serving.Serving}
+use Rattle.app_tasks.specs.Deeds.{Adopts, AnswersReader, ChecksStatuses, FailsToAdopt, ListsRows, RevokesTarget, ServesClients, TellsAbout, TellsPage}
 use Rattle.app_commands.specs.Statuses.{EndsBackUp}
 use Rattle.app_tasks.specs.declared.fault.Fault.{Fault}
 use Rattle.desk.specs.{Seen.Told, State.DeskState}
@@ -81,7 +81,7 @@ module _ {D : Type 0} (g : disk.Ghosts D) where
     pub accounts : (f : Form) (was is : Option (List ℕ)) → LeavesAsIs (ListsRows (accounts_roster f) was is)
     pub authorizations : (filter : AuthorizationFilter) (f : Form) (was is : Option (List ℕ)) → LeavesAsIs (ListsRows (authorizations_roster filter f) was is)
     pub check : (f : Form) (was is : Option (List ℕ)) → LeavesAsIs (ChecksStatuses f was is)
-    pub revoke : (what : Revocation) (was is : Option (List ℕ)) → LivesOn (RevokesTarget what was is) (TellsRevocation what)
+    pub revoke : (what : Revocation) (at : ℕ) (was is : Option (List ℕ)) → LivesOn (RevokesTarget what at was is) (TellsRevocation what at)
     pub batch : (bytes was is : Option (List ℕ)) → LivesOn (AnswersReader bytes was is) (TellsBatch bytes was is)
     pub backup : CopiesHoldDesk
-    pub serve : (count : Option ℕ) (was is : Option (List ℕ)) → LivesOn (ServesCount count was is) TellsAny
+    pub serve : (s : Serving) (was is : Option (List ℕ)) → LivesOn (ServesClients s was is) TellsAny

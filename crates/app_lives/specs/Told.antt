@@ -53,13 +53,12 @@ pub record TellsBatch (bytes was is : Option (List ℕ)) (how : Result ℕ Fault
   pub whole : how ≡ Ok 0 → (unread ≡ []) × (told ≡ telling)
   pub ends : (is ≡ written) ⊎ (how ≡ Ok 1)
 
--- the desk replied to the revocation of this target at some moment, and refused nothing where that is told as done; or it did not reply,
+-- the desk replied to the revocation of this target at this moment, and refused nothing where that is told as done; or it did not reply,
 -- which is not told so
-abbrev pub TellsRevocation : Revocation → Result ℕ Fault → List Told → Type 0
-TellsRevocation what how told =
+abbrev pub TellsRevocation : Revocation → (at : ℕ) → Result ℕ Fault → List Told → Type 0
+TellsRevocation what at how told =
     ((told ≡ []) × (how ≢ Ok 0))
-    ⊎ ((at : ℕ) × (reply : Reply) × (told ≡ record { call = office_call at (ask_of what); reply = reply } ∷ [])
-    × (how ≡ Ok 0 → refusal_in reply.body ≡ None))
+    ⊎ ((reply : Reply) × (told ≡ record { call = office_call at (ask_of what); reply = reply } ∷ []) × (how ≡ Ok 0 → refusal_in reply.body ≡ None))
 
 -- whatever it replied to
 abbrev pub TellsAny : Result ℕ Fault → List Told → Type 0

@@ -1,11 +1,12 @@
 -- What a word does, by what its steps say.
-use Rattle.std.proofs.Common.{◌≡◌, ◌∙◌, ◌≤◌, ℕ, zero, suc, List, [], Option, Result, Ok, Err, IsErrAnd, arith, ap, inl, inr, refl}
+use Rattle.std.proofs.Common.{◌≡◌, ◌∙◌, ◌≤◌, ℕ, zero, suc, List, [], Option, Result, Ok, Err, IsErrAnd, arith, ap, inl, inr, refl, unwrap_or}
 use Rattle.app_batch.specs.InTurn.{AnswersFirst, StopsBehind}
-use Rattle.app_words.specs.declared.command.Revocation.{Revocation}
-use Rattle.app_tasks.specs.Deeds.{AnswersLines, Revokes, Serves, ask_of, served, unserved}
+use Rattle.app_words.specs.declared.command.{Revocation.Revocation, Serving.Serving}
+use Rattle.app_tasks.specs.Deeds.{AnswersLines, Revokes, Serves, TakesAny, ask_of, served, unserved, watch_at}
 use Rattle.app_tasks.specs.declared.fault.Fault.{Fault}
 use Rattle.app_tasks.specs.declared.fault.Fault.TheVariants as fault
 use Rattle.desk_http.specs.{InTurn.ServesAll, declared.serve_fault.ServeFault.ServeFault}
+use Rattle.desk_http.specs.declared.clients.MomentBound.{MomentBound}
 use Rattle.desk_http.specs.declared.serve_fault.ServeFault.TheVariants as servefault
 use Rattle.desk.specs.{Faults.closes, Office.AnswersOffice, SeenDesks.IsSeenOn, State.DeskState, declared.fault.DeskFault.DeskFault}
 use Rattle.store_api.specs.{Sight.Sight, Storing.Causes}
@@ -23,29 +24,25 @@ module _ {S C : Type 0} (v : Sight S C) where
   lines_answered bytes was is desk ended (suc zero) most seen all first = record { seen = seen; answers = inr (refl, first refl) }
   lines_answered bytes was is desk ended (suc (suc n)) most seen all first = absurd (omega (arith, most))
 
-  -- the machine told no moment
-  pub no_moment : (what : Revocation) (desk : DeskState S) (cause : ServeFault) (how : Result ℕ Fault) → cause ≡ servefault.Clock
-      → Fails how (fault.Serve cause) → Revokes v what desk desk how
-  no_moment what desk cause (Ok status) is told = absurd told
-  no_moment what desk cause (Err f) is told = inl (refl, ap Err (told ∙ ap fault.Serve is))
-
   -- the desk had a fault
-  pub not_revoked : (what : Revocation) (desk ended : DeskState S) (at : ℕ) (cause : DeskFault) (how : Result ℕ Fault)
+  pub not_revoked : (what : Revocation) (at : ℕ) (desk ended : DeskState S) (cause : DeskFault) (how : Result ℕ Fault)
       → AnswersOffice v at (ask_of what) desk.store ended.store (Err cause) → ended.is_closed ≡ closes cause → ended.policy ≡ desk.policy
-      → Fails how (fault.Desk cause) → Revokes v what desk ended how
-  not_revoked what desk ended at cause (Ok status) answers flag policy told = absurd told
-  not_revoked what desk ended at cause (Err f) answers flag policy told =
-      inr (record { at = at; answer = Err cause; answers = answers; flag = flag; policy = policy; told = ap Err told })
+      → Fails how (fault.Desk cause) → Revokes v what at desk ended how
+  not_revoked what at desk ended cause (Ok status) answers flag policy told = absurd told
+  not_revoked what at desk ended cause (Err f) answers flag policy told =
+      record { answer = Err cause; answers = answers; flag = flag; policy = policy; told = ap Err told }
 
-  module _ (causes : Causes S) (most : ℕ) where
+  module _ (causes : Causes S) (s : Serving) (clock : ℕ) where
     -- the port was not to be had
     pub not_bound : (desk : DeskState S) (cause : ServeFault) (how : Result ℕ Fault) → cause ≡ servefault.Bind
-        → Fails how (fault.Serve cause) → Serves v causes most desk desk how
-    not_bound desk cause (Ok status) is told = absurd told
-    not_bound desk cause (Err f) is told = unserved refl (inl (ap Err (told ∙ ap fault.Serve is)))
+        → Fails how (fault.Serve cause) → Serves v causes s clock desk desk how
+    not_bound desk cause (Ok status) it told = absurd told
+    not_bound desk cause (Err f) it told = unserved refl (inl (ap Err (told ∙ ap fault.Serve it)))
 
     -- serving was ended by a fault
-    pub served_until : (desk ended : DeskState S) (cause : ServeFault) (how : Result ℕ Fault) → IsSeenOn v desk ended
-        → ServesAll v causes most desk ended (Err cause) → Fails how (fault.Serve cause) → Serves v causes most desk ended how
-    served_until desk ended cause (Ok status) seen all told = absurd told
-    served_until desk ended cause (Err f) seen all told = served (Err cause) seen all (ap Err told)
+    pub served_until : (desk ended : DeskState S) (bound : MomentBound) (cause : ServeFault) (how : Result ℕ Fault) → IsSeenOn v desk ended
+        → ServesAll v causes TakesAny (unwrap_or s.count 18446744073709551615) desk (watch_at s.max_step clock) ended
+        (record { overseer = tt; bound = bound }) (Err cause)
+        → Fails how (fault.Serve cause) → Serves v causes s clock desk ended how
+    served_until desk ended bound cause (Ok status) seen all told = absurd told
+    served_until desk ended bound cause (Err f) seen all told = served (Err cause) bound seen all (ap Err told)

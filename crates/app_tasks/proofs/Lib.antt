@@ -2,3 +2,4 @@ mod Bases
 mod Done
 mod Entries
 mod Replied
+mod Watching

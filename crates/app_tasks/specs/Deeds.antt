@@ -2,11 +2,12 @@
 use Rattle.std.specs.Prelude.{if◌then◌else◌, ◌≡◌, ◌≢◌, ◌⊎◌, ◌↔◌, ℕ, List, [], Bool, true, false, Option, Some, None, Result, Ok, Err, IfOk, IsTrue, OnOk, unwrap_or}
 use Rattle.std.specs.Io.KnownBytes.{Appends}
 use Rattle.app_batch.specs.InTurn.{AnswersFirst, StopsBehind}
-use Rattle.app_words.specs.declared.command.Revocation.{Revocation}
+use Rattle.app_words.specs.declared.command.{Revocation.Revocation, Serving.Serving}
 use Rattle.app_words.specs.declared.command.Revocation.TheVariants as revocation
 use Rattle.app_tasks.specs.{Faults.report_fault, declared.fault.Fault.Fault}
 use Rattle.app_tasks.specs.declared.fault.Fault.TheVariants as fault
-use Rattle.desk_http.specs.{InTurn.ServesAll, declared.serve_fault.ServeFault.ServeFault}
+use Rattle.desk_http.specs.{InTurn.ServesAll, Noted.Note, declared.serve_fault.ServeFault.ServeFault}
+use Rattle.desk_http.specs.declared.{clients.MomentBound.MomentBound, overseeing.Watch.Watch}
 use Rattle.desk_http.specs.declared.serve_fault.ServeFault.TheVariants as servefault
 use Rattle.desk.specs.{Answers.is_closed_after, Faults.storage_fault, Office.AnswersOffice, SeenDesks.IsSeenOn, State.DeskState}
 use Rattle.desk.specs.declared.fault.DeskFault.{DeskFault}
@@ -97,18 +98,13 @@ IsTold (Ok (Some refusal)) how = how ≡ Err (fault.Refused refusal)
 IsTold (Err why) how = how ≡ Err (fault.Desk why)
 
 module _ {S C : Type 0} (v : Sight S C) where
-  -- the desk answered the office's ask at some moment
-  pub record AnswersRevocation (what : Revocation) (desk ended : DeskState S) (how : Result ℕ Fault) : Type 0 where
-    pub at : ℕ
+  -- the desk answered the office's ask at this moment
+  pub record Revokes (what : Revocation) (at : ℕ) (desk ended : DeskState S) (how : Result ℕ Fault) : Type 0 where
     pub answer : Result (Option Refusal) DeskFault
     pub answers : AnswersOffice v at (ask_of what) desk.store ended.store answer
     pub flag : ended.is_closed ≡ is_closed_after answer
     pub policy : ended.policy ≡ desk.policy
     pub told : IsTold answer how
-
-  -- the machine told no moment, or the desk answered
-  abbrev pub Revokes : Revocation → DeskState S → DeskState S → Result ℕ Fault → Type 0
-  Revokes what desk ended how = ((ended ≡ desk) × (how ≡ Err (fault.Serve servefault.Clock))) ⊎ AnswersRevocation what desk ended how
 
 -- ---- lines and connections
 
@@ -128,20 +124,33 @@ abbrev pub IsUnserved : Result ℕ Fault → Type 0
 IsUnserved how =
     (how ≡ Err (fault.Serve servefault.Bind)) ⊎ ((how ≡ Err fault.Output) ⊎ (how ≡ Err (fault.Serve servefault.Replaced)))
 
+-- whatever is noted of a connection
+abbrev pub TakesAny : Unit {0} → Note → Unit {0} → Type 0
+TakesAny before note after = Unit {0}
+
+-- what is known of moments, by the greatest step and the clock of the desk
+abbrev pub watch_at : (step : Option ℕ) → (clock : ℕ) → Watch (Unit {0})
+watch_at step clock = record { overseer = tt; bound = record { step = step; latest = clock } }
+
 module _ {S C : Type 0} (v : Sight S C) (causes : Causes S) where
-  -- no connection could be taken: the file was gone, the port was not to be had, or the address not to be printed; or so many were served,
-  -- or fewer, and then the machine, the log or the desk failed
-  pub data Serves (most : ℕ) (desk ended : DeskState S) (how : Result ℕ Fault) : Type 0 where
-    unserved : ended ≡ desk → IsUnserved how → Serves most desk ended how
+  -- no connection could be taken: the file was gone, the port was not to be had, or the address not to be printed; or as many were served as
+  -- is asked for, or 2^64 - 1, or fewer, and then the machine, the log or the desk failed. No call has a moment that is further above the
+  -- clock of the desk, and the moments before it, than is asked for
+  pub data Serves (s : Serving) (clock : ℕ) (desk ended : DeskState S) (how : Result ℕ Fault) : Type 0 where
+    unserved : ended ≡ desk → IsUnserved how → Serves s clock desk ended how
     served :
-        (served : Result Unit ServeFault) → IsSeenOn v desk ended → ServesAll v causes most desk ended served → how ≡ how_served served
-        → Serves most desk ended how
+        (served : Result Unit ServeFault) (bound : MomentBound) → IsSeenOn v desk ended
+        → ServesAll v causes TakesAny (unwrap_or s.count 18446744073709551615) desk (watch_at s.max_step clock) ended
+        (record { overseer = tt; bound = bound }) served
+        → how ≡ how_served served → Serves s clock desk ended how
 
 module _ {S D : Type 0} (rows : Sight S D) where
   -- the clock of the desk was not to be read, and nothing written; or it was, which changed nothing, and then this was done
-  pub data BehindClock (was is : Option (List ℕ)) (Does : S → S → Result ℕ Fault → Type 0) (old new : S) : Result ℕ Fault → Type 0 where
+  pub data BehindClock (was is : Option (List ℕ)) (Does : ℕ → S → S → Result ℕ Fault → Type 0) (old new : S) : Result ℕ Fault → Type 0 where
     clockless : (why : Fault) → FailsToAdopt rows old new why → is ≡ was → BehindClock was is Does old new (Err why)
-    clocked : (how : Result ℕ Fault) (mid : S) → Stands rows old mid → Does mid new how → BehindClock was is Does old new how
+    clocked :
+        (how : Result ℕ Fault) (clock : ℕ) (mid : S) → Stands rows old mid → ForTables rows old mid (λ T. clock ≡ T.meta.counters.clock)
+        → Does clock mid new how → BehindClock was is Does old new how
 
 -- ---- the tasks, by what their writer was given before them and has behind them, where it is known
 
@@ -161,15 +170,14 @@ ListsRows r was is _ _ _ v causes rows = Lists rows r was is
 abbrev pub ChecksStatuses : Form → Deed Fault
 ChecksStatuses f was is _ _ _ v causes rows = Checks rows f was is
 
--- an authorization or an account is revoked
-abbrev pub RevokesTarget : Revocation → Deed Fault
-RevokesTarget what was is _ _ _ v causes rows = ByDesk v was is (Revokes v what)
+-- an authorization or an account is revoked at this moment
+abbrev pub RevokesTarget : Revocation → ℕ → Deed Fault
+RevokesTarget what at was is _ _ _ v causes rows = ByDesk v was is (Revokes v what at)
 
 -- the lines of a reader with these bytes are answered
 abbrev pub AnswersReader : (bytes : Option (List ℕ)) → Deed Fault
 AnswersReader bytes was is _ _ _ v causes rows = ByDesk v was is (AnswersLines v bytes was is)
 
--- connections are served, so many or 2^64 - 1, once the clock is read
-abbrev pub ServesCount : Option ℕ → Deed Fault
-ServesCount count was is _ _ _ v causes rows =
-    BehindClock rows was is (ByDesk v was is (Serves v causes (unwrap_or count 18446744073709551615)))
+-- connections are served, once the clock is read
+abbrev pub ServesClients : Serving → Deed Fault
+ServesClients s was is _ _ _ v causes rows = BehindClock rows was is (λ clock. ByDesk v was is (Serves v causes s clock))

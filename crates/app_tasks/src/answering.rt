@@ -1,6 +1,5 @@
 //! Lines and connections, answered by a desk.
-ghost use Rattle.std.specs.Prelude.{unwrap_or};
-ghost use Rattle.app_tasks.specs.Deeds.{AnswersReader, Serves, ServesCount};
+ghost use Rattle.app_tasks.specs.Deeds.{AnswersReader, Serves, ServesClients};
 
 use crate::desks::{adopt, clock_of};
 use crate::fault::Fault;
@@ -65,7 +64,7 @@ impl<'a, E: Write> ServeConnections<'a, E> {
         clock: u64,
         out: &mut W,
     ) -> Result<u8, Fault>
-        ensures { Serves K.Storage.sight K.Storage.causes (unwrap_or self.old.serving.count 18446744073709551615) desk.old desk.new result }
+        ensures { Serves K.Storage.sight K.Storage.causes self.old.serving clock desk.old desk.new result }
     {
         let Ok(identity) = Identity::of(self.rt, self.path) else {
             return Err(Fault::Serve(ServeFault::Replaced));
@@ -100,7 +99,7 @@ impl<'a, E: Write> ServeConnections<'a, E> {
 impl<'a, E: Write> Task for ServeConnections<'a, E> {
     type Fault = Fault;
 
-    ghost does = { λ task. ServesCount task.serving.count };
+    ghost does = { λ task. ServesClients task.serving };
 
     fn run<K: Storage + RowsAbove + Drop, W: Write>(
         &mut self,

@@ -1,4 +1,7 @@
 //! The file and the log of a desk that is served.
+ghost use Rattle.std.specs.Prelude.{◌≡◌};
+ghost use Rattle.app_tasks.specs.CallLog.{TakesLine};
+
 use crate::call_log::write_entry;
 use app_words::LogForm;
 use desk_http::{Entry, Overseer};
@@ -46,6 +49,8 @@ pub(crate) struct FileOverseer<'a, W: Write> {
 }
 
 impl<'a, W: Write> Overseer for FileOverseer<'a, W> {
+    ghost takes = { λ was note is. (is.log ≡ was.log) × TakesLine was.log (W.contents was.out.now) note (W.contents is.out.now) };
+
     fn is_in_place(&self) -> bool {
         match Identity::of(self.rt, self.path) {
             Ok(found) => found.is_of(self.identity),

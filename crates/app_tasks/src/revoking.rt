@@ -9,21 +9,23 @@ use crate::fault::Fault;
 use crate::tasks::Task;
 use app_words::Revocation;
 use desk::Desk;
-use desk_http::moment;
 use desk_model::OfficeAsk;
+use std::alloc::Global;
 use std::io::{self, Write};
 use store_api::{RowsAbove, Storage};
 
-/// Revokes an authorization or an account, at the machine's clock.
+/// Revokes an authorization or an account at a moment.
 #[derive(Drop)]
-pub struct Revoke<'a> {
-    /// The machine.
-    pub rt: &'a HostRuntime,
+pub struct Revoke {
+    /// What allocates.
+    pub alloc: Global,
     /// What is revoked.
     pub target: Revocation,
+    /// The moment, in seconds since 1970-01-01T00:00:00Z.
+    pub at: u64,
 }
 
-impl<'a> Revoke<'a> {
+impl Revoke {
     // Revokes it by a desk, and says so; gives the exit status.
     fn revoke<K: Storage + Drop, W: Write>(
         &mut self,
@@ -31,27 +33,26 @@ impl<'a> Revoke<'a> {
         out: &mut W,
     ) -> Result<u8, Fault>
         requires opened { desk.old.is_closed ≡ false }
-        ensures { Revokes K.Storage.sight self.old.target desk.old desk.new result }
+        ensures { Revokes K.Storage.sight self.old.target self.old.at desk.old desk.new result }
     {
-        let at = moment(self.rt)?;
-        match desk.answer_office(self.rt.alloc(), at, ask_of(self.target))? {
+        match desk.answer_office(self.alloc, self.at, ask_of(self.target))? {
             Some(refusal) => Err(Fault::Refused(refusal)),
             None => tell_revoked(self.target, out),
         }
     }
 }
 
-impl<'a> Task for Revoke<'a> {
+impl Task for Revoke {
     type Fault = Fault;
 
-    ghost does = { λ task. RevokesTarget task.target };
+    ghost does = { λ task. RevokesTarget task.target task.at };
 
     fn run<K: Storage + RowsAbove + Drop, W: Write>(
         &mut self,
         store: K,
         out: &mut W,
     ) -> (K, Result<u8, Fault>) {
-        let mut desk = match adopt(self.rt.alloc(), store) {
+        let mut desk = match adopt(self.alloc, store) {
             Ok(desk) => desk,
             Err((store, fault)) => return (store, Err(fault)),
         };

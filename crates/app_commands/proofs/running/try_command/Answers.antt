@@ -38,7 +38,7 @@ pub returns-in-BackUp : goal.returns-in-BackUp
 returns-in-BackUp g c = as_command _ _ _ _ _ c.args.command _ _ _ c.in-BackUp.is c.back_up.ensures
 
 pub returns-in-Revoke : goal.returns-in-Revoke
-returns-in-Revoke g c = as_command _ _ _ _ _ c.args.command _ _ _ c.in-Revoke.is c.run_over_file.ensures
+returns-in-Revoke g c = as_command _ _ _ _ _ c.args.command _ _ _ c.in-Revoke.is c.revoke_over.ensures
 
 pub returns-in-RevokeServed : goal.returns-in-RevokeServed
 returns-in-RevokeServed g c = as_command _ _ _ _ _ c.args.command _ _ _ c.in-RevokeServed.is (c.revoke_served.ensures, refl)
