@@ -1,5 +1,5 @@
 -- What a call that failed left.
-use Rattle.std.proofs.Common.{List, None, Result, Ok, Err, inl, inr, arith}
+use Rattle.std.proofs.Common.{◌≡◌, List, false, None, Result, Ok, Err, inl, inr, arith}
 use Rattle.std.specs.Prelude.{IfErr}
 use Rattle.sqlite.specs.Held.{Held, state}
 use Rattle.sqlite.specs.State.{State, HasCleanDisk, Survives}
@@ -13,7 +13,8 @@ use Rattle.sql_schema.specs.Stays.{Asks}
 use Rattle.sql_upgrade.specs.FirstDesks.{HasFirst}
 use Rattle.store_api.specs.Sight.{Reads}
 use Rattle.store_api.specs.declared.fault.StorageFault.{StorageFault}
-use Rattle.desk_store.specs.Causes.{Failed, FailedToSave, IsMetFault, IsOfSave, LeavesNothing}
+use Rattle.store_api.specs.declared.fault.StorageFault.TheVariants as storagefault
+use Rattle.desk_store.specs.Causes.{Failed, FailedToSave, IsMetFault, IsOfSave, IsSilent, LeavesNothing}
 use Rattle.desk_store.specs.Desks.{store_sight}
 use Rattle.desk_store.specs.Opening.{FailedToOpen, FailedToUpgrade}
 use Rattle.desk_store.specs.declared.{open_fault.OpenFault.OpenFault, store.Store.Store}
@@ -39,12 +40,16 @@ nothing_then old mid new one next = record {
 -- a save that failed, and the test whether the connection is still open
 pub failed_to_save : {S : Type 0} (g : Ghosts S) (Fits : Type 0) (all : List Sql) (old mid new : Held S) (refusal : SaveFault) (why : StorageFault)
     → IsOfSave refusal why → IsCause g Fits all old mid refusal → (IsBeforeCommit refusal → Survives (state g old) (state g mid) (λ _. ⊥))
-    → Asks (state g mid) (state g new) → FailedToSave g Fits all old new why
-failed_to_save g Fits all old mid new refusal why fault cause early tested = record {
+    → Asks (state g mid) (state g new) → mid.in_transaction ≡ false
+    → (HasCleanDisk (state g new) → why ≡ storagefault.Reopen → IsBeforeCommit refusal → IsSilent (state g mid) (state g new))
+    → FailedToSave g Fits all old new why
+failed_to_save g Fits all old mid new refusal why fault cause early tested idle silent = record {
   refusal = refusal;
   fault = fault;
   cause = cause_then g Fits all old mid new refusal cause tested.survives;
   before = λ is. leaves_nothing (state g old) (state g new) (survives_both (state g old) (state g mid) (state g new) (early is) tested.survives);
+  shut = λ clean is again.
+      record { from = mid; idle = idle; nothing = leaves_nothing (state g old) (state g mid) (early is); silent = silent clean again is };
 }
 
 -- a reading of the store

@@ -93,13 +93,21 @@ pub record FailedToRead (old new : State) (why : StorageFault) : Type 0 where
   pub met : HasCleanDisk new → IsMetFault old new (Storage why)
 
 module _ {S : Type 0} (g : Ghosts S) where
+  -- behind a transaction that ended and left nothing the connection, asked whether a word is a statement, failed
+  pub record IsShutBehind (old new : Held S) : Type 0 where
+    pub from : Held S
+    pub idle : from.in_transaction ≡ false
+    pub nothing : LeavesNothing (state g old) (state g from)
+    pub silent : IsSilent (state g from) (state g new)
+
   -- a transaction of these statements failed by this refusal, which has a cause, and of which the fault comes; only a commit may
-  -- have written
+  -- have written, and before one the store is to be opened again only where the connection, asked so, failed
   pub record FailedToSave (Fits : Type 0) (all : List Sql) (old new : Held S) (why : StorageFault) : Type 0 where
     pub refusal : SaveFault
     pub fault : IsOfSave refusal why
     pub cause : IsCause g Fits all old new refusal
     pub before : IsBeforeCommit refusal → LeavesNothing (state g old) (state g new)
+    pub shut : HasCleanDisk (state g new) → IsBeforeCommit refusal → why ≡ fault.Reopen → IsShutBehind old new
 
   -- changes were not saved, where this part of the tables is known
   abbrev pub FailedToChange : Option Tables → List Change → Held S → Held S → StorageFault → Type 0

@@ -51,3 +51,4 @@ returns-in-Err-clause-failed g c =
     c.in-Err.ensures.cause in
     failed_to_save g.S.Store _ _ c.args.conn.now c.make_tables-made.new.conn c.saving_fault.new.conn
     c.in-Err.fault c.saving_fault.result c.saving_fault.ensures.fault cause c.in-Err.ensures.before c.saving_fault.ensures.asks
+    c.make_tables-made.ensures.idle c.saving_fault.ensures.silent
