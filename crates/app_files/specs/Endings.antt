@@ -6,8 +6,8 @@ use Rattle.sqlite_disk.specs.declared.Files.{Files}
 use Rattle.sqlite_store.specs.declared.store.FileStore.{FileStore}
 use Rattle.sqlite_trees.specs.declared.memory.MemStore.{MemStore}
 use Rattle.desk_files.specs.Closing.{EndsAsStop, KeepsInFile, WasHonest}
-use Rattle.desk_files.specs.Opening.{FailsToMake, FoundNoName, LeavesAnOpening, LeavesAsFound, MakesFiles, OpensFiles}
-use Rattle.desk_files.specs.Opening.{RefusesName, RefusesNoDatabase, RefusesNoDesk}
+use Rattle.desk_files.specs.Opening.{FailsToMake, FoundNothing, LeavesAnOpening, LeavesAsFound, MakesFiles, OpensFiles}
+use Rattle.desk_files.specs.Opening.{RefusesNoDatabase, RefusesNoDesk, RefusesObjects}
 use Rattle.desk_files.specs.declared.opening.NotOpened.{NotOpened}
 use Rattle.desk_model.specs.{History.first_history, Tables.picture, Terms.Terms}
 use Rattle.store_api.specs.Sight.{Keeps}
@@ -67,12 +67,12 @@ module _ {D : Type 0} {g : disk.Ghosts D} where
   -- ---- makings
 
   -- the files were not reached; or the engine refused them; or none could be made in them, which leaves what was there, or the new desk;
-  -- or a name of the desk's was taken there
+  -- or there was an object, and what was there stays
   pub record FailsToBeMade (bytes : Image) (policy : Terms) (cause : OpenFault) (un : NotOpened (FileStore D g) D g) : Type 0 where
     pub unreached : un.conn ≡ None → un.refused ≡ None → IsOfStorage cause
     pub refused : IfSome un.refused (RefusesNoDatabase bytes cause)
     pub unmade : IfSome un.conn (FailsToMake policy 0 bytes cause)
-    pub taken : IfSome un.conn (RefusesName bytes cause)
+    pub taken : IfSome un.conn (RefusesObjects bytes cause)
 
   -- no desk was made
   abbrev pub IsUnmade : Image → Terms → OpenFault → Left D g → Type 0
@@ -80,10 +80,10 @@ module _ {D : Type 0} {g : disk.Ghosts D} where
   IsUnmade bytes policy cause (rest.Unopened un) = FailsToBeMade bytes policy cause un
   IsUnmade bytes policy cause _ = ⊥
 
-  -- no desk was made in files with these bytes; or one was, where no name of the desk's was taken, and its files closed, or could not be
+  -- no desk was made in files with these bytes; or one was, where there was no object, and its files closed, or could not be
   pub data EndsMaking (bytes : Image) (policy : Terms) (how : Result Unit OpenFault) (left : Left D g) : Type 0 where
     unmade : (cause : OpenFault) → how ≡ Err cause → IsUnmade bytes policy cause left → EndsMaking bytes policy how left
-    made : (store : Store (FileStore D g)) → MakesFiles policy 0 bytes store → FoundNoName bytes store → IsLeft store how left
+    made : (store : Store (FileStore D g)) → MakesFiles policy 0 store → FoundNothing bytes store → IsLeft store how left
         → EndsMaking bytes policy how left
 
 -- ---- tasks

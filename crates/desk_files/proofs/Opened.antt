@@ -8,7 +8,7 @@ use Rattle.sqlite.specs.Held.{Held, IsNew}
 use Rattle.sqlite.specs.{Recovery.Image, Start.FindsIn, Tree.Trees, View.doubt}
 use Rattle.sqlite.specs.State.{State, HasCleanDisk, Survives}
 use Rattle.desk_model.specs.{Tables.Tables, Terms.Terms}
-use Rattle.sql_schema.specs.Names.{uses_key_table, uses_names}
+use Rattle.sql_schema.specs.Names.{uses_key_table}
 use Rattle.sql_schema.specs.{Schema.no_schema, Stays.Asks}
 use Rattle.store_api.specs.declared.fault.StorageFault.TheVariants as fault
 use Rattle.desk_store.specs.{Opening.IsUpgraded, declared.open_fault.OpenFault.OpenFault}
@@ -85,13 +85,7 @@ module _ {D : Type 0} {g : disk.Ghosts D} where
     desk = λ T first. is.desk T (found.first T first);
   })
 
-  -- where no desk is made beside a name that is taken, the files of one that was made have none
-  pub is_free : (files : LeftFiles) (conn : Held (FileStore D g)) → HasFound files conn → (IsTrue (uses_names (file_state conn).now.schema) → ⊥)
-      → uses_names (schema_in files) ≡ false
-  is_free files conn found none =
-      by_cases (uses_names (schema_in files)) _ (λ is. absurd (none (subst (λ schema. uses_names schema ≡ true) found.schema is))) (λ is. is)
-
-  -- what a stop leaves of a connection where a name is taken is what the files held
+  -- what a stop leaves of a connection with an object is what the files held
   pub taken_left : (files : LeftFiles) (conn : Held (FileStore D g)) → HasFound files conn → (why : OpenFault) (new : State)
       → IsTaken (λ trees. trees ≡ (file_state conn).committed.trees) why new → IsTaken (λ trees. trees ≡ files.trees) why new
   taken_left files conn found why new taken = record { fault = taken.fault; left = λ trees may. taken.left trees may ∙ found.trees }

@@ -1,5 +1,5 @@
 -- What making and opening the desk of two files gives.
-use Rattle.std.specs.Prelude.{◌≡◌, ◌⊎◌, [], false, ℕ, IsTrue}
+use Rattle.std.specs.Prelude.{◌≡◌, ◌≢◌, ◌⊎◌, [], false, ℕ}
 use Rattle.sqlite_disk.specs.declared.Disk as disk
 use Rattle.sqlite_disk.specs.declared.Files.{Files}
 use Rattle.sqlite_store.specs.declared.store.FileStore.{FileStore}
@@ -11,11 +11,11 @@ use Rattle.sqlite.specs.State.{State, HasCleanDisk}
 use Rattle.sqlite.specs.declared.error.ErrorCode.TheVariants as code
 use Rattle.desk_model.specs.Tables.{Tables, picture}
 use Rattle.desk_model.specs.{History.first_history, Terms.Terms}
-use Rattle.sql_schema.specs.Names.{uses_names}
+use Rattle.sql_schema.specs.Schema.{no_schema}
 use Rattle.store_api.specs.Sight.{Keeps, Opens}
 use Rattle.desk_store.specs.{Causes.cause_of, Desks.AreOfDesk}
 use Rattle.desk_store.specs.declared.{faults.EngineCause.EngineCause, open_fault.OpenFault.OpenFault, store.Store.Store}
-use Rattle.desk_store.specs.Making.{FailedToMake, IsOfStorage}
+use Rattle.desk_store.specs.Making.{FailedToMake, IsOfStorage, has_objects}
 use Rattle.desk_store.specs.Opening.{FailedToOpen, ShowsNewerFormat}
 use Rattle.store_api.specs.declared.fault.StorageFault.{StorageFault}
 use Rattle.store_api.specs.declared.fault.StorageFault.TheVariants as fault
@@ -50,7 +50,7 @@ pub record LeavesNewDesk (policy : Terms) (at : ℕ) (Was : Trees → Type 0) (w
   pub fault : IsOfStorage why
   pub left : (trees : Trees) → s.may_leave trees → Was trees ⊎ AreOfDesk trees (picture (first_history policy at))
 
--- a making that found a name of the desk's taken: the fault is that, and a stop leaves what was there
+-- a making that found a table, an index or a view: the fault is that, and a stop leaves what was there
 pub record IsTaken (Was : Trees → Type 0) (why : OpenFault) (s : State) : Type 0 where
   pub fault : why ≡ NotADesk
   pub left : (trees : Trees) → s.may_leave trees → Was trees
@@ -77,11 +77,11 @@ module _ {D : Type 0} {g : disk.Ghosts D} where
     pub failed : FailedToOpen (over_files {g = g}) from conn why
     pub newer : HasCleanDisk (file_state conn) → why ≡ NewerFormat → ShowsNewerFormat (over_files {g = g}) from
 
-  -- or none was made, where no name is taken, by that of the store's making
+  -- or none was made, where there was no object, by that of the store's making
   pub record FailedToMakeOver (policy : Terms) (at : ℕ) (image : Image) (why : OpenFault) (conn : Held (FileStore D g)) : Type 0 where
     pub from : Held (FileStore D g)
     pub connects : Connects image from
-    pub failed : uses_names (file_state from).now.schema ≡ false → FailedToMake (over_files {g = g}) policy at from conn why
+    pub failed : has_objects (file_state from).now.schema ≡ false → FailedToMake (over_files {g = g}) policy at from conn why
 
   -- ---- what is there afterwards
 
@@ -110,22 +110,24 @@ module _ {D : Type 0} {g : disk.Ghosts D} where
       IsEarly why → HasCleanDisk (file_state conn) → (files : LeftFiles) → files.image ≡ image → (trees : Trees) → (file_state conn).may_leave trees
       → trees ≡ files.trees
 
-  -- in a database file without bytes there is the new desk, and that alone
-  abbrev pub MakesFiles : Terms → ℕ → Image → Store (FileStore D g) → Type 0
-  MakesFiles policy at image store =
-      (file_sight g).is_honest store → image.db ≡ [] → Keeps (file_sight g) store (picture (first_history policy at))
+  -- there is the new desk, and that alone
+  abbrev pub MakesFiles : Terms → ℕ → Store (FileStore D g) → Type 0
+  MakesFiles policy at store = (file_sight g).is_honest store → Keeps (file_sight g) store (picture (first_history policy at))
 
-  -- a making that failed there leaves an empty database, or the new desk
-  abbrev pub FailsToMake : Terms → ℕ → Image → OpenFault → Held (FileStore D g) → Type 0
-  FailsToMake policy at image why conn =
-      HasCleanDisk (file_state conn) → image.db ≡ [] → LeavesNewDesk policy at IsEmpty why (file_state conn)
+  -- and there was no object before: whatever database the bytes held had no table, index or view
+  abbrev pub FoundNothing : Image → Store (FileStore D g) → Type 0
+  FoundNothing image store = (file_sight g).is_honest store → (files : LeftFiles) → files.image ≡ image → schema_in files ≡ no_schema
 
-  -- a desk was made: whatever database the bytes held had no table, index or view of a name of the desk's
-  abbrev pub FoundNoName : Image → Store (FileStore D g) → Type 0
-  FoundNoName image store = (file_sight g).is_honest store → (files : LeftFiles) → files.image ≡ image → uses_names (schema_in files) ≡ false
+  -- a making that failed in a database file without bytes leaves an empty database, or the new desk; one in files whose database has no
+  -- object leaves that, or the new desk
+  pub record FailsToMake (policy : Terms) (at : ℕ) (image : Image) (why : OpenFault) (conn : Held (FileStore D g)) : Type 0 where
+    pub empty : HasCleanDisk (file_state conn) → image.db ≡ [] → LeavesNewDesk policy at IsEmpty why (file_state conn)
+    pub bare :
+        HasCleanDisk (file_state conn) → (files : LeftFiles) → files.image ≡ image → schema_in files ≡ no_schema
+        → LeavesNewDesk policy at (λ trees. trees ≡ files.trees) why (file_state conn)
 
-  -- where it had one, the fault is that, and a stop leaves the database that the bytes held
-  abbrev pub RefusesName : Image → OpenFault → Held (FileStore D g) → Type 0
-  RefusesName image why conn =
-      HasCleanDisk (file_state conn) → (files : LeftFiles) → files.image ≡ image → IsTrue (uses_names (schema_in files))
+  -- where the database has an object, the fault is that, and a stop leaves the database that the bytes held
+  abbrev pub RefusesObjects : Image → OpenFault → Held (FileStore D g) → Type 0
+  RefusesObjects image why conn =
+      HasCleanDisk (file_state conn) → (files : LeftFiles) → files.image ≡ image → schema_in files ≢ no_schema
       → IsTaken (λ trees. trees ≡ files.trees) why (file_state conn)

@@ -8,9 +8,9 @@
 //! - of files that held a database, the engine refuses none but for memory or the disk (`refused`), and where no desk is
 //!   opened, a stop leaves the database that was there, or the desk of format 1 that was there in today's format (`left`);
 //!   the second only where the disk failed (`spared`);
-//! - in a database file without bytes, `make_from` makes the new desk and nothing else (`made`); where it fails, a stop
-//!   leaves an empty database or the new desk (`unmade`); in files whose database has a table, an index or a view of a name of
-//!   the desk's it makes none (`free`), and a stop leaves that database (`taken`);
+//! - `make_from` makes the new desk and nothing else (`made`), in a database file without bytes or whose database has no table,
+//!   index or view (`free`); where it fails there, a stop leaves the empty database or the new desk (`unmade`), and where the
+//!   database has one it leaves that (`taken`);
 //! - `close_from` leaves the desk in the database file, with the log beside it and without (`closed`), and nothing that a
 //!   stop could not have left of the store (`ended`); `leave_from` gives the files up as a stop would leave them, and nothing
 //!   else.

@@ -2,8 +2,8 @@
 ghost use Rattle.std.specs.Prelude.{◌≡◌, None, IfErr, IfOk, IfSome};
 ghost use Rattle.sqlite.specs.Files.{IsOpened, file_state};
 ghost use Rattle.sqlite.specs.{Held.IsNew, Start.FindsIn, State.HasCleanDisk, WalFiles.image_at};
-ghost use Rattle.desk_files.specs.Opening.{FailedOver, FailedToMakeOver, FailsToMake, FoundNoName, LeavesAnOpening, LeavesAsFound, MakesFiles};
-ghost use Rattle.desk_files.specs.Opening.{OpensFiles, RefusedBy, RefusesName, RefusesNoDatabase, RefusesNoDesk};
+ghost use Rattle.desk_files.specs.Opening.{FailedOver, FailedToMakeOver, FailsToMake, FoundNothing, LeavesAnOpening, LeavesAsFound, MakesFiles};
+ghost use Rattle.desk_files.specs.Opening.{OpensFiles, RefusedBy, RefusesObjects, RefusesNoDatabase, RefusesNoDesk};
 ghost use Rattle.desk_store.specs.Making.{IsOfStorage};
 
 use crate::fault::refusal_fault;
@@ -59,7 +59,7 @@ fn begin_from<S: Start>(
     first: Option<First>,
 ) -> Result<Store<FileStore<FileFrom<S>>>, NotOpened<FileStore<FileFrom<S>>, FileFrom<S>>>
     ensures opened { first ≡ None → IfOk result (OpensFiles (image_at S.Start)) }
-    ensures made { IfSome first (λ it. IfOk result (MakesFiles it.policy it.at (image_at S.Start))) }
+    ensures made { IfSome first (λ it. IfOk result (MakesFiles it.policy it.at)) }
     ensures unreached { IfErr result (λ un. un.conn ≡ None → un.refused ≡ None → IsOfStorage un.fault) }
     ensures refused { IfErr result (λ un. IfSome un.refused (RefusesNoDatabase (image_at S.Start) un.fault)) }
     ensures cause { IfErr result (λ un. IfSome un.refused (RefusedBy (image_at S.Start) un.fault)) }
@@ -67,8 +67,8 @@ fn begin_from<S: Start>(
     ensures left { first ≡ None → IfErr result (λ un. IfSome un.conn (LeavesAnOpening (image_at S.Start))) }
     ensures spared { first ≡ None → IfErr result (λ un. IfSome un.conn (LeavesAsFound (image_at S.Start) un.fault)) }
     ensures unmade { IfSome first (λ it. IfErr result (λ un. IfSome un.conn (FailsToMake it.policy it.at (image_at S.Start) un.fault))) }
-    ensures free { IfSome first (λ _. IfOk result (FoundNoName (image_at S.Start))) }
-    ensures taken { IfSome first (λ _. IfErr result (λ un. IfSome un.conn (RefusesName (image_at S.Start) un.fault))) }
+    ensures free { IfSome first (λ _. IfOk result (FoundNothing (image_at S.Start))) }
+    ensures taken { IfSome first (λ _. IfErr result (λ un. IfSome un.conn (RefusesObjects (image_at S.Start) un.fault))) }
     ensures failed { first ≡ None → IfErr result (λ un. IfSome un.conn (FailedOver (image_at S.Start) un.fault)) }
     ensures making { IfSome first (λ it. IfErr result (λ un. IfSome un.conn (FailedToMakeOver it.policy it.at (image_at S.Start) un.fault))) }
 {
@@ -115,8 +115,8 @@ pub fn open_from<S: Start>(
 
 /// Makes a desk with a policy at a moment in the files at a path, where `S` stands for their bytes.
 ///
-/// The tables and the first row are written by one transaction, so there is no desk without its policy. Beside a desk that is there
-/// none is made. A caller that must not write into other files either looks first whether there are any.
+/// The tables and the first row are written by one transaction, so there is no desk without its policy. Beside any table, index or
+/// view none is made. A caller that must not write into other files either looks first whether there are any.
 ///
 /// # Errors
 ///
@@ -129,13 +129,13 @@ pub fn make_from<S: Start>(
     policy: Policy,
     at: Clock,
 ) -> Result<Store<FileStore<FileFrom<S>>>, NotOpened<FileStore<FileFrom<S>>, FileFrom<S>>>
-    ensures made { IfOk result (MakesFiles policy at (image_at S.Start)) }
+    ensures made { IfOk result (MakesFiles policy at) }
     ensures unreached { IfErr result (λ un. un.conn ≡ None → un.refused ≡ None → IsOfStorage un.fault) }
     ensures refused { IfErr result (λ un. IfSome un.refused (RefusesNoDatabase (image_at S.Start) un.fault)) }
     ensures cause { IfErr result (λ un. IfSome un.refused (RefusedBy (image_at S.Start) un.fault)) }
     ensures unmade { IfErr result (λ un. IfSome un.conn (FailsToMake policy at (image_at S.Start) un.fault)) }
-    ensures free { IfOk result (FoundNoName (image_at S.Start)) }
-    ensures taken { IfErr result (λ un. IfSome un.conn (RefusesName (image_at S.Start) un.fault)) }
+    ensures free { IfOk result (FoundNothing (image_at S.Start)) }
+    ensures taken { IfErr result (λ un. IfSome un.conn (RefusesObjects (image_at S.Start) un.fault)) }
     ensures failed { IfErr result (λ un. IfSome un.conn (FailedToMakeOver policy at (image_at S.Start) un.fault)) }
 {
     begin_from(rt, path, start, Some(First { policy, at }))

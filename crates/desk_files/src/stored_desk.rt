@@ -2,11 +2,11 @@
 ghost use Rattle.std.specs.Prelude.{◌≡◌, ◌⊎◌, Err, IfErr, IfOk, IsTrue, MatchResult, None, false};
 ghost use Rattle.desk_model.specs.History.{first_history};
 ghost use Rattle.desk_model.specs.Tables.{Tables, picture};
-ghost use Rattle.sql_schema.specs.Names.{uses_key_table, uses_names};
+ghost use Rattle.sql_schema.specs.Names.{uses_key_table};
 ghost use Rattle.sql_schema.specs.{Schema.no_schema, Stays.Asks};
 ghost use Rattle.store_api.specs.{Sight.Keeps, declared.fault.StorageFault.TheVariants.Memory as memory};
 ghost use Rattle.desk_store.specs.Desks.{HasDesk, store_sight};
-ghost use Rattle.desk_store.specs.Making.{IsNewDesk, IsOfStorage};
+ghost use Rattle.desk_store.specs.Making.{IsNewDesk, IsOfStorage, has_objects};
 ghost use Rattle.desk_store.specs.Opening.{HasLaterFormat, IsUpgraded, IsWhole, IsWholeFirst, ShowsKnownFormat, ShowsNewerFormat};
 ghost use Rattle.desk_store.specs.declared.open_fault.OpenFault.TheVariants.{NewerFormat as newer_format, NotADesk as not_a_desk, Storage as of_storage};
 ghost use Rattle.sql_upgrade.specs.FirstDesks.{HasFirst};
@@ -31,19 +31,19 @@ pub fn make_desk<S: Alter + Drop>(
     at: Clock,
 ) -> Result<Desk<Store<S>>, Unopened<S>>
     requires idle { conn.in_transaction ≡ false }
-    ensures taken { IsTrue (uses_names (state S.Store conn).now.schema) → result ≡ Err (record { fault = not_a_desk; conn = conn }) }
+    ensures taken { IsTrue (has_objects (state S.Store conn).now.schema) → result ≡ Err (record { fault = not_a_desk; conn = conn }) }
     ensures opened { IfOk result (λ desk. desk.is_closed ≡ false) }
     ensures idle { MatchResult result (λ desk. desk.store.conn.in_transaction ≡ false) (λ un. un.conn.in_transaction ≡ false) }
-    ensures made { IfOk result (λ desk. HasCleanDisk (state S.Store desk.store.conn)
-        → (state S.Store conn).now.schema ≡ no_schema → (state S.Store conn).step_limit ≡ None
+    ensures empty { IfOk result (λ _. (state S.Store conn).now.schema ≡ no_schema) }
+    ensures made { IfOk result (λ desk. HasCleanDisk (state S.Store desk.store.conn) → (state S.Store conn).step_limit ≡ None
         → IsDeskOf S.Store (picture (first_history policy at)) desk) }
-    ensures unmade { uses_names (state S.Store conn).now.schema ≡ false → IfErr result (λ un. IsOfStorage un.fault) }
-    ensures left { uses_names (state S.Store conn).now.schema ≡ false → MatchResult result
+    ensures unmade { has_objects (state S.Store conn).now.schema ≡ false → IfErr result (λ un. IsOfStorage un.fault) }
+    ensures left { has_objects (state S.Store conn).now.schema ≡ false → MatchResult result
         (λ desk. Leaves (state S.Store conn) (state S.Store desk.store.conn) (IsNewDesk policy at (state S.Store conn)))
         (λ un. Leaves (state S.Store conn) (state S.Store un.conn) (IsNewDesk policy at (state S.Store conn))) }
-    ensures back { uses_names (state S.Store conn).now.schema ≡ false
+    ensures back { has_objects (state S.Store conn).now.schema ≡ false
         → IfErr result (λ un. HasCleanDisk (state S.Store un.conn) → GoesBackOrIsMade policy at (state S.Store conn) (state S.Store un.conn)) }
-    ensures failed { uses_names (state S.Store conn).now.schema ≡ false
+    ensures failed { has_objects (state S.Store conn).now.schema ≡ false
         → IfErr result (λ un. FailedToMakeDesk S.Store policy at conn un.conn un.fault) }
     ensures answering { IfErr result (λ un. HasCleanDisk (state S.Store un.conn) → un.fault ≡ of_storage memory → IsTrue (state S.Store un.conn).is_open) }
 {

@@ -3,10 +3,10 @@ ghost use Rattle.std.specs.Prelude.{◌≡◌, ◌≤◌, ◌⊎◌, false, None
 ghost use Rattle.sqlite.specs.{Held.state, State.HasCleanDisk, Tree.Trees, View.doubt};
 ghost use Rattle.desk_model.specs.History.{first_history};
 ghost use Rattle.desk_model.specs.Tables.{Tables, picture};
-ghost use Rattle.sql_schema.specs.{Names.uses_names, Schema.no_schema};
+ghost use Rattle.sql_schema.specs.Schema.{no_schema};
 ghost use Rattle.store_api.specs.Sight.{Keeps};
 ghost use Rattle.desk_store.specs.{Desks.store_sight, declared.open_fault.OpenFault.TheVariants.NewerFormat as newer_format};
-ghost use Rattle.desk_store.specs.Making.{FailedToMake, IsOfStorage};
+ghost use Rattle.desk_store.specs.Making.{FailedToMake, IsOfStorage, has_objects};
 ghost use Rattle.desk_store.specs.Opening.{FailedToOpen, IsUpgraded, ShowsNewerFormat};
 ghost use Rattle.desk_files.specs.Formats.{HasEither};
 ghost use Rattle.desk_files.specs.Opening.{IsEarly, IsTaken, LeavesNewDesk};
@@ -49,15 +49,16 @@ fn make_tables<A: Alter>(
     ensures honest { MatchResult result
         (λ store. doubt (state A.Store conn).is_clean ≤ doubt (state A.Store store.conn).is_clean)
         (λ un. doubt (state A.Store conn).is_clean ≤ doubt (state A.Store un.conn).is_clean) }
-    ensures made { IfOk result (λ store. HasCleanDisk (state A.Store store.conn) → (state A.Store conn).now.schema ≡ no_schema
+    ensures empty { IfOk result (λ _. (state A.Store conn).now.schema ≡ no_schema) }
+    ensures made { IfOk result (λ store. HasCleanDisk (state A.Store store.conn)
         → (state A.Store conn).step_limit ≡ None → Keeps (store_sight A.Store) store (picture (first_history policy at))) }
     ensures unmade { IfErr result (λ un. HasCleanDisk (state A.Store un.conn) → (state A.Store conn).now.schema ≡ no_schema
         → IsTrue (state A.Store conn).is_open → LeavesNewDesk policy at
         (λ trees. trees ≡ (state A.Store conn).committed.trees) un.fault (state A.Store un.conn)) }
-    ensures taken { IsTrue (uses_names (state A.Store conn).now.schema) → MatchResult result (λ store. ⊥)
+    ensures taken { IsTrue (has_objects (state A.Store conn).now.schema) → MatchResult result (λ store. ⊥)
         (λ un. IsTrue (state A.Store conn).is_open
         → IsTaken (λ trees. trees ≡ (state A.Store conn).committed.trees) un.fault (state A.Store un.conn)) }
-    ensures failed { uses_names (state A.Store conn).now.schema ≡ false → IfErr result (λ un. FailedToMake A.Store policy at conn un.conn un.fault) }
+    ensures failed { has_objects (state A.Store conn).now.schema ≡ false → IfErr result (λ un. FailedToMake A.Store policy at conn un.conn un.fault) }
 {
     match Store::make(alloc, conn, policy, at) {
         Ok(store) => Ok(store),
@@ -91,17 +92,18 @@ pub(crate) fn begin<A: Alter>(
         → (state A.Store un.conn).may_leave trees → (trees ≡ (state A.Store conn).committed.trees) ⊎ IsUpgraded (state A.Store conn) trees) }
     ensures spared { first ≡ None → IfErr result (λ un. IsEarly un.fault → HasCleanDisk (state A.Store un.conn) → IsTrue (state A.Store conn).is_open
         → (trees : Trees) → (state A.Store un.conn).may_leave trees → trees ≡ (state A.Store conn).committed.trees) }
-    ensures made { IfSome first (λ it. IfOk result (λ store. HasCleanDisk (state A.Store store.conn) → (state A.Store conn).now.schema ≡ no_schema
+    ensures empty { IfSome first (λ _. IfOk result (λ _. (state A.Store conn).now.schema ≡ no_schema)) }
+    ensures made { IfSome first (λ it. IfOk result (λ store. HasCleanDisk (state A.Store store.conn)
         → (state A.Store conn).step_limit ≡ None → Keeps (store_sight A.Store) store (picture (first_history it.policy it.at)))) }
     ensures unmade { IfSome first (λ it. IfErr result (λ un. HasCleanDisk (state A.Store un.conn) → (state A.Store conn).now.schema ≡ no_schema
         → IsTrue (state A.Store conn).is_open → LeavesNewDesk it.policy it.at
         (λ trees. trees ≡ (state A.Store conn).committed.trees) un.fault (state A.Store un.conn))) }
-    ensures taken { IfSome first (λ _. IsTrue (uses_names (state A.Store conn).now.schema) → MatchResult result (λ store. ⊥)
+    ensures taken { IfSome first (λ _. IsTrue (has_objects (state A.Store conn).now.schema) → MatchResult result (λ store. ⊥)
         (λ un. IsTrue (state A.Store conn).is_open
         → IsTaken (λ trees. trees ≡ (state A.Store conn).committed.trees) un.fault (state A.Store un.conn))) }
     ensures failed { first ≡ None → IfErr result (λ un. FailedToOpen A.Store conn un.conn un.fault) }
     ensures newer { first ≡ None → IfErr result (λ un. HasCleanDisk (state A.Store un.conn) → un.fault ≡ newer_format → ShowsNewerFormat A.Store conn) }
-    ensures making { IfSome first (λ it. uses_names (state A.Store conn).now.schema ≡ false
+    ensures making { IfSome first (λ it. has_objects (state A.Store conn).now.schema ≡ false
         → IfErr result (λ un. FailedToMake A.Store it.policy it.at conn un.conn un.fault)) }
 {
     match first {

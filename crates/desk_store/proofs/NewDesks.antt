@@ -1,7 +1,7 @@
 -- From the tables that are made to a desk.
-use Rattle.std.proofs.Common.{◌≡◌, ℕ, refl, sym, subst, ◌∙◌}
-use Rattle.std.specs.Prelude.{false}
-use Rattle.sqlite.specs.{Effect.Database, State.State, Tree.Trees}
+use Rattle.std.proofs.Common.{◌≡◌, ℕ, Bool, true, false, List, [], ◌∷◌, length, refl, sym, subst, ◌∙◌}
+use Rattle.std.specs.Prelude.{◌==◌, ◌||◌, not}
+use Rattle.sqlite.specs.{Effect.Database, Schema.Schema, State.State, Tree.Trees}
 use Rattle.desk_model.specs.{Legal.Legal, History.first_history, Terms.Terms}
 use Rattle.desk_model.specs.Tables.{Tables, picture}
 use Rattle.sql_write.specs.Committing.{HasCommitted, IsLeft}
@@ -10,7 +10,32 @@ use Rattle.sql_schema.specs.Schema.{no_schema}
 use Rattle.sql_tables.specs.Holds.{Holds}
 use Rattle.store_laws.proofs.FlatTexts.{picture_is_stored_book}
 use Rattle.desk_store.specs.Desks.{IsDesk}
-use Rattle.desk_store.specs.Making.{IsNewDesk, Makes}
+use Rattle.desk_store.specs.Making.{IsNewDesk, Makes, has_objects}
+
+-- where neither is, each is not
+neither : (a b : Bool) → (a || b) ≡ false → (a ≡ false) × (b ≡ false)
+neither true b is = absurd (cc is)
+neither false b is = (refl, is)
+
+-- a list without an item is empty
+no_items : {A : Type 0} (xs : List A) → not (length xs == 0) ≡ false → xs ≡ []
+no_items [] is = refl
+no_items (x ∷ xs) is = absurd (cc is)
+
+-- a schema without an object is the empty one
+pub bare_is_none : (schema : Schema) → has_objects schema ≡ false → schema ≡ no_schema
+bare_is_none schema none =
+    let both = neither (not (length schema.tables == 0) || not (length schema.indexes == 0)) (not (length schema.views == 0)) none in
+    let first = neither (not (length schema.tables == 0)) (not (length schema.indexes == 0)) both.0 in
+    λ i. record {
+      tables = no_items schema.tables first.0 i;
+      indexes = no_items schema.indexes first.1 i;
+      views = no_items schema.views both.1 i;
+    }
+
+-- so it is of the one that was asked
+pub asked_is_none : (schema shown : Schema) (some : Bool) → some ≡ has_objects shown → shown ≡ schema → some ≡ false → schema ≡ no_schema
+asked_is_none schema shown some is same none = sym same ∙ bare_is_none shown (sym is ∙ none)
 
 module _ (policy : Terms) (at : ℕ) (book : Tables) (is : book ≡ picture (first_history policy at)) (legal : Legal (first_history policy at)) where
   -- a new desk has its row of `meta` and no other row

@@ -3,8 +3,6 @@ use Rattle.std.proofs.Common.{◌≡◌, ◌≤◌, Result, Ok, Err, inl, inr, t
 use Rattle.std.specs.Prelude.{IfErr, IsTrue, ◌⊎◌}
 use Rattle.sqlite_disk.specs.Disk.{MoreFaults}
 use Rattle.sqlite.specs.{State.State, Schema.Schema}
-use Rattle.sqlite_schema.specs.Names.{same_name}
-use Rattle.sql_schema.specs.Names.{uses_names}
 use Rattle.sqlite.specs.declared.error.Error.{Error}
 use Rattle.sqlite.specs.declared.error.Error.TheVariants as error
 use Rattle.sqlite.specs.declared.error.ErrorCode.{ErrorCode}
@@ -18,7 +16,7 @@ use Rattle.sql_schema.specs.{Stays.Asks, Failing.IsFailure}
 use Rattle.store_api.specs.declared.fault.StorageFault.{StorageFault}
 use Rattle.store_api.specs.declared.fault.StorageFault.TheVariants as fault
 use Rattle.desk_store.specs.Causes.{IsMetFault, IsOfOpening, IsOfReading, IsOfStatement, cause_of}
-use Rattle.desk_store.specs.{Making.IsOfStorage, Opening.RefusesReading}
+use Rattle.desk_store.specs.{Making.IsOfStorage, Making.has_objects, Opening.RefusesReading}
 use Rattle.desk_store.specs.declared.faults.EngineCause.TheVariants as cause
 use Rattle.desk_store.specs.declared.{faults.EngineCause.EngineCause, open_fault.OpenFault.OpenFault}
 use Rattle.desk_store.specs.declared.open_fault.OpenFault.TheVariants.{NewerFormat, NotADesk, Storage}
@@ -71,11 +69,10 @@ book_is_known Other (Err why) (inr none) newer = absurd (let e = none.0 in cc)
 pub same_storage : (a b : StorageFault) → Storage a ≡ Storage b → a ≡ b
 same_storage a b same = cc
 
--- a name that is used is not free
-pub not_free : (schema shown : Schema) (used : Bool) → used ≡ uses_names shown → shown ≡ schema → used ≡ true → uses_names schema ≡ false → ⊥
-unfolding same_name
-not_free schema shown used is same taken free =
-    let never : true ≡ false = sym taken ∙ is ∙ ap uses_names same ∙ free in
+-- a schema with an object is not one without
+pub not_bare : (schema shown : Schema) (some : Bool) → some ≡ has_objects shown → shown ≡ schema → some ≡ true → has_objects schema ≡ false → ⊥
+not_bare schema shown some is same there none =
+    let never : true ≡ false = sym there ∙ is ∙ ap has_objects same ∙ none in
     absurd (cc never)
 
 -- ---- the fault of the disk

@@ -1,6 +1,6 @@
 -- What making a desk leaves.
-use Rattle.std.specs.Prelude.{◌≡◌, ℕ, None}
-use Rattle.sqlite.specs.{Held.Held, State.State, Store.Ghosts, Tree.Trees}
+use Rattle.std.specs.Prelude.{◌≡◌, ◌==◌, ◌||◌, ℕ, Bool, None, length, not}
+use Rattle.sqlite.specs.{Held.Held, Schema.Schema, State.State, Store.Ghosts, Tree.Trees}
 use Rattle.desk_model.specs.{History.first_history, Terms.Terms, Tables.picture}
 use Rattle.desk_model.specs.declared.rows.Meta.{Meta}
 use Rattle.sql_write.specs.{Statements.make_statements, Fits.FitsMeta}
@@ -9,6 +9,10 @@ use Rattle.store_api.specs.declared.fault.StorageFault.{StorageFault}
 use Rattle.desk_store.specs.Causes.{FailedToSave}
 use Rattle.desk_store.specs.Desks.{AreOfDesk, HasDesk}
 use Rattle.desk_store.specs.declared.open_fault.{OpenFault.OpenFault, OpenFault.TheVariants.Storage}
+
+-- a table, an index or a view is there
+abbrev pub has_objects : Schema → Bool
+has_objects schema = (not (length schema.tables == 0) || not (length schema.indexes == 0)) || not (length schema.views == 0)
 
 -- what a stop in the commit leaves, where there was nothing: the new desk
 abbrev pub IsNewDesk : Terms → ℕ → State → Trees → Type 0

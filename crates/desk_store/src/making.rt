@@ -4,15 +4,25 @@ ghost use Rattle.sqlite.specs.State.{HasCleanDisk, Survives};
 ghost use Rattle.sqlite.specs.Held.{state};
 ghost use Rattle.sql_write.specs.Committing.{GoesBack};
 ghost use Rattle.store_api.specs.declared.fault.StorageFault.TheVariants.{Memory as memory};
-ghost use Rattle.desk_store.specs.Making.{FailedToDefine, IsNewDesk, Makes};
+ghost use Rattle.desk_store.specs.Making.{FailedToDefine, IsNewDesk, Makes, has_objects};
 
 use crate::faults::saving_fault;
 use desk_book::Book;
 use desk_model::{Clock, Policy};
 use sql_write::make_tables;
 use sqlite::{Alter, Connection};
+use sqlite_schema::schema::Schema;
 use std::alloc::Global;
 use store_api::StorageFault;
+
+/// Whether there is a table, an index or a view.
+pub(crate) fn has_objects(schema: &Schema) -> bool
+    ensures { result ≡ has_objects schema.now }
+{
+    !schema.tables.as_slice().is_empty()
+        || !schema.indexes.as_slice().is_empty()
+        || !schema.views.as_slice().is_empty()
+}
 
 /// Makes the tables of a desk, at a moment in seconds since 1970, in one transaction.
 ///

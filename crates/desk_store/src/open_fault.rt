@@ -11,7 +11,7 @@ use store_api::StorageFault;
 pub enum OpenFault {
     /// The store failed.
     Storage(StorageFault),
-    /// The database is not that of a desk or, where one is to be made, has an object with a name of a desk's.
+    /// The database is not that of a desk or, where one is to be made, has an object.
     NotADesk,
     /// The tables are of a later format.
     NewerFormat,

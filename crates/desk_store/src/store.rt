@@ -5,7 +5,7 @@ ghost use Rattle.sqlite.specs.{Held.state, Tree.Trees};
 ghost use Rattle.desk_model.specs.{History.first_history, Touched.touched};
 ghost use Rattle.desk_model.specs.Tables.{Tables, picture};
 ghost use Rattle.sql_write.specs.{Committing.GoesBack, Standing.IsPartIn};
-ghost use Rattle.sql_schema.specs.Names.{uses_key_table, uses_names};
+ghost use Rattle.sql_schema.specs.Names.{uses_key_table};
 ghost use Rattle.sql_schema.specs.{Schema.no_schema, Stays.Asks};
 ghost use Rattle.sql_read.specs.{Failures.MayRead, Held.ForHeld, LookUpFaults.IsOfMemoryOrDisk};
 ghost use Rattle.store_api.specs.Sight.{ForTables, Keeps, Reads};
@@ -13,7 +13,7 @@ ghost use Rattle.store_api.specs.Storing.{Loads, Saves, SavesOf};
 ghost use Rattle.store_api.specs.declared.fault.StorageFault.TheVariants.{Memory as memory, Reopen as reopen};
 ghost use Rattle.desk_store.specs.Causes.{Failed, FailedToChange};
 ghost use Rattle.desk_store.specs.Desks.{HasDesk, store_sight};
-ghost use Rattle.desk_store.specs.Making.{FailedToMake, IsNewDesk, IsOfStorage};
+ghost use Rattle.desk_store.specs.Making.{FailedToMake, IsNewDesk, IsOfStorage, has_objects};
 ghost use Rattle.desk_store.specs.Opening.{FailedToOpen, HasLaterFormat, IsUpgraded, IsWhole, IsWholeFirst, ShowsKnownFormat, ShowsNewerFormat, RefusesFormat};
 ghost use Rattle.desk_store.specs.Opening.{ShowsNoDesk, ShowsNoLaterFormat};
 ghost use Rattle.desk_store.specs.declared.open_fault.OpenFault.TheVariants.{NewerFormat as newer_format, NotADesk as not_a_desk, Storage as of_storage};
@@ -22,13 +22,12 @@ ghost use Rattle.store_book.specs.IsBook.{IsStoredBook};
 
 use crate::faults::{reading_fault, saving_fault};
 use crate::known::Known;
-use crate::making::make_desk;
+use crate::making::{has_objects, make_desk};
 use crate::open_fault::OpenFault;
 use crate::opening::open_desk;
 use desk_book::Book;
 use desk_model::{Change, Clock, Policy};
 use sql_read::{ReadFault, meta_row};
-use sql_schema::uses_names;
 use sql_write::save_all;
 use sqlite::{Alter, Connection};
 use std::alloc::Global;
@@ -56,9 +55,9 @@ impl<S: Alter> Store<S> {
     ///
     /// # Errors
     ///
-    /// `NotADesk` where a table, an index or a view has a name of the desk's; the connection is then the one that was
-    /// given. `Storage` where the store failed, by the faults of `save`: `Device` where a statement is refused for what is neither
-    /// memory, the disk nor a size. A connection that is still open has what it had.
+    /// `NotADesk` where there is a table, an index or a view; the connection is then the one that was given. `Storage` where the
+    /// store failed, by the faults of `save`: `Device` where a statement is refused for what is neither memory, the disk nor a
+    /// size. A connection that is still open has what it had.
     pub fn make(
         alloc: Global,
         conn: Connection<S>,
@@ -66,20 +65,21 @@ impl<S: Alter> Store<S> {
         at: Clock,
     ) -> Result<Store<S>, Unopened<S>>
         requires idle { conn.in_transaction ≡ false }
-        ensures taken { IsTrue (uses_names (state S.Store conn).now.schema) → result ≡ Err (record { fault = not_a_desk; conn = conn }) }
+        ensures taken { IsTrue (has_objects (state S.Store conn).now.schema) → result ≡ Err (record { fault = not_a_desk; conn = conn }) }
         ensures idle { MatchResult result (λ store. store.conn.in_transaction ≡ false) (λ un. un.conn.in_transaction ≡ false) }
-        ensures made { IfOk result (λ store. HasCleanDisk (state S.Store store.conn) → (state S.Store conn).now.schema ≡ no_schema
+        ensures empty { IfOk result (λ _. (state S.Store conn).now.schema ≡ no_schema) }
+        ensures made { IfOk result (λ store. HasCleanDisk (state S.Store store.conn)
             → (state S.Store conn).step_limit ≡ None → Keeps (store_sight S.Store) store (picture (first_history policy at))) }
-        ensures failed { uses_names (state S.Store conn).now.schema ≡ false → IfErr result (λ un. FailedToMake S.Store policy at conn un.conn un.fault) }
-        ensures back { uses_names (state S.Store conn).now.schema ≡ false
+        ensures failed { has_objects (state S.Store conn).now.schema ≡ false → IfErr result (λ un. FailedToMake S.Store policy at conn un.conn un.fault) }
+        ensures back { has_objects (state S.Store conn).now.schema ≡ false
             → IfErr result (λ un. HasCleanDisk (state S.Store un.conn) → GoesBack (state S.Store conn) (state S.Store un.conn)) }
         ensures answering { IfErr result (λ un. HasCleanDisk (state S.Store un.conn) → un.fault ≡ of_storage memory → IsTrue (state S.Store un.conn).is_open) }
-        ensures left { uses_names (state S.Store conn).now.schema ≡ false → MatchResult result
+        ensures left { has_objects (state S.Store conn).now.schema ≡ false → MatchResult result
             (λ store. Survives (state S.Store conn) (state S.Store store.conn) (IsNewDesk policy at (state S.Store conn)))
             (λ un. Survives (state S.Store conn) (state S.Store un.conn) (IsNewDesk policy at (state S.Store conn))) }
     {
         let mut conn = conn;
-        if uses_names(conn.schema()) {
+        if has_objects(conn.schema()) {
             return Err(Unopened {
                 fault: OpenFault::NotADesk,
                 conn,

@@ -1,11 +1,11 @@
 use Rattle.std.proofs.Common.{◌≡◌, ◌∙◌, arith, subst, sym}
 use Rattle.sqlite.specs.Files.{IsEmpty, file_state}
 use Rattle.sqlite.specs.{State.HasCleanDisk, Tree.Trees, WalFiles.image_at}
-use Rattle.std.specs.Prelude.{IsTrue}
-use Rattle.sql_schema.specs.Names.{uses_names}
+use Rattle.desk_store.proofs.NewDesks.{bare_is_none}
+use Rattle.desk_store.specs.Making.{has_objects}
 use Rattle.desk_files.specs.LeftFiles.{files_have}
 use Rattle.desk_files.proofs.Finding.{in_todays, keeps_within}
-use Rattle.desk_files.proofs.Opened.{files_found, is_free, new_desk_left, nothing_found, opening_left, taken_left}
+use Rattle.desk_files.proofs.Opened.{by_cases, files_found, new_desk_left, nothing_found, opening_left, taken_left}
 use Rattle.desk_files.proofs.Refused.{if_there}
 use Rattle.desk_files.proofs.opening.begin_from.Goals as goal
 
@@ -20,10 +20,8 @@ pub returns-in-Ok-begin-clause-made : goal.returns-in-Ok-begin-clause-made
 returns-in-Ok-begin-clause-made g c =
     let conn = c.in-Ok.ensures in
     let made = c.in-Ok-begin.ensures in
-    if_there c.args.first made.made (λ first it clean none.
-    let early : HasCleanDisk (file_state c.in-Ok.conn) = omega (arith, made.honest, clean) in
-    let nothing = nothing_found (image_at g.S.Start) c.in-Ok.conn conn.opened conn.found early none in
-    keeps_within _ files_have _ in_todays c.in-Ok-begin.store _ (it clean nothing.schema conn.fresh.unlimited))
+    if_there c.args.first made.made (λ first it clean.
+    keeps_within _ files_have _ in_todays c.in-Ok-begin.store _ (it clean conn.fresh.unlimited))
 
 pub returns-in-Err-begin-clause-unopened : goal.returns-in-Err-begin-clause-unopened
 returns-in-Err-begin-clause-unopened g c none clean files same T has =
@@ -50,29 +48,36 @@ pub returns-in-Err-begin-clause-unmade : goal.returns-in-Err-begin-clause-unmade
 returns-in-Err-begin-clause-unmade g c =
     let conn = c.in-Ok.ensures in
     let failed = c.in-Err-begin.ensures in
-    if_there c.args.first failed.unmade (λ first it clean none.
-    let early : HasCleanDisk (file_state c.in-Ok.conn) = omega (arith, failed.honest, clean) in
-    let nothing = nothing_found (image_at g.S.Start) c.in-Ok.conn conn.opened conn.found early none in
-    new_desk_left first.policy first.at (λ (trees : Trees). trees ≡ (file_state c.in-Ok.conn).committed.trees) IsEmpty c.in-Err-begin.unopened.fault
-    (file_state c.in-Err-begin.unopened.conn) (λ trees same. subst IsEmpty (sym same) nothing.empty)
-    (it clean nothing.schema nothing.opened.0.is_open))
+    let was : Trees → Type 0 = λ trees. trees ≡ (file_state c.in-Ok.conn).committed.trees in
+    if_there c.args.first failed.unmade (λ first it. record {
+      empty = λ clean none.
+          let early : HasCleanDisk (file_state c.in-Ok.conn) = omega (arith, failed.honest, clean) in
+          let nothing = nothing_found (image_at g.S.Start) c.in-Ok.conn conn.opened conn.found early none in
+          new_desk_left first.policy first.at was IsEmpty c.in-Err-begin.unopened.fault (file_state c.in-Err-begin.unopened.conn)
+          (λ trees same. subst IsEmpty (sym same) nothing.empty) (it clean nothing.schema nothing.opened.0.is_open);
+      bare = λ clean files same none.
+          let found = files_found _ c.in-Ok.conn conn.fresh conn.opened conn.found (file_state c.in-Err-begin.unopened.conn) failed.honest clean files same in
+          new_desk_left first.policy first.at was (λ trees. trees ≡ files.trees) c.in-Err-begin.unopened.fault
+          (file_state c.in-Err-begin.unopened.conn) (λ trees is. is ∙ found.trees) (it clean (sym found.schema ∙ none) found.is_open);
+    })
 
 pub returns-in-Ok-begin-clause-free : goal.returns-in-Ok-begin-clause-free
 returns-in-Ok-begin-clause-free g c =
     let conn = c.in-Ok.ensures in
     let made = c.in-Ok-begin.ensures in
-    if_there c.args.first made.taken (λ first it clean files same.
+    if_there c.args.first made.empty (λ first it clean files same.
     let found = files_found _ c.in-Ok.conn conn.fresh conn.opened conn.found (file_state c.in-Ok-begin.store.conn) made.honest clean files same in
-    is_free files c.in-Ok.conn found it)
+    found.schema ∙ it)
 
 pub returns-in-Err-begin-clause-taken : goal.returns-in-Err-begin-clause-taken
 returns-in-Err-begin-clause-taken g c =
     let conn = c.in-Ok.ensures in
     let failed = c.in-Err-begin.ensures in
-    if_there c.args.first failed.taken (λ first it clean files same taken.
+    let schema = (file_state c.in-Ok.conn).now.schema in
+    if_there c.args.first failed.taken (λ first it clean files same some.
     let found = files_found _ c.in-Ok.conn conn.fresh conn.opened conn.found (file_state c.in-Err-begin.unopened.conn) failed.honest clean files same in
     taken_left files c.in-Ok.conn found c.in-Err-begin.unopened.fault (file_state c.in-Err-begin.unopened.conn)
-    (it (subst (λ schema. IsTrue (uses_names schema)) found.schema taken) found.is_open))
+    (by_cases (has_objects schema) _ (λ is. it is found.is_open) (λ is. absurd (some (found.schema ∙ bare_is_none schema is)))))
 
 pub returns-in-Err-begin-clause-failed : goal.returns-in-Err-begin-clause-failed
 returns-in-Err-begin-clause-failed g c none =

@@ -13,11 +13,14 @@ pub returns-in-Ok-clause-idle : goal.returns-in-Ok-clause-idle
 returns-in-Ok-clause-idle g c =
     MatchResult-weaker c.adopt.result c.adopt.ensures.asks (λ desk asked. asked.idle c.in-Ok.ensures.idle) (λ un asked. asked.idle c.in-Ok.ensures.idle)
 
+pub returns-in-Ok-clause-empty : goal.returns-in-Ok-clause-empty
+returns-in-Ok-clause-empty g c = MatchResult-weaker c.adopt.result c.adopt.ensures.asks (λ desk asked. c.in-Ok.ensures.empty) (λ un asked. tt)
+
 pub returns-in-Ok-clause-made : goal.returns-in-Ok-clause-made
 returns-in-Ok-clause-made g c =
     IfOk-weaker c.adopt.result _ _
-    (λ desk kept clean empty unlimited. kept clean (picture (first_history c.args.policy c.args.at))
-    (λ honest. c.in-Ok.ensures.made honest empty unlimited))
+    (λ desk kept clean unlimited. kept clean (picture (first_history c.args.policy c.args.at))
+    (λ honest. c.in-Ok.ensures.made honest unlimited))
     c.adopt.ensures.kept
 
 pub returns-in-Ok-clause-unmade : goal.returns-in-Ok-clause-unmade
@@ -39,7 +42,7 @@ returns-in-Ok-clause-back g c free =
     MatchResult-weaker c.adopt.result c.adopt.ensures.asks (λ desk asked. tt)
     (λ un asked clean. let new = state g.S.Store un.conn in
     inr (λ is_open empty unlimited. still_made g.S.Store c.args.policy c.args.at c.in-Ok.store new
-    (c.in-Ok.ensures.made (clean_before made new asked clean) empty unlimited) asked clean is_open))
+    (c.in-Ok.ensures.made (clean_before made new asked clean) unlimited) asked clean is_open))
 
 pub returns-in-Ok-clause-failed : goal.returns-in-Ok-clause-failed
 returns-in-Ok-clause-failed g c free =

@@ -1,6 +1,6 @@
 use Rattle.std.proofs.Common.{◌≡◌, ◌≤◌, false, inl, inr, refl, subst, sym, le_refl}
 use Rattle.sqlite.specs.{Held.state, View.doubt}
-use Rattle.sql_schema.specs.Names.{uses_names}
+use Rattle.desk_store.specs.Making.{has_objects}
 use Rattle.desk_store.specs.declared.open_fault.OpenFault.TheVariants.{NotADesk}
 use Rattle.desk_files.proofs.Opened.{by_cases}
 use Rattle.desk_files.proofs.tables.make_tables.Goals as goal
@@ -8,23 +8,26 @@ use Rattle.desk_files.proofs.tables.make_tables.Goals as goal
 pub returns-in-Ok-clause-honest : goal.returns-in-Ok-clause-honest
 returns-in-Ok-clause-honest g c =
     let old = state g.A.Store c.args.conn in
-    by_cases (uses_names old.now.schema) _ (λ is. absurd (let e = c.in-Ok.ensures.taken is in cc)) (λ is. (c.in-Ok.ensures.left is).clean)
+    by_cases (has_objects old.now.schema) _ (λ is. absurd (let e = c.in-Ok.ensures.taken is in cc)) (λ is. (c.in-Ok.ensures.left is).clean)
 
 pub returns-in-Err-clause-honest : goal.returns-in-Err-clause-honest
 returns-in-Err-clause-honest g c =
     let old = state g.A.Store c.args.conn in
-    by_cases (uses_names old.now.schema) _
+    by_cases (has_objects old.now.schema) _
     (λ is.
     let e = c.in-Err.ensures.taken is in
     let same : c.in-Err.unmade.conn ≡ c.args.conn = cc in
     subst (λ conn. doubt old.is_clean ≤ doubt (state g.A.Store conn).is_clean) (sym same) (le_refl _)) (λ is. (c.in-Err.ensures.left is).clean)
+
+pub returns-in-Ok-clause-empty : goal.returns-in-Ok-clause-empty
+returns-in-Ok-clause-empty g c = c.in-Ok.ensures.empty
 
 pub returns-in-Ok-clause-made : goal.returns-in-Ok-clause-made
 returns-in-Ok-clause-made g c = c.in-Ok.ensures.made
 
 pub returns-in-Err-clause-unmade : goal.returns-in-Err-clause-unmade
 returns-in-Err-clause-unmade g c clean none is_open =
-    let free = subst (λ schema. uses_names schema ≡ false) (sym none) refl in
+    let free = subst (λ schema. has_objects schema ≡ false) (sym none) refl in
     let failed = c.in-Err.ensures.failed free in
     record {
       fault = (failed.0, failed.1);

@@ -2,23 +2,31 @@ use Rattle.std.proofs.Common.{ap, refl, subst, sym}
 use Rattle.sqlite.specs.Held.{state}
 use Rattle.desk_model.specs.{History.first_history, Tables.picture}
 use Rattle.desk_store.specs.Known.{IsKnownOf}
-use Rattle.desk_store.proofs.{Knowing.nothing_known, Standing.failed}
-use Rattle.desk_store.proofs.OpeningFaults.{not_free, same_storage}
+use Rattle.desk_store.proofs.{Knowing.nothing_known, NewDesks.asked_is_none, Standing.failed}
+use Rattle.desk_store.proofs.OpeningFaults.{not_bare, same_storage}
 use Rattle.desk_store.proofs.store.Store.make.Goals as goal
 
-pub returns-then-uses_names-clause-left : goal.returns-then-uses_names-clause-left
-returns-then-uses_names-clause-left g c free =
-    absurd (not_free (state g.S.Store c.args.conn).now.schema c.schema.result.now c.uses_names.result c.uses_names.ensures c.schema.ensures.value
-    c.if-uses_names.true free)
+pub returns-then-has_objects-clause-left : goal.returns-then-has_objects-clause-left
+returns-then-has_objects-clause-left g c free =
+    absurd (not_bare (state g.S.Store c.args.conn).now.schema c.schema.result.now c.has_objects.result c.has_objects.ensures c.schema.ensures.value
+    c.if-has_objects.true free)
 
 pub returns-in-Ok-clause-made : goal.returns-in-Ok-clause-made
-returns-in-Ok-clause-made g c clean none unlimited =
+returns-in-Ok-clause-made g c clean unlimited =
+    let none =
+    asked_is_none (state g.S.Store c.args.conn).now.schema c.schema.result.now c.has_objects.result c.has_objects.ensures c.schema.ensures.value
+    c.if-has_objects.false in
     let it = c.in-Ok.ensures.made clean none unlimited in
     let T = picture (first_history c.args.policy c.args.at) in
     record {
       tables = record { desk = it.desk; known = subst (λ k. IsKnownOf k T) (sym c.nothing.ensures) (nothing_known T) };
       left = it.left;
     }
+
+pub returns-in-Ok-clause-empty : goal.returns-in-Ok-clause-empty
+returns-in-Ok-clause-empty g c =
+    asked_is_none (state g.S.Store c.args.conn).now.schema c.schema.result.now c.has_objects.result c.has_objects.ensures c.schema.ensures.value
+    c.if-has_objects.false
 
 pub returns-in-Ok-clause-left : goal.returns-in-Ok-clause-left
 returns-in-Ok-clause-left g c free = c.make_desk.ensures.left
