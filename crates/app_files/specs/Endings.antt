@@ -6,8 +6,8 @@ use Rattle.sqlite_disk.specs.declared.Files.{Files}
 use Rattle.sqlite_store.specs.declared.store.FileStore.{FileStore}
 use Rattle.sqlite_trees.specs.declared.memory.MemStore.{MemStore}
 use Rattle.desk_files.specs.Closing.{EndsAsStop, KeepsInFile, WasHonest}
-use Rattle.desk_files.specs.Opening.{FailsToMake, FoundNothing, LeavesAnOpening, LeavesAsFound, MakesFiles, OpensFiles}
-use Rattle.desk_files.specs.Opening.{RefusesNoDatabase, RefusesNoDesk, RefusesObjects}
+use Rattle.desk_files.specs.Opening.{FailedOver, FailedToMakeOver, FailsToMake, FoundNothing, LeavesAnOpening, LeavesAsFound, MakesFiles, OpensFiles}
+use Rattle.desk_files.specs.Opening.{OpensKnown, RefusedBy, RefusesNoDatabase, RefusesNoDesk, RefusesObjects}
 use Rattle.desk_files.specs.declared.opening.NotOpened.{NotOpened}
 use Rattle.desk_model.specs.{History.first_history, Tables.picture, Terms.Terms}
 use Rattle.store_api.specs.Sight.{Keeps}
@@ -50,13 +50,15 @@ module _ {D : Type 0} {g : disk.Ghosts D} where
   IsLeft store _ _ = ⊥
 
   -- the files were not reached; or the engine refused them, which held no database; or they hold no desk. A stop leaves what was there,
-  -- or its desk of format 1 in today's format
+  -- or its desk of format 1 in today's format. The cause is that of the engine's error, or of the store's opening over their bytes
   pub record FailsToOpen (bytes : Image) (cause : OpenFault) (un : NotOpened (FileStore D g) D g) : Type 0 where
     pub unreached : un.conn ≡ None → un.refused ≡ None → IsOfStorage cause
     pub refused : IfSome un.refused (RefusesNoDatabase bytes cause)
     pub unopened : IfSome un.conn (RefusesNoDesk bytes cause)
     pub left : IfSome un.conn (LeavesAnOpening bytes)
     pub spared : IfSome un.conn (LeavesAsFound bytes cause)
+    pub cause : IfSome un.refused (RefusedBy bytes cause)
+    pub failed : IfSome un.conn (FailedOver bytes cause)
 
   -- no desk was opened in files with these bytes, for this cause, which left these
   abbrev pub IsUnopened : Image → OpenFault → Left D g → Type 0
@@ -67,12 +69,14 @@ module _ {D : Type 0} {g : disk.Ghosts D} where
   -- ---- makings
 
   -- the files were not reached; or the engine refused them; or none could be made in them, which leaves what was there, or the new desk;
-  -- or there was an object, and what was there stays
+  -- or there was an object, and what was there stays. The cause is that of the engine's error, or of the store's making
   pub record FailsToBeMade (bytes : Image) (policy : Terms) (cause : OpenFault) (un : NotOpened (FileStore D g) D g) : Type 0 where
     pub unreached : un.conn ≡ None → un.refused ≡ None → IsOfStorage cause
     pub refused : IfSome un.refused (RefusesNoDatabase bytes cause)
     pub unmade : IfSome un.conn (FailsToMake policy 0 bytes cause)
     pub taken : IfSome un.conn (RefusesObjects bytes cause)
+    pub cause : IfSome un.refused (RefusedBy bytes cause)
+    pub failed : IfSome un.conn (FailedToMakeOver policy 0 bytes cause)
 
   -- no desk was made
   abbrev pub IsUnmade : Image → Terms → OpenFault → Left D g → Type 0
@@ -104,6 +108,7 @@ module _ {D : Type 0} (g : disk.Ghosts D) where
     pub opened : Store (FileStore D g)
     pub ended : Store (FileStore D g)
     pub opens : OpensFiles bytes opened
+    pub known : OpensKnown bytes opened
     pub did : OverStore does (over_files {g = g}) opened ended how
 
 module _ {D : Type 0} {g : disk.Ghosts D} where

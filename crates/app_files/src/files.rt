@@ -1,7 +1,7 @@
 //! The desk of the file at a path, and its log beside it.
 ghost use Rattle.std.specs.Prelude.{IfErr, IfOk};
 ghost use Rattle.sqlite.specs.WalFiles.{image_at};
-ghost use Rattle.desk_files.specs.Opening.{OpensFiles};
+ghost use Rattle.desk_files.specs.Opening.{OpensFiles, OpensKnown};
 ghost use Rattle.desk_store.specs.Making.{IsOfStorage};
 ghost use Rattle.app_files.specs.Endings.{EndsMaking, IsLeft, IsUnopened, IsUntouched};
 
@@ -103,6 +103,7 @@ pub(crate) fn open<S: Start>(
     start: S,
 ) -> Result<Store<DeskFile<S>>, (OpenFault, Left<FileFrom<S>>)>
     ensures opened { IfOk result (OpensFiles (image_at S.Start)) }
+    ensures known { IfOk result (OpensKnown (image_at S.Start)) }
     ensures unopened { IfErr result (λ e. IsUnopened (image_at S.Start) e.0 e.1) }
 {
     match holds_bytes(rt, path) {

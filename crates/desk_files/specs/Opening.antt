@@ -16,7 +16,7 @@ use Rattle.store_api.specs.Sight.{Keeps, Opens}
 use Rattle.desk_store.specs.{Causes.cause_of, Desks.AreOfDesk}
 use Rattle.desk_store.specs.declared.{faults.EngineCause.EngineCause, open_fault.OpenFault.OpenFault, store.Store.Store}
 use Rattle.desk_store.specs.Making.{FailedToMake, IsOfStorage, has_objects}
-use Rattle.desk_store.specs.Opening.{FailedToOpen, ShowsNewerFormat}
+use Rattle.desk_store.specs.Opening.{FailedToOpen, ShowsKnownFormat, ShowsNewerFormat, ShowsNoLaterFormat}
 use Rattle.store_api.specs.declared.fault.StorageFault.{StorageFault}
 use Rattle.store_api.specs.declared.fault.StorageFault.TheVariants as fault
 use Rattle.desk_store.specs.declared.faults.EngineCause.TheVariants as cause
@@ -76,6 +76,13 @@ module _ {D : Type 0} {g : disk.Ghosts D} where
     pub connects : Connects image from
     pub failed : FailedToOpen (over_files {g = g}) from conn why
     pub newer : HasCleanDisk (file_state conn) → why ≡ NewerFormat → ShowsNewerFormat (over_files {g = g}) from
+    pub no_later : HasCleanDisk (file_state conn) → why ≡ NotADesk → ShowsNoLaterFormat (over_files {g = g}) from
+
+  -- it opened them, and over that connection a desk was opened whose format is no later one
+  pub record OpensKnown (image : Image) (store : Store (FileStore D g)) : Type 0 where
+    pub from : Held (FileStore D g)
+    pub connects : Connects image from
+    pub known : HasCleanDisk (file_state store.conn) → ShowsKnownFormat (over_files {g = g}) from
 
   -- or none was made, where there was no object, by that of the store's making
   pub record FailedToMakeOver (policy : Terms) (at : ℕ) (image : Image) (why : OpenFault) (conn : Held (FileStore D g)) : Type 0 where

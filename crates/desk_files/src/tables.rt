@@ -5,9 +5,10 @@ ghost use Rattle.desk_model.specs.History.{first_history};
 ghost use Rattle.desk_model.specs.Tables.{Tables, picture};
 ghost use Rattle.sql_schema.specs.Schema.{no_schema};
 ghost use Rattle.store_api.specs.Sight.{Keeps};
-ghost use Rattle.desk_store.specs.{Desks.store_sight, declared.open_fault.OpenFault.TheVariants.NewerFormat as newer_format};
+ghost use Rattle.desk_store.specs.Desks.{store_sight};
+ghost use Rattle.desk_store.specs.declared.open_fault.OpenFault.TheVariants.{NewerFormat as newer_format, NotADesk as not_a_desk};
 ghost use Rattle.desk_store.specs.Making.{FailedToMake, IsOfStorage, has_objects};
-ghost use Rattle.desk_store.specs.Opening.{FailedToOpen, IsUpgraded, ShowsNewerFormat};
+ghost use Rattle.desk_store.specs.Opening.{FailedToOpen, IsUpgraded, ShowsKnownFormat, ShowsNewerFormat, ShowsNoLaterFormat};
 ghost use Rattle.desk_files.specs.Formats.{HasEither};
 ghost use Rattle.desk_files.specs.Opening.{IsEarly, IsTaken, LeavesNewDesk};
 
@@ -31,6 +32,8 @@ fn open_tables<A: Alter>(alloc: Global, conn: Connection<A>) -> Result<Store<A>,
         → (trees : Trees) → (state A.Store un.conn).may_leave trees → trees ≡ (state A.Store conn).committed.trees) }
     ensures failed { IfErr result (λ un. FailedToOpen A.Store conn un.conn un.fault) }
     ensures newer { IfErr result (λ un. HasCleanDisk (state A.Store un.conn) → un.fault ≡ newer_format → ShowsNewerFormat A.Store conn) }
+    ensures no_later { IfErr result (λ un. HasCleanDisk (state A.Store un.conn) → un.fault ≡ not_a_desk → ShowsNoLaterFormat A.Store conn) }
+    ensures known { IfOk result (λ store. HasCleanDisk (state A.Store store.conn) → ShowsKnownFormat A.Store conn) }
 {
     match Store::open(alloc, conn) {
         Ok(store) => Ok(store),
@@ -103,6 +106,9 @@ pub(crate) fn begin<A: Alter>(
         → IsTaken (λ trees. trees ≡ (state A.Store conn).committed.trees) un.fault (state A.Store un.conn))) }
     ensures failed { first ≡ None → IfErr result (λ un. FailedToOpen A.Store conn un.conn un.fault) }
     ensures newer { first ≡ None → IfErr result (λ un. HasCleanDisk (state A.Store un.conn) → un.fault ≡ newer_format → ShowsNewerFormat A.Store conn) }
+    ensures no_later { first ≡ None
+        → IfErr result (λ un. HasCleanDisk (state A.Store un.conn) → un.fault ≡ not_a_desk → ShowsNoLaterFormat A.Store conn) }
+    ensures known { first ≡ None → IfOk result (λ store. HasCleanDisk (state A.Store store.conn) → ShowsKnownFormat A.Store conn) }
     ensures making { IfSome first (λ it. has_objects (state A.Store conn).now.schema ≡ false
         → IfErr result (λ un. FailedToMake A.Store it.policy it.at conn un.conn un.fault)) }
 {

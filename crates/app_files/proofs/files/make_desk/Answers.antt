@@ -15,4 +15,5 @@ returns-in-Ok-make_from g c =
 pub returns-in-Err-make_from : goal.returns-in-Err-make_from
 returns-in-Err-make_from g c =
     let fails = c.in-Err-make_from.ensures in
-    is_unmade (image_at g.S.Start) c.args.policy _ c.in-Err-make_from.unmade c.at.ensures fails.unreached fails.refused fails.unmade fails.taken _ refl
+    is_unmade (image_at g.S.Start) c.args.policy _ c.in-Err-make_from.unmade c.at.ensures fails.unreached fails.refused fails.unmade fails.taken
+    fails.cause fails.failed _ refl

@@ -6,7 +6,13 @@ pub returns-in-Ok : goal.returns-in-Ok
 returns-in-Ok g c =
     let ends = c.ended.ensures in
     done c.run_over-store.result.1
-    (record { opened = c.in-Ok.store; ended = c.run_over-store.result.0; opens = c.in-Ok.ensures.opened; did = c.run_over-store.ensures })
+    (record {
+      opened = c.in-Ok.store;
+      ended = c.run_over-store.result.0;
+      opens = c.in-Ok.ensures.opened;
+      known = c.in-Ok.ensures.known;
+      did = c.run_over-store.ensures;
+    })
     c.close-closed.result.0 c.close-closed.ensures (record { closed = ends.closed; unclosed = ends.unclosed; otherwise = ends.otherwise })
 
 pub returns : goal.returns

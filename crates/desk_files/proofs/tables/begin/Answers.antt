@@ -11,3 +11,9 @@ returns-in-None-clause-newer g c none = c.open_tables.ensures.newer
 
 pub returns-in-Some-clause-making : goal.returns-in-Some-clause-making
 returns-in-Some-clause-making g c = rw c.in-Some.is c.make_tables.ensures.failed
+
+pub returns-in-None-clause-no_later : goal.returns-in-None-clause-no_later
+returns-in-None-clause-no_later g c none = c.open_tables.ensures.no_later
+
+pub returns-in-None-clause-known : goal.returns-in-None-clause-known
+returns-in-None-clause-known g c none = c.open_tables.ensures.known

@@ -39,3 +39,9 @@ returns-in-Err-clause-failed g c = c.in-Err.ensures.failed
 
 pub returns-in-Err-clause-newer : goal.returns-in-Err-clause-newer
 returns-in-Err-clause-newer g c = c.in-Err.ensures.newer
+
+pub returns-in-Err-clause-no_later : goal.returns-in-Err-clause-no_later
+returns-in-Err-clause-no_later g c = c.in-Err.ensures.no_later
+
+pub returns-in-Ok-clause-known : goal.returns-in-Ok-clause-known
+returns-in-Ok-clause-known g c = c.in-Ok.ensures.known
