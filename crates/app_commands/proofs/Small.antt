@@ -201,7 +201,7 @@ module _ {D : Type 0} (g : disk.Ghosts D) (image : Image) where
   small_command bytes was is (command.Make file terms) how left it = small_make (terms_of terms) was is how left it
   small_command bytes was is (command.Serve file serving) how left it =
       small_over (ServesClients serving) (small_serves serving) was is how left it
-  small_command bytes was is (command.About file) how left (inl it) = small_as how _ it.1 (omega arith)
+  small_command bytes was is (command.About file) how left (inl it) = small_as how _ it.2 (omega arith)
   small_command bytes was is (command.About file) how left (inr it) = small_over (TellsAbout it.0) (small_tells it.0) was is how left it.1
   small_command bytes was is (command.Page file) how left it = small_over TellsPage small_page was is how left it
   small_command bytes was is (command.Status file listing) how left it =

@@ -52,6 +52,10 @@ pub record IsToldCopied (checked how : Result ℕ Fault) : Type 0 where
   pub copied : checked ≡ Ok 0 → (how ≡ Ok 0) ⊎ (((why : CopyFault) × (how ≡ Err (fault.Copy why))) ⊎ (how ≡ Err fault.Output))
   pub otherwise : checked ≢ Ok 0 → how ≡ checked
 
+-- memory was refused, or the size of a file not to be had
+abbrev pub IsOfLog : DeskFault → Type 0
+IsOfLog why = (why ≡ deskfault.Memory) ⊎ (why ≡ deskfault.Device)
+
 module _ {D : Type 0} {g : disk.Ghosts D} where
   -- no file was opened, and nothing written
   abbrev pub IsIdle : (was is : Option (List ℕ)) → Left D g → Type 0
@@ -74,10 +78,10 @@ module _ {D : Type 0} (g : disk.Ghosts D) (image : Image) where
       ((are_terms policy ≡ false) × (how ≡ Ok 2) × IsIdle was is left)
       ⊎ (((are_terms policy ≡ true) × Makes policy how left) ⊎ ((how ≡ Err (fault.Desk deskfault.Memory)) × IsIdle was is left))
 
-  -- the size of the log could not be told; or what is known of the desk was
+  -- the size of the log could not be told, for memory or its file system; or what is known of the desk was
   abbrev pub EndsAbout : (was is : Option (List ℕ)) → Result ℕ Fault → Left D g → Type 0
   EndsAbout was is how left =
-      ((why : DeskFault) × (how ≡ Err (fault.Desk why)) × IsIdle was is left) ⊎ ((b : Beside) × EndsOverFiles (TellsAbout b) was is how left)
+      ((why : DeskFault) × IsOfLog why × (how ≡ Err (fault.Desk why)) × IsIdle was is left) ⊎ ((b : Beside) × EndsOverFiles (TellsAbout b) was is how left)
 
   -- the machine told no moment; or the target was revoked at one
   abbrev pub EndsRevoke : Revocation → (was is : Option (List ℕ)) → Result ℕ Fault → Left D g → Type 0

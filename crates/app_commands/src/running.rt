@@ -5,7 +5,7 @@ ghost use Rattle.desk_model.specs.Terms.{are_terms};
 ghost use Rattle.desk.specs.declared.fault.DeskFault.TheVariants as deskfault;
 ghost use Rattle.app_tasks.specs.Deeds.{ChecksStatuses, ListsRows, ServesClients, TellsPage, form_of};
 ghost use Rattle.app_tasks.specs.{Faults.IsOfOpening, GivenTerms.terms_of};
-ghost use Rattle.app_commands.specs.Statuses.{Ends, EndsAbout, EndsBy, EndsMake, EndsOverFiles, EndsRevoke, EndsUnasked, IsToldMade};
+ghost use Rattle.app_commands.specs.Statuses.{Ends, EndsAbout, EndsBy, EndsMake, EndsOverFiles, EndsRevoke, EndsUnasked, IsOfLog, IsToldMade};
 ghost use Rattle.app_commands.specs.Statuses.{status_of, supposes, syncs_of, terms_in_memory};
 ghost use Rattle.app_reports.specs.Listed.{roster};
 ghost use Rattle.app_files.specs.Endings.{EndsInMemory};
@@ -256,7 +256,9 @@ fn about_file<S: Start, W: Write>(
 }
 
 // How many bytes the log beside a file has, 0 where there is none.
-fn log_len(rt: &HostRuntime, file: &str) -> Result<u64, DeskFault> {
+fn log_len(rt: &HostRuntime, file: &str) -> Result<u64, DeskFault>
+    ensures { IfErr result IsOfLog }
+{
     let Ok(path) = format!(in rt.alloc(); "{file}-wal") else {
         return Err(DeskFault::Memory);
     };
