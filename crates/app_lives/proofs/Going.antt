@@ -1,14 +1,17 @@
 -- Words over the files that the one before left.
-use Rattle.std.proofs.Common.{◌∙◌, ℕ, List, ◌∷◌, ◌++◌, Result, ap₂, refl, subst, sym}
+use Rattle.std.proofs.Common.{◌≡◌, ◌∙◌, ℕ, List, [], ◌∷◌, ◌++◌, Result, true, ap₂, arith, inl, inr, refl, subst, sym}
+use Rattle.std.proofs.Math.Logic.{∥∥₁_map}
 use Rattle.sqlite.specs.Files.{over_files}
 use Rattle.sqlite_disk.specs.declared.Disk as disk
 use Rattle.app_tasks.specs.Deeds.{AnswersReader, ChecksStatuses, ListsRows, RevokesTarget, ServesClients, TellsAbout, TellsPage}
 use Rattle.app_tasks.specs.declared.fault.Fault.{Fault}
 use Rattle.desk.specs.Seen.{Told}
 use Rattle.model_lives.proofs.Extends.{histories_are_legal}
-use Rattle.desk_model.specs.{Entry.History, Tables.picture}
+use Rattle.desk_model.specs.{Entry.History, History.first_history, Legal.Legal, Tables.picture}
+use Rattle.desk_model.specs.Terms.{Terms, are_terms}
 use Rattle.desk_model.specs.Life.{Reopened, history, kept_calls}
-use Rattle.desk_files.proofs.Finding.{in_todays}
+use Rattle.desk_files.proofs.Finding.{in_todays, opening_keeps}
+use Rattle.desk_files.proofs.Refused.{if_there}
 use Rattle.desk_files.specs.LeftFiles.{LeftFiles, file_sight}
 use Rattle.desk_store.specs.Desks.{AreOfDesk, store_sight}
 use Rattle.app_files.specs.Endings.{IsDoneOver}
@@ -16,7 +19,7 @@ use Rattle.app_tasks.specs.Doing.{Doing}
 use Rattle.app_reports.specs.Listed.{accounts_roster, authorizations_roster, orders_roster}
 use Rattle.app_lives.proofs.Joined.{history_on, kept_on, lives_on, replied_on}
 use Rattle.app_lives.proofs.Leaving.{words_leave}
-use Rattle.app_lives.specs.Again.{GoesOn, HasLives, StaysOn, WordsGoOn}
+use Rattle.app_lives.specs.Again.{BeginsLife, CopiesGoOn, GoesOn, HasLives, MayBeginLife, StaysOn, StaysUnopened, WordsGoOn}
 use Rattle.app_lives.specs.Kept.{HasLife}
 use Rattle.app_lives.specs.Left.{IsOver, LeavesAsIs, LeavesLife, LivesOn, WordsLeave}
 use Rattle.app_lives.specs.Told.{TellsAny, TellsBatch, TellsRevocation}
@@ -33,7 +36,51 @@ with_word g F words files left told h l = record {
   tables = subst (λ H. AreOfDesk left.trees (picture H)) (sym (history_on F h.life l.life)) l.tables;
 }
 
+-- a desk that was just made, by terms within their limits, has a legal history
+made_is_legal : (policy : Terms) → are_terms policy ≡ true → Legal (first_history policy 0)
+made_is_legal policy within = record {
+  begins = tt;
+  each = (record { allowed = within; formed = tt; in_order = omega arith; in_time = omega arith }, tt);
+  numbered = refl;
+}
+
+-- and a life in which nothing was replied
+life_begins : (policy : Terms) (left : LeftFiles) → are_terms policy ≡ true → AreOfDesk left.trees (picture (first_history policy 0))
+    → HasLives (first_history policy 0) [] left
+life_begins policy left within tables =
+    record { life = []; lives = made_is_legal policy within; replies = refl; kept = refl; tables = tables }
+
+-- files that have the tables of a life have it
+has_same : (F : History) (words : List (List Told)) (files left : LeftFiles) (h : HasLives F words files)
+    → AreOfDesk left.trees (picture (history F h.life)) → (still : HasLives F words left) × (still.life ≡ h.life)
+has_same F words files left h tables =
+    (record { life = h.life; lives = h.lives; replies = h.replies; kept = h.kept; tables = tables }, refl)
+
 module _ {D : Type 0} (g : disk.Ghosts D) where
+  begins_life : BeginsLife g
+  begins_life policy within made makes honest left may = life_begins policy left within ((makes honest).tables.left left.trees may)
+
+  may_begin_life : MayBeginLife g
+  may_begin_life policy within bytes none cause un fails =
+      if_there un.conn fails.unmade (λ conn leaves clean left may. elim ((leaves.empty clean none).left left.trees may) [
+        | inl empty ↦ inl empty
+        | inr desk ↦ inr (life_begins policy left within desk)
+      ])
+
+  stays_unopened : StaysUnopened g
+  stays_unopened F words files h cause un fails =
+      if_there un.conn fails.left (λ conn leaves clean left may.
+      has_same F words files left h
+      (subst (λ t. AreOfDesk t (picture (history F h.life)))
+      (sym (opening_keeps files left.trees (picture (history F h.life)) h.tables (leaves clean files refl left.trees may))) h.tables))
+
+  copies_go_on : CopiesGoOn g
+  copies_go_on F words files h was is left ends =
+      let all : WordsLeave g = words_leave g in
+      let it =
+      all.backup files.image was is left ends (history F h.life) files refl (in_todays files (picture (history F h.life)) h.tables) in
+      (it.0, it.1, λ clean. ∥∥₁_map (it.2 clean) (λ found. (found.0, found.1, has_same F words files found.0 h found.2)))
+
   -- the word is over the desk that the life ends with
   is_over : {does : Doing Fault} {how : Result ℕ Fault} (F : History) (words : List (List Told)) (files : LeftFiles) (h : HasLives F words files)
       → (done : IsDoneOver g files.image does how) → (file_sight g).is_honest done.ended → IsOver g (history F h.life) done
@@ -47,16 +94,8 @@ module _ {D : Type 0} (g : disk.Ghosts D) where
 
   -- a word that leaves the desk as it was
   desk_stays_on : (does : Doing Fault) → LeavesAsIs g does → StaysOn g does
-  desk_stays_on does leaves F words files h how done honest left may = (
-    record {
-      life = h.life;
-      lives = h.lives;
-      replies = h.replies;
-      kept = h.kept;
-      tables = leaves files.image how done (history F h.life) (is_over F words files h done honest) left may;
-    },
-    refl,
-  )
+  desk_stays_on does leaves F words files h how done honest left may =
+      has_same F words files left h (leaves files.image how done (history F h.life) (is_over F words files h done honest) left may)
 
   -- a word that goes on with its life
   life_goes_on : (does : Doing Fault) (Says : Result ℕ Fault → List Told → Type 0) → LivesOn g does Says → GoesOn g does Says
@@ -69,6 +108,10 @@ module _ {D : Type 0} (g : disk.Ghosts D) where
   words_go_on =
       let all : WordsLeave g = words_leave g in
       record {
+        make = begins_life;
+        unmade = may_begin_life;
+        unopened = stays_unopened;
+        backup = copies_go_on;
         about = λ b was is. desk_stays_on (TellsAbout b was is) (all.about b was is);
         page = λ was is. desk_stays_on (TellsPage was is) (all.page was is);
         status = λ filter f was is. desk_stays_on (ListsRows (orders_roster filter f) was is) (all.status filter f was is);

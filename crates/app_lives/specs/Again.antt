@@ -1,15 +1,25 @@
 -- Words of the program, one after the other, over the files that the one before left.
-use Rattle.std.specs.Prelude.{◌≡◌, ℕ, List, [], ◌∷◌, ◌++◌, Option, Result}
+use Rattle.std.specs.Prelude.{◌≡◌, ◌⊎◌, ℕ, List, [], ◌∷◌, ◌++◌, Option, Result, Ok, IfSome, true}
+use Rattle.sqlite.specs.Files.{IsEmpty, file_state, image_of}
+use Rattle.sqlite.specs.{Recovery.Image, State.HasCleanDisk, WalReads.AreClean}
 use Rattle.sqlite_disk.specs.declared.Disk as disk
+use Rattle.sqlite_disk.specs.declared.Files.{Files}
+use Rattle.sqlite_store.specs.declared.store.FileStore.{FileStore}
 use Rattle.app_words.specs.declared.command.{Revocation.Revocation, Serving.Serving}
 use Rattle.app_tasks.specs.Deeds.{AnswersReader, ChecksStatuses, ListsRows, RevokesTarget, ServesClients, TellsAbout, TellsPage}
 use Rattle.app_tasks.specs.declared.fault.Fault.{Fault}
+use Rattle.app_commands.specs.Statuses.{EndsBackUp}
 use Rattle.desk.specs.Seen.{Told, replied}
-use Rattle.desk_model.specs.{Entry.History, Tables.picture, declared.call.Call.Call}
+use Rattle.desk_model.specs.{Entry.History, History.first_history, Tables.picture, declared.call.Call.Call}
 use Rattle.desk_model.specs.Life.{Event, IsLife, history, kept_calls}
+use Rattle.desk_model.specs.Terms.{Terms, are_terms}
 use Rattle.desk_files.specs.LeftFiles.{LeftFiles, file_sight}
+use Rattle.desk_files.specs.{Opening.MakesFiles, declared.opening.NotOpened.NotOpened}
 use Rattle.desk_store.specs.Desks.{AreOfDesk}
-use Rattle.app_files.specs.Endings.{IsDoneOver}
+use Rattle.desk_store.specs.declared.{open_fault.OpenFault.OpenFault, store.Store.Store}
+use Rattle.app_files.specs.Endings.{FailsToBeMade, FailsToOpen, IsDoneOver}
+use Rattle.app_files.specs.declared.left.Left.{Left}
+use Rattle.app_files.specs.declared.left.Left.TheVariants as rest
 use Rattle.app_tasks.specs.Doing.{Doing}
 use Rattle.app_reports.specs.Listed.{accounts_roster, authorizations_roster, orders_roster}
 use Rattle.app_reports.specs.declared.{asked.AuthorizationFilter.AuthorizationFilter, beside.Beside.Beside, form.Form.Form}
@@ -52,8 +62,45 @@ module _ {D : Type 0} (g : disk.Ghosts D) where
       → (how : Result ℕ Fault) (done : IsDoneOver g files.image does how) → (file_sight g).is_honest done.ended
       → (told : List Told) × Says how told × ((left : LeftFiles) → (file_sight g).leaves done.ended left → HasLives F (told ∷ words) left)
 
-  -- so it is of each word
+  -- a desk that was made, by terms within their limits, has in whatever files it closes or a stop then leaves the life that begins with its
+  -- making, in which nothing was replied
+  abbrev pub BeginsLife : Type 0
+  BeginsLife =
+      (policy : Terms) → are_terms policy ≡ true → (made : Store (FileStore D g)) → MakesFiles policy 0 made → (file_sight g).is_honest made
+      → (left : LeftFiles) → (file_sight g).leaves made left → HasLives (first_history policy 0) [] left
+
+  -- a making that failed in files without bytes leaves an empty database, or that life
+  abbrev pub MayBeginLife : Type 0
+  MayBeginLife =
+      (policy : Terms) → are_terms policy ≡ true → (bytes : Image) → bytes.db ≡ [] → (cause : OpenFault) (un : NotOpened (FileStore D g) D g)
+      → FailsToBeMade bytes policy cause un
+      → IfSome un.conn (λ conn. HasCleanDisk (file_state conn) → (left : LeftFiles) → (file_state conn).may_leave left.trees
+      → IsEmpty left.trees ⊎ HasLives (first_history policy 0) [] left)
+
+  -- files with such a life in which no desk was opened have the same life, whatever a stop then leaves
+  abbrev pub StaysUnopened : Type 0
+  StaysUnopened =
+      (F : History) (words : List (List Told)) (files : LeftFiles) (h : HasLives F words files)
+      (cause : OpenFault) (un : NotOpened (FileStore D g) D g) → FailsToOpen files.image cause un
+      → IfSome un.conn (λ conn. HasCleanDisk (file_state conn) → (left : LeftFiles) → (file_state conn).may_leave left.trees
+      → (still : HasLives F words left) × (still.life ≡ h.life))
+
+  -- where a copy of files with such a life is told as made, they are closed, and the bytes of the database file alone, which are copied,
+  -- have the same life, on a disk that is honest to the end
+  abbrev pub CopiesGoOn : Type 0
+  CopiesGoOn =
+      (F : History) (words : List (List Told)) (files : LeftFiles) (h : HasLives F words files) (was is : Option (List ℕ)) (left : Left D g)
+      → EndsBackUp g files.image was is (Ok 0) left
+      → (closed : Files D) × (left ≡ rest.Closed closed)
+      × (AreClean g closed.log closed.db → ∥ ((copy : LeftFiles) × (copy.image ≡ record (image_of g closed) { log = [] })
+      × (still : HasLives F words copy) × (still.life ≡ h.life)) ∥₁)
+
+  -- so it is of each word, and of files that are made, copied, or not opened
   pub record WordsGoOn : Type 0 where
+    pub make : BeginsLife
+    pub unmade : MayBeginLife
+    pub unopened : StaysUnopened
+    pub backup : CopiesGoOn
     pub about : (b : Beside) (was is : Option (List ℕ)) → StaysOn (TellsAbout b was is)
     pub page : (was is : Option (List ℕ)) → StaysOn (TellsPage was is)
     pub status : (filter : OrderFilter) (f : Form) (was is : Option (List ℕ)) → StaysOn (ListsRows (orders_roster filter f) was is)

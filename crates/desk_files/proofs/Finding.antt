@@ -56,6 +56,11 @@ desk_kept files trees (inl same) T has = subst (λ t. AreOfEither t T) (sym same
 desk_kept files trees (inr is) T (inl desk) = not_both _ _ refl (has_key_table files T desk) is.first
 desk_kept files trees (inr is) T (inr first) = inl (is.desk T first)
 
+-- of files with a desk in today's format it leaves what they hold
+pub opening_keeps : (files : LeftFiles) (trees : Trees) (T : Tables) → AreOfDesk files.trees T → AreOfOpening files trees → trees ≡ files.trees
+opening_keeps files trees T desk (inl same) = same
+opening_keeps files trees T desk (inr is) = not_both _ _ refl (has_key_table files T desk) is.first
+
 -- ---- what a stop left
 
 module _ {D : Type 0} {g : disk.Ghosts D} where
