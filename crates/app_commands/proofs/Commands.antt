@@ -3,10 +3,10 @@ use Rattle.std.proofs.Common.{◌≡◌, ◌∙◌, ℕ, Bool, true, false, List
 use Rattle.std.specs.Prelude.{MatchOption, MatchResult}
 use Rattle.sqlite.specs.Recovery.{Image}
 use Rattle.sqlite_disk.specs.declared.Disk as disk
-use Rattle.app_words.specs.declared.command.Command.{Command}
+use Rattle.app_words.specs.declared.command.{Command.Command, Syncs.Syncs}
 use Rattle.app_tasks.specs.{Filters.IsUnasked, Faults.IsOfOpening, declared.filters.Unasked.Unasked, declared.fault.Fault.Fault}
 use Rattle.app_tasks.specs.Deeds.{ChecksStatuses, ListsRows, form_of}
-use Rattle.app_commands.specs.Statuses.{Ends, EndsList, EndsMake, EndsOverFiles, EndsUnasked, IsToldMade, terms_in_memory}
+use Rattle.app_commands.specs.Statuses.{BySyncs, Ends, EndsList, EndsMake, EndsOverFiles, EndsUnasked, IsToldMade, terms_in_memory}
 use Rattle.app_tasks.specs.declared.filters.Unasked.TheVariants as unasked
 use Rattle.app_tasks.specs.declared.fault.Fault.TheVariants as fault
 use Rattle.desk.specs.declared.fault.DeskFault.TheVariants as deskfault
@@ -63,3 +63,7 @@ pub no_policy : (deed : Deed Fault) (was : Option (List ℕ)) (f : Fault) (how :
     → IsErrAnd how (λ e. e ≡ f) → EndsInMemory IsOfOpening terms_in_memory deed was was how
 no_policy deed was f (Ok status) is told = absurd told
 no_policy deed was f (Err e) is told = unmade_in_memory (Storage Memory) (told ∙ is) refl
+
+-- by how often its commits sync
+pub as_synced : (once twice : Type 0) (by found it : Syncs) → found ≡ by → found ≡ it → BySyncs once twice it → BySyncs once twice by
+as_synced once twice by found it same is ends = subst (BySyncs once twice) (sym is ∙ same) ends

@@ -5,11 +5,13 @@ use Rattle.sqlite.specs.Recovery.{Image}
 use Rattle.sqlite_disk.specs.declared.Disk as disk
 use Rattle.app_words.specs.declared.command.{Command.Command, Revocation.Revocation, Serving.Serving}
 use Rattle.app_words.specs.declared.command.Command.TheVariants as command
+use Rattle.app_words.specs.declared.fault.WordsFault.{WordsFault}
+use Rattle.app_words.specs.declared.fault.WordsFault.TheVariants as wordsfault
 use Rattle.app_tasks.specs.Asked.{IsSaid, RevokesServed, refused, revoked, unheard}
 use Rattle.app_tasks.specs.Deeds.{AnswersReader, ChecksStatuses, ListsRows, RevokesTarget, ServesClients, TellsAbout, TellsPage, AnswersLines, ByDesk, IsTold}
 use Rattle.app_tasks.specs.Deeds.{Revokes, Serves, adopted, clocked, clockless, served, unadopted, unserved, how_checked, how_listed, how_served}
 use Rattle.app_tasks.specs.{Faults.IsOfOpening, declared.fault.Fault.Fault}
-use Rattle.app_commands.specs.Statuses.{EndsBackUp, IsToldCopied}
+use Rattle.app_commands.specs.Statuses.{EndsBackUp, IsToldCopied, IsToldWords}
 use Rattle.app_commands.specs.Statuses.{Ends, EndsBy, EndsList, EndsMake, EndsOverFiles, IsToldMade, status_of, terms_in_memory}
 use Rattle.app_tasks.specs.{Deeds.form_of, GivenTerms.terms_of}
 use Rattle.desk_http.specs.declared.serve_fault.ServeFault.{ServeFault}
@@ -157,6 +159,13 @@ small_copied (Ok zero) how small told =
     ]
 small_copied (Ok (suc n)) how small told = small_as how _ (told.otherwise (λ e. absurd (cc e))) small
 small_copied (Err why) how small told = small_as how _ (told.otherwise (λ e. absurd (cc e))) small
+
+-- what is said of words that ask for no command
+pub small_words : (why : WordsFault) (was is : Option (List ℕ)) (status : ℕ) → IsToldWords why was is status → status ≤ 3
+small_words (wordsfault.Help text) was is status (inl it) = subst (λ n. n ≤ 3) (sym it.0) (omega arith)
+small_words (wordsfault.Help text) was is status (inr it) = subst (λ n. n ≤ 3) (sym it) (omega arith)
+small_words (wordsfault.Wrong text) was is status it = subst (λ n. n ≤ 3) (sym it.0) (omega arith)
+small_words wordsfault.Memory was is status it = subst (λ n. n ≤ 3) (sym it.0) (omega arith)
 
 -- a task in memory
 small_in_memory : (policy : Terms) (deed : Deed Fault) → AreSmall deed → (was is : Option (List ℕ)) (how : Result ℕ Fault)

@@ -1,5 +1,6 @@
 -- How the orders of the command line end.
-use Rattle.std.specs.Prelude.{◌≡◌, ◌≢◌, ◌⊎◌, ℕ, Bool, List, codes, Option, Some, None, Result, Ok, Err, true, false}
+use Rattle.std.specs.Prelude.{◌≡◌, ◌≢◌, ◌⊎◌, ℕ, Bool, List, codes, Option, Some, None, Result, Ok, Err, true, false, string_bytes}
+use Rattle.std.specs.Io.KnownBytes.{Appends}
 use Rattle.sqlite.specs.Recovery.{Image}
 use Rattle.sqlite_disk.specs.declared.Disk as disk
 use Rattle.app_words.specs.declared.command.{AuthorizationListing.AuthorizationListing, OrderListing.OrderListing, Command.Command, Syncs.Syncs}
@@ -7,6 +8,8 @@ use Rattle.app_words.specs.declared.command.Command.TheVariants as command
 use Rattle.app_words.specs.declared.command.Revocation.{Revocation}
 use Rattle.desk_http.specs.declared.serve_fault.ServeFault.TheVariants as servefault
 use Rattle.app_words.specs.declared.command.Syncs.TheVariants as syncs
+use Rattle.app_words.specs.declared.fault.WordsFault.{WordsFault}
+use Rattle.app_words.specs.declared.fault.WordsFault.TheVariants as wordsfault
 use Rattle.app_tasks.specs.{Asked.RevokesServed, declared.filters.Unasked.Unasked, declared.fault.Fault.Fault}
 use Rattle.app_tasks.specs.Filters.{AreRight, AsksForAuthorizations, AsksForOrders, StandsForName}
 use Rattle.app_tasks.specs.Deeds.{AnswersReader, ChecksStatuses, ListsRows, RevokesTarget, ServesClients, TellsAbout, TellsPage, form_of}
@@ -150,3 +153,19 @@ module _ {D : Type 0} (g : disk.Ghosts D) (image : Image) where
   -- a command ends by this status
   abbrev pub EndsBy : (bytes was is : Option (List ℕ)) → Command → ℕ → Left D g → Type 0
   EndsBy bytes was is o status left = (how : Result ℕ Fault) × Ends g image bytes was is o how left × (status ≡ status_of how)
+
+  -- and leaves something of its files, which is given up
+  abbrev pub EndsSo : (bytes was is : Option (List ℕ)) → Command → ℕ → Type 0
+  EndsSo bytes was is o status = (left : Left D g) × EndsBy bytes was is o status left
+
+-- by how often commits sync
+abbrev pub BySyncs : (once twice : Type 0) → Syncs → Type 0
+BySyncs once twice syncs.Once = once
+BySyncs once twice syncs.Twice = twice
+
+-- what is said where words ask for no command: the help that they ask for, which may fail to be written; what is wrong with them; or that
+-- there is no memory for them. The exit status is 0 where the help is written, and there alone
+abbrev pub IsToldWords : WordsFault → (was is : Option (List ℕ)) → ℕ → Type 0
+IsToldWords (wordsfault.Help text) was is status = ((status ≡ 0) × Appends was is (string_bytes text)) ⊎ (status ≡ 1)
+IsToldWords (wordsfault.Wrong text) was is status = (status ≡ 2) × (is ≡ was)
+IsToldWords wordsfault.Memory was is status = (status ≡ 1) × (is ≡ was)

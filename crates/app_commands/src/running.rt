@@ -6,7 +6,9 @@ ghost use Rattle.desk.specs.declared.fault.DeskFault.TheVariants as deskfault;
 ghost use Rattle.app_tasks.specs.Deeds.{ChecksStatuses, ListsRows, ServesClients, TellsPage, form_of};
 ghost use Rattle.app_tasks.specs.{Faults.IsOfOpening, GivenTerms.terms_of};
 ghost use Rattle.app_commands.specs.Statuses.{Ends, EndsAbout, EndsBy, EndsMake, EndsOverFiles, EndsRevoke, EndsUnasked, IsOfLog, IsToldMade};
-ghost use Rattle.app_commands.specs.Statuses.{status_of, supposes, syncs_of, terms_in_memory};
+ghost use Rattle.app_commands.specs.Statuses.{BySyncs, EndsSo, IsToldWords, status_of, supposes, syncs_of, terms_in_memory};
+ghost use Rattle.app_words.specs.declared.command.Command.{Command as Order};
+ghost use Rattle.app_words.specs.declared.fault.WordsFault.{WordsFault as Unread};
 ghost use Rattle.app_reports.specs.Listed.{roster};
 ghost use Rattle.app_files.specs.Endings.{EndsInMemory};
 ghost use Rattle.app_tasks.specs.declared.fault.Fault.TheVariants as fault;
@@ -51,7 +53,11 @@ pub fn run_words<R: Read + Drop, W: Write, E: Write>(
     out: &mut W,
     errors: &mut E,
 ) -> u8
-    ensures { result ≤ 3 }
+    ensures small { result ≤ 3 }
+    ensures ends { ((order : Order) × BySyncs
+        (EndsSo ⟦<FileFrom<Unknown> as Disk>⟧ (image_at ⟦<Unknown as Start>⟧) (R.remaining reader) (W.contents out.old) (W.contents out.new) order result)
+        (EndsSo ⟦<FileFrom<Wary> as Disk>⟧ (image_at ⟦<Wary as Start>⟧) (R.remaining reader) (W.contents out.old) (W.contents out.new) order result)
+        (syncs_of order)) ⊎ ((why : Unread) × IsToldWords why (W.contents out.old) (W.contents out.new) result) }
 {
     match read_words(rt.alloc(), words) {
         Ok(asked) => run_asked(rt, asked, reader, out, errors),
@@ -67,7 +73,13 @@ fn run_asked<R: Read + Drop, W: Write, E: Write>(
     out: &mut W,
     errors: &mut E,
 ) -> u8
-    ensures { result ≤ 3 }
+    ensures small { result ≤ 3 }
+    ensures ends { BySyncs
+        (EndsSo ⟦<FileFrom<Unknown> as Disk>⟧ (image_at ⟦<Unknown as Start>⟧) (R.remaining reader) (W.contents out.old) (W.contents out.new)
+        asked.entry.command result)
+        (EndsSo ⟦<FileFrom<Wary> as Disk>⟧ (image_at ⟦<Wary as Start>⟧) (R.remaining reader) (W.contents out.old) (W.contents out.new)
+        asked.entry.command result)
+        (syncs_of asked.entry.command) }
 {
     if let Some(file) = asked.command.file() {
         wait_for(rt, file, asked.wait);
@@ -95,7 +107,9 @@ fn run_from<S: Start, R: Read + Drop, W: Write, E: Write>(
     errors: &mut E,
 ) -> u8
     requires start { S.Start.is_mixing ≡ supposes (syncs_of asked.command) }
-    ensures { result ≤ 3 }
+    ensures small { result ≤ 3 }
+    ensures ends { EndsSo ⟦<FileFrom<S> as Disk>⟧ (image_at S.Start) (R.remaining reader) (W.contents out.old) (W.contents out.new) asked.entry.command
+        result }
 {
     let (status, left) = run_command(
         rt,
@@ -428,7 +442,7 @@ fn syncs_of(command: Command<'_>) -> Syncs
 
 // Says what the words lack, or the help that they ask for.
 fn tell_words<W: Write, E: Write>(fault: &WordsFault, out: &mut W, errors: &mut E) -> u8
-    ensures { result ≤ 2 }
+    ensures { IsToldWords fault.now (W.contents out.old) (W.contents out.new) result }
 {
     match fault {
         WordsFault::Help(text) => match write!(out, "{text}") {
