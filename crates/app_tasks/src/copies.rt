@@ -1,4 +1,6 @@
 //! Copies of the file of a desk that is closed.
+ghost use Rattle.std.specs.Prelude.{IsTrue};
+ghost use Rattle.std.specs.Fs.{asks_create_new};
 
 use crate::causes::FileCause;
 use std::fs::{self, OpenOptions};
@@ -27,17 +29,23 @@ impl CopyFault {
     }
 }
 
+// How a file is opened that is to be new, for its user alone: where something stands at its path the system refuses that.
+fn as_new() -> OpenOptions
+    ensures { IsTrue (asks_create_new result) }
+{
+    let mut options = OpenOptions::new();
+    options.mode(0o600);
+    options.write(true).create_new(true);
+    options
+}
+
 /// Makes a file at a path where there is none, which its user alone may read and write.
 ///
 /// # Errors
 ///
 /// Those of making it, and `AlreadyExists` where something stands there.
 pub fn make_new(rt: &HostRuntime, path: &str) -> io::Result<fs::File> {
-    OpenOptions::new()
-        .write(true)
-        .create_new(true)
-        .mode(0o600)
-        .open(rt, path)
+    as_new().open(rt, path)
 }
 
 /// Whether anything stands at a path, if only a link that leads nowhere.
