@@ -30,6 +30,6 @@ module _ {D : Type 0} {g : disk.Ghosts D} (bytes : Image) (policy : Terms) (at :
         refused = refused;
         unmade = subst (λ m. IfSome un.conn (FailsToMake policy m bytes un.fault)) is fails;
         taken = taken;
-        cause = cause;
-        failed = subst (λ m. IfSome un.conn (FailedToMakeOver policy m bytes un.fault)) is failed;
+        by_engine = cause;
+        by_store = subst (λ m. IfSome un.conn (FailedToMakeOver policy m bytes un.fault)) is failed;
       })

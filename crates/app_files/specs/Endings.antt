@@ -57,8 +57,8 @@ module _ {D : Type 0} {g : disk.Ghosts D} where
     pub unopened : IfSome un.conn (RefusesNoDesk bytes cause)
     pub left : IfSome un.conn (LeavesAnOpening bytes)
     pub spared : IfSome un.conn (LeavesAsFound bytes cause)
-    pub cause : IfSome un.refused (RefusedBy bytes cause)
-    pub failed : IfSome un.conn (FailedOver bytes cause)
+    pub by_engine : IfSome un.refused (RefusedBy bytes cause)
+    pub by_store : IfSome un.conn (FailedOver bytes cause)
 
   -- no desk was opened in files with these bytes, for this cause, which left these
   abbrev pub IsUnopened : Image → OpenFault → Left D g → Type 0
@@ -75,8 +75,8 @@ module _ {D : Type 0} {g : disk.Ghosts D} where
     pub refused : IfSome un.refused (RefusesNoDatabase bytes cause)
     pub unmade : IfSome un.conn (FailsToMake policy 0 bytes cause)
     pub taken : IfSome un.conn (RefusesObjects bytes cause)
-    pub cause : IfSome un.refused (RefusedBy bytes cause)
-    pub failed : IfSome un.conn (FailedToMakeOver policy 0 bytes cause)
+    pub by_engine : IfSome un.refused (RefusedBy bytes cause)
+    pub by_store : IfSome un.conn (FailedToMakeOver policy 0 bytes cause)
 
   -- no desk was made
   abbrev pub IsUnmade : Image → Terms → OpenFault → Left D g → Type 0

@@ -104,10 +104,10 @@ module _ {S : Type 0} (g : Ghosts S) where
   -- have written, and before one the store is to be opened again only where the connection, asked so, failed
   pub record FailedToSave (Fits : Type 0) (all : List Sql) (old new : Held S) (why : StorageFault) : Type 0 where
     pub refusal : SaveFault
+    pub shut : HasCleanDisk (state g new) → IsBeforeCommit refusal → why ≡ fault.Reopen → IsShutBehind old new
     pub fault : IsOfSave refusal why
     pub cause : IsCause g Fits all old new refusal
     pub before : IsBeforeCommit refusal → LeavesNothing (state g old) (state g new)
-    pub shut : HasCleanDisk (state g new) → IsBeforeCommit refusal → why ≡ fault.Reopen → IsShutBehind old new
 
   -- changes were not saved, where this part of the tables is known
   abbrev pub FailedToChange : Option Tables → List Change → Held S → Held S → StorageFault → Type 0
