@@ -16,8 +16,8 @@ returns-in_err-serve_all g c =
     let s = c.args.self.now.serving in
     let ended = c.in_err-serve_all.ensures in
     let bounded : MomentBound → Type 0 = λ b. ServesAll v g.K.Storage.causes TakesAny (unwrap_or s.count 18446744073709551615) c.args.desk.now
-        (record { overseer = tt; bound = b }) c.serve_all.new.desk
-        (record { overseer = tt; bound = c.serve_all.new.watch.bound }) (Err c.in_err-serve_all.field-0.0) in
+    (record { overseer = tt; bound = b }) c.serve_all.new.desk
+    (record { overseer = tt; bound = c.serve_all.new.watch.bound }) (Err c.in_err-serve_all.field-0.0) in
     served_until v g.K.Storage.causes s c.args.clock c.args.desk.now c.serve_all.new.desk c.serve_all.new.watch.bound c.in_err-serve_all.field-0.0
     c.from_residual-in_err-serve_all.result ended.seen
     (subst bounded (λ i. record { step = c.new.ensures.step i; latest = c.new.ensures.latest i })
@@ -31,8 +31,8 @@ returns g c =
     let s = c.args.self.now.serving in
     let ended = c.in_ok-serve_all.ensures in
     let bounded : MomentBound → Type 0 = λ b. ServesAll v g.K.Storage.causes TakesAny (unwrap_or s.count 18446744073709551615) c.args.desk.now
-        (record { overseer = tt; bound = b }) c.serve_all.new.desk
-        (record { overseer = tt; bound = c.serve_all.new.watch.bound }) (Ok c.in_ok-serve_all.field-0) in
+    (record { overseer = tt; bound = b }) c.serve_all.new.desk
+    (record { overseer = tt; bound = c.serve_all.new.watch.bound }) (Ok c.in_ok-serve_all.field-0) in
     served (Ok c.in_ok-serve_all.field-0) c.serve_all.new.watch.bound ended.seen
     (subst bounded (λ i. record { step = c.new.ensures.step i; latest = c.new.ensures.latest i })
     (over_all v g.K.Storage.causes c.serve_all.new.watch TakesAny (λ o. Unit {0}) (λ o. tt)
