@@ -2,14 +2,14 @@
 ghost use Rattle.std.specs.Prelude.{◌≡◌, ◌⊎◌, false, Err, IfErr, IfOk, IsTrue, MatchResult, None, Ok, OnOk, option_copied};
 ghost use Rattle.sqlite.specs.State.{HasCleanDisk, IsUnchanged, Survives};
 ghost use Rattle.sqlite.specs.{Held.state, Tree.Trees};
-ghost use Rattle.desk_model.specs.{History.first_history, Touched.touched};
+ghost use Rattle.desk_model.specs.History.{first_history};
 ghost use Rattle.desk_model.specs.Tables.{Tables, picture};
 ghost use Rattle.sql_write.specs.{Committing.GoesBack, Standing.IsPartIn};
 ghost use Rattle.sql_schema.specs.Names.{uses_key_table};
 ghost use Rattle.sql_schema.specs.{Schema.no_schema, Stays.Asks};
 ghost use Rattle.sql_read.specs.{Failures.MayRead, Held.ForHeld, LookUpFaults.IsOfMemoryOrDisk};
 ghost use Rattle.store_api.specs.Sight.{ForTables, Keeps, Reads};
-ghost use Rattle.store_api.specs.Storing.{Loads, Saves, SavesOf};
+ghost use Rattle.store_api.specs.Storing.{Saves, SavesOf};
 ghost use Rattle.store_api.specs.declared.fault.StorageFault.TheVariants.{Memory as memory, Reopen as reopen};
 ghost use Rattle.desk_store.specs.Causes.{Failed, FailedToChange};
 ghost use Rattle.desk_store.specs.Desks.{HasDesk, store_sight};
@@ -31,7 +31,7 @@ use sql_read::{ReadFault, meta_row};
 use sql_write::save_all;
 use sqlite::{Alter, Connection};
 use std::alloc::Global;
-use store_api::{ParsedCall, Storage, StorageFault, load_enough, load_part, whole_book};
+use store_api::{ParsedCall, Storage, StorageFault, load_enough, whole_book};
 
 /// The tables of a desk over a connection, which is in no transaction between two calls.
 #[derive(Drop)]
@@ -181,18 +181,6 @@ impl<S: Alter> Store<S> {
             Ok(meta) => Ok(meta.policy),
             Err(fault) => Err(fault),
         }
-    }
-
-    /// The book of exactly the rows that a call touches.
-    ///
-    /// # Errors
-    ///
-    /// As of `load`.
-    pub fn load_part(&mut self, alloc: Global, call: &ParsedCall) -> Result<Book, StorageFault>
-        ensures loads { Loads (store_sight S.Store) call.now self.old self.new result }
-        ensures touched { ForTables (store_sight S.Store) self.old self.new (λ T. IfOk result (λ book. book ≡ touched T call.now)) }
-    {
-        load_part(alloc, self, call)
     }
 
     /// Makes changes that fit the tables, one after the other, in one transaction: all of them, or none. They fit where each row

@@ -53,12 +53,6 @@ pub put_by : {X Y : Type 0} (number : X → ℕ) (rows_of : Y → List X) (y z :
     later ≡ puts number (rows_of z) rows
 put_by number rows_of y z rows later put_now same = put_now ∙ ap (λ v. puts number (rows_of v) rows) same
 
--- what is put by two values is put by their equals
-pub put_by_both : {X Y Z : Type 0} (number : X → ℕ) (rows_of : Y → Z → List X) (y v : Y) (z w : Z) (rows later : List X) →
-    later ≡ puts number (rows_of y z) rows → y ≡ v → z ≡ w → later ≡ puts number (rows_of v w) rows
-put_by_both number rows_of y v z w rows later put_now same alike =
-    put_now ∙ ap (λ a. puts number (rows_of a z) rows) same ∙ ap (λ b. puts number (rows_of v b) rows) alike
-
 -- the rows of two, and of three
 pub of_two : {X Y : Type 0} (rows_of : Y → List X) (a b : Y) → flat_map rows_of (a ∷ b ∷ []) ≡ rows_of a ++ rows_of b
 of_two rows_of a b = ap (λ l. rows_of a ++ l) (append-nil (rows_of b))

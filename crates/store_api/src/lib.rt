@@ -11,8 +11,8 @@ mod look_ups;
 mod minimal_part;
 mod named;
 mod storage;
-mod touched;
 mod waiting;
+mod whole_book;
 
 pub use enough::load_enough;
 pub use fault::StorageFault;
@@ -20,4 +20,4 @@ pub use identifiers::{CallFault, ParsedCall};
 pub use laws::touched_rows_are_a_book;
 pub use look_ups::{Found, LookUps, RowsAbove};
 pub use storage::Storage;
-pub use touched::{load_part, touched_book, whole_book};
+pub use whole_book::whole_book;

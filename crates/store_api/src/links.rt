@@ -6,7 +6,7 @@ ghost use Rattle.model_laws.specs.Placing.{puts};
 ghost use Rattle.store_api.specs.Finding.{Finds, LacksMemory};
 ghost use Rattle.store_api.specs.Needing.{lacking, missing, missings};
 ghost use Rattle.model_lives.specs.LookUps.{accounts_numbered, authorizations_numbered, authorizations_of, nonces_numbered, authorizations_past};
-ghost use Rattle.model_lives.specs.LookUps.{orders_listing, orders_numbered, orders_of, orders_past, bare_authorizations};
+ghost use Rattle.model_lives.specs.LookUps.{orders_listing, orders_numbered, orders_past, bare_authorizations};
 
 use crate::fault::StorageFault;
 use crate::look_ups::{Found, LookUps};
@@ -222,22 +222,6 @@ impl LeadsTo<AuthorizationRow> for (AuthzStatus, u64) {
 
 // ---- an account
 
-impl LeadsTo<OrderRow> for AccountRow {
-    ghost rows_of = { λ T row. orders_of T row.number };
-
-    fn add_rows<S: LookUps>(
-        &self,
-        alloc: Global,
-        source: &mut S,
-        table: &mut Table<OrderRow>,
-    ) -> Result<(), StorageFault> {
-        add_found(
-            table,
-            source.find_orders(alloc, OrdersWhere::Account(self.number)),
-        )
-    }
-}
-
 impl LeadsTo<AuthorizationRow> for AccountRow {
     ghost rows_of = { λ T row. authorizations_of T row.number };
 
@@ -282,70 +266,6 @@ impl LeadsTo<OrderRow> for AuthorizationRow {
     ) -> Result<(), StorageFault> {
         let numbers = source.orders_listing(alloc, self.number)?;
         add_each(alloc, source, table, numbers.as_slice())
-    }
-}
-
-impl LeadsTo<AccountRow> for AuthorizationRow {
-    ghost rows_of = { λ T row. accounts_numbered T row.account };
-
-    fn add_rows<S: LookUps>(
-        &self,
-        alloc: Global,
-        source: &mut S,
-        table: &mut Table<AccountRow>,
-    ) -> Result<(), StorageFault> {
-        add_found(
-            table,
-            source.find_accounts(alloc, AccountsWhere::Number(self.account)),
-        )
-    }
-}
-
-// ---- an order
-
-impl LeadsTo<AuthorizationRow> for Listed {
-    ghost rows_of = { λ T place. authorizations_numbered T place.authorization };
-
-    fn add_rows<S: LookUps>(
-        &self,
-        alloc: Global,
-        source: &mut S,
-        table: &mut Table<AuthorizationRow>,
-    ) -> Result<(), StorageFault> {
-        add_found(
-            table,
-            source.find_authorizations(alloc, AuthorizationsWhere::Number(self.authorization)),
-        )
-    }
-}
-
-// The authorizations that it lists.
-impl LeadsTo<AuthorizationRow> for OrderRow {
-    ghost rows_of = { λ T row. flat_map (authorizations_numbered T) (numbers_of row.listed) };
-
-    fn add_rows<S: LookUps>(
-        &self,
-        alloc: Global,
-        source: &mut S,
-        table: &mut Table<AuthorizationRow>,
-    ) -> Result<(), StorageFault> {
-        add_each(alloc, source, table, self.listed.as_slice())
-    }
-}
-
-impl LeadsTo<AccountRow> for OrderRow {
-    ghost rows_of = { λ T row. accounts_numbered T row.account };
-
-    fn add_rows<S: LookUps>(
-        &self,
-        alloc: Global,
-        source: &mut S,
-        table: &mut Table<AccountRow>,
-    ) -> Result<(), StorageFault> {
-        add_found(
-            table,
-            source.find_accounts(alloc, AccountsWhere::Number(self.account)),
-        )
     }
 }
 
