@@ -17,7 +17,7 @@ use Rattle.sql_write.specs.Committing.{GoesBack, HasCommitted, IsBeforeCommit, I
 use Rattle.sql_write.specs.declared.fault.SaveFault.{SaveFault}
 use Rattle.sql_schema.specs.Stays.{Asks}
 use Rattle.sql_write.specs.Fitting.{FitAfter, Saves as Puts}
-use Rattle.sql_write.specs.Standing.{HasSome, IsPartIn, IsRow, IsWithout, Stand, StandsIn}
+use Rattle.sql_write.specs.Standing.{HasSome, IsRow, IsWithout, Stand, StandsIn}
 use Rattle.model_lives.specs.Thinned.{with_challenges, with_listed}
 use Rattle.model_lives.proofs.Lists.{filtered_each}
 use Rattle.sql_write.proofs.{KnownRows.all_of, Numbered.find_none, OrderedFit.ordered_fit}
@@ -40,7 +40,7 @@ may_save T changes fit = ordered_fit T changes fit.kept (record {
 })
 
 -- a database with the changes is a desk with the tables after them, where what is known stands in them
-desk_after : (known : Option Tables) (T : Tables) (changes : List Change) (old new : Database) → IsPartIn known T → Fit T changes → IsDesk old T
+desk_after : (known : Tables) (T : Tables) (changes : List Change) (old new : Database) → StandsIn known T → Fit T changes → IsDesk old T
     → Puts known changes old new → IsDesk new (applied changes T)
 desk_after known T changes old new stands fit was puts = record { holds = puts T was.holds stands (may_save T changes fit); book = fit.book }
 
@@ -48,17 +48,17 @@ desk_after known T changes old new stands fit was puts = record { holds = puts T
 abbrev done : Result (Unit {0}) StorageFault
 done = Ok tt
 
-module _ {S : Type 0} (g : Ghosts S) (part : Option Tables) where
+module _ {S : Type 0} (g : Ghosts S) (part : Tables) where
   -- what a stop may leave of the commit has the changes
   pub changes_left : (changes : List Change) (old : Store S) (c : Trees) → IsLeft (Puts part changes (state g old.conn).now) c
-      → HasChanges (store_sight g) (IsPartIn part) changes old c
+      → HasChanges (store_sight g) (StandsIn part) changes old c
   changes_left changes old c left T there fit has = (left.0, left.1, desk_after part T changes (state g old.conn).now left.0 there fit has.desk.desk left.2)
 
   -- what was committed has the changes
   pub saved_by : (changes : List Change) (old new : Store S) → ((T : Tables) → IsKnownOf old.known T → IsKnownOf new.known (applied changes T))
       → (state g new.conn).in_transaction ≡ false
       → (state g new.conn).step_limit ≡ (state g old.conn).step_limit
-      → HasCommitted (state g old.conn) (state g new.conn) (Puts part changes) → HasSaved (store_sight g) (IsPartIn part) changes old new
+      → HasCommitted (state g old.conn) (state g new.conn) (Puts part changes) → HasSaved (store_sight g) (StandsIn part) changes old new
   saved_by changes old new follows idle limit it T there fit has =
       let desk = desk_after part T changes (state g old.conn).now (state g new.conn).committed there fit has.desk.desk it.does in
       record {
@@ -78,7 +78,7 @@ module _ {S : Type 0} (g : Ghosts S) (part : Option Tables) where
   -- what a stop may leave of a save
   left_of : (changes : List Change) (old new : Store S) → Survives (state g old.conn) (state g new.conn) (IsLeft (Puts part changes (state g old.conn).now))
       → HasCleanDisk (state g new.conn) → (c : Trees) → (state g new.conn).may_leave c
-      → (state g old.conn).may_leave c ⊎ HasChanges (store_sight g) (IsPartIn part) changes old c
+      → (state g old.conn).may_leave c ⊎ HasChanges (store_sight g) (StandsIn part) changes old c
   left_of changes old new survives clean c may =
       elim (survives.crash clean c may) [ inl was ↦ inl was | inr made ↦ inr (changes_left changes old c made) ]
 
@@ -87,7 +87,7 @@ module _ {S : Type 0} (g : Ghosts S) (part : Option Tables) where
       → (state g new.conn).in_transaction ≡ false
       → Survives (state g old.conn) (state g new.conn) (IsLeft (Puts part changes (state g old.conn).now))
       → (HasCleanDisk (state g new.conn) → HasCommitted (state g old.conn) (state g new.conn) (Puts part changes))
-      → SavesOf (store_sight g) (IsPartIn part) changes old new done
+      → SavesOf (store_sight g) (StandsIn part) changes old new done
   saves_ok changes old new follows idle survives committed = record {
     honest = honest_by g old new survives;
     left = left_of changes old new survives;
@@ -101,7 +101,7 @@ module _ {S : Type 0} (g : Ghosts S) (part : Option Tables) where
       → Survives (state g old.conn) mid (IsLeft (Puts part changes (state g old.conn).now)) → (HasCleanDisk mid → GoesBack (state g old.conn) mid)
       → (IsBeforeCommit cause → Survives (state g old.conn) mid (λ _. ⊥)) → Asks mid (state g new.conn)
       → (HasCleanDisk (state g new.conn) → why ≡ fault.Memory → IsUnchanged mid (state g new.conn)) → (why ≡ fault.Memory → IsBeforeCommit cause)
-      → SavesOf (store_sight g) (IsPartIn part) changes old new (failed (Unit {0}) why)
+      → SavesOf (store_sight g) (StandsIn part) changes old new (failed (Unit {0}) why)
   saves_err changes old new mid why cause known idle survives back early tested same before =
       let whole = survives_then (state g old.conn) mid (state g new.conn) _ _ (IsLeft (Puts part changes (state g old.conn).now))
       (λ _ _ left. left) (λ _ _ none. absurd none) survives tested.survives in
@@ -205,7 +205,7 @@ some_own c x = record {
 }
 
 -- the rows of a part stand in the tables that it was cut from
-pub part_stands : (part T : Tables) → IsCutFrom part T → AreRising T → IsPartIn (Some part) T
+pub part_stands : (part T : Tables) → IsCutFrom part T → AreRising T → StandsIn part T
 part_stands part T cut rising =
     subst (λ (P : Tables). StandsIn P T) (sym cut.1) (record {
       meta = refl;

@@ -110,14 +110,14 @@ module _ {S : Type 0} (g : Ghosts S) where
     pub before : IsBeforeCommit refusal → LeavesNothing (state g old) (state g new)
 
   -- changes were not saved, where this part of the tables is known
-  abbrev pub FailedToChange : Option Tables → List Change → Held S → Held S → StorageFault → Type 0
+  abbrev pub FailedToChange : Tables → List Change → Held S → Held S → StorageFault → Type 0
   FailedToChange known changes = FailedToSave (EachOf FitsColumns changes) (save_statements known changes)
 
   -- a look-up failed, and wrote nothing; or a saving failed, of a store that was in no transaction
   abbrev pub Failed : Option Saving → Held S → Held S → StorageFault → Type 0
   Failed None old new why = LeavesNothing (state g old) (state g new)
   Failed (Some saving) old new why =
-      old.in_transaction ≡ false → FailedToChange (Some saving.part) saving.changes old new why
+      old.in_transaction ≡ false → FailedToChange saving.part saving.changes old new why
 
 -- the fault of a reading that failed in opening: of memory, the disk or a size it is the store's, else there is no desk
 abbrev pub IsOfOpening : EngineCause → OpenFault → Type 0

@@ -1,15 +1,15 @@
 //! The store of a desk, and how a desk asks for it.
-ghost use Rattle.std.specs.Prelude.{◌≡◌, ◌⊎◌, false, Err, IfErr, IfOk, IsTrue, MatchResult, None, Ok, OnOk, option_copied};
+ghost use Rattle.std.specs.Prelude.{◌≡◌, ◌⊎◌, false, Err, IfErr, IfOk, IsTrue, MatchResult, None, Ok, OnOk};
 ghost use Rattle.sqlite.specs.State.{HasCleanDisk, IsUnchanged, Survives};
 ghost use Rattle.sqlite.specs.{Held.state, Tree.Trees};
 ghost use Rattle.desk_model.specs.History.{first_history};
 ghost use Rattle.desk_model.specs.Tables.{Tables, picture};
-ghost use Rattle.sql_write.specs.{Committing.GoesBack, Standing.IsPartIn};
+ghost use Rattle.sql_write.specs.{Committing.GoesBack, Standing.StandsIn};
 ghost use Rattle.sql_schema.specs.Names.{uses_key_table};
 ghost use Rattle.sql_schema.specs.{Schema.no_schema, Stays.Asks};
 ghost use Rattle.sql_read.specs.{Failures.MayRead, Held.ForHeld, LookUpFaults.IsOfMemoryOrDisk};
 ghost use Rattle.store_api.specs.Sight.{ForTables, Keeps, Reads};
-ghost use Rattle.store_api.specs.Storing.{Saves, SavesOf};
+ghost use Rattle.store_api.specs.Storing.{SavesOf};
 ghost use Rattle.store_api.specs.declared.fault.StorageFault.TheVariants.{Memory as memory, Reopen as reopen};
 ghost use Rattle.desk_store.specs.Causes.{Failed, FailedToChange};
 ghost use Rattle.desk_store.specs.Desks.{HasDesk, store_sight};
@@ -184,32 +184,23 @@ impl<S: Alter> Store<S> {
     }
 
     /// Makes changes that fit the tables, one after the other, in one transaction: all of them, or none. They fit where each row
-    /// in the place of another keeps its children, and the tables with all of them are a book.
+    /// in the place of another keeps its children, and the tables with all of them are a book. What is known is a part of the
+    /// tables, whose rows need not be written where they are as they were.
     ///
     /// # Errors
     ///
     /// `Memory` where a growth was refused before the commit and the transaction was given up: the store has what it had.
     /// `Reopen` where memory was refused otherwise, or where the commit was refused by anything but the disk. `Device` for each
     /// other refusal. After `Device` or `Reopen` the store is to be opened again, and then has all changes or none.
-    pub fn save(&mut self, alloc: Global, changes: &[Change]) -> Result<(), StorageFault>
-        ensures saves { Saves (store_sight S.Store) changes.now self.old self.new result }
-        ensures failed { IfErr result (λ why. self.old.conn.in_transaction ≡ false
-            → FailedToChange S.Store None changes.now self.old.conn self.new.conn why) }
-        ensures closed { IsTrue self.old.conn.in_transaction → (result ≡ Err reopen) × (self.new ≡ self.old) }
-    {
-        self.save_known(alloc, None, changes)
-    }
-
-    // The same where a part of the tables is known, whose rows need not be written where they are as they were.
-    pub(crate) fn save_known(
+    pub fn save(
         &mut self,
         alloc: Global,
-        known: Option<&Book>,
+        known: &Book,
         changes: &[Change],
     ) -> Result<(), StorageFault>
-        ensures saves { SavesOf (store_sight S.Store) (IsPartIn (option_copied known.entry)) changes.now self.old self.new result }
+        ensures saves { SavesOf (store_sight S.Store) (StandsIn known.now) changes.now self.old self.new result }
         ensures failed { IfErr result (λ why. self.old.conn.in_transaction ≡ false
-            → FailedToChange S.Store (option_copied known.entry) changes.now self.old.conn self.new.conn why) }
+            → FailedToChange S.Store known.now changes.now self.old.conn self.new.conn why) }
         ensures closed { IsTrue self.old.conn.in_transaction → (result ≡ Err reopen) × (self.new ≡ self.old) }
     {
         // No call leaves a transaction open; a store that had one would not know what it holds.
@@ -278,6 +269,6 @@ impl<S: Alter> Storage for Store<S> {
         part: &Book,
         changes: Vec<Change>,
     ) -> Result<(), StorageFault> {
-        self.save_known(alloc, Some(part), changes.as_slice())
+        Store::save(self, alloc, part, changes.as_slice())
     }
 }

@@ -1,6 +1,6 @@
 -- What is known to stand in the tables, behind changes.
 use Rattle.std.specs.{Bool.then_some, Option.option_or}
-use Rattle.std.specs.Prelude.{find, cond, option_copied, option_map, IfSome, ◌==◌}
+use Rattle.std.specs.Prelude.{find, cond, option_copied, IfSome, ◌==◌}
 use Rattle.std.proofs.Common.{◌≡◌, ◌≢◌, inl, inr, ℕ, ◌+◌, ◌<◌, ◌≤◌, ◌++◌, List, [], ◌∷◌, Option, Some, None, Bool, true, false, Bor, refl, sym, ap, subst}
 use Rattle.std.proofs.Common.{◌∙◌, arith, add-one, get_or, length, take}
 use Rattle.std.proofs.Math.Seq.{take-suc}
@@ -17,7 +17,7 @@ use Rattle.desk_model.specs.declared.rows.{OrderRow.OrderRow}
 use Rattle.desk_model.specs.declared.rows.Change.TheVariants.{PutMeta, PutNonce, RemoveNonce, PutAccount, PutAuthorization, PutOrder}
 use Rattle.sql_write.specs.Highest.{IsAbove, PutsNone}
 use Rattle.sql_write.specs.declared.standing.Highest.{Highest}
-use Rattle.sql_write.specs.Standing.{HasSome, IsPartIn, IsRow, IsWithout, Stand, StandsIn, known_account, known_after, known_authorization, known_order}
+use Rattle.sql_write.specs.Standing.{HasSome, IsRow, IsWithout, Stand, StandsIn}
 use Rattle.sql_tables.proofs.Keyed.{ranked}
 
 -- ---- look-ups
@@ -118,49 +118,20 @@ stands_on (PutOrder x) part T h =
     all_stand _ _ h.meta h.accounts h.authorizations (stand_put (λ (o : OrderRow). o.number) IsWithout (λ o. refl) x part.orders T.orders h.orders)
 
 -- behind all
-stands_after : (cs : List Change) (part T : Tables) → StandsIn part T → StandsIn (applied cs part) (applied cs T)
+pub stands_after : (cs : List Change) (part T : Tables) → StandsIn part T → StandsIn (applied cs part) (applied cs T)
 stands_after [] part T h = h
 stands_after (c ∷ cs) part T h = stands_after cs (applied_one c part) (applied_one c T) (stands_on c part T h)
-
--- what is known stands behind all changes
-pub known_stands : (cs : List Change) (known : Option Tables) (T : Tables) → IsPartIn known T → IsPartIn (known_after known cs) (applied cs T)
-known_stands cs None T h = tt
-known_stands cs (Some part) T h = stands_after cs part T h
-
--- behind none it is what it is
-pub known_first : (known : Option Tables) → known_after known [] ≡ known
-known_first None = refl
-known_first (Some part) = refl
-
--- behind one, and then behind the others
-pub known_next : (c : Change) (cs : List Change) (known : Option Tables) → known_after (option_map (applied_one c) known) cs ≡ known_after known (c ∷ cs)
-known_next c cs None = refl
-known_next c cs (Some part) = refl
 
 -- ---- what is found of it is of a row of the tables
 
 -- an account is there
-pub account_stands : (known : Option Tables) (n : ℕ) (T : Tables) → IsPartIn known T
-    → IfSome (known_account known n) (λ a. Has T.accounts a × (a.number ≡ n))
-account_stands None n T h = tt
-account_stands (Some part) n T h = go (account_on part n) (h.accounts n)
+pub account_stands : (part : Tables) (n : ℕ) (T : Tables) → StandsIn part T → IfSome (account_on part n) (λ a. Has T.accounts a × (a.number ≡ n))
+account_stands part n T h = go (account_on part n) (h.accounts n)
   where
     go : (o : Option AccountRow) → IfSome o (λ a. (b : AccountRow) × (account_on T n ≡ Some b) × (a ≡ b))
         → IfSome o (λ a. Has T.accounts a × (a.number ≡ n))
     go None k = tt
     go (Some a) k = found_has (λ (r : AccountRow). r.number) n T.accounts a (k.1 ∙ ap (λ r. Some r) (sym k.2))
-
--- an authorization is there, with these challenges and maybe more
-pub authorization_stands : (known : Option Tables) (n : ℕ) (T : Tables) → IsPartIn known T
-    → IfSome (known_authorization known n) (λ a. (b : AuthorizationRow) × (authorization_on T n ≡ Some b) × HasSome a b)
-authorization_stands None n T h = tt
-authorization_stands (Some part) n T h = h.authorizations n
-
--- an order is there, maybe with what it lists
-pub order_stands : (known : Option Tables) (n : ℕ) (T : Tables) → IsPartIn known T
-    → IfSome (known_order known n) (λ o. (p : OrderRow) × (order_on T n ≡ Some p) × IsWithout o p)
-order_stands None n T h = tt
-order_stands (Some part) n T h = h.orders n
 
 -- ---- the last that was put
 

@@ -15,14 +15,13 @@ use Rattle.sql_write.specs.Fitting.{AreFit, IsFit}
 use Rattle.model_laws.specs.Placing.{puts}
 use Rattle.sql_write.specs.Makes.{AddsOrPuts, AppendsAll, AppendsOrPlaces, ArePlaced, Makes, MakesAll, PlacesAll, PutsAll, PutsAllOver, PutsOver}
 use Rattle.sql_write.specs.Makes.{RenewsOrPuts, Writes, WritesListed, appended}
-use Rattle.sql_write.specs.Standing.{known_after, last_given}
 use Rattle.sql_write.specs.Statements.{save_statements, statements_from, statements_of}
 use Rattle.sql_write.specs.declared.standing.Write.{Write}
 use Rattle.sql_write.specs.declared.standing.Write.TheVariants.{Upsert, Insert, Update}
 use Rattle.model_laws.proofs.{RowLists.puts_append, Recorded.applied-append}
 use Rattle.sql_write.proofs.Over.{over_both, over_none, over_one}
 use Rattle.sql_write.proofs.Written.{Turns}
-use Rattle.sql_write.proofs.KnownRows.{known_first, known_next, known_stands}
+use Rattle.sql_write.proofs.KnownRows.{stands_after}
 use Rattle.sql_tables.specs.Effects.{Appends, Places, Puts, is_same_place}
 use Rattle.sql_tables.specs.Hidden.{IsPlaced, next, number}
 use Rattle.sql_tables.specs.Holds.{Holds}
@@ -178,15 +177,15 @@ fit_snoc [] c T h = (tt, h.0)
 fit_snoc (d ∷ ds) c T h = let rest = fit_snoc ds c (applied_one d T) h.1 in ((h.0, rest.0), rest.1)
 
 -- one more
-one_more_made : (known : Option Tables) (cs : List Change) (c : Change) (a b d : Database) → MakesAll known cs a b → Makes (known_after known cs) c b d
+one_more_made : (known : Tables) (cs : List Change) (c : Change) (a b d : Database) → MakesAll known cs a b → Makes (applied cs known) c b d
     → MakesAll known (cs ++ c ∷ []) a d
 one_more_made known cs c a b d before last T has stands fits =
     let parts = fit_snoc cs c T fits in
-    subst (Holds d) (sym (applied-append cs (c ∷ []) T)) (last (applied cs T) (before T has stands parts.0) (known_stands cs known T stands) parts.1)
+    subst (Holds d) (sym (applied-append cs (c ∷ []) T)) (last (applied cs T) (before T has stands parts.0) (stands_after cs known T stands) parts.1)
 
 -- one more change
-pub made_more : (known : Option Tables) (cs : List Change) (i : ℕ) (d : Change) (a b c : Database) → i < length cs → MakesAll known (take i cs) a b
-    → Makes (known_after known (take i cs)) (get_or cs i d) b c → MakesAll known (take (i + 1) cs) a c
+pub made_more : (known : Tables) (cs : List Change) (i : ℕ) (d : Change) (a b c : Database) → i < length cs → MakesAll known (take i cs) a b
+    → Makes (applied (take i cs) known) (get_or cs i d) b c → MakesAll known (take (i + 1) cs) a c
 made_more known cs i d a b c low before last =
     subst (λ all. MakesAll known all a c) (sym (ap (λ k. take k cs) (add-one i) ∙ take-suc cs i d low))
     (one_more_made known (take i cs) (get_or cs i d) a b c before last)
@@ -194,36 +193,33 @@ made_more known cs i d a b c low before last =
 -- ---- the statements of changes
 
 -- of some, and then of others
-from_append : (last : Counters) (xs ys : List Change) (known : Option Tables)
-    → statements_from last known (xs ++ ys) ≡ statements_from last known xs ++ statements_from last (known_after known xs) ys
-from_append last [] ys known = ap (λ k. statements_from last k ys) (sym (known_first known))
+from_append : (last : Counters) (xs ys : List Change) (known : Tables)
+    → statements_from last known (xs ++ ys) ≡ statements_from last known xs ++ statements_from last (applied xs known) ys
+from_append last [] ys known = refl
 from_append last (x ∷ xs) ys known =
-    ap (λ all. statements_of known last x ++ all)
-    (from_append last xs ys (option_map (applied_one x) known)
-    ∙ ap (λ k. statements_from last (option_map (applied_one x) known) xs ++ statements_from last k ys) (known_next x xs known))
-    ∙ sym (append_assoc (statements_of known last x) (statements_from last (option_map (applied_one x) known) xs)
-    (statements_from last (known_after known (x ∷ xs)) ys))
+    ap (λ all. statements_of known last x ++ all) (from_append last xs ys (applied_one x known))
+    ∙ sym (append_assoc (statements_of known last x) (statements_from last (applied_one x known) xs) (statements_from last (applied (x ∷ xs) known) ys))
 
 -- of one more
-pub from_more : (last : Counters) (cs : List Change) (i : ℕ) (d : Change) (known : Option Tables) → i < length cs
+pub from_more : (last : Counters) (cs : List Change) (i : ℕ) (d : Change) (known : Tables) → i < length cs
     → statements_from last known (take (i + 1) cs)
-    ≡ statements_from last known (take i cs) ++ statements_of (known_after known (take i cs)) last (get_or cs i d)
+    ≡ statements_from last known (take i cs) ++ statements_of (applied (take i cs) known) last (get_or cs i d)
 from_more last cs i d known low =
     let c = get_or cs i d in
     ap (statements_from last known) (ap (λ k. take k cs) (add-one i) ∙ take-suc cs i d low)
     ∙ from_append last (take i cs) (c ∷ []) known
-    ∙ ap (λ all. statements_from last known (take i cs) ++ all) (append-nil (statements_of (known_after known (take i cs)) last c))
+    ∙ ap (λ all. statements_from last known (take i cs) ++ all) (append-nil (statements_of (applied (take i cs) known) last c))
 
 -- those of some, and of the next, begin those of all
-pub from_begins : (last : Counters) (cs : List Change) (i : ℕ) (d : Change) (known : Option Tables) → i < length cs
-    → (statements_from last known (take i cs) ++ statements_of (known_after known (take i cs)) last (get_or cs i d))
-    ++ statements_from last (known_after known (take (i + 1) cs)) (drop (i + 1) cs) ≡ statements_from last known cs
+pub from_begins : (last : Counters) (cs : List Change) (i : ℕ) (d : Change) (known : Tables) → i < length cs
+    → (statements_from last known (take i cs) ++ statements_of (applied (take i cs) known) last (get_or cs i d))
+    ++ statements_from last (applied (take (i + 1) cs) known) (drop (i + 1) cs) ≡ statements_from last known cs
 from_begins last cs i d known low =
-    ap (λ all. all ++ statements_from last (known_after known (take (i + 1) cs)) (drop (i + 1) cs)) (sym (from_more last cs i d known low))
+    ap (λ all. all ++ statements_from last (applied (take (i + 1) cs) known) (drop (i + 1) cs)) (sym (from_more last cs i d known low))
     ∙ sym (from_append last (take (i + 1) cs) (drop (i + 1) cs) known)
     ∙ ap (statements_from last known) (take-append-drop (i + 1) cs)
 
 -- by the last numbers that are known they are those of a save
-pub of_save : (known : Option Tables) (changes : List Change) → statements_from (last_given known) known changes ≡ save_statements known changes
+pub of_save : (known : Tables) (changes : List Change) → statements_from known.meta.counters known changes ≡ save_statements known changes
 unfolding save_statements
 of_save known changes = refl

@@ -1,5 +1,5 @@
 -- Which changes may be saved, and what a save does.
-use Rattle.std.specs.Prelude.{List, [], ◌∷◌, Option}
+use Rattle.std.specs.Prelude.{List, [], ◌∷◌}
 use Rattle.std.specs.List.{flat_map}
 use Rattle.sqlite.specs.Effect.{Database}
 use Rattle.store_columns.specs.Flat.{challenge_rows, listed_rows}
@@ -8,7 +8,7 @@ use Rattle.model_laws.specs.News.{AreKept, KeepsChildren}
 use Rattle.desk_model.specs.Change.{applied, applied_one}
 use Rattle.desk_model.specs.{Kept.EachOf, Tables.Tables}
 use Rattle.desk_model.specs.declared.rows.Change.{Change}
-use Rattle.sql_write.specs.Standing.{IsPartIn}
+use Rattle.sql_write.specs.Standing.{StandsIn}
 use Rattle.sql_tables.specs.Holds.{AreApart, AreRising, Holds}
 use Rattle.sql_tables.specs.Layouts.{challenge_layout}
 
@@ -23,8 +23,8 @@ pub record FitAfter (T : Tables) (changes : List Change) : Type 0 where
   pub in_order : InOrder (applied changes T)
 
 -- whatever tables the database holds, in which what is known stands, where the changes fit them it then holds them with the changes
-abbrev pub Saves : Option Tables → List Change → Database → Database → Type 0
-Saves known changes old new = (T : Tables) → Holds old T → IsPartIn known T → FitAfter T changes → Holds new (applied changes T)
+abbrev pub Saves : Tables → List Change → Database → Database → Type 0
+Saves known changes old new = (T : Tables) → Holds old T → StandsIn known T → FitAfter T changes → Holds new (applied changes T)
 
 -- orders stand by number, what each lists by place, and no number of a challenge stands twice
 pub record StandByNumber (T : Tables) : Type 0 where

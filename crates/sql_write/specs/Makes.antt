@@ -12,7 +12,7 @@ use Rattle.desk_model.specs.{Kept.EachOf, Tables.Tables}
 use Rattle.desk_model.specs.declared.rows.{AuthorizationRow.AuthorizationRow, ChallengeRow.ChallengeRow, Change.Change, Listed.Listed, Meta.Meta}
 use Rattle.desk_model.specs.declared.rows.{OrderRow.OrderRow}
 use Rattle.sql_write.specs.Fitting.{AreFit, IsFit}
-use Rattle.sql_write.specs.Standing.{IsPartIn, known_challenge, known_key}
+use Rattle.sql_write.specs.Standing.{StandsIn, known_challenge, known_key}
 use Rattle.sql_write.specs.declared.standing.Write.{Write}
 use Rattle.sql_write.specs.declared.standing.Write.TheVariants.{Upsert, Insert, Update}
 use Rattle.sql_tables.specs.Effects.{Adds, Appends, Becomes, BecomesRows, Places, Puts, Renews, is_same_place}
@@ -142,9 +142,9 @@ SetsOrder known row old new =
 -- ---- changes
 
 -- whatever tables the database holds, in which what is known stands, where the change fits them it then holds them with the change
-abbrev pub Makes : Option Tables → Change → Database → Database → Type 0
-Makes known change old new = (T : Tables) → Holds old T → IsPartIn known T → IsFit T change → Holds new (applied_one change T)
+abbrev pub Makes : Tables → Change → Database → Database → Type 0
+Makes known change old new = (T : Tables) → Holds old T → StandsIn known T → IsFit T change → Holds new (applied_one change T)
 
 -- and of changes one after the other
-abbrev pub MakesAll : Option Tables → List Change → Database → Database → Type 0
-MakesAll known changes old new = (T : Tables) → Holds old T → IsPartIn known T → AreFit T changes → Holds new (applied changes T)
+abbrev pub MakesAll : Tables → List Change → Database → Database → Type 0
+MakesAll known changes old new = (T : Tables) → Holds old T → StandsIn known T → AreFit T changes → Holds new (applied changes T)

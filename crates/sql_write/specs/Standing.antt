@@ -1,12 +1,10 @@
--- What is known to stand in the tables: rows of a part, and what changes made of them.
-use Rattle.std.specs.Prelude.{◌≡◌, ◌==◌, ◌-◌, ◌^◌, ℕ, List, Option, Some, None, IfSome, find, option_map, option_and_then}
+-- What is known to stand in the tables: rows of a part.
+use Rattle.std.specs.Prelude.{◌≡◌, ◌==◌, ℕ, List, Option, Some, IfSome, find, option_and_then}
 use Rattle.sqlite_rules.specs.Lists.{Has}
 use Rattle.store_columns.specs.Flat.{answer_key}
 use Rattle.store_columns.specs.declared.columns.AnswerKey.{AnswerKey}
-use Rattle.desk_model.specs.{Change.applied, Kept.EachOf, Tables.Tables}
-use Rattle.desk_model.specs.Questions.{account_on, authorization_on, order_on}
-use Rattle.desk_model.specs.declared.rows.{AccountRow.AccountRow, AuthorizationRow.AuthorizationRow, ChallengeRow.ChallengeRow, Change.Change}
-use Rattle.desk_model.specs.declared.rows.{Counters.Counters, Meta.Meta, OrderRow.OrderRow}
+use Rattle.desk_model.specs.{Kept.EachOf, Tables.Tables}
+use Rattle.desk_model.specs.declared.rows.{AuthorizationRow.AuthorizationRow, ChallengeRow.ChallengeRow, OrderRow.OrderRow}
 
 -- ---- what it is
 
@@ -35,28 +33,7 @@ pub record StandsIn (part T : Tables) : Type 0 where
   pub authorizations : Stand (λ a. a.number) HasSome part.authorizations T.authorizations
   pub orders : Stand (λ o. o.number) IsWithout part.orders T.orders
 
--- and so, where there is one
-abbrev pub IsPartIn : Option Tables → Tables → Type 0
-IsPartIn None T = Unit {0}
-IsPartIn (Some part) T = StandsIn part T
-
--- ---- what is found of it behind changes
-
--- the part with the changes
-abbrev pub known_after : Option Tables → List Change → Option Tables
-known_after known before = option_map (applied before) known
-
-abbrev pub known_meta : Option Tables → Option Meta
-known_meta known = option_and_then (λ (T : Tables). Some T.meta) known
-
-abbrev pub known_account : Option Tables → ℕ → Option AccountRow
-known_account known n = option_and_then (λ (T : Tables). account_on T n) known
-
-abbrev pub known_order : Option Tables → ℕ → Option OrderRow
-known_order known n = option_and_then (λ (T : Tables). order_on T n) known
-
-abbrev pub known_authorization : Option Tables → ℕ → Option AuthorizationRow
-known_authorization known n = option_and_then (λ (T : Tables). authorization_on T n) known
+-- ---- what is found of a row that is known
 
 -- the challenge of this number, of an authorization
 abbrev pub known_challenge : Option AuthorizationRow → ℕ → Option ChallengeRow
@@ -65,16 +42,3 @@ known_challenge known n = option_and_then (λ (a : AuthorizationRow). find (λ c
 -- the key of its answer
 abbrev pub known_key : Option AuthorizationRow → ℕ → Option AnswerKey
 known_key known n = option_and_then answer_key (known_challenge known n)
-
--- ---- the last number of each kind
-
--- none is above these
-abbrev pub highest : Counters
-highest =
-    let top = 2 ^ 64 - 1 in
-    record { clock = 0; nonces = top; accounts = top; orders = top; authorizations = top; challenges = top }
-
--- the last numbers that were given, where they are known
-abbrev pub last_given : Option Tables → Counters
-last_given None = highest
-last_given (Some part) = part.meta.counters

@@ -13,7 +13,8 @@ use Rattle.desk_model.specs.declared.rows.Change.TheVariants.{PutMeta, PutNonce,
 use Rattle.desk_model.specs.{Change.applied_one, Tables.Tables}
 use Rattle.sql_write.specs.Differences.{account_difference, authorization_difference, challenge_difference, key_difference, meta_difference, order_difference}
 use Rattle.sql_write.specs.Write.{write}
-use Rattle.sql_write.specs.Standing.{known_account, known_authorization, known_challenge, known_key, known_meta, known_order, last_given}
+use Rattle.sql_write.specs.Standing.{known_challenge, known_key}
+use Rattle.desk_model.specs.Questions.{account_on, authorization_on, order_on}
 use Rattle.sql_write.specs.declared.standing.Write.{Write}
 use Rattle.sql_write.specs.declared.standing.Write.TheVariants.{Upsert, Insert, Update}
 use Rattle.sql_schema.specs.declared.accounts.TheConstants as account
@@ -168,22 +169,22 @@ sets_authorization known last row =
 -- ---- of all
 
 -- a change behind others, by rows that were known before all of them, and the last number of each kind then
-abbrev pub statements_of : Option Tables → Counters → Change → List Sql
-statements_of known last (PutMeta row) = sets_meta (known_meta known) row
+abbrev pub statements_of : Tables → Counters → Change → List Sql
+statements_of known last (PutMeta row) = sets_meta (Some known.meta) row
 statements_of known last (PutNonce row) = sets_nonce last.nonces row
 statements_of known last (RemoveNonce serial) = removes_nonce serial
-statements_of known last (PutAccount row) = sets_account (known_account known row.number) last.accounts row
-statements_of known last (PutAuthorization row) = sets_authorization (known_authorization known row.number) last row
-statements_of known last (PutOrder row) = sets_order (known_order known row.number) last.orders row
+statements_of known last (PutAccount row) = sets_account (account_on known row.number) last.accounts row
+statements_of known last (PutAuthorization row) = sets_authorization (authorization_on known row.number) last row
+statements_of known last (PutOrder row) = sets_order (order_on known row.number) last.orders row
 
 -- changes, in their order: what is known changes with each
-abbrev pub statements_from : Counters → Option Tables → List Change → List Sql
+abbrev pub statements_from : Counters → Tables → List Change → List Sql
 statements_from last known [] = []
-statements_from last known (c ∷ cs) = statements_of known last c ++ statements_from last (option_map (applied_one c) known) cs
+statements_from last known (c ∷ cs) = statements_of known last c ++ statements_from last (applied_one c known) cs
 
 -- by what is known before all of them
-unfoldable pub save_statements : Option Tables → List Change → List Sql
-save_statements known changes = statements_from (last_given known) known changes
+unfoldable pub save_statements : Tables → List Change → List Sql
+save_statements known changes = statements_from known.meta.counters known changes
 
 -- the table or the index that this step defines
 abbrev pub defines : ℕ → List Sql

@@ -2,9 +2,9 @@
 ghost use Rattle.std.specs.Prelude.{◌≡◌, ◌++◌, false, OnOk, OnErr, IfErr, option_copied};
 ghost use Rattle.sqlite.specs.State.{HasCleanDisk, Survives};
 ghost use Rattle.sqlite.specs.Held.{state};
-ghost use Rattle.desk_model.specs.Kept.{EachOf};
+ghost use Rattle.desk_model.specs.{Change.applied, Kept.EachOf};
 ghost use Rattle.sql_write.specs.Committing.{GoesBack, HasCommitted, IsBeforeCommit, IsLeft};
-ghost use Rattle.sql_write.specs.{Fitting.Saves, Highest.IsAbove, Standing.known_after};
+ghost use Rattle.sql_write.specs.{Fitting.Saves, Highest.IsAbove};
 ghost use Rattle.sql_write.specs.Refusals.{IsCause, HasWritten};
 ghost use Rattle.sql_write.specs.Statements.{save_statements, lists, sets_account, sets_authorization, sets_bare_authorization, sets_meta, sets_nonce};
 ghost use Rattle.sql_write.specs.Statements.{sets_order, order_writing, statements_from, statements_of, writes};
@@ -23,8 +23,8 @@ use crate::meta::write_meta;
 use crate::nonces::{remove_nonce, write_nonce};
 use crate::orders::write_order;
 use crate::standing::{
-    Highest, Write, account_difference, authorization_difference, known_row, last_given,
-    meta_difference, order_difference,
+    Highest, Write, account_difference, authorization_difference, known_row, meta_difference,
+    order_difference,
 };
 use crate::statements::end;
 use desk_book::Book;
@@ -32,8 +32,8 @@ use desk_model::{AccountRow, AuthorizationRow, Change, Counters, Meta, Nonce, Or
 use sqlite::{Alter, Connection, Transaction};
 use std::alloc::Global;
 
-/// Makes the changes in one transaction: all of them, or none. Where a part of the tables is known, a row of it is written in the
-/// columns that calls move, and not at all where it is as it was; one with a number above the last that was given is inserted.
+/// Makes the changes in one transaction: all of them, or none. A part of the tables is known: a row of it is written in the columns
+/// that calls move, and not at all where it is as it was; one with a number above the last that was given is inserted.
 ///
 /// # Errors
 ///
@@ -43,23 +43,22 @@ use std::alloc::Global;
 pub fn save_all<S: Alter>(
     alloc: Global,
     conn: &mut Connection<S>,
-    known: Option<&Book>,
+    known: &Book,
     changes: &[Change],
 ) -> Result<(), SaveFault>
     requires idle { conn.old.in_transaction ≡ false }
     ensures idle { conn.new.in_transaction ≡ false }
     ensures ok { HasCleanDisk (state S.Store conn.new)
-        → OnOk result (HasCommitted (state S.Store conn.old) (state S.Store conn.new) (Saves (option_copied known.entry) changes.now)) }
+        → OnOk result (HasCommitted (state S.Store conn.old) (state S.Store conn.new) (Saves known.now changes.now)) }
     ensures err { HasCleanDisk (state S.Store conn.new) → OnErr result (GoesBack (state S.Store conn.old) (state S.Store conn.new)) }
     ensures before { IfErr result (λ why. IsBeforeCommit why → Survives (state S.Store conn.old) (state S.Store conn.new) (λ _. ⊥)) }
     ensures left { Survives (state S.Store conn.old) (state S.Store conn.new)
-        (IsLeft (Saves (option_copied known.entry) changes.now (state S.Store conn.old).now)) }
+        (IsLeft (Saves known.now changes.now (state S.Store conn.old).now)) }
     ensures fits { EachOf FitsColumns changes.now → IfErr result IsNotTooLarge }
-    ensures cause { IfErr result (IsCause S.Store (EachOf FitsColumns changes.now) (save_statements (option_copied known.entry) changes.now) conn.old
-        conn.new) }
+    ensures cause { IfErr result (IsCause S.Store (EachOf FitsColumns changes.now) (save_statements known.now changes.now) conn.old conn.new) }
 {
     let mut tx = conn.transaction();
-    let last = last_given(known);
+    let last = known.meta().counters;
     let made = make_changes(alloc, &mut tx, known, &last, changes);
     end(tx, made)
 }
@@ -200,7 +199,7 @@ fn set_order<S: Alter>(
 fn make_change<S: Alter>(
     alloc: Global,
     tx: &mut Transaction<'_, S>,
-    known: Option<&Book>,
+    known: &Book,
     before: &[Change],
     highest: &Highest,
     last: &Counters,
@@ -208,8 +207,8 @@ fn make_change<S: Alter>(
 ) -> Result<(), SaveFault>
     requires above { IsAbove highest.now before.now }
     ensures same_reference { tx.new.conn.ghost_name ≡ tx.old.conn.ghost_name }
-    ensures writes { HasWritten S.Store (statements_of (known_after (option_copied known.entry) before.now) last.now change.now)
-        (Makes (known_after (option_copied known.entry) before.now) change.now) tx.old.conn.now tx.new.conn.now result }
+    ensures writes { HasWritten S.Store (statements_of (applied before.now known.now) last.now change.now)
+        (Makes (applied before.now known.now) change.now) tx.old.conn.now tx.new.conn.now result }
     ensures fits { FitsColumns change.now → IfErr result IsNotTooLarge }
 {
     match change {
@@ -235,12 +234,12 @@ fn make_change<S: Alter>(
 fn make_changes<S: Alter>(
     alloc: Global,
     tx: &mut Transaction<'_, S>,
-    known: Option<&Book>,
+    known: &Book,
     last: &Counters,
     changes: &[Change],
 ) -> Result<(), SaveFault>
     ensures same_reference { tx.new.conn.ghost_name ≡ tx.old.conn.ghost_name }
-    ensures writes { HasWritten S.Store (statements_from last.now (option_copied known.entry) changes.now) (MakesAll (option_copied known.entry) changes.now)
+    ensures writes { HasWritten S.Store (statements_from last.now known.now changes.now) (MakesAll known.now changes.now)
         tx.old.conn.now tx.new.conn.now result }
     ensures fits { EachOf FitsColumns changes.now → IfErr result IsNotTooLarge }
 {

@@ -1,12 +1,12 @@
 //! What is known to stand in the tables, where changes are made one after the other: rows of a part that was read before, and
 //! what the changes before made of them; and how a row differs from the one that stands there.
-ghost use Rattle.std.specs.Prelude.{◌≡◌, ◌<◌, ◌==◌, ◌++◌, ◌∷◌, [], ℕ, List, Option, Some, find, option_and_then, option_copied, option_map};
+ghost use Rattle.std.specs.Prelude.{◌≡◌, ◌<◌, ◌==◌, ◌++◌, ◌∷◌, [], ℕ, List, Option, Some, find, option_copied, option_map};
 ghost use Rattle.std.specs.Option.{option_or};
-ghost use Rattle.desk_model.specs.{Change.applied_one, Kept.EachOf, Tables.Tables};
+ghost use Rattle.desk_model.specs.{Change.applied, Change.applied_one, Kept.EachOf, Tables.Tables};
 ghost use Rattle.desk_model.specs.Questions.{account_on, authorization_on, order_on};
 ghost use Rattle.desk_model.specs.declared.rows.Change.{Change};
 ghost use Rattle.sql_write.specs.Highest.{IsAbove};
-ghost use Rattle.sql_write.specs.Standing.{known_after, known_challenge, last_given};
+ghost use Rattle.sql_write.specs.Standing.{known_challenge};
 ghost use Rattle.sql_write.specs.Write.{difference, write};
 ghost use Rattle.sql_write.specs.Differences.{account_difference, authorization_difference, challenge_difference, is_same_authorization};
 ghost use Rattle.sql_write.specs.Differences.{is_same_challenge, is_same_date, is_same_end, is_same_report, keeps_authorization, keeps_challenge};
@@ -14,27 +14,10 @@ ghost use Rattle.sql_write.specs.Differences.{keeps_order, keeps_policy, key_dif
 
 use desk_book::Book;
 use desk_model::{
-    AccountRow, Answer, AuthorizationEnd, AuthorizationRow, ChallengeRow, Change, Clock, Counters,
-    Meta, OrderRow, Report, is_same_bytes, is_same_text,
+    AccountRow, Answer, AuthorizationEnd, AuthorizationRow, ChallengeRow, Change, Meta, OrderRow,
+    Report, is_same_bytes, is_same_text,
 };
 use store_columns::AnswerKey;
-
-/// The last number given of each kind, as far as it is known.
-pub(crate) fn last_given(known: Option<&Book>) -> Counters
-    ensures { result ≡ last_given (option_copied known.entry) }
-{
-    match known {
-        Some(part) => part.meta().counters,
-        None => Counters {
-            clock: Clock::at(0),
-            nonces: u64::MAX,
-            accounts: u64::MAX,
-            orders: u64::MAX,
-            authorizations: u64::MAX,
-            challenges: u64::MAX,
-        },
-    }
-}
 
 /// The highest numbers of rows that changes put.
 #[derive(Clone, Copy)]
@@ -150,15 +133,15 @@ impl Standing for AuthorizationRow {
 /// The row of this number that is known behind these changes: the last that one of them puts, or else that of the part. None of
 /// them puts one whose number is above the highest, so that rows in the order of their numbers cost no look through the others.
 pub(crate) fn known_row<'a, R: Standing>(
-    known: Option<&'a Book>,
+    known: &'a Book,
     before: &'a [Change],
     highest: u64,
     number: u64,
 ) -> Option<&'a R>
     requires above { highest < number → EachOf (λ c. (T : Tables) → R.on (applied_one c T) number ≡ R.on T number) before.now }
-    ensures { option_copied result ≡ option_and_then (λ T. R.on T number) (known_after (option_copied known.entry) before.now) }
+    ensures { option_copied result ≡ R.on (applied before.now known.now) number }
 {
-    let mut found = R::in_part(known?, number);
+    let mut found = R::in_part(known, number);
     if number > highest {
         return found;
     }

@@ -30,10 +30,6 @@ Causes S = Option Saving → S → S → StorageFault → Type 0
 abbrev pub IsCutFrom : Tables → Tables → Type 0
 IsCutFrom part T = (kept : Thinning) × (part ≡ thinned kept T)
 
--- any tables
-abbrev pub AreAny : Tables → Type 0
-AreAny T = Unit {0}
-
 module _ {S C : Type 0} (v : Sight S C) where
   -- ---- a part for a call
 
@@ -63,10 +59,6 @@ module _ {S C : Type 0} (v : Sight S C) where
     pub saved : v.is_honest new → OnOk result (HasSaved Of changes old new)
     pub without_memory : IfErr result (λ why. why ≡ fault.Memory → Stands v old new)
 
-  -- the same of whatever tables the store had
-  abbrev pub Saves : {R : Type 0} → List Change → S → S → Result R StorageFault → Type 0
-  Saves changes old new result = SavesOf AreAny changes old new result
-
-  -- and of those that the part was cut from
+  -- the same of those that the part was cut from
   abbrev pub SavesFrom : {R : Type 0} → Tables → List Change → S → S → Result R StorageFault → Type 0
   SavesFrom part changes old new result = SavesOf (IsCutFrom part) changes old new result

@@ -1,8 +1,8 @@
 use Rattle.std.proofs.Common.{arith, subst}
-use Rattle.std.specs.Prelude.{option_copied}
 use Rattle.sql_write.specs.Makes.{PutsOver, SetsAuthorization, SetsMeta, SetsOrder}
-use Rattle.sql_write.specs.{Numbers.FitsColumns, Refusals.HasWritten, Standing.known_after}
+use Rattle.sql_write.specs.{Numbers.FitsColumns, Refusals.HasWritten}
 use Rattle.sql_write.specs.Statements.{sets_account, sets_authorization, sets_meta, sets_order}
+use Rattle.desk_model.specs.Change.{applied}
 use Rattle.desk_model.specs.Questions.{account_on, authorization_on, order_on}
 use Rattle.sql_write.proofs.KnownRows.{none_above}
 use Rattle.sql_write.proofs.MadeChanges.{makes_account, makes_authorization, makes_meta, makes_nonce, makes_removal, makes_set_order, writes_change}
@@ -29,7 +29,7 @@ known_row-known-requires-in-PutOrder g c =
 
 pub returns-in-PutMeta-clause-writes : goal.returns-in-PutMeta-clause-writes
 returns-in-PutMeta-clause-writes g c =
-    let known = known_after (option_copied c.args.known) c.args.before.now in
+    let known = applied c.args.before.now c.args.known.now in
     let run = c.set_meta in
     let stood = subst (λ k. HasWritten g.S.Store (sets_meta k c.in-PutMeta.row) (SetsMeta k c.in-PutMeta.row) c.args.tx.now.conn.now run.new.tx.conn.now
     run.result)
@@ -41,7 +41,7 @@ returns-in-PutMeta-clause-fits g c fits = c.set_meta.ensures.fits (subst FitsCol
 
 pub returns-in-PutNonce-clause-writes : goal.returns-in-PutNonce-clause-writes
 returns-in-PutNonce-clause-writes g c =
-    let known = known_after (option_copied c.args.known) c.args.before.now in
+    let known = applied c.args.before.now c.args.known.now in
     let run = c.set_nonce in
     writes_change g.S.Store known c.args.last.now _ _ c.in-PutNonce.is _ _ _ run.result (makes_nonce known c.in-PutNonce.row _ _) run.ensures.writes
 
@@ -50,7 +50,7 @@ returns-in-PutNonce-clause-fits g c fits = c.set_nonce.ensures.fits (subst FitsC
 
 pub returns-in-RemoveNonce-clause-writes : goal.returns-in-RemoveNonce-clause-writes
 returns-in-RemoveNonce-clause-writes g c =
-    let known = known_after (option_copied c.args.known) c.args.before.now in
+    let known = applied c.args.before.now c.args.known.now in
     let run = c.remove_nonce in
     writes_change g.S.Store known c.args.last.now _ _ c.in-RemoveNonce.is _ _ _ run.result (makes_removal known c.in-RemoveNonce.serial _ _) run.ensures.writes
 
@@ -59,7 +59,7 @@ returns-in-RemoveNonce-clause-fits g c fits = c.remove_nonce.ensures.fits (subst
 
 pub returns-in-PutAccount-clause-writes : goal.returns-in-PutAccount-clause-writes
 returns-in-PutAccount-clause-writes g c =
-    let known = known_after (option_copied c.args.known) c.args.before.now in
+    let known = applied c.args.before.now c.args.known.now in
     let run = c.set_account in
     let stood = subst (λ k. HasWritten g.S.Store (sets_account k c.args.last.now.accounts c.in-PutAccount.row) (PutsOver account_layout k c.in-PutAccount.row)
     c.args.tx.now.conn.now run.new.tx.conn.now run.result)
@@ -71,7 +71,7 @@ returns-in-PutAccount-clause-fits g c fits = c.set_account.ensures.fits (subst F
 
 pub returns-in-PutAuthorization-clause-writes : goal.returns-in-PutAuthorization-clause-writes
 returns-in-PutAuthorization-clause-writes g c =
-    let known = known_after (option_copied c.args.known) c.args.before.now in
+    let known = applied c.args.before.now c.args.known.now in
     let run = c.set_authorization in
     let stood = subst (λ k. HasWritten g.S.Store (sets_authorization k c.args.last.now c.in-PutAuthorization.row)
     (SetsAuthorization k c.in-PutAuthorization.row) c.args.tx.now.conn.now run.new.tx.conn.now run.result)
@@ -83,7 +83,7 @@ returns-in-PutAuthorization-clause-fits g c fits = c.set_authorization.ensures.f
 
 pub returns-in-PutOrder-clause-writes : goal.returns-in-PutOrder-clause-writes
 returns-in-PutOrder-clause-writes g c =
-    let known = known_after (option_copied c.args.known) c.args.before.now in
+    let known = applied c.args.before.now c.args.known.now in
     let run = c.set_order in
     let stood = subst (λ k. HasWritten g.S.Store (sets_order k c.args.last.now.orders c.in-PutOrder.row) (SetsOrder k c.in-PutOrder.row) c.args.tx.now.conn.now
     run.new.tx.conn.now run.result)

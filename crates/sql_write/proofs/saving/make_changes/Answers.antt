@@ -1,17 +1,17 @@
 use Rattle.std.proofs.Common.{◌∙◌, ◌+◌, Err, Ok, arith, rules, subst, sym, take, take_all}
-use Rattle.std.specs.Prelude.{option_copied}
+use Rattle.desk_model.specs.Change.{applied}
 use Rattle.desk_model.specs.declared.rows.Change.{Change}
 use Rattle.sql_write.proofs.KnownRows.{take_more}
 use Rattle.sql_write.proofs.RowsInTurn.{each_at, from_begins, from_more, made_more}
 use Rattle.sql_write.proofs.Written.{written_then, written_through, written_with}
-use Rattle.sql_write.specs.{Highest.IsAbove, Numbers.FitsColumns, Refusals.HasWritten, Standing.known_after}
+use Rattle.sql_write.specs.{Highest.IsAbove, Numbers.FitsColumns, Refusals.HasWritten}
 use Rattle.sql_write.specs.Makes.{Makes, MakesAll}
 use Rattle.sql_write.specs.Statements.{statements_from, statements_of}
 use Rattle.sql_write.proofs.saving.make_changes.Goals as goal
 
 pub loop-place-preserved : goal.loop-place-preserved
 loop-place-preserved g c =
-    let known = option_copied c.args.known in
+    let known = c.args.known.now in
     let last = c.args.last.now in
     let changes = c.args.changes.now in
     let place = c.loop-place.place in
@@ -20,11 +20,11 @@ loop-place-preserved g c =
       same = after.same_reference ∙ c.loop-place.invariant.same;
       writes = written_with g.S.Store _ _ (MakesAll known (take (place + 1) changes)) _ _ (Ok tt)
           (sym (from_more last changes place _ known (omega arith)))
-          (written_then g.S.Store _ _ (MakesAll known (take place changes)) (Makes (known_after known (take place changes)) _)
+          (written_then g.S.Store _ _ (MakesAll known (take place changes)) (Makes (applied (take place changes) known) _)
           (MakesAll known (take (place + 1) changes)) _ _ _ tt (Ok tt) (made_more known changes place _ _ _ _ (omega arith))
           c.loop-place.invariant.writes
-          (subst (λ (change : Change). HasWritten g.S.Store {X = Unit {0}} (statements_of (known_after known (take place changes)) last change)
-          (Makes (known_after known (take place changes)) change) c.loop-place.tx.conn.now c.make_change.new.tx.conn.now (Ok tt))
+          (subst (λ (change : Change). HasWritten g.S.Store {X = Unit {0}} (statements_of (applied (take place changes) known) last change)
+          (Makes (applied (take place changes) known) change) c.loop-place.tx.conn.now c.make_change.new.tx.conn.now (Ok tt))
           c.index-changes-place.is after.writes));
       above = subst (IsAbove c.with-highest.result) (sym (take_more changes place _ (omega arith) c.index-changes-place.is))
           (c.with-highest.ensures (take place changes) c.loop-place.invariant.above);
@@ -32,11 +32,11 @@ loop-place-preserved g c =
 
 pub returns-in_err-make_change-clause-writes : goal.returns-in_err-make_change-clause-writes
 returns-in_err-make_change-clause-writes g c =
-    let known = option_copied c.args.known in
+    let known = c.args.known.now in
     let last = c.args.last.now in
     let changes = c.args.changes.now in
     let place = c.loop-place.place in
-    let after = known_after known (take place changes) in
+    let after = applied (take place changes) known in
     let failed = c.in_err-make_change.ensures.writes in
     let here = subst (λ (change : Change). HasWritten g.S.Store {X = Unit {0}} (statements_of after last change) (Makes after change)
     c.loop-place.tx.conn.now c.make_change.new.tx.conn.now (Err c.in_err-make_change.field-0.0)) c.index-changes-place.is failed in
@@ -47,7 +47,7 @@ returns-in_err-make_change-clause-writes g c =
 pub returns-clause-writes : goal.returns-clause-writes
 returns-clause-writes g c =
     let whole = take_all c.loop-place.place c.args.changes.now (omega arith) in
-    let known = option_copied c.args.known in
+    let known = c.args.known.now in
     subst (λ cs. HasWritten g.S.Store {X = Unit {0}} (statements_from c.args.last.now known cs) (MakesAll known cs) c.args.tx.now.conn.now
     c.loop-place.tx.conn.now (Ok tt)) whole c.loop-place.invariant.writes
 

@@ -1,17 +1,16 @@
 use Rattle.std.proofs.Common.{◌∙◌, ap, rules, subst}
-use Rattle.std.specs.Prelude.{option_copied}
 use Rattle.sqlite.specs.Held.{state}
 use Rattle.sql_write.specs.{Fitting.Saves, Makes.MakesAll, Refusals.Ran, Numbers.FitsColumns}
 use Rattle.sql_write.proofs.{BackFits.saves_by, RowsInTurn.of_save, Told.caused}
 use Rattle.sql_write.proofs.Leaving.{committed_by, left_by, spared_by, undone_by}
 use Rattle.sql_write.specs.Statements.{save_statements, statements_from}
-use Rattle.desk_model.specs.declared.rows.Counters.{Counters}
+use Rattle.desk_model.specs.declared.rows.Meta.{Meta}
 use Rattle.desk_model.specs.Kept.{EachOf}
 use Rattle.sql_write.proofs.saving.save_all.Goals as goal
 
 pub returns-clause-ok : goal.returns-clause-ok
 returns-clause-ok g c =
-    let known = option_copied c.args.known in
+    let known = c.args.known.now in
     let changes = c.args.changes.now in
     let means = saves_by known changes (state g.S.Store c.args.conn.now).now (state g.S.Store c.make_changes-made.new.tx.conn.now).now in
     let whole = committed_by g.S.Store c.args.conn.now _ c.make_changes-made.new.tx.conn.now c.end.new.tx.0 c.transaction-tx.ensures.begun
@@ -23,7 +22,7 @@ pub returns-clause-err : goal.returns-clause-err
 returns-clause-err g c =
     let made = c.make_changes-made.ensures.writes in
     let whole = undone_by g.S.Store c.args.conn.now _ c.make_changes-made.new.tx.conn.now c.end.new.tx.0 c.transaction-tx.ensures.begun
-    _ c.end.result (MakesAll (option_copied c.args.known) c.args.changes.now)
+    _ c.end.result (MakesAll c.args.known.now c.args.changes.now)
     made.does made.kept c.end.ensures.left c.end.ensures.err in
     search (rules, whole)
 
@@ -36,7 +35,7 @@ returns-clause-before g c =
 
 pub returns-clause-left : goal.returns-clause-left
 returns-clause-left g c =
-    let known = option_copied c.args.known in
+    let known = c.args.known.now in
     let changes = c.args.changes.now in
     let made = c.make_changes-made.ensures.writes in
     let means = saves_by known changes (state g.S.Store c.args.conn.now).now (state g.S.Store c.make_changes-made.new.tx.conn.now).now in
@@ -47,11 +46,11 @@ returns-clause-left g c =
 
 pub returns-clause-cause : goal.returns-clause-cause
 returns-clause-cause g c =
-    let known = option_copied c.args.known in
+    let known = c.args.known.now in
     let changes = c.args.changes.now in
     let first = c.transaction-tx.result.conn.now in
     let made = c.make_changes-made in
-    let same = ap (λ (last : Counters). statements_from last known changes) c.last_given-last.ensures ∙ of_save known changes in
+    let same = ap (λ (meta : Meta). statements_from meta.counters known changes) c.meta.ensures ∙ of_save known changes in
     let told = subst (λ sqls. Ran g.S.Store sqls first made.new.tx.conn.now made.result) same made.ensures.writes.told in
     let whole = caused g.S.Store (EachOf FitsColumns changes) (save_statements known changes) c.args.conn.now first
     made.new.tx.conn.now c.end.new.tx.0 c.transaction-tx.ensures.begun made.result c.end.result told c.end.ensures.cause c.end.ensures.before

@@ -1,33 +1,25 @@
 use Rattle.std.proofs.Common.{◌≡◌, ◌∙◌, ◌+◌, ap, sym, take, arith, rules, subst, take_all}
 use Rattle.std.specs.Option.{option_or}
-use Rattle.std.specs.Prelude.{option_and_then, option_copied}
-use Rattle.sql_write.specs.Standing.{known_after}
+use Rattle.std.specs.Prelude.{option_copied}
+use Rattle.desk_model.specs.Change.{applied}
 use Rattle.sql_write.proofs.KnownRows.{applied_more, known_or, left_by_all}
 use Rattle.sql_write.proofs.standing.known_row.Goals as goal
 
 pub loop-change-preserved : goal.loop-change-preserved
 loop-change-preserved g c =
-    let part = c.in_ok-known.field-0.now in
-    let known = ap option_copied c.in_ok-known.was in
-    let before = c.loop-change.invariant ∙ ap (λ k. option_and_then (λ T. g.R.Standing.on T c.args.number)
-    (known_after k (take c.loop-change.change-index c.args.before.now))) known in
+    let part = c.args.known.now in
     let more = applied_more c.args.before.now c.loop-change.change-index c.change-item.result part (search rules) c.change-item.is in
     ap option_copied c.or-found.ensures ∙ known_or c.put_by.result c.loop-change.found
-    ∙ ap (option_or (option_copied c.put_by.result)) before
+    ∙ ap (option_or (option_copied c.put_by.result)) c.loop-change.invariant
     ∙ sym (c.put_by.ensures _)
     ∙ ap (λ T. g.R.Standing.on T c.args.number) (sym more)
-    ∙ ap (λ k. option_and_then (λ T. g.R.Standing.on T c.args.number) (known_after k (take (c.loop-change.change-index + 1) c.args.before.now))) (sym known)
 
 pub returns : goal.returns
 returns g c =
     let whole = take_all c.loop-change.change-index c.args.before.now (omega arith) in
-    subst (λ cs. option_copied c.loop-change.found ≡ option_and_then (λ T. g.R.Standing.on T c.args.number) (known_after (option_copied c.args.known) cs)) whole
-    c.loop-change.invariant
+    subst (λ cs. option_copied c.loop-change.found ≡ g.R.Standing.on (applied cs c.args.known.now) c.args.number) whole c.loop-change.invariant
 
 pub returns-then-number-highest : goal.returns-then-number-highest
 returns-then-number-highest g c =
-    let part = c.in_ok-known.field-0.now in
-    let known = ap option_copied c.in_ok-known.was in
-    let all = left_by_all g.R.Standing.on c.args.number c.args.before.now part (c.requires.above c.if-number-highest.true) in
+    let all = left_by_all g.R.Standing.on c.args.number c.args.before.now c.args.known.now (c.requires.above c.if-number-highest.true) in
     c.in_part-found.ensures ∙ sym all
-    ∙ ap (λ k. option_and_then (λ T. g.R.Standing.on T c.args.number) (known_after k c.args.before.now)) (sym known)

@@ -1,7 +1,7 @@
-use Rattle.std.proofs.Common.{List, Some, subst}
+use Rattle.std.proofs.Common.{List, subst}
 use Rattle.std.specs.Prelude.{IfErr, false, ◌≡◌}
 use Rattle.desk_model.specs.declared.rows.Change.{Change}
-use Rattle.sql_write.specs.Standing.{IsPartIn}
+use Rattle.sql_write.specs.Standing.{StandsIn}
 use Rattle.store_api.specs.Storing.{IsCutFrom, SavesOf}
 use Rattle.desk_store.specs.{Causes.FailedToChange, Desks.store_sight}
 use Rattle.desk_store.proofs.SavedDesks.{part_stands, saves_of}
@@ -11,14 +11,14 @@ pub returns-clause-saves : goal.returns-clause-saves
 returns-clause-saves g c =
     let part = c.args.part.now in
     let old = c.args.self.now in
-    let new = c.save_known.new.self in
-    let r = c.save_known.result in
+    let new = c.save.new.self in
+    let r = c.save.result in
     subst (λ (cs : List Change). SavesOf (store_sight g.S.Store) (IsCutFrom part) cs old new r) c.as_slice.ensures.value
-    (saves_of (store_sight g.S.Store) (IsPartIn (Some part)) (IsCutFrom part) c.as_slice.result.now old new r
-    (λ T cut has. part_stands part T cut has.desk.desk.holds.rising) c.save_known.ensures.saves)
+    (saves_of (store_sight g.S.Store) (StandsIn part) (IsCutFrom part) c.as_slice.result.now old new r
+    (λ T cut has. part_stands part T cut has.desk.desk.holds.rising) c.save.ensures.saves)
 
 pub returns-clause-caused : goal.returns-clause-caused
 returns-clause-caused g c =
-    subst (λ (cs : List Change). IfErr c.save_known.result (λ why. c.args.self.now.conn.in_transaction ≡ false
-    → FailedToChange g.S.Store (Some c.args.part.now) cs c.args.self.now.conn c.save_known.new.self.conn why)) c.as_slice.ensures.value
-    c.save_known.ensures.failed
+    subst (λ (cs : List Change). IfErr c.save.result (λ why. c.args.self.now.conn.in_transaction ≡ false
+    → FailedToChange g.S.Store c.args.part.now cs c.args.self.now.conn c.save.new.self.conn why)) c.as_slice.ensures.value
+    c.save.ensures.failed
