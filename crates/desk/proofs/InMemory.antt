@@ -1,20 +1,21 @@
--- A store in memory is never out of reach.
-use Rattle.std.proofs.Common.{refl, sym, ◌∙◌, Err, inl}
-use Rattle.desk_model.specs.{Tables.Tables, declared.call.Call.Call}
-use Rattle.store_api.specs.{InMemory.in_memory, Storing.Loads, declared.fault.StorageFault.StorageFault}
-use Rattle.store_api.specs.declared.fault.StorageFault.TheVariants as storagefault
+-- A store in memory is never out of reach, and gives all its rows.
+use Rattle.std.proofs.Common.{◌≡◌, sym, subst, ◌∙◌, Result, Ok, Err, IfErr, IfOk}
+use Rattle.desk_model.specs.History.{clock}
+use Rattle.desk_model.specs.Tables.{Tables, picture}
+use Rattle.desk_model.specs.declared.call.Call.{Call}
+use Rattle.model_laws.proofs.Recorded.{tables_ordered}
+use Rattle.model_lives.specs.IsEnough.{IsEnoughFor}
+use Rattle.model_lives.proofs.{Enough.whole_part, Work.part_enough}
+use Rattle.store_api.specs.{Finding.LacksMemory, InMemory.in_memory, Storing.Loads, declared.fault.StorageFault.StorageFault}
+use Rattle.store_api.proofs.Readings.{reads_standing, stands_here}
 
--- what is left of it tells that its tables stand, whatever the fault
-pub only_memory : (call : Call) (old new : Tables) (cause : StorageFault) → Loads in_memory call old new (Err cause) →
-    Loads in_memory call old new (Err storagefault.Memory)
-only_memory call old new cause l =
-    record {
-      reads = record {
-        honest = l.reads.honest;
-        left = l.reads.left;
-        tables = tt;
-        without_memory = λ is h T held. sym (l.reads.left h new refl) ∙ held;
-        failed = λ h T held. inl refl;
-      };
-      part = λ h. tt;
-    }
+-- what gives all rows, unless a growth was refused, gives a part
+pub whole_given : (call : Call) (all : Tables) (r : Result Tables StorageFault) → IfErr r LacksMemory → IfOk r (λ book. book ≡ all)
+    → Loads in_memory call all all r
+whole_given call all (Ok book) lacks same = record {
+  reads = reads_standing (Ok book) tt stands_here;
+  part = λ honest F legal held.
+      subst (IsEnoughFor call (picture F)) (sym (same ∙ held))
+      (part_enough (picture F) (picture F) call (tables_ordered F (clock F)) (whole_part (picture F) call));
+}
+whole_given call all (Err why) lacks same = record { reads = reads_standing (Err why) lacks stands_here; part = λ honest. tt }

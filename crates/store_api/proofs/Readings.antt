@@ -1,6 +1,5 @@
 -- Look-ups one after the other.
 use Rattle.std.proofs.Common.{◌≡◌, ◌⊎◌, Result, Ok, Err, IfErr, IfOk, IsErrAnd, inl, inr, subst, sym}
-use Rattle.store_api.specs.{InMemory.in_memory, Sight.Gives}
 use Rattle.store_api.specs.Sight.{FailsBy, ForTables, Reads, Sight, Stands}
 use Rattle.desk_model.specs.Tables.{Tables}
 use Rattle.store_api.specs.declared.fault.StorageFault.{StorageFault}
@@ -93,11 +92,3 @@ module _ {S C : Type 0} {v : Sight S C} where
       Reads v old new found → IfOk found (λ _. IfErr r LacksMemory) → IfErr found (λ why. r ≡ Err why) →
       Reads v old new r
   reads_found found r read lacks passed = reads_of_tables found r read (λ honest T held. lacks) passed
-
--- a book in memory gives what was made of it, unless a growth was refused
-pub book_gives : {A : Type 0} (book : Tables) (r : Result A StorageFault) {P : Tables → A → Type 0} → IfErr r LacksMemory → IfOk r (P book) →
-    Gives in_memory book book P r
-book_gives book r {P} lacks is = record {
-  reads = reads_standing r lacks stands_here;
-  found = λ honest T held. subst (λ T. IfOk r (P T)) held is;
-}

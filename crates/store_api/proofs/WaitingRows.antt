@@ -1,21 +1,20 @@
 -- Challenges that wait, and the authorizations under which they are put.
 use Rattle.std.proofs.Common.{◌≡◌, ℕ, List, [], ◌∷◌, ◌++◌, map, find, Some, None, refl, sym, ap, ◌∙◌, true, false, Bool, cond, append-nil, append_assoc}
 use Rattle.std.specs.Prelude.{◌==◌}
-use Rattle.std.specs.List.{filter, flat_map, list_any}
-use Rattle.std.proofs.lemmas.{List.map-append, List.Elements.filter-append, Simd.map-map}
+use Rattle.std.specs.List.{filter}
+use Rattle.std.proofs.lemmas.Simd.{map-map}
 use Rattle.desk_model.specs.{Change.put, Tables.Tables}
 use Rattle.desk_model.specs.declared.rows.{AuthorizationRow.AuthorizationRow, ChallengeRow.ChallengeRow}
 use Rattle.model_laws.specs.Ordered.{Ascends, IsOrdered}
 use Rattle.model_laws.specs.Placing.{puts}
 use Rattle.model_laws.proofs.Basics.{each, eq_turn, map-each}
-use Rattle.model_laws.proofs.RowLists.{ascends_filter, ascends_found, ascends_map, puts_moved}
+use Rattle.model_laws.proofs.RowLists.{ascends_filter, ascends_map, puts_moved}
 use Rattle.model_lives.specs.IsEnough.{has_work}
-use Rattle.model_lives.specs.LookUps.{AreWaiting, waiting_of}
+use Rattle.model_lives.specs.LookUps.{AreWaiting}
 use Rattle.model_lives.specs.Thinned.{waiting_challenges, with_challenges, without_challenges}
 use Rattle.model_lives.proofs.Lists.{filtered_each}
-use Rattle.store_api.proofs.{Lacking.rows_one, Pairs.row_next}
+use Rattle.store_api.proofs.Lacking.{rows_one}
 use Rattle.store_api.specs.Nesting.{joined, nested}
-use Rattle.store_columns.specs.Flat.{owned_by}
 use Rattle.store_columns.specs.declared.columns.Owned.{Owned}
 
 -- ---- the challenges of rows
@@ -23,10 +22,6 @@ use Rattle.store_columns.specs.declared.columns.Owned.{Owned}
 -- a challenge behind the number of its authorization
 abbrev pub numbered : Owned ChallengeRow → ℕ × ChallengeRow
 numbered c = (c.owner, c.row)
-
--- the number
-abbrev first : ℕ × ChallengeRow → ℕ
-first p = p.0
 
 -- the challenge
 abbrev second : ℕ × ChallengeRow → ChallengeRow
@@ -36,90 +31,9 @@ second p = p.1
 abbrev is_under : ℕ → ℕ × ChallengeRow → Bool
 is_under n p = p.0 == n
 
--- those of an authorization that wait
-abbrev pub waiting_under : AuthorizationRow → List (Owned ChallengeRow)
-waiting_under r = owned_by r.number (waiting_of r)
-
--- one more is added, if it passes
-pub kept_next : {X Y : Type 0} (value : X → Y) (test : X → Bool) (x : X) (before rest : List X) (found later all : List Y) → before ≡ x ∷ rest →
-    later ≡ found ++ map value (filter test (x ∷ [])) →
-    found ++ map value (filter test before) ≡ all →
-    later ++ map value (filter test rest) ≡ all
-kept_next value test x before rest found later all next is h =
-    row_next (λ l. map value (filter test l)) x (map value (filter test (x ∷ []))) before rest found later all next (by (test x)) is h
-  where
-    by : (b : Bool) → map value (cond b (x ∷ filter test rest) (filter test rest)) ≡ map value (cond b (x ∷ []) []) ++ map value (filter test rest)
-    by true = refl
-    by false = refl
-
--- the numbers are those of the owners
-owners_are : (rows : List AuthorizationRow) →
-    map first (map numbered (flat_map waiting_under rows)) ≡ flat_map (λ r. map (λ c. r.number) (waiting_of r)) rows
-owners_are [] = refl
-owners_are (r ∷ rs) =
-    ap (map first) (map-append numbered (waiting_under r) (flat_map waiting_under rs))
-    ∙ map-append first (map numbered (waiting_under r)) (map numbered (flat_map waiting_under rs))
-    ∙ (λ i. one (waiting_of r) i ++ owners_are rs i)
-  where
-    one : (cs : List ChallengeRow) → map first (map numbered (owned_by r.number cs)) ≡ map (λ c. r.number) cs
-    one [] = refl
-    one (c ∷ cs) = ap (λ l. r.number ∷ l) (one cs)
-
 -- those under a number
 abbrev under_number : ℕ → List (ℕ × ChallengeRow) → List ChallengeRow
 under_number n ps = map second (filter (is_under n) ps)
-
--- of two lists
-under_append : (n : ℕ) (ps qs : List (ℕ × ChallengeRow)) → under_number n (ps ++ qs) ≡ under_number n ps ++ under_number n qs
-under_append n ps qs =
-    ap (map second) (filter-append (is_under n) ps qs)
-    ∙ map-append second (filter (is_under n) ps) (filter (is_under n) qs)
-
--- no challenges
-abbrev none : List ChallengeRow
-none = []
-
--- of one authorization, all or none
-under_own : (n k : ℕ) (cs : List ChallengeRow) → under_number n (map numbered (owned_by k cs)) ≡ cond (k == n) cs none
-under_own n k [] = by (k == n)
-  where
-    by : (b : Bool) → none ≡ cond b none none
-    by true = refl
-    by false = refl
-under_own n k (c ∷ cs) = by (k == n) (under_own n k cs)
-  where
-    by : (b : Bool) → under_number n (map numbered (owned_by k cs)) ≡ cond b cs none →
-        map second (cond b ((k, c) ∷ filter (is_under n) (map numbered (owned_by k cs))) (filter (is_under n) (map numbered (owned_by k cs))))
-        ≡ cond b (c ∷ cs) none
-    by true ih = ap (λ l. c ∷ l) ih
-    by false ih = ih
-
--- of all authorizations, those of the number
-under_rows : (n : ℕ) (rows : List AuthorizationRow) →
-    under_number n (map numbered (flat_map waiting_under rows)) ≡ flat_map waiting_of (filter (λ r. r.number == n) rows)
-under_rows n [] = refl
-under_rows n (r ∷ rs) =
-    ap (under_number n) (map-append numbered (waiting_under r) (flat_map waiting_under rs))
-    ∙ under_append n (map numbered (waiting_under r)) (map numbered (flat_map waiting_under rs))
-    ∙ (λ i. under_own n r.number (waiting_of r) i ++ under_rows n rs i)
-    ∙ by (r.number == n)
-  where
-    by : (b : Bool) → cond b (waiting_of r) [] ++ flat_map waiting_of (filter (λ r. r.number == n) rs)
-        ≡ flat_map waiting_of (cond b (r ∷ filter (λ r. r.number == n) rs) (filter (λ r. r.number == n) rs))
-    by true = refl
-    by false = refl
-
--- the challenges of all rows that wait
-pub rows_wait : (T : Tables) → IsOrdered T → AreWaiting T (map numbered (flat_map waiting_under T.authorizations))
-rows_wait T h =
-    record {
-      owners = λ p. ap (list_any p) (owners_are T.authorizations);
-      own = each _ _ T.authorizations (λ r found.
-          under_rows r.number T.authorizations
-          ∙ ap (flat_map waiting_of) (rows_one (λ (x : AuthorizationRow). x.number) 1 r.number r T.authorizations h.authorizations.0 found)
-          ∙ append-nil (waiting_of r))
-          (ascends_found (λ (x : AuthorizationRow). x.number) 1 T.authorizations h.authorizations.0);
-    }
 
 -- ---- a challenge under its authorization
 

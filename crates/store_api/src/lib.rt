@@ -2,7 +2,6 @@
 //! on a desk over any store stand on it.
 #![tactic(auto)]
 
-mod book_source;
 mod enough;
 mod fault;
 mod laws;

@@ -1,8 +1,8 @@
-use Rattle.std.proofs.Common.{◌≡◌, ℕ, true, filter, List, [], ap, ◌∙◌}
+use Rattle.std.proofs.Common.{◌≡◌, ℕ, true, filter, List, [], ◌∷◌, ap, refl, ◌∙◌}
 use Rattle.model_laws.specs.{Ordered.Ascends, Placing.puts}
 use Rattle.model_laws.proofs.RowLists.{puts_ascending}
 use Rattle.store_api.proofs.Found.{fails_behind, finds_as, finds_failing, finds_fourth, finds_put, finds_then}
-use Rattle.store_api.proofs.{Gathered.put_into_none, Pairs.all_pass}
+use Rattle.store_api.proofs.Gathered.{put_into_none}
 use Rattle.store_api.proofs.whole_book.add_all_rows.Goals as goal
 use Rattle.desk_model.specs.declared.{objects.Nonce.Nonce, rows.AccountRow.AccountRow, rows.AuthorizationRow.AuthorizationRow, rows.OrderRow.OrderRow}
 use Rattle.model_lives.specs.LookUps.{accounts_where, authorizations_where, nonces_where, orders_where}
@@ -10,6 +10,11 @@ use Rattle.model_lives.specs.declared.queries.AccountsWhere.TheVariants as accou
 use Rattle.model_lives.specs.declared.queries.AuthorizationsWhere.TheVariants as authorizations
 use Rattle.model_lives.specs.declared.queries.NoncesWhere.TheVariants as nonces
 use Rattle.model_lives.specs.declared.queries.OrdersWhere.TheVariants as orders
+
+-- a test that each row passes leaves all of them
+all_pass : {X : Type 0} (xs : List X) → filter (λ x. true) xs ≡ xs
+all_pass [] = refl
+all_pass (x ∷ xs) = ap (λ l. x ∷ l) (all_pass xs)
 
 -- the rows of a table that are put into an empty one are the table
 all_put : {X : Type 0} (number : X → ℕ) (xs rows later : List X) → Ascends number 1 xs → later ≡ puts number (filter (λ x. true) xs) rows → rows ≡ [] →

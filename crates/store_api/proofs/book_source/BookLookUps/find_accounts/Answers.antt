@@ -1,6 +1,0 @@
-use Rattle.store_api.proofs.Readings.{book_gives}
-use Rattle.store_api.proofs.book_source.BookLookUps.find_accounts.Goals as goal
-
-pub returns : goal.returns
-returns c =
-    book_gives c.args.self.now c.rows_where.result c.rows_where.ensures.lacks (rw c.accounts.ensures at c.rows_where.ensures.found)
