@@ -113,7 +113,7 @@ def crates_with(folder):
 
 def leaves_out(old, new):
     """Whether a line is not changed but left out."""
-    return new in (LEFT_OUT + old, f"{{- {old}", f"{old} -}}")
+    return new in (LEFT_OUT + old, f"{{- {old}", f"{old} -}}") or old.startswith("ghost use ") and new == f"// {old}"
 
 
 def fault_of(edit):
