@@ -3,7 +3,7 @@ use Rattle.std.proofs.Common.{◌≡◌}
 use Rattle.desk_model.specs.Tables.{Tables}
 use Rattle.desk_model.specs.declared.rows.Meta.{Meta}
 use Rattle.store_api.specs.Finding.{AreRowsOf}
-use Rattle.store_api.specs.declared.whole_book.Rows.{Rows}
+use Rattle.store_api.specs.declared.all_rows.Rows.{Rows}
 
 -- the tables of these rows
 abbrev pub book_with : Meta → Rows → Tables

@@ -4,7 +4,7 @@ use Rattle.desk_model.specs.Tables.{Tables}
 use Rattle.store_api.specs.Sight.{ForTables, Reads, Sight}
 use Rattle.store_api.specs.declared.fault.StorageFault.{StorageFault}
 use Rattle.store_api.specs.declared.fault.StorageFault.TheVariants as fault
-use Rattle.store_api.specs.declared.whole_book.Rows.{Rows}
+use Rattle.store_api.specs.declared.all_rows.Rows.{Rows}
 
 -- a growth was refused
 abbrev pub LacksMemory : StorageFault → Type 0

@@ -2,6 +2,7 @@
 //! on a desk over any store stand on it.
 #![tactic(auto)]
 
+mod all_rows;
 mod enough;
 mod fault;
 mod laws;
@@ -11,12 +12,11 @@ mod minimal_part;
 mod named;
 mod storage;
 mod waiting;
-mod whole_book;
 
+pub use all_rows::whole_book;
 pub use enough::load_enough;
 pub use fault::StorageFault;
 pub use identifiers::{CallFault, ParsedCall};
 pub use laws::touched_rows_are_a_book;
 pub use look_ups::{Found, LookUps, RowsAbove};
 pub use storage::Storage;
-pub use whole_book::whole_book;

@@ -16,7 +16,7 @@ use crate::fault::StorageFault;
 use crate::links::{add_bare_listed, add_each, add_lacking, add_linked, add_missing};
 use crate::look_ups::LookUps;
 use crate::named::{add_asked, add_asked_names, add_keyed, add_new_keyed, add_nonces, add_owner};
-use crate::whole_book::Rows;
+use crate::all_rows::Rows;
 use desk_book::{Book, Table};
 use desk_model::{AccountRow, AuthorizationRow, AuthzStatus, OrderRow, OrderStatus, Policy};
 use identifiers::{ParsedAsk, ParsedCall};

@@ -2,7 +2,7 @@ use Rattle.std.proofs.Common.{◌∙◌}
 use Rattle.std.proofs.lemmas.Result.{IfOk-from_err}
 use Rattle.store_api.proofs.Tabled.{book_are}
 use Rattle.store_api.proofs.Readings.{reads_failing, reads_standing, reads_then, stands_both, stands_read}
-use Rattle.store_api.proofs.whole_book.whole_book.Goals as goal
+use Rattle.store_api.proofs.all_rows.whole_book.Goals as goal
 
 pub returns-clause-reads : goal.returns-clause-reads
 returns-clause-reads g c =

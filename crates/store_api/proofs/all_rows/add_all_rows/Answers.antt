@@ -3,7 +3,7 @@ use Rattle.model_laws.specs.{Ordered.Ascends, Placing.puts}
 use Rattle.model_laws.proofs.RowLists.{puts_ascending}
 use Rattle.store_api.proofs.Found.{fails_behind, finds_as, finds_failing, finds_fourth, finds_put, finds_then}
 use Rattle.store_api.proofs.Gathered.{put_into_none}
-use Rattle.store_api.proofs.whole_book.add_all_rows.Goals as goal
+use Rattle.store_api.proofs.all_rows.add_all_rows.Goals as goal
 use Rattle.desk_model.specs.declared.{objects.Nonce.Nonce, rows.AccountRow.AccountRow, rows.AuthorizationRow.AuthorizationRow, rows.OrderRow.OrderRow}
 use Rattle.model_lives.specs.LookUps.{accounts_where, authorizations_where, nonces_where, orders_where}
 use Rattle.model_lives.specs.declared.queries.AccountsWhere.TheVariants as accounts
