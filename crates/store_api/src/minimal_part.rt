@@ -11,12 +11,12 @@ ghost use Rattle.desk_model.specs.Derived.{numbers_of};
 ghost use Rattle.identifiers.specs.Parsed.{ask_of};
 ghost use Rattle.store_api.specs.Sight.{ForTables, Reads};
 
+use crate::all_rows::Rows;
 use crate::enough::{RowsNeeded, rows_needed};
 use crate::fault::StorageFault;
 use crate::links::{add_bare_listed, add_each, add_lacking, add_linked, add_missing};
 use crate::look_ups::LookUps;
 use crate::named::{add_asked, add_asked_names, add_keyed, add_new_keyed, add_nonces, add_owner};
-use crate::all_rows::Rows;
 use desk_book::{Book, Table};
 use desk_model::{AccountRow, AuthorizationRow, AuthzStatus, OrderRow, OrderStatus, Policy};
 use identifiers::{ParsedAsk, ParsedCall};
