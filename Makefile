@@ -33,8 +33,8 @@ first: bin/desk ## a batch by the proved program
 	@echo 'Answering examples/first.jsonl over a new desk in memory:'
 	@bin/desk batch < examples/first.jsonl
 
-edits: ## whether the edits that the prover must refuse still apply, and the picture of the crates is today's
-	@echo 'Looking whether each edit that the prover must refuse still applies, and whether the crates are those that are drawn.'
+edits: ## whether the edits that the prover must refuse still apply, and docs/ARCHITECTURE.md lists today's crates
+	@echo 'Looking whether each edit that the prover must refuse still applies, and whether the crates are those that are listed.'
 	@python3 scripts/edits.py check
 	@python3 -B scripts/crates.py check
 

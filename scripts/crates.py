@@ -1,9 +1,9 @@
 #!/usr/bin/env python3
-"""The picture of the crates in docs/ARCHITECTURE.md, drawn from crates.txt.
+"""The crates of crates.txt, and the table of them in docs/ARCHITECTURE.md.
 
-  scripts/crates.py draw   writes it there anew
-  scripts/crates.py check  sees that the one there is today's, that each crate stands below its family's line of crates.txt with the family's word or as
-                           one of the heads, and that ARCHITECTURE's table has a row for each crate, in this order
+  scripts/crates.py draw   prints each crate and what it stands on, without what follows from the rest; the longest chain is marked
+  scripts/crates.py check  sees that each crate stands below its family's line of crates.txt with the family's word or as one of the heads, and that
+                           ARCHITECTURE's table has a row for each crate, in this order
 """
 import os
 import re
@@ -13,8 +13,6 @@ ROOT = os.path.dirname(os.path.dirname(os.path.abspath(__file__)))
 PAGE = f"{ROOT}/docs/ARCHITECTURE.md"
 # What a user of the library calls; each other crate begins with its family's word.
 HEADS = {"desk_model", "identifiers", "keys", "moments", "json_texts", "desk_book", "desk_core", "desk_store", "desk", "desk_files", "desk_http", "desk_app"}
-PICTURE = re.compile(r"(?<=\n## Crates\n)[\s\S]*?(?=\n\| crate \|)")
-SAYS = "By families, top down, each crate and what it stands on, without what follows from the rest; the longest chain is marked with `=`."
 
 
 def read(path):
@@ -55,7 +53,7 @@ def picture():
         for at, crate in enumerate(reversed(crates)):
             direct = sorted(it for it in deps[crate] if not any(it in below[other] for other in deps[crate]))
             rows.append(f"{'' if at else family:10}{'=' if crate in chain else ' '} {crate:{width}}  {' '.join(direct)}".rstrip())
-    return f"\n{SAYS}\n\n```\n" + "\n".join(rows) + "\n```\n"
+    return "\n".join(rows)
 
 
 def faults():
@@ -67,10 +65,7 @@ def faults():
                 yield f"crates.txt: there is no crates/{crate}"
             if crate not in HEADS and not crate.startswith(f"{family}_"):
                 yield f"crates.txt: {crate} does not begin with the word of its family, {family}"
-    page = read(PAGE)
-    if PICTURE.search(page)[0] != picture():
-        yield "docs/ARCHITECTURE.md: the picture of the crates is not that of crates.txt; scripts/crates.py draw makes it anew"
-    table = page.partition("\n| crate |")[2].partition("\n\n")[0]
+    table = read(PAGE).partition("\n| crate |")[2].partition("\n\n")[0]
     rows = re.findall(r"(?m)^\| `(\w+)` \|", table)
     if rows != list(deps):
         yield "docs/ARCHITECTURE.md: the rows of the table of crates are not the crates of crates.txt in their order"
@@ -78,13 +73,11 @@ def faults():
 
 def main(words):
     if words == ["draw"]:
-        page = PICTURE.sub(lambda _: picture(), read(PAGE), count=1)
-        with open(PAGE, "w", encoding="utf-8") as file:
-            file.write(page)
+        print(picture())
         return 0
     if words == ["check"]:
         found = list(faults())
-        print("\n".join(found) or f"{len(families()[1])} crates, as docs/ARCHITECTURE.md draws them")
+        print("\n".join(found) or f"{len(families()[1])} crates, as docs/ARCHITECTURE.md lists them")
         return 1 if found else 0
     print(__doc__, file=sys.stderr)
     return 2
