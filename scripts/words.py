@@ -17,7 +17,7 @@ import time
 
 import backups
 from stops import Desk
-from trying import BASE, KEY, NOT_A_DESK, begin, bytes_of, change, finish, nonce_text, order_of, run, see, small_files, tables_of, workspace
+from trying import BASE, KEY, NOT_A_DESK, ROOT, begin, bytes_of, change, finish, nonce_text, order_of, run, see, small_files, tables_of, workspace
 
 NO_FIT = (1, b"", b"desk: the report does not fit the records\n")
 NO_NAME = (2, b"", b"desk: not a name that is served\n")
@@ -340,9 +340,9 @@ def page_text(base, clock, counts, tables):
 
 
 def specified_page():
-    """The page that the specification shows."""
-    with open(f"{os.path.dirname(__file__)}/../docs/SPECIFICATION.md", "rb") as text:
-        return text.read().partition(b"```html\n")[2].partition(b"```")[0]
+    """The page that the specification names."""
+    with open(f"{ROOT}/examples/page.html", "rb") as text:
+        return text.read()
 
 
 def based_desk(program, folder, name, base):
