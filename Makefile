@@ -33,10 +33,11 @@ first: bin/desk ## a batch by the proved program
 	@echo 'Answering examples/first.jsonl over a new desk in memory:'
 	@bin/desk batch < examples/first.jsonl
 
-edits: ## whether the edits that the prover must refuse still apply, and docs/ARCHITECTURE.md lists today's crates
-	@echo 'Looking whether each edit that the prover must refuse still applies, and whether the crates are those that are listed.'
+edits: ## whether the edits that the prover must refuse still apply, and documents name what is there
+	@echo 'Looking whether each edit that the prover must refuse still applies, and whether documents name what is there.'
 	@python3 scripts/edits.py check
 	@python3 -B scripts/crates.py check
+	@python3 -B scripts/promises.py check
 
 test: ## ./test: sets up what is missing, and is the merge gate
 	@./test
