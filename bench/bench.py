@@ -562,44 +562,34 @@ def missed(run):
     measured = run.sizes
     grown = {name: growth(measured, "desk", name) for name, _ in KINDS}
     grown.update({f"{name}, of {ORDERS_OF_ONE:,} orders": run.growth_of_one("desk", name) for name in OF_ONE})
-    return f"""The goals were rates of at least 0.8 of C's for newNonce and newAccount and 0.6 for the other kinds of calls
-        with `--sync once`, of at least 0.5 with two syncs, and a growth of at most {GROWTH}. At some size the first is
-        missed by {slow(measured, "once")}; the second by {slow(measured, "desk")}; the third by
-        {listed({name: value for name, value in grown.items() if value > GROWTH})}. Where the time goes shows in kinds
-        of calls that differ in it; the parts are differences of two times, so small ones are mostly noise."""
+    return f"""The goals were rates of at least 0.8 of C's for newNonce and newAccount and 0.6 for other calls with `--sync once`,
+        of at least 0.5 with two syncs, and a growth of at most {GROWTH}. At some size the first is missed by
+        {slow(measured, "once")}; the second by {slow(measured, "desk")}; the third by
+        {listed({name: value for name, value in grown.items() if value > GROWTH})}. The parts below are differences of two times, so
+        small ones are mostly noise."""
 
 
-WHERE = """What is past its end, the desk's own row and the newest nonces the program knows from the calls before, and
-of the rows that a call changes it writes those alone that differ, so a small call asks for little that C does not ask
-for, too; but each statement costs the program several times what it costs SQLite. Most of what a small call takes is
-the engine's: rows that are written, the commit, and tables of its page cache, which it clears some ten times. The
-program reads whole rows, all columns of an order with its CSR and its certificate, where C reads the columns that it
-needs, and of a row that changes it writes all columns that calls move, where C writes those that change; what an
-order lists, and each challenge that changes, are a statement each. The list of an account's orders reads all of its
-orders whole, but for what they list, and an account that ends all its authorizations with the orders that list them.
-The two lists of work find what waits by the index on the status, as C does, and read its rows whole, but for
-challenges that they do not show: some two statements for each challenge, some two for each order of one name, where C
-joins the tables in one or two."""
+WHERE = """The program knows from the calls before what is past its end, the row of `meta` and the newest nonces, and it writes
+only the rows that differ. So a small call asks for little that C does not ask for; but each statement costs several times
+what it costs SQLite. Most of a small call is the engine's: rows that are written, the commit, and tables of its page cache,
+which it clears some ten times. The program reads whole rows and writes all columns that calls move, where C reads and writes
+the columns that it needs. What an order lists, and each challenge that changes, is a statement each."""
 
-CAPACITY = """Some millions of certificates a day is what a public certificate authority issues (Let's Encrypt's own
-statistics); an in-house one seldom issues more than thousands. A house that outgrows one desk runs several, each with a
-file and a base of its own (`https://ca1.example`, `https://ca2.example`), and no desk knows of another. An account is
-one desk's: the front hands a client the directory of one of them, and each URL that this desk shows begins with its
-base, so the front sends a request on by its host name alone. Nothing that a desk promises is of accounts of two desks,
-but that a key has one account: it has one at each desk."""
+CAPACITY = """A public certificate authority issues some millions of certificates a day (Let's Encrypt's own statistics), an
+in-house one seldom more than thousands. A house that outgrows one desk runs several, each with a file and a base of its own
+(`https://ca1.example`, `https://ca2.example`). No desk knows of another: an account is one desk's, and the front sends a
+request on by its host name alone. A key has one account at each desk."""
 
 
 def say_how():
     say(
-        f"""`make bench` writes this page. For each size Python's sqlite3 writes a file with so many pending orders of
-        one name each, {ORDERS_OF_ACCOUNT} to an account. `bin/desk batch --file`, the same with `--sync once`, and the C
-        program `bench/desk.c`, which does the same transactions by hand on SQLite {sqlite3.sqlite_version}, each serve a
-        copy; one more file has an account with all of its {ORDERS_OF_ONE:,} orders. They run side by side, over all files at once, and are asked in turns {CALLS} calls of a kind, {TURNS} times, each call
-        after the reply to the one before, and all of that {RUNS} times over new files; their replies are compared and are the same. A list of work has the {CALLS} items
-        of its turn. A time is that of the whole round through the program's pipes, the median of the turns. Growth is the time
-        of a call at the largest size by that at the smallest, ratio the program's rate by C's. Measured on
-        {os.cpu_count()} processors of a machine that was shared with other work: the turns spread that load over all
-        figures, rates are low by it, and a single figure may differ by a third from run to run."""
+        f"""`make bench` writes this page. Python's sqlite3 makes files of pending orders of one name each, {ORDERS_OF_ACCOUNT} to an
+        account, and one file in which an account has all {ORDERS_OF_ONE:,}. `bin/desk batch --file`, the same with `--sync once`, and
+        `bench/desk.c`, which does the same transactions by hand on SQLite {sqlite3.sqlite_version}, each serve a copy, side by side,
+        and give the same replies. They are asked in {TURNS} turns of {CALLS} calls of a kind, one after the other, {RUNS} times over new
+        files; a time is the median of the turns, with the round through pipes. Growth is the time at the largest size by that at the
+        smallest, ratio the program's rate by C's. Measured on {os.cpu_count()} processors that other work shared: rates are low by
+        it, and a single figure may differ by a third from run to run."""
     )
 
 
@@ -610,10 +600,8 @@ def say_syncs(counts, sync):
     say(
         f"""A call that records something, as each signed request does, is one transaction.
         {f"For it {counted} (counted by `strace`)." if counted else ""} One sync of 24 kB took {1e6 * sync:,.0f}
-        microseconds here. Without `--sync once` the program supposes nothing of a write that a loss of power tears: it
-        syncs the frames, then writes the byte that makes them count and syncs again, where SQLite trusts a checksum and
-        syncs once. With it the program supposes that each byte of such a write is the old or the new one, and most
-        commits sync once."""
+        microseconds here. Without `--sync once` the program syncs the frames, then writes the byte that makes them count and syncs
+        again; SQLite trusts a checksum and syncs once."""
     )
 
 
@@ -627,9 +615,9 @@ def say_load(measured, who):
     say(
         f"""An order takes {sum(LIFE.values())} calls from its nonce to its certificate ({calls}). At the rates over
         {largest:,} orders on the disk these take {1000 * life:.1f} ms, one after the other: {millions(86400 / life)} orders
-        a day by the calls alone. Asked for after each answer and each finalize, the two lists of work take {1000 * lists:.1f} ms
-        more of an order, as many rows as wait here: {millions(86400 / (life + lists))} orders a day. What limits a desk sooner is how
-        many orders its file holds, done ones too, since opening reads them all."""
+        a day by the calls alone. With the two lists of work after each answer and each finalize it is {1000 * lists:.1f} ms more:
+        {millions(86400 / (life + lists))} orders a day. What limits a desk sooner is how many orders its file holds, done ones too, since
+        opening reads them all."""
     )
 
 
@@ -666,9 +654,8 @@ def say_million(last, who):
     say(
         f"""By these figures a file with a million orders, each with a CSR of {csr} bytes and a certificate of
         {len(CERTIFICATE):,}, has {size / 1e9:,.1f} GB, and the desk opens it in {times * last.opening[who]:,.0f}
-        seconds or more, with {times * last.memory[who] / 1e9:,.1f} GB of memory or more, as opening reads and checks
-        the whole file. Old orders stay in the file: a house puts it aside and makes a new one when opening takes too
-        long for it."""
+        seconds or more, with {times * last.memory[who] / 1e9:,.1f} GB of memory or more. Old orders stay in the file: a house
+        puts it aside and makes a new one when opening takes too long for it."""
     )
 
 

@@ -27,11 +27,10 @@ from bench import CALLS, KINDS, TOP, Lines, check_replies, compiled, make_file, 
 SIZE, TURNS = 10000, 8
 HEAD = "## Instructions of a call"
 # What is said of the goals that are missed.
-WHY = """Each statement costs the engine several times what it costs SQLite, most of it fixed. A list of work is one
-statement, and two more for each item, where C joins the tables in one or two; a join was tried (docs/DECISIONS.md),
-and no look-up has one yet. The list of an account's orders reads them whole, with CSR and certificate, where C reads two
-columns. A report looks up the authorization of its challenge by a statement of its own, and then reads all its challenges and
-their keys."""
+WHY = """A statement costs the engine several times what it costs SQLite, most of it fixed. A list of work takes one
+statement, and two more for each item, where C joins the tables; no look-up has a join (docs/DECISIONS.md). The list of an
+account's orders reads them whole, where C reads two columns. A report looks up its challenge's authorization, and then reads
+all its challenges and keys."""
 ALLOWED = 1.05
 MEMORY = re.compile(r"mem(cpy|move|set)")
 TITLES = ("call", "desk", "C", "ratio", "goal")
@@ -130,9 +129,9 @@ def cells(name, desk, in_c):
 
 def section(counts):
     """The section of docs/PERFORMANCE.md."""
-    said = (f"`make instructions` counts them by callgrind, over a file of {SIZE:,} orders: thousands of instructions, without those that copy or "
-            f"clear memory, the median of {TURNS - 1} turns of {CALLS} calls, so that the copying of the log into the file is in none. A list of work has "
-            "ten items, an account ten orders and those of the calls before. They are the same on any machine and under any load.")
+    said = (f"`make instructions` counts thousands of instructions of a call by callgrind, over a file of {SIZE:,} orders, without those that copy or "
+            f"clear memory: the median of {TURNS - 1} turns of {CALLS} calls. A list of work has ten items. The counts are the same on any machine and "
+            "under any load.")
     in_c = counts.get("c", {})
     rows = [cells(name, counts["desk"][name], in_c.get(name)) for name, _ in KINDS]
     missed = [name for name, goal in GOALS.items() if name in in_c and round(counts["desk"][name] / in_c[name], 2) > goal]

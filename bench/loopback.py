@@ -162,10 +162,9 @@ def print_section(found, turns, calls):
     names = {"nothing": "a server that does nothing", "memory": "the desk, its file in memory", "disk": "the desk"}
     print("## Over loopback\n")
     say(
-        f"""`bench/loopback.py` writes this section. One client in Python opens a connection for each request and waits for
-        the reply's end; it asks each server {calls} calls of a kind in turn, {turns} times, and a figure is the median of the
-        turns. The same client meets a server that does nothing (`bench/nothing.c` reads the request and writes a reply of the
-        same length), so what that one takes is the client's and the system's own time, and the rest the desk's."""
+        f"""`bench/loopback.py` writes this section. One client in Python opens a connection for each request. It asks each server
+        {calls} calls of a kind in turn, {turns} times; a figure is the median of the turns. The same client meets a server that does
+        nothing (`bench/nothing.c`): what that one takes is the client's and the system's own time."""
     )
     print("| requests a second | " + " | ".join(KINDS) + " |\n|---|" + "---|" * len(KINDS))
     for where in (name for name in names if name in found):

@@ -52,8 +52,8 @@ def cells_of(size, length, found, memory):
 
 def page(rows, turns, limits):
     """The lines of the section."""
-    text = f"""`bench/million.py` writes this section. Each file has so many pending orders of one name each, 10 to an account. A call is timed as
-        in the section on rates, {CALLS} at a time in {turns} turns; beside each rate stands the ratio to C's. Measured on a machine that was shared with other work. {limits}"""
+    text = f"""`bench/million.py` writes this section. A call is timed as in the section on rates, {CALLS} at a time in {turns} turns; beside each
+        rate stands the ratio to C's. {limits}"""
     titles = ("orders", "file", "time to open", "memory", *(it for name in ASKED for it in (f"{name}, a second", "by C's")))
     return ["", "## A million orders", "", *textwrap.wrap(" ".join(text.split()), 118), "", row(*titles), "|" + "---|" * len(titles), *rows]
 
@@ -62,9 +62,8 @@ def limits_of(openings):
     """What limits a desk of that size, by how the two times of opening grow."""
     (small, first), (large, second) = openings
     return (
-        f"Opening reads and checks every row of the file, so it grows with the orders: {second / first:.1f} times the time for {large / small:.0f} times "
-        "the orders. The calls look rows up by indexes, and take hardly longer. So what limits a desk of this size is how long a house can wait "
-        "for its start, not how fast it answers."
+        f"Opening reads and checks every row, so it grows with the orders: {second / first:.1f} times the time for {large / small:.0f} times the orders. "
+        "The calls look rows up by indexes, and take hardly longer."
     )
 
 

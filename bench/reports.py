@@ -54,10 +54,8 @@ def said(seconds):
 
 def page(found, turns):
     """The lines of the section."""
-    text = f"""`bench/reports.py` writes this section. Opening reads and checks the whole file, as for every word; `status` and
-        `check` then read their rows one by one. A time is the median of
-        {turns} runs; opening is a batch without lines, and a report's time is what its word took beyond that. Memory is
-        the most that the whole process had."""
+    text = f"""`bench/reports.py` writes this section. A time is the median of {turns} runs; opening is a batch without lines, and a
+        report's time is what its word took beyond that. Memory is the most that the whole process had."""
     lines = ["## Reports", "", *textwrap.wrap(" ".join(text.split()), 118), ""]
     lines += ["| orders | opening | status | check | memory, opening | with status | with check |", "|---|---|---|---|---|---|---|"]
     for size, of in found.items():
