@@ -491,15 +491,15 @@ def print_rates(measured, who):
 
 
 def print_ratios(disk, memory):
-    largest = max(disk)
-    columns = [f"C, {largest:,}", "its growth", *(f"ratio, {size:,}" for size in disk)]
+    ends, largest = (min(disk), max(disk)), max(disk)
+    columns = [f"C, {largest:,}", "its growth", *(f"ratio, {size:,}" for size in ends)]
     if memory:
         columns += [f"no sync, {size:,}" for size in (min(memory), largest)]
     print("| | " + " | ".join(columns) + " |")
     print("|---|" + "---|" * len(columns))
     for name, _ in KINDS:
         cells = [1 / disk[largest].seconds["c"][name], growth(disk, "c", name)]
-        cells += [ratio(disk, size, name) for size in disk]
+        cells += [ratio(disk, size, name) for size in ends]
         cells += [ratio(memory, size, name) for size in (min(memory), largest)] if memory else []
         print(f"| {name} | " + " | ".join(map(figure, cells)) + " |")
     print()
@@ -507,13 +507,13 @@ def print_ratios(disk, memory):
 
 def print_once(disk):
     """The program with `--sync once`: its rate at the largest size, and that by C's."""
-    largest = max(disk)
-    columns = [f"`--sync once`, {largest:,}", "its growth", *(f"ratio, {size:,}" for size in disk)]
+    ends, largest = (min(disk), max(disk)), max(disk)
+    columns = [f"`--sync once`, {largest:,}", "its growth", *(f"ratio, {size:,}" for size in ends)]
     print("| | " + " | ".join(columns) + " |")
     print("|---|" + "---|" * len(columns))
     for name, _ in KINDS:
         cells = [1 / disk[largest].seconds["once"][name], growth(disk, "once", name)]
-        cells += [ratio(disk, size, name, "once") for size in disk]
+        cells += [ratio(disk, size, name, "once") for size in ends]
         print(f"| {name} | " + " | ".join(map(figure, cells)) + " |")
     print()
 
