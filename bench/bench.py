@@ -570,10 +570,9 @@ def missed(run):
 
 
 WHERE = """The program knows from the calls before what is past its end, the row of `meta` and the newest nonces, and it writes
-only the rows that differ. So a small call asks for little that C does not ask for; but each statement costs several times
-what it costs SQLite. Most of a small call is the engine's: rows that are written, the commit, and tables of its page cache,
-which it clears some ten times. The program reads whole rows and writes all columns that calls move, where C reads and writes
-the columns that it needs. What an order lists, and each challenge that changes, is a statement each."""
+only the rows that differ. Most of a small call is the engine's: rows that are written, the commit, and tables of its page
+cache, which it clears some ten times. The program reads whole rows and writes all columns that calls move, where C reads
+and writes the columns that it needs. What an order lists, and each challenge that changes, is a statement each."""
 
 CAPACITY = """A public certificate authority issues some millions of certificates a day (Let's Encrypt's own statistics), an
 in-house one seldom more than thousands. A house that outgrows one desk runs several, each with a file and a base of its own
