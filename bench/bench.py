@@ -491,29 +491,17 @@ def print_rates(measured, who):
 
 
 def print_ratios(disk, memory):
+    """The rate of C at the largest size, and by it those of the program with two syncs, with `--sync once`, and without a sync."""
     ends, largest = (min(disk), max(disk)), max(disk)
-    columns = [f"C, {largest:,}", "its growth", *(f"ratio, {size:,}" for size in ends)]
+    columns = [f"C, {largest:,}", "its growth", *(f"ratio, {size:,}" for size in ends), *(f"once, {size:,}" for size in ends)]
     if memory:
         columns += [f"no sync, {size:,}" for size in (min(memory), largest)]
     print("| | " + " | ".join(columns) + " |")
     print("|---|" + "---|" * len(columns))
     for name, _ in KINDS:
         cells = [1 / disk[largest].seconds["c"][name], growth(disk, "c", name)]
-        cells += [ratio(disk, size, name) for size in ends]
+        cells += [ratio(disk, size, name, who) for who in ("desk", "once") for size in ends]
         cells += [ratio(memory, size, name) for size in (min(memory), largest)] if memory else []
-        print(f"| {name} | " + " | ".join(map(figure, cells)) + " |")
-    print()
-
-
-def print_once(disk):
-    """The program with `--sync once`: its rate at the largest size, and that by C's."""
-    ends, largest = (min(disk), max(disk)), max(disk)
-    columns = [f"`--sync once`, {largest:,}", "its growth", *(f"ratio, {size:,}" for size in ends)]
-    print("| | " + " | ".join(columns) + " |")
-    print("|---|" + "---|" * len(columns))
-    for name, _ in KINDS:
-        cells = [1 / disk[largest].seconds["once"][name], growth(disk, "once", name)]
-        cells += [ratio(disk, size, name, "once") for size in ends]
         print(f"| {name} | " + " | ".join(map(figure, cells)) + " |")
     print()
 
@@ -587,7 +575,7 @@ def say_how():
         `bench/desk.c`, which does the same transactions by hand on SQLite {sqlite3.sqlite_version}, each serve a copy, side by side,
         and give the same replies. They are asked in {TURNS} turns of {CALLS} calls of a kind, one after the other, {RUNS} times over new
         files; a time is the median of the turns, with the round through pipes. Growth is the time at the largest size by that at the
-        smallest, ratio the program's rate by C's. Measured on {os.cpu_count()} processors that other work shared: rates are low by
+        smallest, ratio the program's rate by C's, "once" the ratio with `--sync once`. Measured on {os.cpu_count()} processors that other work shared: rates are low by
         it, and a single figure may differ by a third from run to run."""
     )
 
@@ -661,7 +649,6 @@ def say_million(last, who):
 def print_comparison(disk, memory):
     """The program beside C."""
     print_ratios(disk.sizes, memory and memory.sizes)
-    print_once(disk.sizes)
     print_of_one(disk)
     print("## Where the time goes\n")
     say(missed(disk))
