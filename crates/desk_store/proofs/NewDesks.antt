@@ -1,6 +1,7 @@
 -- From the tables that are made to a desk.
-use Rattle.std.proofs.Common.{◌≡◌, ℕ, Bool, true, false, List, [], ◌∷◌, length, refl, sym, subst, ◌∙◌}
+use Rattle.std.proofs.Common.{◌≡◌, ℕ, Bool, true, false, List, [], ◌∷◌, length, ap, refl, sym, subst, ◌∙◌}
 use Rattle.std.specs.Prelude.{◌==◌, ◌||◌, not}
+use Rattle.std.proofs.Math.Dec.{eqb-suc-zero}
 use Rattle.sqlite.specs.{Effect.Database, Schema.Schema, State.State, Tree.Trees}
 use Rattle.desk_model.specs.{Legal.Legal, History.first_history, Terms.Terms}
 use Rattle.desk_model.specs.Tables.{Tables, picture}
@@ -20,7 +21,7 @@ neither false b is = (refl, is)
 -- a list without an item is empty
 no_items : {A : Type 0} (xs : List A) → not (length xs == 0) ≡ false → xs ≡ []
 no_items [] is = refl
-no_items (x ∷ xs) is = absurd (cc is)
+no_items (x ∷ xs) is = absurd (let e : true ≡ false = sym (ap not (eqb-suc-zero (length xs))) ∙ is in cc e)
 
 -- a schema without an object is the empty one
 pub bare_is_none : (schema : Schema) → has_objects schema ≡ false → schema ≡ no_schema
