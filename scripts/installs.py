@@ -11,7 +11,8 @@ FILES = {"bin/desk", "lib/systemd/system/desk.service", "lib/systemd/system/desk
          "share/bash-completion/completions/desk", "share/desk/house/house.py", "share/man/man1/desk.1"}
 # Words that are typed, the last one in part, and those that complete it.
 COMPLETED = {("desk", "se"): ["serve"], ("desk", "revoke-a"): ["revoke-authz", "revoke-account"], ("desk", "serve", "ca.db", "--max"): ["--max-step"],
-             ("desk", "batch", "--sync", ""): ["once", "twice"], ("desk", "status", "--status", "p"): ["pending", "processing"], ("desk", "make", ""): []}
+             ("desk", "batch", "--sync", ""): ["once", "twice"], ("desk", "status", "--status", "p"): ["pending", "processing"], ("desk", "make", ""): [],
+             ("desk", "check", "ca.db", "--q"): ["--quiet"]}
 
 
 def completed(file, words):

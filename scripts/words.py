@@ -29,11 +29,12 @@ PAGE = 4096
 REPORTS = ("about", "page", "status", "accounts", "authorizations", "check")
 OTHER_KEY = {"crv": "P-256", "kty": "EC", "x": "Aw", "y": "BA"}
 LIFE = "1 to 315360000"
-WAIT = ("--wait <SECONDS>", "as serve does while it runs", "0 to 86400", "--verbose")
+CAUSES = ("--verbose", "without it where that is a terminal", "--quiet")
+WAIT = ("--wait <SECONDS>", "as serve does while it runs", "0 to 86400", *CAUSES)
 SYNCS = ("--sync", "once, twice", "default: twice", "loss of power", "the old or the new one")
 HELP = {
-    "make": ("FILE", "--verbose", "mode 600", "--base", "8 to 256 bytes", "--nonce-life", "3600", "--order-life", "604800", "--authz-life", "2592000", LIFE),
-    "serve": ("FILE", "--verbose", "no other word works on the file", "--port", "0 to 65535", "--count", "2^64 - 1", "--log", "text, json", "microseconds",
+    "make": ("FILE", *CAUSES, "mode 600", "--base", "8 to 256 bytes", "--nonce-life", "3600", "--order-life", "604800", "--authz-life", "2592000", LIFE),
+    "serve": ("FILE", *CAUSES, "no other word works on the file", "--port", "0 to 65535", "--count", "2^64 - 1", "--log", "text, json", "microseconds",
               "--max-step <SECONDS>", "1 to 250000000000", "fault 24", "2592000 for 30 days", "once without --max-step", *SYNCS),
     "batch": ("--file", "in memory", *SYNCS, *WAIT),
     "status": ("FILE", "--account", "1 to 2^62", "--status", "pending, ready, processing, valid, invalid", "--name", "--json", *WAIT),

@@ -46,9 +46,11 @@ const TERMS: Terms<'static> = Terms {
 
 /// Does what the words of a command line ask for, of which the first is the program's name, and gives the exit status: 0 where
 /// it is done, 1 after a fault or a refusal, 2 where the words are wrong or a limit is broken, 3 where a stored status is wrong.
+/// Where the words say nothing of the causes of faults, these are said if standard error is a terminal.
 pub fn run_words<R: Read + Drop, W: Write, E: Write>(
     rt: &HostRuntime,
     words: &[String],
+    is_terminal: bool,
     reader: R,
     out: &mut W,
     errors: &mut E,
@@ -59,7 +61,7 @@ pub fn run_words<R: Read + Drop, W: Write, E: Write>(
         (EndsSo ⟦<FileFrom<Wary> as Disk>⟧ (image_at ⟦<Wary as Start>⟧) (R.remaining reader) (W.contents out.old) (W.contents out.new) order result)
         (syncs_of order)) ⊎ ((why : Unread) × IsToldWords why (W.contents out.old) (W.contents out.new) result) }
 {
-    match read_words(rt.alloc(), words) {
+    match read_words(rt.alloc(), words, is_terminal) {
         Ok(asked) => run_asked(rt, asked, reader, out, errors),
         Err(fault) => tell_words(&fault, out, errors),
     }

@@ -12,6 +12,9 @@ pub(crate) const WAIT: &str = "wait";
 /// Whether the cause of a fault is said, too; every word has it.
 pub(crate) const VERBOSE: &str = "verbose";
 
+/// Whether it is not said at a terminal either; every word has it.
+pub(crate) const QUIET: &str = "quiet";
+
 /// The number of what is revoked.
 pub(crate) const NUMBER: &str = "N";
 

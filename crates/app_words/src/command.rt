@@ -126,6 +126,8 @@ pub struct Serving {
     pub max_step: Option<u64>,
     /// How a line for each connection is written, or `None` for none.
     pub log: Option<LogForm>,
+    /// Whether the cause is said, too, where a connection fails.
+    pub is_verbose: bool,
 }
 
 /// How the lines of a log are written.

@@ -75,7 +75,9 @@ fn command<'a>(alloc: Global, word: &'static Word) -> Result<Command<'a>, AllocE
     for &argument in word.arguments {
         command = command.arg(arg(alloc, argument)?)?;
     }
-    command.arg(flag(alloc, arguments::VERBOSE, help::VERBOSE))
+    let verbose = flag(alloc, arguments::VERBOSE, help::VERBOSE);
+    let quiet = flag(alloc, arguments::QUIET, help::QUIET).conflicts_with(arguments::VERBOSE)?;
+    command.arg(verbose)?.arg(quiet)
 }
 
 // A command with so many words more.

@@ -35,7 +35,10 @@ pub(crate) const SYNCS: &str =
 
 /// What help says of `--verbose`.
 pub(crate) const VERBOSE: &str =
-    "say the file of a fault and its cause on a second line of standard error";
+    "say the file of a fault and its cause on a second line of standard error; without it where that is a terminal";
+
+/// What help says of `--quiet`.
+pub(crate) const QUIET: &str = "leave that line out at a terminal, too";
 
 /// Below the words.
 pub(crate) const DESK: &str = after!(
@@ -44,7 +47,7 @@ pub(crate) const DESK: &str = after!(
   once or after its --wait, and changes nothing. The first word that opens a file of an earlier
   format brings it into today's, status and check too. There is no way back, and an older program
   refuses the file then: keep a copy.",
-    "Faults, of which --verbose says the file and the cause:
+    "Faults, of which a second line says the file and the cause, at a terminal or by --verbose:
   20 memory        a growth of memory was refused
   21 device        another program has the file, as serve does while it runs; this user may not read
                    and write the file, its log or its directory; their file system is read-only; the

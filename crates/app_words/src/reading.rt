@@ -1,4 +1,6 @@
 //! Words read as what they ask for.
+ghost use Rattle.std.specs.Prelude.{◌≡◌, if◌then◌else◌, true, false};
+
 use crate::arguments;
 use crate::command::{
     Asked, AuthorizationListing, Command, LogForm, OrderListing, Revocation, Serving, SyncedFile,
@@ -18,20 +20,41 @@ const NOT_DECIMAL: &str =
     "a number is written in decimal, without a sign and without a zero in front";
 
 // What the matches ask for, and how.
-fn asked<'a>(matches: &ArgMatches<'a>) -> Option<Asked<'a>> {
+fn asked<'a>(matches: &ArgMatches<'a>, is_terminal: bool) -> Option<Asked<'a>> {
     let (name, given) = matches.subcommand()?;
+    let (verbose, quiet) = (
+        given.get_flag(arguments::VERBOSE),
+        given.get_flag(arguments::QUIET),
+    );
+    let is_verbose = says_causes(verbose, quiet, is_terminal);
     Some(Asked {
-        command: command(Subcommand::named(name)?, given)?,
+        command: command(Subcommand::named(name)?, given, is_verbose)?,
         wait: given.get_one::<u64>(arguments::WAIT).unwrap_or(0),
-        is_verbose: given.get_flag(arguments::VERBOSE),
+        is_verbose,
     })
 }
 
+// Whether causes are said: as the words say, and without one at a terminal alone.
+fn says_causes(verbose: bool, quiet: bool, is_terminal: bool) -> bool
+    ensures { result ≡ (if verbose then true else (if quiet then false else is_terminal)) }
+{
+    verbose || (is_terminal && !quiet)
+}
+
 // What a word asks for by what is given behind it.
-fn command<'a>(subcommand: Subcommand, given: &ArgMatches<'a>) -> Option<Command<'a>> {
+fn command<'a>(
+    subcommand: Subcommand,
+    given: &ArgMatches<'a>,
+    is_verbose: bool,
+) -> Option<Command<'a>> {
     match subcommand {
         Subcommand::Batch => Some(batch(given)),
-        _ => with_file(subcommand, given.get_str(arguments::FILE)?, given),
+        _ => with_file(
+            subcommand,
+            given.get_str(arguments::FILE)?,
+            given,
+            is_verbose,
+        ),
     }
 }
 
@@ -40,11 +63,12 @@ fn with_file<'a>(
     subcommand: Subcommand,
     file: &'a str,
     given: &ArgMatches<'a>,
+    is_verbose: bool,
 ) -> Option<Command<'a>> {
     let json = given.get_flag(arguments::JSON);
     match subcommand {
         Subcommand::Make => make(file, given),
-        Subcommand::Serve => serve(file, given),
+        Subcommand::Serve => serve(file, given, is_verbose),
         Subcommand::Batch => None,
         Subcommand::About => Some(Command::About { file }),
         Subcommand::Page => Some(Command::Page { file }),
@@ -93,12 +117,13 @@ fn back_up<'a>(file: &'a str, given: &ArgMatches<'a>) -> Option<Command<'a>> {
     Some(Command::BackUp { file, to })
 }
 
-fn serve<'a>(path: &'a str, given: &ArgMatches<'a>) -> Option<Command<'a>> {
+fn serve<'a>(path: &'a str, given: &ArgMatches<'a>, is_verbose: bool) -> Option<Command<'a>> {
     let serving = Serving {
         port: given.get_one::<u16>(arguments::PORT)?,
         count: given.get_one::<u64>(arguments::COUNT),
         max_step: given.get_one::<u64>(arguments::MAX_STEP),
         log: log_form(given),
+        is_verbose,
     };
     let file = synced(path, given);
     Some(Command::Serve { file, serving })
@@ -181,12 +206,13 @@ fn asked_by<'a>(
     alloc: Global,
     grammar: &mut clap::Command<'a>,
     matches: &ArgMatches<'a>,
+    is_terminal: bool,
 ) -> Result<Asked<'a>, WordsFault> {
     if !are_decimal(matches) {
         let error = grammar.error(ErrorKind::ValueValidation, NOT_DECIMAL)?;
         return Err(WordsFault::of(alloc, &error));
     }
-    match asked(matches) {
+    match asked(matches, is_terminal) {
         Some(asked) => Ok(asked),
         None => {
             let error = grammar.error(ErrorKind::MissingSubcommand, "no command")?;
@@ -200,20 +226,26 @@ fn read_by<'a>(
     alloc: Global,
     grammar: &mut clap::Command<'a>,
     words: &'a [String],
+    is_terminal: bool,
 ) -> Result<Asked<'a>, WordsFault> {
     match grammar.try_get_matches_from_mut(words) {
-        Ok(matches) => asked_by(alloc, grammar, &matches),
+        Ok(matches) => asked_by(alloc, grammar, &matches, is_terminal),
         Err(error) => Err(WordsFault::of(alloc, &error)),
     }
 }
 
-/// What the words of a command line ask for, and how; the first word is the program's name.
+/// What the words of a command line ask for, and how; the first word is the program's name. Where the words say nothing of the
+/// causes of faults, these are said if standard error is a terminal.
 ///
 /// # Errors
 ///
 /// `Help` where they ask for help or the version, `Wrong` where they are wrong, each with its text; `Memory` where a growth
 /// was refused.
-pub fn read_words<'a>(alloc: Global, words: &'a [String]) -> Result<Asked<'a>, WordsFault> {
+pub fn read_words<'a>(
+    alloc: Global,
+    words: &'a [String],
+    is_terminal: bool,
+) -> Result<Asked<'a>, WordsFault> {
     let mut grammar = desk(alloc)?;
-    read_by(alloc, &mut grammar, words)
+    read_by(alloc, &mut grammar, words, is_terminal)
 }

@@ -2,7 +2,7 @@
 #![tactic(auto)]
 
 use app_commands::{run_words, tell_no_memory};
-use std::io;
+use std::io::{self, IsTerminal};
 use std::process::ExitCode;
 
 fn main(rt: HostRuntime) -> ExitCode {
@@ -10,6 +10,7 @@ fn main(rt: HostRuntime) -> ExitCode {
         Ok(words) => run_words(
             &rt,
             words.as_slice(),
+            rt.stderr().is_terminal(),
             rt.reader(),
             &mut io::writer(&rt),
             &mut rt.stderr(),
