@@ -9,6 +9,9 @@ from trying import fresh, library, nonce_text, order_of, see, tables_of
 # How many bytes a read or a write of the program moves at most, in turn; 0: all.
 MOST = (0, 20)
 SAID = b"desk: connection\n"
+# The second line of each, of a connection whose read fails and of one whose write does.
+CAUSES = {"reads": b"desk: the client broke off, or did not send its request within 10 seconds\n",
+          "writes": b"desk: the client broke off, or did not take its reply within 10 seconds\n"}
 
 
 class Broken:
@@ -18,7 +21,8 @@ class Broken:
         self.file, self.folder = f"{folder}/connection-{name}", folder
         self.let_be()
         env = {**os.environ, "LD_PRELOAD": library(folder), "CONNECTION": self.file}
-        self.server = Server(program, fresh(program, folder, f"broken-{name}"), env=env)
+        self.said = SAID + CAUSES[name]
+        self.server = Server(program, fresh(program, folder, f"broken-{name}"), "--verbose", env=env)
         self.client, self.failures = Client(self.server), 0
         self.client.open_account()
 
@@ -51,12 +55,12 @@ class Broken:
         """Whether the program said that one connection more failed."""
         said = self.server.said()
         self.failures, before = said.count(SAID), self.failures
-        see("what is said of connections that fail", (said, self.failures - before in (0, 1)), (SAID * self.failures, True))
+        see("what is said of connections that fail", (said, self.failures - before in (0, 1)), (self.said * self.failures, True))
         return self.failures > before
 
     def end(self, name):
         """Ends the program, which went on after each connection that failed."""
-        see(f"{name}: the end", self.server.stop(), (*STOPPED[:2], SAID * self.failures))
+        see(f"{name}: the end", self.server.stop(), (*STOPPED[:2], self.said * self.failures))
         see(f"{name}: how many", self.failures > len(MOST), True)
         print(f"{name}: {self.failures}")
 

@@ -77,7 +77,7 @@ small_said what was is how (inl it) = small_as how _ it.0 (small_status 0 (omega
 small_said what was is how (inr it) = small_as how _ it (omega arith)
 
 small_asked : (what : Revocation) (was is : Option (List ℕ)) (how : Result ℕ Fault) → RevokesServed what was is how → IsSmall how
-small_asked what was is how (unheard (inl it) same) = small_as how _ it (omega arith)
+small_asked what was is how (unheard (inl it) same) = small_as how _ it.1 (omega arith)
 small_asked what was is how (unheard (inr it) same) = small_as how _ it (omega arith)
 small_asked what was is how (refused refusal it same) = small_as how _ it (omega arith)
 small_asked what was is how (revoked it) = small_said what was is how it

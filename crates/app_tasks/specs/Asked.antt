@@ -6,6 +6,7 @@ use Rattle.app_words.specs.declared.command.Revocation.TheVariants as revocation
 use Rattle.app_tasks.specs.declared.fault.Fault.{Fault}
 use Rattle.app_tasks.specs.declared.fault.Fault.TheVariants as fault
 use Rattle.desk.specs.declared.fault.DeskFault.TheVariants as deskfault
+use Rattle.desk_http.specs.declared.asking.Unheard.{Unheard}
 use Rattle.desk_model.specs.declared.refusal.Refusal.{Refusal}
 
 -- the request for it, which has no body (RFC 9112, 3)
@@ -34,6 +35,7 @@ TellsReply what (Err why) was is how = (how ≡ Err why) × (is ≡ was)
 -- how a revocation ends that a desk which is served was asked for: no reply came, and nothing was written; or the desk refused, and nothing
 -- was written; or it says that it is done
 pub data RevokesServed (what : Revocation) (was is : Option (List ℕ)) (how : Result ℕ Fault) : Type 0 where
-  unheard : (how ≡ Err fault.Connection) ⊎ (how ≡ Err (fault.Desk deskfault.Memory)) → is ≡ was → RevokesServed what was is how
+  unheard :
+      ((why : Unheard) × (how ≡ Err (fault.Connection why))) ⊎ (how ≡ Err (fault.Desk deskfault.Memory)) → is ≡ was → RevokesServed what was is how
   refused : (refusal : Refusal) → how ≡ Err (fault.Refused refusal) → is ≡ was → RevokesServed what was is how
   revoked : IsSaid what was is how → RevokesServed what was is how

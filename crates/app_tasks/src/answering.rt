@@ -50,7 +50,7 @@ pub struct ServeConnections<'a, E: Write> {
     pub rt: &'a HostRuntime,
     /// The path of the desk's file.
     pub path: &'a str,
-    /// At which port, how many, and how they are noted.
+    /// At which port, how many, how they are noted, and whether the cause is said where one fails.
     pub serving: Serving,
     /// Where it says that a connection failed.
     pub errors: &'a mut E,
@@ -82,6 +82,7 @@ impl<'a, E: Write> ServeConnections<'a, E> {
                 out,
             },
             bound: MomentBound::new(self.serving.max_step, clock),
+            is_verbose: self.serving.is_verbose,
         };
         serve_all(
             self.rt.alloc(),

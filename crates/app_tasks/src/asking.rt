@@ -2,6 +2,7 @@
 ghost use Rattle.std.specs.Prelude.{◌≡◌, IfErr, IfOk, string_bytes};
 ghost use Rattle.app_tasks.specs.Asked.{RevokesServed, TellsReply, request_of};
 ghost use Rattle.app_tasks.specs.declared.fault.Fault.TheVariants as fault;
+ghost use Rattle.desk_http.specs.declared.asking.Unheard.{Unheard};
 
 use crate::fault::Fault;
 use crate::revoking::tell_revoked;
@@ -65,10 +66,10 @@ fn request_of(alloc: Global, target: Revocation) -> Result<String, AllocError>
 
 // Sends a request to the desk, and gives its refusal, if it refuses.
 fn ask(rt: &HostRuntime, port: u16, request: &[u8]) -> Result<Option<Refusal>, Fault>
-    ensures { IfErr result (λ e. e ≡ fault.Connection) }
+    ensures { IfErr result (λ e. (why : Unheard) × (e ≡ fault.Connection why)) }
 {
     match ask_at(rt, port, request) {
         Ok(refusal) => Ok(refusal),
-        Err(_) => Err(Fault::Connection),
+        Err(unheard) => Err(Fault::Connection(unheard)),
     }
 }

@@ -6,7 +6,7 @@ ghost use Rattle.app_tasks.specs.Faults.{IsOfOpening, report_fault};
 use crate::copies::CopyFault;
 use app_reports::ReportFault;
 use desk::DeskFault;
-use desk_http::ServeFault;
+use desk_http::{ServeFault, Unheard};
 use desk_model::Refusal;
 use desk_store::OpenFault;
 use std::io::Write;
@@ -29,7 +29,7 @@ pub enum Fault {
     Refused(Refusal),
     /// The desk that is served could not be asked, or gave no reply.
     #[error("connection")]
-    Connection,
+    Connection(Unheard),
     /// The machine failed, or the desk is served no longer.
     #[error(transparent)]
     Serve(ServeFault),

@@ -10,6 +10,7 @@ use http_wire::fill_from;
 use std::io::{Read, Write};
 use std::net::{Ipv4Addr, Net, SocketAddr, TcpListener, TcpStream};
 use std::time::Clock;
+use thiserror::Error;
 
 // How long a desk that is served may take to reply, in seconds: it may have other clients before.
 const PATIENCE: u64 = 60;
@@ -17,25 +18,44 @@ const PATIENCE: u64 = 60;
 // The bytes up to and with the space behind the status of a reply (RFC 9112, 4).
 const BEGINNING: usize = 13;
 
+/// Why nobody knows what came of a request to a desk that is served; its text is said of the port.
+#[derive(Clone, Copy, Debug, Error)]
+pub enum Unheard {
+    /// It was not sent.
+    #[error("nobody took a connection there, and nothing was asked")]
+    Unreached,
+    /// It was sent in part, or not at all.
+    #[error("the request was not taken, or not all of it")]
+    Unsent,
+    /// It was sent, and no reply came that tells the outcome.
+    #[error("no reply of a desk came within 60 seconds: it may be done or not, and asking again is safe")]
+    Unanswered,
+}
+
 /// Sends the bytes of a request to the desk that is served at a port of 127.0.0.1, and gives the refusal that its reply tells, or
 /// `None` where it was done.
 ///
 /// # Errors
 ///
-/// `Write` where the desk could not be reached or took no request, `Read` where it gave no such reply within a minute.
+/// `Unreached` where nobody took the connection, `Unsent` where the desk took no request, `Unanswered` where it gave no such reply
+/// within a minute.
 pub fn ask_at<M: Clock + Net<Stream = TcpStream, Listener = TcpListener>>(
     machine: &M,
     port: u16,
     request: &[u8],
-) -> Result<Option<Refusal>, IoFault> {
+) -> Result<Option<Refusal>, Unheard> {
     let Ok(stream) = machine.connect(SocketAddr::from((Ipv4Addr::LOCALHOST, port))) else {
-        return Err(IoFault::Write);
+        return Err(Unheard::Unreached);
     };
     let mut reader = Patient::new(&stream, machine, PATIENCE);
     let mut writer = Patient::new(&stream, machine, PATIENCE);
     let outcome = ask(&mut reader, &mut writer, request);
     end(&stream, machine);
-    outcome
+    match outcome {
+        Ok(refusal) => Ok(refusal),
+        Err(IoFault::Write) => Err(Unheard::Unsent),
+        Err(IoFault::Read) => Err(Unheard::Unanswered),
+    }
 }
 
 /// Sends the bytes of a request to the desk at the other end, and gives the refusal that the beginning of its reply tells, or

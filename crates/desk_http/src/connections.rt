@@ -52,7 +52,7 @@ pub fn bind<N: Net<Stream = TcpStream, Listener = TcpListener>>(
 }
 
 /// Serves so many connections, or 2^64 - 1 without a count, one request of each (RFC 9112, 9.6). A connection that
-/// fails is told on `errors`, and the next is taken. The overseer is asked before each call, and gets a note of each connection
+/// fails is told on `errors`, with its cause where the watch is verbose, and the next is taken. The overseer is asked before each call, and gets a note of each connection
 /// that was served. A call whose moment is out of the watch's bound is refused by fault 24.
 ///
 /// # Errors
@@ -119,12 +119,26 @@ fn serve_stream<M: Clock + RandomSource, K: Storage + Drop, O: Overseer, E: Writ
         .note(entry_of(machine, &reader, call, served));
     match served {
         Ok(_) => end(stream, machine),
-        Err(_) => {
-            let _ = writeln!(errors, "desk: connection");
-        }
+        Err(fault) => tell_broken(errors, fault, watch.is_verbose),
     }
     let closed_by = closing_fault(desk, served);
     ended_by(closed_by, is_kept)
+}
+
+// Tells that a connection failed, and its cause, if it is to be verbose.
+fn tell_broken<E: Write>(errors: &mut E, fault: IoFault, is_verbose: bool) {
+    let _ = writeln!(errors, "desk: connection");
+    if is_verbose {
+        let _ = writeln!(errors, "desk: {}", cause_of(fault));
+    }
+}
+
+// What a connection failed by.
+fn cause_of(fault: IoFault) -> &'static str {
+    match fault {
+        IoFault::Read => "the client broke off, or did not send its request within 10 seconds",
+        IoFault::Write => "the client broke off, or did not take its reply within 10 seconds",
+    }
 }
 
 // How the serving of a connection ends, by the fault that closed the desk and whether its note is kept.

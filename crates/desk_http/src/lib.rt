@@ -9,7 +9,7 @@ mod overseeing;
 mod serve_fault;
 mod serving;
 
-pub use asking::{ask, ask_at};
+pub use asking::{Unheard, ask, ask_at};
 pub use clients::{MomentBound, admits};
 pub use connections::{bind, moment, serve_all};
 pub use http_routes::{Request, Routes};
