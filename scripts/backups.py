@@ -17,7 +17,7 @@ DEVICE = b"desk: fault 21 device\n"
 LOCK = (512, 1 << 30)
 HELD = "another program has it: while desk serve runs, no other word works on it; --wait SECONDS tries again"
 NO_ROOM = "no file can be made in its directory: this user may not, or that is read-only or full"
-TAKEN = "it is there already, and stays as it is"
+TAKEN = "there is a file already, and it stays as it is"
 # How late a word may be that waits, in seconds.
 LATE = 20
 

@@ -8,6 +8,7 @@
    STOP_FILE   the path of a desk. The process ends before, or half way through (STOP_HALF is 1), write number STOP_AT (0: none) to it or its log; or,
                with STOP_FAILED, that call fails, a read, a write or a sync, the process goes on, and the file of this path is made. With STOP_SERVING
                calls are counted from the first connection on.
+   UNLINK      no name of a file can be removed.
    GROWTHS     a file, shared: the first growth of memory to refuse since a connection was accepted (0: none), the last one, how many there were, and how
                many were refused. GROWTHS_FROM says that they are counted from elsewhere: `start` from the program's start, `input` from its first read of
                standard input. */
@@ -73,6 +74,13 @@ ssize_t getrandom(void *bytes, size_t count, unsigned flags) {
 }
 
 int getentropy(void *bytes, size_t count) { return getrandom(bytes, count, 0) < 0 ? -1 : 0; }
+
+/* ---- Names of files. */
+
+int unlink(const char *path) {
+    REAL(unlink);
+    return getenv("UNLINK") ? fails(EROFS) : real(path);
+}
 
 /* ---- Growths of memory. */
 

@@ -245,6 +245,29 @@ def try_upgrade(program, preload, name, folder):
     try_failures(whole, preload)
 
 
+def try_make_failures(program, preload, folder):
+    """Has each call to the disk fail in turn while a desk is made: what was begun is removed, and a desk can be made there."""
+    ends, room = collections.Counter(), f"{folder}/makings"
+    os.mkdir(room)
+    path = f"{room}/made.db"
+    words = [program, "make", path, "--base", "https://ca.example"]
+    for at in range(1, 10000):
+        ran, is_failed = failed(preload, path, at, words, b"")
+        if not is_failed:
+            see("make: a run that does not fail", (ran.returncode, ran.stdout), (0, b"made\n"))
+            break
+        ends[ran.stderr.decode().strip() or "made"] += 1
+        said = f"make, call {at} failed"
+        if ran.returncode == 0:
+            see(f"{said}: its end", (ran.stdout, ran.stderr), (b"made\n", b""))
+            see(f"{said}: opened again", checked(program, path), (0, b"no fault\n", b""))
+        else:
+            see(f"{said}: its end", (ran.returncode, ran.stderr) in FAILED, True)
+            see(f"{said}: what is left", os.listdir(room), [])
+        remove(path)
+    print(f"make: {sum(ends.values())} calls to the disk failed: {', '.join(f'{end} {count}' for end, count in sorted(ends.items()))}")
+
+
 def try_make(program, preload, folder):
     """Stops at each write of the making of a desk; where it left no table, or no database yet, there is no desk."""
     path, count = f"{folder}/made.db", 0
@@ -464,7 +487,7 @@ def try_scenario(program, preload, scenario, folder):
 def main(program):
     with workspace("stops") as folder, tempfile.TemporaryDirectory() as built:
         given = program, library(built)
-        tries = [partial(first_requests, *given), partial(try_make, *given), partial(new_nonce, *given)]
+        tries = [partial(first_requests, *given), partial(try_make, *given), partial(try_make_failures, *given), partial(new_nonce, *given)]
         tries += [partial(try_scenario, *given, scenario) for scenario in SCENARIOS]
         tries += [partial(try_together, *given, syncs=syncs) for syncs in ("once", "twice")]
         tries += [partial(try_syncs, *given)]

@@ -3,7 +3,8 @@
 
 `about`, `page`, `status`, `accounts`, `authorizations`, `check`, `revoke-authz` and `revoke-account` print what docs/SPECIFICATION.md
 says, section 14, and end with the status that it gives; the reports change nothing, also where they are stopped after a line. Help
-names the options of each word, their limits, and the exit statuses. What files and faults say, and copies of a desk, are in backups.py.
+names the options of each word, their limits, and the exit statuses. What files and faults say, and copies of a desk, are in backups.py;
+whom the second line is for, in second_lines.py.
 """
 import base64
 import fcntl
@@ -16,6 +17,7 @@ import subprocess
 import time
 
 import backups
+import second_lines
 from stops import Desk
 from trying import BASE, KEY, NOT_A_DESK, ROOT, begin, bytes_of, change, finish, nonce_text, order_of, run, see, small_files, tables_of, workspace
 
@@ -629,7 +631,7 @@ def helps(program, folder):
 def main(program):
     with workspace("words") as folder:
         for tries in (reports, wrong_statuses, interleaved, narrowed, named, accounts, about, page, long_page, log_left, clock_ahead, wrong_statuses_as_json, stopped_reports, readers_gone, revocations, shared_revocation,
-                      wrong_words, numbers_of_other_forms, helps, *backups.TRIES):
+                      wrong_words, numbers_of_other_forms, helps, *backups.TRIES, *second_lines.TRIES):
             tries(program, folder)
     return finish("Words")
 

@@ -1,10 +1,11 @@
 //! What is said of a fault behind its line.
 
 use app_files::Left;
-use app_tasks::{Fault, FileCause, broken_limit};
-use app_words::Command;
+use app_tasks::{CopyFault, Fault, FileCause, PortCause, Remains, broken_limit};
+use app_words::{Command, Revocation};
 use desk::DeskFault;
 use desk_http::ServeFault;
+use desk_model::Refusal;
 use sqlite_disk::Disk;
 use std::io::Write;
 use thiserror::Error;
@@ -28,18 +29,78 @@ pub(crate) fn explain<D: Disk, E: Write>(
         (Ok(BROKEN), Command::Make { terms, .. }) => {
             let _ = writeln!(errors, "desk: {}", broken_limit(terms));
         }
-        (Err(Fault::Copy(fault)), Command::BackUp { to, .. }) => {
-            let _ = writeln!(errors, "desk: {to}: {}", fault.cause());
+        (Err(Fault::Copy(fault)), Command::BackUp { file, to }) => {
+            explain_copy(errors, fault, file, to)
         }
-        (Err(Fault::Serve(ServeFault::Replaced)), Command::Serve { file, .. }) => {
-            let _ = writeln!(errors, "desk: {}: {}", file.path, FaultCause::Replaced);
+        (Err(Fault::Serve(fault)), Command::Serve { file, serving }) => {
+            explain_serving(rt, errors, fault, command, file.path, serving.port, left)
         }
         (Err(Fault::Desk(fault)), _) => explain_desk_fault(rt, errors, command, fault, left),
-        (Err(Fault::Serve(ServeFault::Desk(fault))), _) => {
-            explain_desk_fault(rt, errors, command, fault, left)
+        (Err(Fault::Connection(unheard)), Command::RevokeServed { port, .. }) => {
+            let _ = writeln!(errors, "desk: port {port}: {unheard}");
         }
+        (
+            Err(Fault::Refused(refusal)),
+            Command::Revoke { target, .. } | Command::RevokeServed { target, .. },
+        ) => explain_refusal(errors, refusal, target),
         _ => {}
     }
+}
+
+// Says which of its files a copy failed at, and why.
+fn explain_copy<E: Write>(errors: &mut E, fault: CopyFault, file: &str, to: &str) {
+    let _ = match fault {
+        CopyFault::Taken => writeln!(errors, "desk: {to}: {}", FileCause::Taken),
+        CopyFault::Unread(cause) => writeln!(errors, "desk: {file}: {cause}"),
+        CopyFault::Failed(cause) => writeln!(errors, "desk: {to}: {cause}"),
+        CopyFault::Left(cause) => {
+            writeln!(
+                errors,
+                "desk: {to}: {cause}; a part of it is left: remove it"
+            )
+        }
+    };
+}
+
+// Says why the desk of a file is served no longer at a port, or was not; nothing where the fault's own line says it.
+fn explain_serving<D: Disk, E: Write>(
+    rt: &HostRuntime,
+    errors: &mut E,
+    fault: ServeFault,
+    command: Command<'_>,
+    file: &str,
+    port: u16,
+    left: &Left<D>,
+) {
+    match fault {
+        ServeFault::Bind => {
+            let _ = writeln!(
+                errors,
+                "desk: port {port}: {}",
+                PortCause::untaken(rt, port)
+            );
+        }
+        ServeFault::Replaced => {
+            let _ = writeln!(errors, "desk: {file}: {}", FaultCause::Replaced);
+        }
+        ServeFault::Desk(fault) => explain_desk_fault(rt, errors, command, fault, left),
+        ServeFault::Accept | ServeFault::Clock | ServeFault::Random | ServeFault::Output => {}
+    }
+}
+
+// Says in words why the desk refuses to revoke something.
+fn explain_refusal<E: Write>(errors: &mut E, refusal: Refusal, target: Revocation) {
+    let cause = match refusal {
+        Refusal::NotFound => "the desk has none of this number",
+        Refusal::Conflict => "it has ended already, otherwise than by being revoked",
+        Refusal::ServerInternal =>
+            "the desk met a fault: see its log, and what it wrote on standard error",
+        _ => return,
+    };
+    let _ = match target {
+        Revocation::Authorization(number) => writeln!(errors, "desk: authz {number}: {cause}"),
+        Revocation::Account(number) => writeln!(errors, "desk: account {number}: {cause}"),
+    };
 }
 
 // Says which file a fault of a desk is of, and its cause; nothing of a desk in memory.
@@ -61,7 +122,20 @@ fn explain_desk_fault<D: Disk, E: Write>(
             DeskFault::Full => FaultCause::Full,
             DeskFault::NewerFormat => FaultCause::Newer,
         };
-        let _ = writeln!(errors, "desk: {file}: {cause}");
+        let remains = match command {
+            Command::Make { .. } if cause.is_of_machine() => remains(rt, file, left),
+            _ => "",
+        };
+        let _ = writeln!(errors, "desk: {file}: {cause}{remains}");
+    }
+}
+
+// What is to be done with what a making left that the machine failed.
+fn remains<D: Disk>(rt: &HostRuntime, file: &str, left: &Left<D>) -> &'static str {
+    match Remains::at(rt, file, matches!(left, Left::Unclosed(_))) {
+        Remains::Nothing => "",
+        Remains::Empty => "; an empty file stands there, which may be removed",
+        Remains::Begun => "; what was begun is left: remove it, and the file -wal beside it",
     }
 }
 
@@ -77,7 +151,7 @@ fn device_cause<D: Disk>(rt: &HostRuntime, file: &str, left: &Left<D>) -> FileCa
 // Why a file holds no desk, or none is made in it.
 fn deskless_cause(rt: &HostRuntime, file: &str, command: Command<'_>) -> FileCause {
     match command {
-        Command::Make { .. } => FileCause::Taken,
+        Command::Make { .. } => FileCause::taken(rt, file),
         _ => FileCause::deskless(rt, file),
     }
 }
@@ -102,4 +176,16 @@ enum FaultCause {
     Full,
     #[error("a newer program wrote it")]
     Newer,
+}
+
+impl FaultCause {
+    // Whether the machine had no memory or no room, or its disk failed.
+    fn is_of_machine(self) -> bool {
+        matches!(
+            self,
+            FaultCause::OfFile(FileCause::NoRoom | FileCause::Full | FileCause::Failed)
+                | FaultCause::Memory
+                | FaultCause::Closed
+        )
+    }
 }

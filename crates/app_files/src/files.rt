@@ -6,11 +6,12 @@ ghost use Rattle.desk_store.specs.Making.{IsOfStorage};
 ghost use Rattle.app_files.specs.Endings.{EndsMaking, IsLeft, IsUnopened, IsUntouched};
 
 use crate::left::Left;
-use app_tasks::{make_new, missing_log, remove_empty_log};
+use app_tasks::{Begun, Unfinished, missing_log, remove_empty_log};
 use desk_files::{close_from, make_from, open_from};
 use desk_model::{Clock, Policy};
 use desk_store::{OpenFault, Store};
 use sqlite::{FileFrom, FileStore, Start};
+use sqlite_disk::Disk;
 use std::fs;
 use std::io::ErrorKind;
 use store_api::StorageFault;
@@ -32,7 +33,7 @@ fn holds_bytes(rt: &HostRuntime, path: &str) -> Result<bool, OpenFault>
 }
 
 // Makes a file at the path, where there is none, which its user alone may read and write. An empty one stays as it is.
-fn make_empty(rt: &HostRuntime, path: &str) -> Result<(), OpenFault>
+fn make_empty(rt: &HostRuntime, path: &str) -> Result<Begun, OpenFault>
     ensures { IfErr result IsUntouched }
 {
     match holds_bytes(rt, path) {
@@ -40,12 +41,9 @@ fn make_empty(rt: &HostRuntime, path: &str) -> Result<(), OpenFault>
         Ok(true) => return Err(OpenFault::NotADesk),
         Err(fault) => return Err(fault),
     }
-    match make_new(rt, path) {
-        Ok(_) => Ok(()),
-        Err(error) => match error.kind() {
-            ErrorKind::AlreadyExists => Ok(()),
-            kind => Err(path_fault(kind)),
-        },
+    match Begun::at(rt, path) {
+        Ok(begun) => Ok(begun),
+        Err(error) => Err(path_fault(error.kind())),
     }
 }
 
@@ -68,7 +66,7 @@ fn remove_log(rt: &HostRuntime, log: Option<String>, refused: OpenFault) {
 
 /// Makes a desk with a policy, at moment 0, in a new file, closes it, and gives what is left of the files. The file is made so
 /// that its user alone may read and write it; one that stands empty keeps its mode. No clause ties the bytes that `S` stands
-/// for to the path.
+/// for to the path. Where it fails, the names of the files that it made are removed while the engine still has these.
 ///
 /// # Errors
 ///
@@ -82,12 +80,40 @@ pub fn make_desk<S: Start>(
     ensures { EndsMaking (image_at S.Start) policy result.0 result.1 }
 {
     match make_empty(rt, path) {
-        Ok(()) => {}
-        Err(fault) => return (Err(fault), Left::Untouched),
+        Ok(begun) => {
+            let (made, left) = make_in(rt, path, start, policy);
+            take_back(rt, path, &begun, &left);
+            (made, left)
+        }
+        Err(fault) => (Err(fault), Left::Untouched),
     }
+}
+
+// Makes a desk in the file at a path, and closes it.
+fn make_in<S: Start>(
+    rt: &HostRuntime,
+    path: &str,
+    start: S,
+    policy: Policy,
+) -> (Result<(), OpenFault>, Left<FileFrom<S>>)
+    ensures { EndsMaking (image_at S.Start) policy result.0 result.1 }
+{
     match make_from(rt, path, start, policy, Clock::at(0)) {
         Ok(store) => close(store),
         Err(unmade) => (Err(unmade.fault), Left::Unopened(unmade)),
+    }
+}
+
+// Takes back what a making began that left its files so; nothing where they are closed.
+fn take_back<D: Disk>(rt: &HostRuntime, path: &str, begun: &Begun, left: &Left<D>) {
+    match left {
+        Left::Closed(_) => {}
+        Left::Unclosed(_) => begun.take_back(rt, path, Unfinished::Unclosed),
+        Left::Unopened(_) if left.is_unreached() => {
+            begun.take_back(rt, path, Unfinished::Unreached)
+        }
+        Left::Unopened(_) => begun.take_back(rt, path, Unfinished::Unmade),
+        Left::Untouched => {}
     }
 }
 

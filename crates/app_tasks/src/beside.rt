@@ -16,6 +16,14 @@ pub(crate) fn beside(rt: &HostRuntime, path: &str, ending: &str) -> io::Result<S
     Ok(format!(in rt.alloc(); "{}{ending}", real.as_str())?)
 }
 
+/// Whether a log stands beside the path, where no link leads elsewhere.
+pub(crate) fn has_log(rt: &HostRuntime, path: &str) -> bool {
+    match format!(in rt.alloc(); "{path}-wal") {
+        Ok(log) => fs::symlink_metadata(rt, log.as_str()).is_ok(),
+        Err(_) => false,
+    }
+}
+
 /// Whether there is a directory for the file at a path.
 pub(crate) fn has_directory(rt: &HostRuntime, path: &str) -> bool {
     match path.rsplit_once('/') {

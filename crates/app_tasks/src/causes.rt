@@ -1,6 +1,6 @@
 //! Why a file is not opened, made or copied, as looking at it tells.
 
-use crate::beside::{beside, has_directory};
+use crate::beside::{beside, has_directory, has_log};
 use crate::locks::is_held;
 use std::fs::{self, OpenOptions};
 use std::io::{self, ErrorKind};
@@ -26,8 +26,11 @@ pub enum FileCause {
     #[error("it is empty")]
     Empty,
     /// It has bytes where a new one is wanted.
-    #[error("it is there already, and stays as it is")]
+    #[error("there is a file already, and it stays as it is")]
     Taken,
+    /// There is none, but the log of one.
+    #[error("the log of another desk stands there, the file -wal beside it")]
+    LogAlone,
     /// Its bytes are not those of a desk.
     #[error("it holds something else than a desk")]
     NoDesk,
@@ -69,7 +72,7 @@ impl FileCause {
             ErrorKind::AlreadyExists => FileCause::Taken,
             ErrorKind::PermissionDenied => FileCause::Denied,
             ErrorKind::ReadOnlyFilesystem => FileCause::ReadOnly,
-            ErrorKind::StorageFull => FileCause::Full,
+            ErrorKind::StorageFull | ErrorKind::QuotaExceeded => FileCause::Full,
             _ => FileCause::Failed,
         }
     }
@@ -80,10 +83,39 @@ impl FileCause {
             Ok(found) if found.is_file() => of_file(rt, path),
             Ok(_) => FileCause::NotAFile,
             Err(error) => match FileCause::of(error) {
+                FileCause::NoDirectory if fs::symlink_metadata(rt, path).is_ok() => {
+                    FileCause::NoPath
+                }
                 FileCause::NoDirectory if has_directory(rt, path) => FileCause::NoRoom,
                 FileCause::Failed => FileCause::NoPath,
                 cause => cause,
             },
+        }
+    }
+
+    /// Why no desk is made in the file at a path, at which something stands.
+    pub fn taken(rt: &HostRuntime, path: &str) -> FileCause {
+        match fs::metadata(rt, path) {
+            Ok(found) if !found.is_file() => FileCause::NotAFile,
+            Ok(found) if found.len() > 0 => FileCause::Taken,
+            _ if has_log(rt, path) => FileCause::LogAlone,
+            _ => FileCause::Taken,
+        }
+    }
+
+    /// Why a new file could not be made, by an error of the system.
+    pub(crate) fn unmade(error: io::Error) -> FileCause {
+        match FileCause::of(error) {
+            FileCause::Denied => FileCause::NoRoom,
+            cause => cause,
+        }
+    }
+
+    /// Why the file at a path could not be read, by an error of the system.
+    pub(crate) fn unread(error: io::Error) -> FileCause {
+        match FileCause::of(error) {
+            FileCause::NoDirectory => FileCause::Missing,
+            cause => cause,
         }
     }
 

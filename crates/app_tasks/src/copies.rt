@@ -14,19 +14,15 @@ pub enum CopyFault {
     /// There is something at the new path, which stays as it is.
     #[error("there is a file already")]
     Taken,
+    /// The file could not be read, for this cause; no new one is left.
+    #[error("copy")]
+    Unread(FileCause),
     /// The new file could not be made or written, for this cause; none is left.
     #[error("copy")]
     Failed(FileCause),
-}
-
-impl CopyFault {
-    /// Why the new file was not made or written.
-    pub fn cause(self) -> FileCause {
-        match self {
-            CopyFault::Taken => FileCause::Taken,
-            CopyFault::Failed(cause) => cause,
-        }
-    }
+    /// The new file could not be written, for this cause, and then not be removed: a part of it is left.
+    #[error("copy")]
+    Left(FileCause),
 }
 
 // How a file is opened that is to be new, for its user alone: where something stands at its path the system refuses that.
@@ -44,7 +40,7 @@ fn as_new() -> OpenOptions
 /// # Errors
 ///
 /// Those of making it, and `AlreadyExists` where something stands there.
-pub fn make_new(rt: &HostRuntime, path: &str) -> io::Result<fs::File> {
+pub(crate) fn make_new(rt: &HostRuntime, path: &str) -> io::Result<fs::File> {
     as_new().open(rt, path)
 }
 
@@ -58,27 +54,35 @@ pub fn is_taken(rt: &HostRuntime, path: &str) -> bool {
 ///
 /// # Errors
 ///
-/// `Taken` where something stands at the new path, `Failed` where the one could not be read, or the other not be made, written
-/// or synced: it is then removed.
+/// `Taken` where something stands at the new path, `Unread` where the file could not be opened, `Failed` where the new one could
+/// not be made, written or synced: it is then removed, or `Left` where it can't be.
 pub fn copy_file(rt: &HostRuntime, from: &str, to: &str) -> Result<(), CopyFault> {
+    let mut file = match fs::open(rt, from) {
+        Ok(file) => file,
+        Err(error) => return Err(CopyFault::Unread(FileCause::unread(error))),
+    };
     let mut copy = match make_new(rt, to) {
         Ok(copy) => copy,
         Err(error) if error.kind() == ErrorKind::AlreadyExists => return Err(CopyFault::Taken),
-        Err(error) => return Err(CopyFault::Failed(FileCause::of(error))),
+        Err(error) => return Err(CopyFault::Failed(FileCause::unmade(error))),
     };
-    match fill(rt, from, &mut copy, to) {
+    match fill(rt, &mut file, &mut copy, to) {
         Ok(()) => Ok(()),
-        Err(error) => {
-            let _ = fs::remove_file(rt, to);
-            Err(CopyFault::Failed(FileCause::of(error)))
-        }
+        Err(error) => Err(removed(rt, to, FileCause::of(error))),
     }
 }
 
-// Writes the bytes of the file at a path into the new one at another, and syncs that and its directory.
-fn fill(rt: &HostRuntime, from: &str, copy: &mut fs::File, to: &str) -> io::Result<()> {
-    let mut file = fs::open(rt, from)?;
-    io::copy(&mut file, copy)?;
+// Removes the new file at a path, which could not be written for this cause, and gives the fault.
+fn removed(rt: &HostRuntime, to: &str, cause: FileCause) -> CopyFault {
+    match fs::remove_file(rt, to) {
+        Err(error) if error.kind() != ErrorKind::NotFound => CopyFault::Left(cause),
+        _ => CopyFault::Failed(cause),
+    }
+}
+
+// Writes the bytes of a file into the new one at a path, and syncs that and its directory.
+fn fill(rt: &HostRuntime, file: &mut fs::File, copy: &mut fs::File, to: &str) -> io::Result<()> {
+    io::copy(file, copy)?;
     copy.sync_all()?;
     let mut directory = fs::canonicalize(rt, to)?;
     directory.pop();

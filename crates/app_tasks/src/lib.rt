@@ -5,6 +5,7 @@
 
 mod answering;
 mod asking;
+mod begun;
 mod beside;
 mod call_log;
 mod causes;
@@ -22,9 +23,10 @@ mod tasks;
 
 pub use answering::{AnswerLines, ServeConnections};
 pub use asking::revoke_served;
+pub use begun::{Begun, Remains, Unfinished};
 pub use beside::{missing_log, remove_empty_log};
 pub use causes::FileCause;
-pub use copies::{CopyFault, copy_file, is_taken, make_new};
+pub use copies::{CopyFault, copy_file, is_taken};
 pub use fault::{Fault, Wrong, refuse, write_fault};
 pub use filters::{Unasked, authorization_filter, order_filter};
 pub use limits::{Limit, broken_limit};

@@ -17,10 +17,14 @@ const LOOKS: u64 = 20;
 
 const SLEEP: u64 = 50;
 
-/// Whether another program has the file, by its lock, which is tried and given back.
+/// Whether another program has the file, by its lock, which is tried and given back with the file.
 pub(crate) fn is_held(file: &fs::File) -> bool {
-    let tried = os::try_lock_range(file.as_raw_fd(), RangeLock::Exclusive, FIRST_BYTE, BYTES);
-    tried != 0 && io::Error::from_raw_os_error(os::errno()).kind() == ErrorKind::WouldBlock
+    !take_lock(file) && io::Error::from_raw_os_error(os::errno()).kind() == ErrorKind::WouldBlock
+}
+
+/// Takes the lock of a file, which is given back with the file, and gives whether it was to be had.
+pub(crate) fn take_lock(file: &fs::File) -> bool {
+    os::try_lock_range(file.as_raw_fd(), RangeLock::Exclusive, FIRST_BYTE, BYTES) == 0
 }
 
 // Whether another program has the file at a path; not so where there is none, or it can't be opened.

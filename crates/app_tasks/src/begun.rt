@@ -1,0 +1,163 @@
+//! What a making begins at a path, and what is taken back of it where it fails.
+
+use crate::beside::missing_log;
+use crate::copies::make_new;
+use crate::locks::take_lock;
+use std::fs::{self, Metadata, OpenOptions};
+use std::io::{self, ErrorKind};
+use std::os::unix::fs::MetadataExt;
+
+// How many bytes a file may have that has no more than the first page, which the engine writes as it opens an empty one. A desk has
+// more once it is made and closed.
+const FIRST_PAGE: u64 = 4096;
+
+// Which file this is: its device, and its number there.
+#[derive(Clone, Copy, PartialEq, Eq)]
+struct Place {
+    device: u64,
+    number: u64,
+}
+
+impl Place {
+    fn of(found: &Metadata) -> Place {
+        Place {
+            device: found.dev(),
+            number: found.ino(),
+        }
+    }
+}
+
+/// How far a making came that failed.
+#[derive(Clone, Copy)]
+pub enum Unfinished {
+    /// The engine has no file: it could not open them, or another program has them.
+    Unreached,
+    /// The engine has the files, and holds them against every other program; no desk was made in them.
+    Unmade,
+    /// It has them, and the desk that was made, but could not close them.
+    Unclosed,
+}
+
+/// What a making begins at a path.
+#[derive(Drop)]
+pub struct Begun {
+    // The file that it makes the desk in.
+    file: Place,
+    // Whether it made that, too; an empty one stood there otherwise.
+    is_new: bool,
+    // The path of the log that is to be made; `None` where one stood there.
+    log: Option<String>,
+}
+
+impl Begun {
+    /// Makes a file at a path where there is none, which its user alone may read and write. What stands there stays as it is.
+    ///
+    /// # Errors
+    ///
+    /// Those of making it, and of looking at it.
+    pub fn at(rt: &HostRuntime, path: &str) -> io::Result<Begun> {
+        let is_new = match make_new(rt, path) {
+            Ok(_) => true,
+            Err(error) if error.kind() == ErrorKind::AlreadyExists => false,
+            Err(error) => return Err(error),
+        };
+        let found = fs::metadata(rt, path)?;
+        Ok(Begun {
+            file: Place::of(&found),
+            is_new,
+            log: missing_log(rt, path),
+        })
+    }
+
+    /// Removes the log and the file that this making made, where no other program has them, and takes its bytes from a file that
+    /// stood there. What it did not write stays. Where something can't be removed it stays, too.
+    pub fn take_back(&self, rt: &HostRuntime, path: &str, how: Unfinished) {
+        match how {
+            Unfinished::Unreached => self.take_back_held(rt, path),
+            Unfinished::Unmade => self.remove(rt, path, false),
+            Unfinished::Unclosed => self.remove(rt, path, true),
+        }
+    }
+
+    // The same where the engine does not hold the files: this does, while it removes them.
+    fn take_back_held(&self, rt: &HostRuntime, path: &str) {
+        if !self.is_at(rt, path) {
+            return;
+        }
+        match open(rt, path) {
+            Ok(file) if take_lock(&file) => self.remove(rt, path, false),
+            _ => {}
+        }
+    }
+
+    // Removes the log, and then the file, so that no other program can have made itself a log at that path; whoever calls it has the
+    // lock of the file. Where no desk was made, one with more than a page is another program's, which came first.
+    fn remove(&self, rt: &HostRuntime, path: &str, is_made: bool) {
+        let is_own = if is_made {
+            self.log.is_some()
+        } else {
+            is_begun(rt, path)
+        };
+        if !is_own || !self.is_at(rt, path) || !self.remove_log(rt) {
+            return;
+        }
+        if self.is_new {
+            let _ = fs::remove_file(rt, path);
+        } else if let Ok(file) = open(rt, path) {
+            let _ = file.set_len(0);
+        }
+    }
+
+    // Removes the log that was made, and gives whether there is none then.
+    fn remove_log(&self, rt: &HostRuntime) -> bool {
+        match &self.log {
+            Some(log) => match fs::remove_file(rt, log.as_str()) {
+                Ok(()) => true,
+                Err(error) => error.kind() == ErrorKind::NotFound,
+            },
+            None => true,
+        }
+    }
+
+    // Whether the file stands at the path: itself, where it was made there.
+    fn is_at(&self, rt: &HostRuntime, path: &str) -> bool {
+        let found = if self.is_new {
+            fs::symlink_metadata(rt, path)
+        } else {
+            fs::metadata(rt, path)
+        };
+        found.is_ok_and(|found| found.is_file() && Place::of(&found) == self.file)
+    }
+}
+
+// The regular file at a path, to be read and written.
+fn open(rt: &HostRuntime, path: &str) -> io::Result<fs::File> {
+    OpenOptions::new().read(true).write(true).open(rt, path)
+}
+
+// Whether the file at a path has no more than the first page.
+fn is_begun(rt: &HostRuntime, path: &str) -> bool {
+    fs::metadata(rt, path).is_ok_and(|found| found.len() <= FIRST_PAGE)
+}
+
+/// What a making that failed left at a path.
+#[derive(Clone, Copy)]
+pub enum Remains {
+    /// Nothing, or what another program made.
+    Nothing,
+    /// An empty file.
+    Empty,
+    /// The beginning of a desk, or the desk.
+    Begun,
+}
+
+impl Remains {
+    /// What stands at the path: of a desk that was made, or of one that was not.
+    pub fn at(rt: &HostRuntime, path: &str, is_made: bool) -> Remains {
+        match fs::metadata(rt, path) {
+            Ok(found) if found.is_file() && found.len() == 0 => Remains::Empty,
+            Ok(_) if is_made || is_begun(rt, path) => Remains::Begun,
+            _ => Remains::Nothing,
+        }
+    }
+}
