@@ -210,12 +210,25 @@ def attack(machine):
     see_state(machine, "desk", "active")
     see("the desk after a kill", asked(machine, "operator", "GET", "directory"), "200")
     well(machine, PYTHON, "-B", f"{TRIAL}/house_units.py", "client")
+    journal(machine)
     measure(machine)
     well(machine, "mv", "/var/lib/desk-office/root.pem", "/root")
     machine.call("systemctl", "restart", "desk-office")
     see_state(machine, "desk-office", "failed")
     said = machine.call("systemctl", "show", "--property=ActiveState,ExecMainStatus", "desk-office")[1].split()
     see("an office without its certificate", sorted(said), ["ActiveState=failed", f"ExecMainStatus={os.EX_CONFIG}"])
+
+
+def journal(machine):
+    """What the journal says of a desk that is not served: the fault, and its cause."""
+    well(machine, "bash", "-e", "-c", "systemctl stop desk; mv /var/lib/desk/desk.db /root; mkdir /var/lib/desk/desk.db; systemctl start desk")
+    wanted, end, said = ["desk: fault 21 device", "desk: /var/lib/desk/desk.db: it is no regular file"], time.monotonic() + PATIENCE, []
+    while said[-2:] != wanted and time.monotonic() < end:
+        time.sleep(0.5)
+        said = [line for line in machine.call("journalctl", "--unit=desk", "--output=cat", "--no-pager")[1].splitlines() if line.startswith("desk: ")]
+    see("the journal of a desk that is not served", said[-2:], wanted)
+    well(machine, "bash", "-e", "-c", "systemctl stop desk; rmdir /var/lib/desk/desk.db; mv /root/desk.db /var/lib/desk; systemctl start desk")
+    see("the desk with its file again", asked(machine, "operator", "GET", "directory"), "200")
 
 
 def measure(machine):
