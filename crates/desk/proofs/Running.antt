@@ -1,6 +1,6 @@
 -- Calls that are answered one after the other.
 use Rattle.std.proofs.Common.{◌≡◌, ℕ, ◌+◌, ◌<◌, ◌≤◌, List, [], ◌∷◌, ◌++◌, length, take, drop, get_or, subst, refl, sym, ◌∙◌, ap, add-one}
-use Rattle.std.proofs.Common.{◌⊎◌, inl, inr, None, Some, Option, Result, Ok, Err}
+use Rattle.std.proofs.Common.{inl, inr, None, Some, Option, Result, Ok, Err}
 use Rattle.std.specs.Prelude.{◌↔◌}
 use Rattle.std.proofs.Math.Seq.{drop-cons, take-suc}
 use Rattle.std.proofs.lemmas.List.{drop_all}
