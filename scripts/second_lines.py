@@ -7,12 +7,11 @@ import signal
 import socket
 import subprocess
 import threading
-import time
 import tty
 
-from backups import DEVICE, NO_ROOM, TAKEN, because, held, mode_of
+from backups import DEVICE, TAKEN, because, held, mode_of
 from stops import Desk
-from trying import BASE, NOT_A_DESK, ROOT, bytes_of, fresh, library, run, see, small_files
+from trying import BASE, NOT_A_DESK, bytes_of, example, fresh, library, remove, run, see, small_files
 
 CONNECTION, BIND = b"desk: connection\n", b"desk: bind\n"
 REMOVE = "; what was begun is left: remove it, and the file -wal beside it"
@@ -304,11 +303,51 @@ def stood_there(program, folder):
     with socket.socket(socket.AF_UNIX) as server:
         server.bind(f"{room}/socket.db")
     refused(f"{room}/socket.db", "it is no regular file", DEVICE)
-    with open(f"{room}/alone.db-wal", "wb") as log:
-        log.write(bytes_of(f"{fresh(program, folder, 'logged')}-wal"))
-    for name in os.listdir(room):
-        way = f"{room}/{name}"
-        os.rmdir(way) if os.path.isdir(way) and not os.path.islink(way) else os.remove(way)
+    with open(f"{room}/journal.db-journal", "wb") as journal:
+        journal.write(b"a journal")
+    refused(f"{room}/journal.db", "SQLite's rollback journal stands beside it: open it by sqlite3 first", DEVICE)
+    os.mkdir(f"{room}/log.db-wal")
+    refused(f"{room}/log.db", "this user may not read and write its log, the file -wal beside it", DEVICE)
+    refused(f"{room}/none/file.db", "its directory is missing", DEVICE)
+    refused("", "its path leads to no file", DEVICE)
+    see("a path with control characters", run(program, "status", f"{room}/a\x1b[31m\nb.db", "--verbose"),
+        (1, b"", NOT_A_DESK[2] + because(f"{room}/a?[31m?b.db", "there is no such file")))
 
 
-TRIES = (terminals, ports, unheard, broken, ended, full_files, full_disks, kept, stood_there)
+def log_alone(program, folder):
+    """Where the log of a desk stands without its file, no desk is made, and the log stays."""
+    path = fresh(program, folder, "log-alone")
+    with subprocess.Popen([program, "batch", "--file", path], stdin=subprocess.PIPE, stdout=subprocess.PIPE) as batch:
+        batch.stdin.write(example("first")[0][0])
+        batch.stdin.flush()
+        batch.stdout.readline()
+        batch.kill()
+    os.remove(path)
+    log = bytes_of(f"{path}-wal")
+    ended = run(program, *making(path))
+    if ended[0]:
+        see("make beside the log of another desk", ended, (1, b"", NOT_A_DESK[2] + because(path, "the log of another desk stands there, the file -wal beside it")))
+        see("what stands there then", (os.path.exists(path), bytes_of(f"{path}-wal") == log), (False, True))
+    else:
+        see("a desk that is made beside the log of another", run(program, "check", path), (0, b"no fault\n", b""))
+
+
+def together(program, folder):
+    """Of several that make a desk at one path one does, and that desk stays, also where the others meet a full disk."""
+    room = f"{folder}/together-made"
+    os.mkdir(room)
+    path = f"{room}/made.db"
+    for room_of_others in (10**9, 9000, 0):
+        for _ in range(5):
+            sizes = [10**9, room_of_others, room_of_others, room_of_others]
+            runs = [subprocess.Popen([program, *making(path)], stdout=subprocess.PIPE, stderr=subprocess.PIPE, preexec_fn=lambda size=size: small_files(size))
+                    for size in sizes]
+            ends = [(ran.wait(), ran.stdout.read(), ran.stderr.read()) for ran in runs]
+            made = [end for end in ends if end[0] == 0]
+            see("how many make a desk at one path", len(made) <= 1, True)
+            if made:
+                see("the desk that one of them made", run(program, "check", path), (0, b"no fault\n", b""))
+            remove(path)
+
+
+TRIES = (terminals, ports, unheard, broken, ended, full_files, full_disks, kept, stood_there, log_alone, together)

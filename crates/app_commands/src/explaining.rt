@@ -7,6 +7,7 @@ use desk::DeskFault;
 use desk_http::ServeFault;
 use desk_model::Refusal;
 use sqlite_disk::Disk;
+use std::fmt;
 use std::io::Write;
 use thiserror::Error;
 
@@ -50,13 +51,14 @@ pub(crate) fn explain<D: Disk, E: Write>(
 // Says which of its files a copy failed at, and why.
 fn explain_copy<E: Write>(errors: &mut E, fault: CopyFault, file: &str, to: &str) {
     let _ = match fault {
-        CopyFault::Taken => writeln!(errors, "desk: {to}: {}", FileCause::Taken),
-        CopyFault::Unread(cause) => writeln!(errors, "desk: {file}: {cause}"),
-        CopyFault::Failed(cause) => writeln!(errors, "desk: {to}: {cause}"),
+        CopyFault::Taken => writeln!(errors, "desk: {}: {}", Shown(to), FileCause::Taken),
+        CopyFault::Unread(cause) => writeln!(errors, "desk: {}: {cause}", Shown(file)),
+        CopyFault::Failed(cause) => writeln!(errors, "desk: {}: {cause}", Shown(to)),
         CopyFault::Left(cause) => {
             writeln!(
                 errors,
-                "desk: {to}: {cause}; a part of it is left: remove it"
+                "desk: {}: {cause}; a part of it is left: remove it",
+                Shown(to)
             )
         }
     };
@@ -81,7 +83,7 @@ fn explain_serving<D: Disk, E: Write>(
             );
         }
         ServeFault::Replaced => {
-            let _ = writeln!(errors, "desk: {file}: {}", FaultCause::Replaced);
+            let _ = writeln!(errors, "desk: {}: {}", Shown(file), FaultCause::Replaced);
         }
         ServeFault::Desk(fault) => explain_desk_fault(rt, errors, command, fault, left),
         ServeFault::Accept | ServeFault::Clock | ServeFault::Random | ServeFault::Output => {}
@@ -126,7 +128,7 @@ fn explain_desk_fault<D: Disk, E: Write>(
             Command::Make { .. } if cause.is_of_machine() => remains(rt, file, left),
             _ => "",
         };
-        let _ = writeln!(errors, "desk: {file}: {cause}{remains}");
+        let _ = writeln!(errors, "desk: {}: {cause}{remains}", Shown(file));
     }
 }
 
@@ -153,6 +155,22 @@ fn deskless_cause(rt: &HostRuntime, file: &str, command: Command<'_>) -> FileCau
     match command {
         Command::Make { .. } => FileCause::taken(rt, file),
         _ => FileCause::deskless(rt, file),
+    }
+}
+
+// A path as it is shown, so that no line ends in it and no terminal obeys it: each control character is `?`.
+struct Shown<'a>(&'a str);
+
+impl fmt::Display for Shown<'_> {
+    fn fmt<W: fmt::Write>(&self, f: &mut fmt::Formatter<W>) -> fmt::Result {
+        for character in self.0.chars() {
+            f.write_char(if character.is_control() {
+                '?'
+            } else {
+                character
+            })?;
+        }
+        Ok(())
     }
 }
 

@@ -82,7 +82,6 @@ impl<'a, E: Write> ServeConnections<'a, E> {
                 out,
             },
             bound: MomentBound::new(self.serving.max_step, clock),
-            is_verbose: self.serving.is_verbose,
         };
         serve_all(
             self.rt.alloc(),
@@ -92,6 +91,7 @@ impl<'a, E: Write> ServeConnections<'a, E> {
             self.serving.count,
             &mut watch,
             self.errors,
+            self.serving.is_verbose,
         )?;
         Ok(0)
     }

@@ -16,9 +16,21 @@ pub(crate) fn beside(rt: &HostRuntime, path: &str, ending: &str) -> io::Result<S
     Ok(format!(in rt.alloc(); "{}{ending}", real.as_str())?)
 }
 
-/// Whether a log stands beside the path, where no link leads elsewhere.
+/// The path of the file whose name is that of a path and this ending: where the links lead, or as it stands where there is no file.
+///
+/// # Errors
+///
+/// Those of memory.
+pub(crate) fn named(rt: &HostRuntime, path: &str, ending: &str) -> io::Result<String> {
+    match beside(rt, path, ending) {
+        Ok(found) => Ok(found),
+        Err(_) => Ok(format!(in rt.alloc(); "{path}{ending}")?),
+    }
+}
+
+/// Whether a log stands beside the path.
 pub(crate) fn has_log(rt: &HostRuntime, path: &str) -> bool {
-    match format!(in rt.alloc(); "{path}-wal") {
+    match named(rt, path, "-wal") {
         Ok(log) => fs::symlink_metadata(rt, log.as_str()).is_ok(),
         Err(_) => false,
     }

@@ -1,6 +1,6 @@
 //! Why a file is not opened, made or copied, as looking at it tells.
 
-use crate::beside::{beside, has_directory, has_log};
+use crate::beside::{has_directory, has_log, named};
 use crate::locks::is_held;
 use std::fs::{self, OpenOptions};
 use std::io::{self, ErrorKind};
@@ -83,10 +83,13 @@ impl FileCause {
             Ok(found) if found.is_file() => of_file(rt, path),
             Ok(_) => FileCause::NotAFile,
             Err(error) => match FileCause::of(error) {
-                FileCause::NoDirectory if fs::symlink_metadata(rt, path).is_ok() => {
-                    FileCause::NoPath
-                }
-                FileCause::NoDirectory if has_directory(rt, path) => FileCause::NoRoom,
+                FileCause::NoDirectory
+                    if path.is_empty() || fs::symlink_metadata(rt, path).is_ok() =>
+                    FileCause::NoPath,
+                FileCause::NoDirectory if has_directory(rt, path) => match of_neighbours(rt, path) {
+                    FileCause::Failed => FileCause::NoRoom,
+                    cause => cause,
+                },
                 FileCause::Failed => FileCause::NoPath,
                 cause => cause,
             },
@@ -138,10 +141,8 @@ fn of_file(rt: &HostRuntime, path: &str) -> FileCause {
                 FileCause::Linked
             } else if is_held(&file) {
                 FileCause::Held
-            } else if has_journal(rt, path) {
-                FileCause::Journal
             } else {
-                of_log(rt, path)
+                of_neighbours(rt, path)
             }
         }
         Err(error) => FileCause::of(error),
@@ -153,18 +154,27 @@ fn is_linked(file: &fs::File) -> bool {
     file.metadata().is_ok_and(|found| found.nlink() != 1)
 }
 
-// Whether a journal of SQLite's stands beside the file at a path.
+// Why a file was not reached, or not made, with which nothing is the matter itself.
+fn of_neighbours(rt: &HostRuntime, path: &str) -> FileCause {
+    if has_journal(rt, path) {
+        FileCause::Journal
+    } else {
+        of_log(rt, path)
+    }
+}
+
+// Whether a journal of SQLite's stands beside the file at a path, or where that would stand.
 fn has_journal(rt: &HostRuntime, path: &str) -> bool {
-    match beside(rt, path, "-journal") {
+    match named(rt, path, "-journal") {
         Ok(journal) => fs::symlink_metadata(rt, journal.as_str()).is_ok_and(|found| !found.is_file()
             || found.len() > 0),
         Err(_) => false,
     }
 }
 
-// Why the file at a path was not reached, where nothing is the matter with itself.
+// The same where no journal stands beside it.
 fn of_log(rt: &HostRuntime, path: &str) -> FileCause {
-    let Ok(log) = beside(rt, path, "-wal") else {
+    let Ok(log) = named(rt, path, "-wal") else {
         return FileCause::Failed;
     };
     match OpenOptions::new()
@@ -176,7 +186,7 @@ fn of_log(rt: &HostRuntime, path: &str) -> FileCause {
         Ok(_) => FileCause::Failed,
         Err(error) => match error.kind() {
             ErrorKind::NotFound => FileCause::NoRoom,
-            ErrorKind::PermissionDenied => FileCause::LogDenied,
+            ErrorKind::PermissionDenied | ErrorKind::IsADirectory => FileCause::LogDenied,
             _ => FileCause::of(error),
         },
     }

@@ -51,9 +51,9 @@ pub fn bind<N: Net<Stream = TcpStream, Listener = TcpListener>>(
     }
 }
 
-/// Serves so many connections, or 2^64 - 1 without a count, one request of each (RFC 9112, 9.6). A connection that
-/// fails is told on `errors`, with its cause where the watch is verbose, and the next is taken. The overseer is asked before each call, and gets a note of each connection
-/// that was served. A call whose moment is out of the watch's bound is refused by fault 24.
+/// Serves so many connections, or 2^64 - 1 without a count, one request of each (RFC 9112, 9.6). A connection that fails is
+/// told on `errors`, with its cause where that is asked for, and the next is taken. The overseer is asked before each call, and
+/// gets a note of each connection that was served. A call whose moment is out of the watch's bound is refused by fault 24.
 ///
 /// # Errors
 ///
@@ -67,6 +67,7 @@ pub fn serve_all<M: Clock + RandomSource, K: Storage + Drop, O: Overseer, E: Wri
     count: Option<u64>,
     watch: &mut Watch<O>,
     errors: &mut E,
+    is_verbose: bool,
 ) -> Result<(), ServeFault>
     ensures policy { desk.new.policy ≡ desk.old.policy }
     ensures served { ServesAll K.Storage.sight K.Storage.causes O.takes (unwrap_or count 18446744073709551615) desk.old watch.old desk.new watch.new result }
@@ -79,7 +80,16 @@ pub fn serve_all<M: Clock + RandomSource, K: Storage + Drop, O: Overseer, E: Wri
         let Ok((stream, _)) = listener.accept() else {
             return Err(ServeFault::Accept);
         };
-        match serve_stream(alloc, machine, &mut routes, &stream, desk, watch, errors) {
+        match serve_stream(
+            alloc,
+            machine,
+            &mut routes,
+            &stream,
+            desk,
+            watch,
+            errors,
+            is_verbose,
+        ) {
             Ok(()) => {}
             Err(fault) => return Err(fault),
         }
@@ -96,6 +106,7 @@ fn serve_stream<M: Clock + RandomSource, K: Storage + Drop, O: Overseer, E: Writ
     desk: &mut Desk<K>,
     watch: &mut Watch<O>,
     errors: &mut E,
+    is_verbose: bool,
 ) -> Result<(), ServeFault>
     ensures policy { desk.new.policy ≡ desk.old.policy }
     ensures served { ServesNext K.Storage.sight K.Storage.causes O.takes desk.old watch.old desk.new watch.new result }
@@ -119,16 +130,16 @@ fn serve_stream<M: Clock + RandomSource, K: Storage + Drop, O: Overseer, E: Writ
         .note(entry_of(machine, &reader, call, served));
     match served {
         Ok(_) => end(stream, machine),
-        Err(fault) => tell_broken(errors, fault, watch.is_verbose),
+        Err(_) => tell_broken(errors, served, is_verbose),
     }
     let closed_by = closing_fault(desk, served);
     ended_by(closed_by, is_kept)
 }
 
-// Tells that a connection failed, and its cause, if it is to be verbose.
-fn tell_broken<E: Write>(errors: &mut E, fault: IoFault, is_verbose: bool) {
+// Tells that a connection failed which was served so, and its cause, if it is to be verbose.
+fn tell_broken<E: Write>(errors: &mut E, served: Result<Served, IoFault>, is_verbose: bool) {
     let _ = writeln!(errors, "desk: connection");
-    if is_verbose {
+    if let (true, Err(fault)) = (is_verbose, served) {
         let _ = writeln!(errors, "desk: {}", cause_of(fault));
     }
 }

@@ -220,8 +220,6 @@ pub struct Watch<O> {
     pub overseer: O,
     /// Which of the machine's moments its calls act at.
     pub bound: MomentBound,
-    /// Whether the cause is told, too, where a connection fails.
-    pub is_verbose: bool,
 }
 
 /// The HTTP status of what was sent, where the connection did not fail.
