@@ -159,6 +159,7 @@ fn deskless_cause(rt: &HostRuntime, file: &str, command: Command<'_>) -> FileCau
 }
 
 // A path as it is shown, so that no line ends in it and no terminal obeys it: each control character is `?`.
+#[derive(Clone, Copy)]
 struct Shown<'a>(&'a str);
 
 impl fmt::Display for Shown<'_> {
