@@ -225,7 +225,8 @@ def journal(machine):
     wanted, end, said = ["desk: fault 21 device", "desk: /var/lib/desk/desk.db: it is no regular file"], time.monotonic() + PATIENCE, []
     while said[-2:] != wanted and time.monotonic() < end:
         time.sleep(0.5)
-        said = [line for line in machine.call("journalctl", "--unit=desk", "--output=cat", "--no-pager")[1].splitlines() if line.startswith("desk: ")]
+        lines = machine.call("journalctl", "--unit=desk", "--output=cat", "--no-pager")[1].splitlines()
+        said = [line for line in lines if line.startswith("desk: ")]
     see("the journal of a desk that is not served", said[-2:], wanted)
     well(machine, "bash", "-e", "-c", "systemctl stop desk; rmdir /var/lib/desk/desk.db; mv /root/desk.db /var/lib/desk; systemctl start desk")
     see("the desk with its file again", asked(machine, "operator", "GET", "directory"), "200")

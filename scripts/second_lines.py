@@ -9,7 +9,7 @@ import subprocess
 import threading
 import tty
 
-from backups import DEVICE, TAKEN, because, held, mode_of
+from backups import DEVICE, HELD, TAKEN, because, held, mode_of
 from stops import Desk
 from trying import BASE, NOT_A_DESK, bytes_of, example, fresh, library, remove, run, see, small_files
 
@@ -78,7 +78,7 @@ def terminals(program, folder):
     by_all(program, ("check", path), 0, b"", b"", b"no fault\n")
     by_all(program, ("status", path, "--name", ""), 2, b"desk: not a name that is served\n", b"")
     with held(path):
-        by_all(program, ("about", path), 1, DEVICE, because(path, "another program has it: while desk serve runs, no other word works on it; --wait SECONDS tries again"))
+        by_all(program, ("about", path), 1, DEVICE, because(path, HELD))
     for words in (("check", path, "--verbose", "--quiet"), ("check", path, "--quiet", "--verbose"), ("check", path, "--quiet", "--quiet"),
                   ("check", path, "--quiet=yes"), ("--quiet", "check", path), ("--quiet",)):
         see(f"{words}", run(program, *words)[:2], (2, b""))
@@ -326,7 +326,8 @@ def log_alone(program, folder):
     log = bytes_of(f"{path}-wal")
     ended = run(program, *making(path))
     if ended[0]:
-        see("make beside the log of another desk", ended, (1, b"", NOT_A_DESK[2] + because(path, "the log of another desk stands there, the file -wal beside it")))
+        cause = "the log of another desk stands there, the file -wal beside it"
+        see("make beside the log of another desk", ended, (1, b"", NOT_A_DESK[2] + because(path, cause)))
         see("what stands there then", (os.path.exists(path), bytes_of(f"{path}-wal") == log), (False, True))
     else:
         see("a desk that is made beside the log of another", run(program, "check", path), (0, b"no fault\n", b""))
@@ -340,8 +341,8 @@ def together(program, folder):
     for room_of_others in (10**9, 9000, 0):
         for _ in range(5):
             sizes = [10**9, room_of_others, room_of_others, room_of_others]
-            runs = [subprocess.Popen([program, *making(path)], stdout=subprocess.PIPE, stderr=subprocess.PIPE, preexec_fn=lambda size=size: small_files(size))
-                    for size in sizes]
+            runs = [subprocess.Popen([program, *making(path)], stdout=subprocess.PIPE, stderr=subprocess.PIPE,
+                                     preexec_fn=lambda size=size: small_files(size)) for size in sizes]
             ends = [(ran.wait(), ran.stdout.read(), ran.stderr.read()) for ran in runs]
             made = [end for end in ends if end[0] == 0]
             see("how many make a desk at one path", len(made) <= 1, True)
