@@ -152,6 +152,12 @@ def rights(ours, folder):
     see("a directory of another user", run(program, "status", path, "--verbose", **other), (1, b"", DEVICE + because(path, NO_ROOM)))
     made = f"{room}/own/made.db"
     see("a file that can't be made", run(program, "make", made, "--base", BASE, "--verbose", **other), (1, b"", DEVICE + because(made, NO_ROOM)))
+    theirs, copied = fresh(program, room, "theirs"), f"{room}/own/copied.db"
+    if other:
+        for file in (room, theirs, f"{theirs}-wal"):
+            os.chown(file, 65534, 65534)
+    see("a copy that can't be made", run(program, "backup", theirs, copied, "--verbose", **other),
+        (1, b"no fault\n", b"desk: copy\n" + because(copied, NO_ROOM)))
     os.chmod(f"{room}/own", 0o755)
     mounted = "mount --bind {0} {0} && mount -o remount,ro,bind {0}".format(f"{room}/own")
     if run("unshare", "--mount", "sh", "-c", mounted)[0] == 0:

@@ -271,8 +271,8 @@ def kept(program, folder):
         for name in os.listdir(room):
             os.remove(f"{room}/{name}")
     see("what is said of what stays", ends, {DISK + REMOVE, DISK + EMPTY})
-    for name in os.listdir(room):
-        os.remove(f"{room}/{name}")
+    said = run(program, "backup", path, f"{room}/copy.db", "--verbose", preexec_fn=lambda: small_files(9000), env=env)
+    see("a copy that stays in part", said, (1, b"no fault\n", b"desk: copy\n" + because(f"{room}/copy.db", f"{DISK}; a part of it is left: remove it")))
 
 
 def stood_there(program, folder):
