@@ -5,4 +5,4 @@ pub returns-in-Once-clause-ends : goal.returns-in-Once-clause-ends
 returns-in-Once-clause-ends g c = as_synced _ _ _ _ _ c.syncs_of.ensures c.in-Once.is c.run_from.ensures.ends
 
 pub returns-in-Twice-clause-ends : goal.returns-in-Twice-clause-ends
-returns-in-Twice-clause-ends g c = as_synced _ _ _ _ _ c.syncs_of.ensures c.in-Twice.is c.run_from.ensures.ends
+returns-in-Twice-clause-ends g c = as_synced _ _ _ _ _ c.syncs_of.ensures c.in-Twice.is c.run_from-in-Twice.ensures.ends
