@@ -78,8 +78,13 @@ module _ {D : Type 0} (g : disk.Ghosts D) where
   copies_go_on F words files h was is left ends =
       let all : WordsLeave g = words_leave g in
       let it =
-      all.backup files.image was is left ends (history F h.life) files refl (in_todays files (picture (history F h.life)) h.tables) in
-      (it.0, it.1, λ clean. ∥∥₁_map (it.2 clean) (λ found. (found.0, found.1, has_same F words files found.0 h found.2)))
+      all.backup files.image was is left ends (history F h.life) files refl (in_todays files (picture (history F h.life)) h.tables) in (
+        it.0,
+        it.1,
+        λ clean. ∥∥₁_map (it.2 clean) (λ found.
+            let same = has_same F words files found.0 h found.2 in
+            (found.0, found.1, same.0, same.1)),
+      )
 
   -- the word is over the desk that the life ends with
   is_over : {does : Doing Fault} {how : Result ℕ Fault} (F : History) (words : List (List Told)) (files : LeftFiles) (h : HasLives F words files)

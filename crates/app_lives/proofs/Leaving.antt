@@ -8,8 +8,8 @@ use Rattle.sqlite_store.specs.declared.store.FileStore.{FileStore}
 use Rattle.app_batch.specs.InTurn as batch
 use Rattle.app_batch.specs.LineRequests.{IsRequestOf, call_of}
 use Rattle.app_batch.specs.Said.{DeclinesTo, LacksMemory, RepliesTo, SaysNothing}
-use Rattle.app_batch.specs.declared.lines.AnswerFault.{AnswerFault}
-use Rattle.app_batch.specs.declared.lines.AnswerFault.TheVariants as answerfault
+use Rattle.app_batch.specs.declared.fault.AnswerFault.{AnswerFault}
+use Rattle.app_batch.specs.declared.fault.AnswerFault.TheVariants as answerfault
 use Rattle.app_batch.specs.InTurn.{AnswersEach, AnswersFirst, AreLines, IsNextLine, Stops, StopsAt, StopsBehind, not_one, one_more, silent, unread, untold}
 use Rattle.app_batch.specs.InTurn.{unwritten}
 use Rattle.app_words.specs.declared.command.{Revocation.Revocation, Serving.Serving}
