@@ -49,20 +49,7 @@ HELP = {
     "revoke-authz": ("FILE", "N", "1 to 2^62", "--port", "desk: connection", *WAIT),
     "revoke-account": ("FILE", "N", "1 to 2^62", "--port", "desk: connection", *WAIT),
 }
-# The fixed texts of the page.
-PAGE_HEAD = """\
-<!doctype html>
-<html lang="en"><head><meta charset="utf-8"><title>desk</title>
-<style>
-body{max-width:1120px;margin:2em auto;padding:0 1em;font:15px/1.5 sans-serif;color:#222;background:#f7f7f7}
-h1{font-size:1.5em}h2{margin:1.8em 0 0;font-size:1.2em}p{margin:.3em 0;color:#555}
-pre,table{margin:.6em 0;background:#fff;border:1px solid #ddd}pre{padding:.8em 1em}
-table{width:100%;table-layout:fixed;border-collapse:collapse}table:has(tbody:empty){display:none}
-th,td{padding:.4em .8em;text-align:left;vertical-align:top;border-bottom:1px solid #eee}
-th{background:#eee}th:nth-child(-n+3){width:7.2em}th:nth-child(4){width:12em}td>*{display:block;overflow-wrap:anywhere}
-.valid{color:#17703a}.ready,.processing{color:#96600a}.invalid,.deactivated,.expired,.revoked{color:#a32626}
-</style></head><body>
-<h1>The desk of <code>"""
+# The fixed texts of the page behind its head.
 PAGE_CLOCK = "</code></h1>\n<p>Its clock, the latest moment at which it recorded something: <b>"
 PAGE_COUNTS = "</b></p>\n<p>A table shows the first 50 rows, by number.</p>\n<h2>Objects by status</h2>\n<pre>"
 ORDER_COLUMNS = ("Order", "Account", "Status", "Ends", "Names", "Contacts")
@@ -333,19 +320,24 @@ def authorization_row(number, account, status, end, name, challenges):
             f"<td>{texts}</td></tr>")
 
 
-def page_text(base, clock, counts, tables):
-    """The page of a desk, by the counts as `about` prints them, and by the rows of each table with how many there are in all."""
-    said = [PAGE_HEAD, in_html(base), PAGE_CLOCK, clock, PAGE_COUNTS, counts, "</pre>\n"]
-    for (title, told, columns), (rows, count) in zip(PAGE_TABLES, tables):
-        said += ["<h2>", title, "</h2>\n<p>", told, "</p>\n<table><thead><tr>", *(f"<th>{column}</th>" for column in columns), "</tr></thead><tbody>",
-                 *rows, f"</tbody></table>\n<p>In all: {count}</p>\n"]
-    return "".join([*said, "</body></html>\n"]).encode()
-
-
 def specified_page():
     """The page that the specification names."""
     with open(f"{ROOT}/examples/page.html", "rb") as text:
         return text.read()
+
+
+def page_head():
+    """The page up to its base, as the one that the specification names has it."""
+    return specified_page().decode().partition("https://ca.example")[0]
+
+
+def page_text(base, clock, counts, tables):
+    """The page of a desk, by the counts as `about` prints them, and by the rows of each table with how many there are in all."""
+    said = [page_head(), in_html(base), PAGE_CLOCK, clock, PAGE_COUNTS, counts, "</pre>\n"]
+    for (title, told, columns), (rows, count) in zip(PAGE_TABLES, tables):
+        said += ["<h2>", title, "</h2>\n<p>", told, "</p>\n<table><thead><tr>", *(f"<th>{column}</th>" for column in columns), "</tr></thead><tbody>",
+                 *rows, f"</tbody></table>\n<p>In all: {count}</p>\n"]
+    return "".join([*said, "</body></html>\n"]).encode()
 
 
 def based_desk(program, folder, name, base):
