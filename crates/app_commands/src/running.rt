@@ -7,8 +7,8 @@ ghost use Rattle.app_tasks.specs.Deeds.{ChecksStatuses, ListsRows, ServesClients
 ghost use Rattle.app_tasks.specs.{Faults.IsOfOpening, GivenTerms.terms_of};
 ghost use Rattle.app_commands.specs.Statuses.{Ends, EndsAbout, EndsBy, EndsMake, EndsOverFiles, EndsRevoke, EndsUnasked, IsOfLog, IsToldMade};
 ghost use Rattle.app_commands.specs.Statuses.{BySyncs, EndsSo, IsToldWords, status_of, supposes, syncs_of, terms_in_memory};
-ghost use Rattle.app_words.specs.declared.command.Command.{Command as Order};
-ghost use Rattle.app_words.specs.declared.fault.WordsFault.{WordsFault as Unread};
+ghost use Rattle.app_words.specs.declared.command.Command.{Command as CommandValue};
+ghost use Rattle.app_words.specs.declared.fault.WordsFault.{WordsFault as WordsFaultValue};
 ghost use Rattle.app_reports.specs.Listed.{roster};
 ghost use Rattle.app_files.specs.Endings.{EndsInMemory};
 ghost use Rattle.app_tasks.specs.declared.fault.Fault.TheVariants as fault;
@@ -56,10 +56,10 @@ pub fn run_words<R: Read + Drop, W: Write, E: Write>(
     errors: &mut E,
 ) -> u8
     ensures small { result ≤ 3 }
-    ensures ends { ((order : Order) × BySyncs
-        (EndsSo ⟦<FileFrom<Unknown> as Disk>⟧ (image_at ⟦<Unknown as Start>⟧) (R.remaining reader) (W.contents out.old) (W.contents out.new) order result)
-        (EndsSo ⟦<FileFrom<Wary> as Disk>⟧ (image_at ⟦<Wary as Start>⟧) (R.remaining reader) (W.contents out.old) (W.contents out.new) order result)
-        (syncs_of order)) ⊎ ((why : Unread) × IsToldWords why (W.contents out.old) (W.contents out.new) result) }
+    ensures ends { ((command : CommandValue) × BySyncs
+        (EndsSo ⟦<FileFrom<Unknown> as Disk>⟧ (image_at ⟦<Unknown as Start>⟧) (R.remaining reader) (W.contents out.old) (W.contents out.new) command result)
+        (EndsSo ⟦<FileFrom<Wary> as Disk>⟧ (image_at ⟦<Wary as Start>⟧) (R.remaining reader) (W.contents out.old) (W.contents out.new) command result)
+        (syncs_of command)) ⊎ ((why : WordsFaultValue) × IsToldWords why (W.contents out.old) (W.contents out.new) result) }
 {
     match read_words(rt.alloc(), words, is_terminal) {
         Ok(asked) => run_asked(rt, asked, reader, out, errors),

@@ -188,10 +188,6 @@ and_ordered m B es policy account wanted done counters same is untouched standin
 
 -- ---- entries that touch no row but the nonces'
 
--- none
-pub untouched_none : (m : ℕ) (B : Tables) → IsUntouched m B []
-untouched_none m B = record { counters = refl; accounts = refl; authorizations = refl; orders = refl }
-
 -- a nonce spent, and one issued
 pub untouched_nonces : (m : ℕ) (B : Tables) (n : ℕ) (r : List ℕ) → IsUntouched m B (spent n ∷ issued r ∷ [])
 untouched_nonces m B n r =
@@ -210,3 +206,7 @@ untouched_nonces m B n r =
       orders = ap (λ (T : Tables). T.orders) (issued_effect m (effect m (swept m B) (spent n)) r)
           ∙ ap (λ (T : Tables). T.orders) (spent_effect m (swept m B) n);
     }
+
+-- none
+pub untouched_none : (m : ℕ) (B : Tables) → IsUntouched m B []
+untouched_none m B = record { counters = refl; accounts = refl; authorizations = refl; orders = refl }

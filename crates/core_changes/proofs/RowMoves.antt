@@ -245,5 +245,4 @@ pub touched_place : (test : AuthorizationRow → Bool) (rows : List Authorizatio
     true ≡ lists_one test rows (numbers_of ls)
 touched_place test rows ls index d more touches so_far =
     ap (λ b. b || lists_one test rows (numbers_of (drop (index + 1) ls))) (sym touches)
-    ∙ sym (at_drop_more (λ l. lists_one test rows (numbers_of l)) ls index d more)
-    ∙ so_far
+    ∙ sym (at_drop_more (λ l. lists_one test rows (numbers_of l)) ls index d more) ∙ so_far

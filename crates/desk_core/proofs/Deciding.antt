@@ -101,13 +101,9 @@ spent_same C D _ a o z c h = absurd h
 
 -- ---- tables
 
--- the tables at a moment and those after some entries, by the picture
+-- the tables at a moment, by the picture
 pub now_is : (F : History) (call : Call) → tables_at F (moment_of call.at F) ≡ swept (moment_of call.at F) (picture F)
 now_is F call = sweep F (clock F) (moment_of call.at F) (moment_later F call)
-
-pub after_is : (F : History) (call : Call) (es : List Entry) → EachFollows (record_all (moment_of call.at F) es F) →
-    tables_after (moment_of call.at F) es F ≡ effects (moment_of call.at F) (swept (moment_of call.at F) (picture F)) es
-after_is F call es follows = steps F es (moment_of call.at F) follows ∙ ap (λ T. effects (moment_of call.at F) T es) (now_is F call)
 
 -- moments that have texts in some rows have them in the same rows
 pub texts_same : (T U : Tables) → SameRows T U → HasTexts T → HasTexts U
@@ -171,3 +167,8 @@ decides_none F call changes reply legal at is none said =
       makes = ap (λ cs. applied cs (picture F)) none ∙ ap picture same;
       stays_legal = subst Legal same legal;
     }
+
+-- the tables after some entries, by the picture
+pub after_is : (F : History) (call : Call) (es : List Entry) → EachFollows (record_all (moment_of call.at F) es F) →
+    tables_after (moment_of call.at F) es F ≡ effects (moment_of call.at F) (swept (moment_of call.at F) (picture F)) es
+after_is F call es follows = steps F es (moment_of call.at F) follows ∙ ap (λ T. effects (moment_of call.at F) T es) (now_is F call)

@@ -49,11 +49,6 @@ verdict_reply_same index m T U (orders account wanted) h =
 verdict_reply_same index m T U (moves move) h =
     ap (λ X. moved_reply X move) (same_beside (effect m T (entry_of move)) (effect m U (entry_of move)) (entry_same m T U (entry_of move) h))
 
--- entries after others
-pub effects-append : (m : ℕ) (T : Tables) (es fs : List Entry) → effects m T (es ++ fs) ≡ effects m (effects m T es) fs
-effects-append m T [] fs = refl
-effects-append m T (e ∷ es) fs = effects-append m (effect m T e) es fs
-
 -- a nonce that is spent and one that is issued set the clock and leave each row but the nonces'
 pub nonce_effects : (m : ℕ) (T : Tables) (serial : ℕ) (r : List ℕ) →
     SameRows (effects m T (spent serial ∷ issued r ∷ [])) (record T { meta = record T.meta { counters = record T.meta.counters { clock = m } } })
@@ -72,3 +67,8 @@ nonce_effects m T serial r =
       last_authorizations = ap (λ (x : Counters). x.authorizations) counters;
       last_challenges = ap (λ (x : Counters). x.challenges) counters;
     }
+
+-- entries after others
+pub effects-append : (m : ℕ) (T : Tables) (es fs : List Entry) → effects m T (es ++ fs) ≡ effects m (effects m T es) fs
+effects-append m T [] fs = refl
+effects-append m T (e ∷ es) fs = effects-append m (effect m T e) es fs

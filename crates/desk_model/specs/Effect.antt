@@ -171,10 +171,6 @@ effect m T e =
       orders = map (moved_order e m T.authorizations after) T.orders ++ map (λ o. restated_order m after (fresh_order o)) more_orders;
     }
 
-abbrev pub effects : ℕ → Tables → List Entry → Tables
-effects m T [] = T
-effects m T (e ∷ es) = effects m (effect m T e) es
-
 -- ---- the passing of time
 
 abbrev pub is_live_order : OrderStatus → Bool
@@ -207,3 +203,9 @@ swept m T =
       authorizations = map (swept_authorization m) T.authorizations;
       orders = map (swept_order m T.authorizations) T.orders;
     }
+
+-- ---- several entries, one after the other
+
+abbrev pub effects : ℕ → Tables → List Entry → Tables
+effects m T [] = T
+effects m T (e ∷ es) = effects m (effect m T e) es

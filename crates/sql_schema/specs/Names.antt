@@ -1,17 +1,12 @@
 -- The names of the tables and indexes.
-use Rattle.std.specs.Prelude.{ℕ, Bool, List, [], ◌∷◌, codes, ◌||◌, is_some}
-use Rattle.std.specs.List.{list_all, list_any}
+use Rattle.std.specs.Prelude.{ℕ, Bool, List, [], ◌∷◌, codes, is_some}
+use Rattle.std.specs.List.{list_all}
 use Rattle.sqlite.specs.{Schema.Schema, Change.is_used}
 use Rattle.sqlite_schema.specs.Names.{index_named}
 
 -- the table that format 1 lacks
 abbrev pub key_table_name : List ℕ
 key_table_name = codes "chall_key"
-
--- the eight tables
-abbrev pub table_names : List (List ℕ)
-table_names = codes "meta" ∷ codes "nonce" ∷ codes "account" ∷ codes "ord" ∷ codes "authz" ∷ codes "ord_authz" ∷ codes "chall"
-    ∷ key_table_name ∷ []
 
 -- the eight indexes of CREATE INDEX
 abbrev pub index_names : List (List ℕ)
@@ -25,14 +20,6 @@ index_names =
     ∷ codes "chall_authz"
     ∷ codes "chall_status"
     ∷ []
-
--- a table, an index or a view has one of these names
-abbrev pub uses_one : Schema → List (List ℕ) → Bool
-uses_one schema names = list_any (λ name. is_used schema name) names
-
--- one of them has a name of the desk
-abbrev pub uses_names : Schema → Bool
-uses_names schema = uses_one schema table_names || uses_one schema index_names
 
 -- a table, an index or a view has the name of the table that format 1 lacks
 abbrev pub uses_key_table : Schema → Bool

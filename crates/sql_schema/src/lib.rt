@@ -17,5 +17,5 @@ pub mod orders;
 mod texts;
 
 pub use definitions::DEFINITIONS;
-pub use names::{has_indexes, uses_key_table, uses_names};
+pub use names::{has_indexes, uses_key_table};
 pub use texts::Writing;

@@ -1,26 +1,14 @@
 //! The names of the tables and indexes, looked for in a schema.
 ghost use Rattle.std.specs.Prelude.{◌≡◌, is_some};
-ghost use Rattle.std.specs.List.{list_all, list_any};
+ghost use Rattle.std.specs.List.{list_all};
 ghost use Rattle.sqlite.specs.Change.{is_used};
 ghost use Rattle.sqlite_schema.specs.Names.{index_named};
-ghost use Rattle.sql_schema.specs.Names.{has_all_indexes, uses_key_table, uses_names};
+ghost use Rattle.sql_schema.specs.Names.{has_all_indexes, uses_key_table};
 
 use sqlite_schema::schema::Schema;
 
 // The name of the table that format 1 lacks.
 const KEY_TABLE: &str = "chall_key";
-
-// The names of the eight tables.
-const TABLES: [&str; 8] = [
-    "meta",
-    "nonce",
-    "account",
-    "ord",
-    "authz",
-    "ord_authz",
-    "chall",
-    "chall_key",
-];
 
 // The names of the eight indexes.
 const INDEXES: [&str; 8] = [
@@ -41,20 +29,6 @@ fn uses(schema: &Schema, name: &str) -> bool
     schema.table_named(name.as_bytes()).is_some()
         || schema.index_named(name.as_bytes()).is_some()
         || schema.view_named(name.as_bytes()).is_some()
-}
-
-// Whether one of them has one of these names.
-fn uses_one(schema: &Schema, names: &[&str]) -> bool
-    ensures { result ≡ list_any (λ name. is_used schema.now name.now) names.now }
-{
-    names.iter().any(|name| uses(schema, name))
-}
-
-/// Whether a table, an index or a view has a name that a table or an index of a desk has, in any case of its ASCII letters.
-pub fn uses_names(schema: &Schema) -> bool
-    ensures { result ≡ uses_names schema.now }
-{
-    uses_one(schema, &TABLES) || uses_one(schema, &INDEXES)
 }
 
 /// Whether a table, an index or a view has the name of the table that format 1 lacks, in any case of its ASCII letters.

@@ -123,14 +123,6 @@ module _ {X : Type 0} (key : X → ℕ) where
   sorted_append [] ys = refl
   sorted_append (x ∷ xs) ys = ap (put key x) (sorted_append xs ys)
 
-  -- rows of different numbers put among no others are sorted
-  pub puts_sorted : (xs : List X) → Distinct key xs → puts key xs [] ≡ sorted_by key xs
-  puts_sorted xs apart = puts_each xs [] apart ∙ go xs
-    where
-      go : (xs : List X) → put_each xs [] ≡ sorted_by key xs
-      go [] = refl
-      go (x ∷ xs) = ap (put key x) (go xs)
-
   -- rows that ascend stand as they are
   pub sorted_ascending : (n : ℕ) (xs : List X) → Ascends key n xs → sorted_by key xs ≡ xs
   sorted_ascending n [] up = refl

@@ -206,15 +206,6 @@ order_keeps (Some old) new row m is renewed = by (keeps_order old row) refl is
     by true kept is = (old, refl, order_is_kept old row kept)
     by false kept is = absurd (let same : Some Upsert ≡ Some Update = is ∙ ap (λ x. Some x) renewed in cc)
 
--- each is written
-pub order_written : (known : Option OrderRow) (new : Bool) (row : OrderRow) → write (option_map (λ old. order_difference old row) known) new ≡ None → ⊥
-order_written None new row is = always_written new is
-order_written (Some old) new row is = by (keeps_order old row) is
-  where
-    by : (kept : Bool) → write (Some (difference kept false)) new ≡ None → ⊥
-    by true is = absurd (cc is)
-    by false is = absurd (cc is)
-
 -- ---- what is told of a row by how it differs
 
 -- the row of `meta`
@@ -261,3 +252,13 @@ key_differs row known = record {
   moved = λ old stands is. refl;
   same = λ old stands number is. same_key old row number (same_is (bytes_eq old.thumb row.thumb) true is).0;
 }
+
+-- ---- an order is always written
+
+pub order_written : (known : Option OrderRow) (new : Bool) (row : OrderRow) → write (option_map (λ old. order_difference old row) known) new ≡ None → ⊥
+order_written None new row is = always_written new is
+order_written (Some old) new row is = by (keeps_order old row) is
+  where
+    by : (kept : Bool) → write (Some (difference kept false)) new ≡ None → ⊥
+    by true is = absurd (cc is)
+    by false is = absurd (cc is)

@@ -22,11 +22,6 @@ keys_flat (a ∷ rows) =
     filter_map-append (λ (c : Owned ChallengeRow). answer_key c.row) (owned_by a.number a.challenges) (challenge_rows rows)
     ∙ ap (λ l. key_rows (owned_by a.number a.challenges) ++ l) (keys_flat rows)
 
--- their owner is not looked at
-pub keys_of_owned : (n : ℕ) (cs : List ChallengeRow) → filter_map answer_key cs ≡ key_rows (owned_by n cs)
-keys_of_owned n [] = refl
-keys_of_owned n (c ∷ cs) = ap (cons_option (answer_key c)) (keys_of_owned n cs)
-
 -- where no challenge loses its answer, the numbers stand among those that come
 pub keys_within : (n m : ℕ) (cs ds : List ChallengeRow) → KeepChallenges cs ds
     → AreWithin (map key_layout.key (key_rows (owned_by n cs))) (map key_layout.key (key_rows (owned_by m ds)))

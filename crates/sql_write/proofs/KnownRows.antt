@@ -186,13 +186,6 @@ pub none_above : {X : Type 0} (on : Tables → ℕ → Option X) (highest n : �
     → EachOf (λ c. (T : Tables) → on (applied_one c T) n ≡ on T n) cs
 none_above on highest n cs all high = each _ _ cs (λ c none T. none T n high) all
 
--- a row that is put is not above its number
-pub put_below : {X : Type 0} (key : X → ℕ) (x : X) (highest : ℕ) → key x ≤ highest → (rows : List X) (n : ℕ) → highest < n
-    → find (λ r. key r == n) (put key x rows) ≡ find (λ r. key r == n) rows
-put_below key x highest low rows n high =
-    let other : (key x == n) ≡ false = ne_eqb (key x) n (λ same. omega (arith, same, low, high)) in
-    find_put key n x rows ∙ ap (λ b. cond b (Some x) (find (λ r. key r == n) rows)) other
-
 -- a higher number does, too
 pub none_higher : {X : Type 0} (on : Tables → ℕ → Option X) (a b : ℕ) (cs : List Change) → a ≤ b → EachOf (PutsNone on a) cs → EachOf (PutsNone on b) cs
 none_higher on a b cs low all = each _ _ cs (λ c none T n high. none T n (omega (arith, low, high))) all
@@ -207,3 +200,10 @@ above_more old new cs c accounts authorizations orders a b o all = record {
       (none_higher authorization_on old.authorizations new.authorizations cs authorizations all.authorizations) (b, tt);
   orders = each-append (PutsNone order_on new.orders) cs (c ∷ []) (none_higher order_on old.orders new.orders cs orders all.orders) (o, tt);
 }
+
+-- a row that is put is not above its number
+pub put_below : {X : Type 0} (key : X → ℕ) (x : X) (highest : ℕ) → key x ≤ highest → (rows : List X) (n : ℕ) → highest < n
+    → find (λ r. key r == n) (put key x rows) ≡ find (λ r. key r == n) rows
+put_below key x highest low rows n high =
+    let other : (key x == n) ≡ false = ne_eqb (key x) n (λ same. omega (arith, same, low, high)) in
+    find_put key n x rows ∙ ap (λ b. cond b (Some x) (find (λ r. key r == n) rows)) other

@@ -83,12 +83,12 @@ authorization_texts = texts_by authorization_layout authorization_writing _ auth
 pub listed_texts : AreTexts listed_writing AppendsOrPlaces
 listed_texts = record { puts = advances_listed; adds = advances_appended; renews = advances_listed }
 
-pub challenge_texts : AreTexts challenge_writing (Writes challenge_layout (λ c. challenge_kept (challenge_columns (bare_row c))))
-challenge_texts = texts_by challenge_layout challenge_writing _ challenge_upsert challenge_insert challenge_update
-
 pub key_texts : AreTexts key_writing (AddsOrPuts key_layout)
 key_texts = record {
   puts = advances_by key_layout _ _ key_upsert;
   adds = advances_inserted key_layout _ key_upsert _ key_insert;
   renews = advances_by key_layout _ _ key_upsert;
 }
+
+pub challenge_texts : AreTexts challenge_writing (Writes challenge_layout (λ c. challenge_kept (challenge_columns (bare_row c))))
+challenge_texts = texts_by challenge_layout challenge_writing _ challenge_upsert challenge_insert challenge_update
