@@ -18,7 +18,7 @@ help: ## this list
 bin/desk: $(SOURCES) ## proves and builds the program, in most of an hour at the first time
 	@$(HAS_RT)
 	@echo 'Proving and building the program desk, with the crates below it.'
-	cd crates/desk_app && python3 -B ../../scripts/gate.py run -- batch
+	python3 -B -m scripts.gate.gate run -- batch
 	@mkdir -p bin
 	@cp crates/desk_app/out/desk_app $@
 	@touch $@
@@ -27,7 +27,7 @@ bin/desk: $(SOURCES) ## proves and builds the program, in most of an hour at the
 try: ## a batch over a book in memory, WITHOUT PROOF, in a minute or so
 	@$(HAS_RT)
 	@echo 'Answering examples/first.jsonl by a desk over a book in memory, over the crates as they are, WITHOUT PROOF.'
-	@python3 -B scripts/try.py
+	@python3 -B -m scripts.gate.try
 
 first: bin/desk ## a batch by the proved program
 	@echo 'Answering examples/first.jsonl over a new desk in memory:'
@@ -35,9 +35,9 @@ first: bin/desk ## a batch by the proved program
 
 edits: ## whether the edits that the prover must refuse still apply, and documents name what is there
 	@echo 'Looking whether each edit that the prover must refuse still applies, and whether documents name what is there.'
-	@python3 scripts/edits.py check
-	@python3 -B scripts/crates.py check
-	@python3 -B scripts/promises.py check
+	@python3 -B -m scripts.gate.edits check
+	@python3 -B -m scripts.gate.crates check
+	@python3 -B -m scripts.gate.promises check
 
 test: ## ./test: sets up what is missing, and is the merge gate
 	@./test
@@ -48,7 +48,7 @@ test: ## ./test: sets up what is missing, and is the merge gate
 gate: edits ## the merge gate, where all is set up
 	@$(HAS_RT)
 	@echo 'Running the merge gate: every proof from nothing, the edits that must fail, every test.'
-	@MIMALLOC_PURGE_DELAY=100 RT_JOBS=$${RT_JOBS:-$$(nproc)} python3 -B scripts/gate.py
+	@MIMALLOC_PURGE_DELAY=100 RT_JOBS=$${RT_JOBS:-$$(nproc)} python3 -B -m scripts.gate.gate
 	@mkdir -p bin
 	@cp crates/desk_app/out/desk_app bin/desk
 	@$(MAKE) --no-print-directory trials
@@ -65,36 +65,43 @@ trials: ## what the gate tries of the program bin/desk
 	done; rm -f bin/output bin/errors
 	@echo 'The replies are the expected ones.'
 	@echo 'Trying the program over files: the same batches, whole and cut in two, files of format 1, and what ends a command.'
-	@python3 -B scripts/files.py bin/desk
+	@python3 -B -m scripts.files.files bin/desk
 	@echo 'Comparing random batches with a model of the specification, 40 of them (make predicted: 100).'
-	@python3 -B scripts/predicted.py bin/desk --batches 40
+	@python3 -B -m scripts.model.predicted bin/desk --batches 40
 	@echo 'Running the commands that documents show, and comparing what they print.'
-	@python3 -B scripts/readme.py run bin/desk $(DOCUMENTS)
+	@python3 -B -m scripts.gate.readme run bin/desk $(DOCUMENTS)
 	@echo 'Trying what is installed: a folder of a name with a space, the manual page, the completion for bash.'
-	@python3 -B scripts/installs.py bin/desk
+	@python3 -B -m scripts.gate.installs bin/desk
 	@echo "Trying the operator's words: reports, whole and stopped after each line, and revocations."
-	@python3 -B scripts/words.py bin/desk
-	@echo 'Stopping the program at each write to a file, the upgrade of a file too, and failing each call to the disk once, where it serves, too, and counting syncs.'
-	@python3 -B scripts/stops.py bin/desk
+	@python3 -B -m scripts.files.words bin/desk
+	@echo 'Stopping the program at each write to a file, also in an upgrade, failing each call to the disk once, also where it serves, and counting syncs.'
+	@python3 -B -m scripts.files.stops bin/desk
 	@echo 'Serving over loopback: replies byte for byte, requests that are none, connections that fail, what ends the program.'
-	@python3 -B scripts/serve.py bin/desk
+	@python3 -B -m scripts.serving.serve bin/desk
 	@echo 'Refusing memory to the program, each ninth growth of a call (make growths: each one).'
-	@python3 -B scripts/growths.py bin/desk --step 9
+	@python3 -B -m scripts.files.growths bin/desk --step 9
 	@echo 'Counting the instructions of a call, and comparing them with those that docs/PERFORMANCE.md has (make instructions writes these).'
 	@python3 -B bench/instructions.py --against docs/PERFORMANCE.md
 	@echo 'Killing the program at random moments while it serves, 20 times (make kills: 200).'
-	@python3 -B scripts/kills.py bin/desk --times 20
+	@python3 -B -m scripts.serving.kills bin/desk --times 20
 	@echo 'Refusing memory to calls of the library, each seventh growth, without proof.'
-	@python3 -B scripts/library_growths.py --step 7
+	@python3 -B -m scripts.gate.library_growths --step 7
 	@echo 'Trying a house around the desk, where the packages for it are there.'
 	@$(MAKE) --no-print-directory house-test
 
-# Each growth of memory of a call refused in turn, a quarter of an hour or more; five minutes of hostile requests; 200 kills while it serves; 100
-# random batches beside the model.
-growths hostile kills predicted: ## one script each of what the gate tries, at length
+# What the gate tries, at length.
+growths: ## refuses each growth of memory of a call in turn, in a quarter of an hour or more
 	@$(HAS_DESK)
-	@python3 -B scripts/$@.py bin/desk
-	@! [ $@ = growths ] || python3 -B scripts/library_growths.py
+	@python3 -B -m scripts.files.growths bin/desk
+	@python3 -B -m scripts.gate.library_growths
+
+hostile kills: ## five minutes of hostile requests; 200 kills while the program serves
+	@$(HAS_DESK)
+	@python3 -B -m scripts.serving.$@ bin/desk
+
+predicted: ## compares 100 random batches with the model
+	@$(HAS_DESK)
+	@python3 -B -m scripts.model.predicted bin/desk
 
 # The program, its manual page and its completion for bash from its own help, and for systemd its unit, the sockets in front of it with
 # their filter, and the users.
@@ -102,8 +109,8 @@ PLACE = $(DESTDIR)$(PREFIX)
 UNITS = $(PLACE)/lib/systemd/system
 install: ## the program, its manual page, its completion for bash, its units and users
 	@$(HAS_DESK)
-	@python3 -B scripts/manual.py page bin/desk > bin/desk.1
-	@python3 -B scripts/manual.py completion bin/desk > bin/desk.bash
+	@python3 -B -m scripts.gate.manual page bin/desk > bin/desk.1
+	@python3 -B -m scripts.gate.manual completion bin/desk > bin/desk.bash
 	@for unit in desk.service desk-filter.service desk-role@.socket; do sed 's|@PREFIX@|$(PREFIX)|' packaging/$$unit > bin/$$unit; done
 	install -D -m 755 bin/desk "$(PLACE)/bin/desk"
 	install -D -m 644 bin/desk.1 "$(PLACE)/share/man/man1/desk.1"
@@ -116,7 +123,7 @@ install: ## the program, its manual page, its completion for bash, its units and
 	@echo 'by `desk serve` without them it is open to every user of this machine, and while it is stopped any of them may take it.'
 
 # ---- The house around a desk (docs/HOUSE.md), over Debian's packages and their Python.
-HOUSE := /usr/bin/python3 -B scripts/house.py
+HOUSE := /usr/bin/python3 -B -m scripts.house.house
 # The program that the house is tried with: the proved one, or that of ./try, which each line then says.
 AROUND = $(firstword $(wildcard bin/desk bin/unproved/desk))
 HAS_ONE := test -n '$(AROUND)' || { echo 'desk: there is no program; ./try compiles bin/desk-unproved, make bin/desk proves and builds bin/desk' >&2; exit 1; }
@@ -137,7 +144,7 @@ unproved-house: ## the same, where all is set up
 
 bin/desk-unproved: $(SOURCES) ## compiles the program WITHOUT PROOF, in some minutes
 	@$(HAS_RT)
-	@python3 -B scripts/unproved.py
+	@python3 -B -m scripts.gate.unproved
 
 # Everything is on the loopback, in a folder that is removed, and ends by itself; house-serve ends by control C, and takes further words, as
 # WORDS='--port 14000 --web 5002 --names 5353'.
@@ -155,11 +162,11 @@ house-clients: ## has each client that is installed get a certificate
 
 house-test: ## what the gate tries of the house and of the units
 	@$(HAS_DESK)
-	@! $(HOUSE) packages || { /usr/bin/python3 -B scripts/house_test.py bin/desk && /usr/bin/python3 -B scripts/house_attacks.py bin/desk && \
-		/usr/bin/python3 -B scripts/house_firm.py bin/desk && /usr/bin/python3 -B scripts/house_signatures.py bin/desk && \
-		/usr/bin/python3 -B scripts/taken_port.py bin/desk; }
-	@/usr/bin/python3 -B scripts/house_units.py bin/desk
-	@! $(HOUSE) packages certbot || /usr/bin/python3 -B scripts/first_hour.py bin/desk
+	@! $(HOUSE) packages || for trials in trials attacks firm random_signatures; do \
+		/usr/bin/python3 -B -m scripts.house.$$trials bin/desk || exit 1; \
+	done
+	@/usr/bin/python3 -B -m scripts.house.units bin/desk
+	@! $(HOUSE) packages certbot || /usr/bin/python3 -B -m scripts.house.first_hour bin/desk
 	@! $(HOUSE) packages certbot || $(HOUSE) run bin/desk
 
 # Beside the program and its units: the house and the units of its three parts.
@@ -174,13 +181,13 @@ install-house: install ## beside the program, the house and its units
 check: ## proves a crate, CRATE=name, or of it ONE=path alone, over the libraries that the gate proved here
 	@$(HAS_RT)
 	@test -d crates/$(or $(CRATE),none) || { echo 'desk: make check CRATE=name [ONE=path]' >&2; exit 1; }
-	@python3 -B scripts/warm.py $(CRATE)
+	@python3 -B -m scripts.gate.warm $(CRATE)
 	@cd crates/$(CRATE) && rt check $(if $(ONE),--only $(ONE))
 
 planted: ## tries the planted edits, of one crate by CRATE=name; the prover must refuse each
 	@$(HAS_RT)
 	@echo 'Trying the planted edits$(if $(CRATE), of $(CRATE)), crates side by side; the prover must refuse each.'
-	@python3 scripts/edits.py try $(CRATE)
+	@python3 -B -m scripts.gate.edits try $(CRATE)
 
 # Proves and builds nothing of the desk: it times the program that is there.
 bench: ## times the program for docs/PERFORMANCE.md, in minutes

@@ -1,18 +1,21 @@
 """What the scripts that try the program share: what is not as it should be, runs of the program, and what a desk's file holds."""
 import argparse
 import base64
+import json
 import os
 import re
 import resource
 import shutil
 import signal
+import socket
 import sqlite3
 import subprocess
 import sys
 import tempfile
 from concurrent.futures import ThreadPoolExecutor
 
-ROOT = os.path.dirname(os.path.dirname(os.path.abspath(__file__)))
+from scripts.repository import ROOT
+
 BASE = "https://ca.example"
 # What a check says of a desk whose clock is ahead of the machine's.
 AHEAD = re.compile(rb"\Adesk: the desk's clock is \d+ seconds ahead of the machine's\n\Z")
@@ -29,8 +32,9 @@ TABLES = {
 }
 # The package of Debian that has a program.
 PACKAGES = {"gcc": "gcc", "sqlite3": "sqlite3"}
-# How the program ends without a desk.
+# How the program ends without a desk; the fault of a file that can't be used.
 NOT_A_DESK = (1, b"", b"desk: fault 23 not a desk\n")
+DEVICE = b"desk: fault 21 device\n"
 faults = []
 
 
@@ -66,27 +70,32 @@ def library(folder):
     return built
 
 
-def begin(main, doc):
-    """Ends the script by what `main` makes of the program that its one word names."""
-    if len(sys.argv) != 2:
-        sys.exit(doc)
-    sys.exit(main(os.path.abspath(sys.argv[1])))
+def free_port():
+    """A port of 127.0.0.1 that nobody has at this moment."""
+    with socket.create_server(("127.0.0.1", 0)) as taken:
+        return taken.getsockname()[1]
 
 
-def begin_random(main, doc, option, default, seed):
-    """Ends the script by what `main` makes of the program, how many times it is to try, and the seed of its choices."""
+def begin(main, doc, **options):
+    """Ends the script by what `main` makes of the program that its word names, and of options, which have these defaults."""
     words = argparse.ArgumentParser(description=doc, formatter_class=argparse.RawDescriptionHelpFormatter)
     words.add_argument("program")
-    words.add_argument(option, dest="times", type=int, default=default)
-    words.add_argument("--seed", type=int, default=seed)
-    given = words.parse_args()
-    sys.exit(main(os.path.abspath(given.program), given.times, given.seed))
+    for name, default in options.items():
+        words.add_argument(f"--{name}", type=type(default), default=default)
+    given = vars(words.parse_args())
+    sys.exit(main(os.path.abspath(given.pop("program")), **given))
 
 
 def run(program, *words, given=b"", **options):
     """The exit status, the output and the errors of the program."""
     ran = subprocess.run([program, *words], **{"input": given, "stdout": subprocess.PIPE, "stderr": subprocess.PIPE, **options})
     return ran.returncode, ran.stdout, ran.stderr
+
+
+def see_wrong(program, begun, *many):
+    """Words that begin so are wrong, by each of many ends: the program ends with 2, and has no output."""
+    for words in many:
+        see(f"{(*begun, *words)}", run(program, *begun, *words)[:2], (2, b""))
 
 
 def side_by_side(tries, folder):
@@ -109,6 +118,19 @@ def fresh(program, folder, name, *terms):
     path = f"{folder}/{name}.db"
     see(f"make {name}", run(program, "make", path, "--base", BASE, *terms), (0, b"made\n", b""))
     return path
+
+
+def desk_with_calls(program, folder, name, calls):
+    """A file with a desk that has answered these lines."""
+    path = fresh(program, folder, name)
+    see(f"{name}: its calls", run(program, "batch", "--file", path, given=b"".join(calls))[0], 0)
+    return path
+
+
+def run_on_full(*words):
+    """The end of a program whose standard output is a disk that is full."""
+    with open("/dev/full", "wb") as full:
+        return run(*words, stdout=full)
 
 
 def small_files(size):
@@ -134,9 +156,26 @@ def nonce_text(serial):
     return base64.urlsafe_b64encode(serial.to_bytes(8, "big") + bytes(16)).decode()
 
 
+def key_of(number):
+    """A key of its own for each number."""
+    return {**KEY, "x": base64.urlsafe_b64encode(number.to_bytes(6, "big")).decode()}
+
+
 def order_of(*names):
     """The payload of an order of names."""
     return {"identifiers": [{"type": "dns", "value": name} for name in names]}
+
+
+def line_of(method, path, body="", at=0, random=""):
+    """The line of a call of a batch."""
+    return (json.dumps({"at": at, "body": body, "method": method, "path": path, "random": random}) + "\n").encode()
+
+
+def answered(batch, line):
+    """The reply of a batch that runs to one more line."""
+    batch.stdin.write(line)
+    batch.stdin.flush()
+    return batch.stdout.readline()
 
 
 def copy(path, to):
@@ -150,6 +189,12 @@ def copy(path, to):
 def bytes_of(path):
     with open(path, "rb") as file:
         return file.read()
+
+
+def put(path, data=b""):
+    """Makes a file of these bytes."""
+    with open(path, "wb") as file:
+        file.write(data)
 
 
 def remove(path):

@@ -1,0 +1,245 @@
+"""What scripts/files/words.py tries of files that other programs have, of what faults say, of first starts, and of copies of a desk."""
+import fcntl
+import os
+import shutil
+import sqlite3
+import stat
+import subprocess
+import threading
+import time
+from contextlib import contextmanager
+
+from scripts.serving.served import STOPPED, Server
+from scripts.trying import (BASE, DEVICE, NOT_A_DESK, answered, bytes_of, change, desk_with_calls, example, fresh, put, run, run_on_full, see,
+                            see_wrong, tables_of)
+
+# The bytes on which SQLite's lock lies: how many, and from which on.
+LOCK = (512, 1 << 30)
+HELD = "another program has it: while desk serve runs, no other word works on it; --wait SECONDS tries again"
+NO_ROOM = "no file can be made in its directory: this user may not, or that is read-only or full"
+TAKEN = "there is a file already, and it stays as it is"
+# How late a word may be that waits, in seconds.
+LATE = 20
+
+
+@contextmanager
+def held(path):
+    """Another program that has the file, by SQLite's lock on it."""
+    with open(path, "r+b", buffering=0) as file:
+        fcntl.lockf(file, fcntl.LOCK_EX | fcntl.LOCK_NB, *LOCK)
+        yield file
+
+
+def because(path, cause):
+    """The second line of a fault."""
+    return f"desk: {path}: {cause}\n".encode()
+
+
+def words_of(path, to):
+    """The words that take `--wait`, on a file, with the exit status of each on a desk without accounts."""
+    reports = [((word, path), 0) for word in ("status", "about", "page", "accounts", "authorizations", "check")]
+    return [*reports, (("backup", path, to), 0), (("revoke-authz", path, "1"), 1), (("revoke-account", path, "1"), 1), (("batch", "--file", path), 0)]
+
+
+def waits(program, folder):
+    """A word with `--wait` tries again until another program gives the file up, so many seconds at most."""
+    path = fresh(program, folder, "waits")
+    for at, (words, ended) in enumerate(words_of(path, f"{folder}/waited.db")):
+        with held(path) as file:
+            see(f"{words} while another has the file", run(program, *words), (1, b"", DEVICE))
+            see(f"{words}, which waits no second", run(program, *words, "--wait", "0"), (1, b"", DEVICE))
+            if not at:
+                start = time.monotonic()
+                see(f"{words}, which waits for nothing", run(program, *words, "--wait", "1"), (1, b"", DEVICE))
+                see("a second is waited", 1 <= time.monotonic() - start < 1 + LATE, True)
+            freed = threading.Timer(0.5, lambda: fcntl.lockf(file, fcntl.LOCK_UN, *LOCK))
+            freed.start()
+            start = time.monotonic()
+            see(f"{words}, which waits", run(program, *words, "--wait", "60")[0], ended)
+            see(f"{words}: no longer than it has to", 0.4 <= time.monotonic() - start < 0.5 + LATE, True)
+            freed.join()
+    see("a free file is not waited for", run(program, "check", path, "--wait", "86400"), (0, b"no fault\n", b""))
+    see("nor is one that is missing", run(program, "check", f"{folder}/none.db", "--wait", "86400"), NOT_A_DESK)
+    wrong = [("check", path, "--wait", number) for number in ("86401", "-1", "+1", "01", "one", "")]
+    see_wrong(program, (), *wrong, ("check", path, "--wait"), ("batch", "--wait", "1"), ("serve", path, "--port", "0", "--count", "0", "--wait", "1"),
+              ("make", f"{folder}/waiting.db", "--base", BASE, "--wait", "1"))
+
+
+def served(program, folder):
+    """While `serve` has a desk every other word is refused, and says why; one that waits has it afterwards."""
+    path = fresh(program, folder, "served")
+    server = Server(program, path)
+    for words, _ in words_of(path, f"{folder}/none.db"):
+        see(f"{words} while it is served", run(program, *words, "--verbose"), (1, b"", DEVICE + because(path, HELD)))
+    see("no copy of it", os.path.exists(f"{folder}/none.db"), False)
+    with subprocess.Popen([program, "check", path, "--wait", "60"], stdout=subprocess.PIPE) as waiting:
+        time.sleep(0.3)
+        see("it waits", waiting.poll(), None)
+        see("served: the end", server.stop(), STOPPED)
+        see("it has the desk once that is stopped", (waiting.communicate()[0], waiting.returncode), (b"no fault\n", 0))
+
+
+def causes(program, folder):
+    """Behind a fault, `--verbose` says the file and the cause."""
+    room = f"{folder}/causes"
+    os.mkdir(room)
+    path = fresh(program, room, "whole")
+    file, none = f"{room}/file.db", f"{room}/none/file.db"
+
+    def refused(words, cause, fault=DEVICE, of=None):
+        see(f"{words}: its fault", run(program, *words), (1, b"", fault))
+        see(f"{words}: its cause", run(program, *words, "--verbose"), (1, b"", fault + because(of or words[1], cause)))
+
+    no_desk = NOT_A_DESK[2]
+    refused(("status", file), "there is no such file", no_desk)
+    refused(("status", none), "its directory is missing", no_desk)
+    refused(("make", none, "--base", BASE), "its directory is missing")
+    refused(("make", path, "--base", BASE), TAKEN, no_desk)
+    refused(("status", room), "it is no regular file")
+    refused(("status", f"{path}/file.db"), "its directory is missing")
+    os.symlink(f"{room}/loop.db", f"{room}/loop.db")
+    refused(("status", f"{room}/loop.db"), "its path leads to no file")
+    put(file)
+    refused(("check", file), "it is empty", no_desk)
+    refused(("backup", path, file), TAKEN, b"desk: there is a file already\n", file)
+    put(file, b"no database at all, but bytes")
+    refused(("check", file), "it holds something else than a desk", no_desk)
+    os.link(path, f"{room}/linked.db")
+    refused(("check", path), "it has a second name, by a hard link")
+    os.remove(f"{room}/linked.db")
+    put(f"{path}-journal", b"a journal")
+    refused(("check", path), "SQLite's rollback journal stands beside it: open it by sqlite3 first")
+    os.remove(f"{path}-journal")
+    change(path, "UPDATE meta SET format = 3")
+    refused(("check", path), "a newer program wrote it", b"desk: fault 27 newer format\n")
+    change(path, "UPDATE meta SET format = 2, nonces = 4611686018427387904")
+    see("it is a desk", run(program, "check", path, "--verbose"), (0, b"no fault\n", b""))
+
+
+def rights(ours, folder):
+    """What a user may not read or write is told, and a file system that is read-only, where the machine can try this."""
+    room, other = f"{folder}/rights", {"user": 65534, "group": 65534, "extra_groups": []} if os.getuid() == 0 else {}
+    os.mkdir(room)
+    for way in (folder, room):
+        os.chmod(way, 0o755)
+    program = shutil.copy(ours, f"{room}/desk")
+    os.mkdir(f"{room}/own")
+    path = fresh(program, f"{room}/own", "closed")
+    os.remove(f"{path}-wal")
+    os.chmod(path, 0o444)
+    said = run(program, "status", path, "--verbose", **other)
+    see("a file of another user", said, (1, b"", DEVICE + because(path, "this user may not read and write it")))
+    os.chmod(path, 0o666)
+    os.chmod(f"{room}/own", 0o555)
+    see("a directory of another user", run(program, "status", path, "--verbose", **other), (1, b"", DEVICE + because(path, NO_ROOM)))
+    made = f"{room}/own/made.db"
+    see("a file that can't be made", run(program, "make", made, "--base", BASE, "--verbose", **other), (1, b"", DEVICE + because(made, NO_ROOM)))
+    theirs, copied = fresh(program, room, "theirs"), f"{room}/own/copied.db"
+    if other:
+        for file in (room, theirs, f"{theirs}-wal"):
+            os.chown(file, 65534, 65534)
+    see("a copy that can't be made", run(program, "backup", theirs, copied, "--verbose", **other),
+        (1, b"no fault\n", b"desk: copy\n" + because(copied, NO_ROOM)))
+    os.chmod(f"{room}/own", 0o755)
+    mounted = "mount --bind {0} {0} && mount -o remount,ro,bind {0}".format(f"{room}/own")
+    if run("unshare", "--mount", "sh", "-c", mounted)[0] == 0:
+        said = run("unshare", "--mount", "sh", "-c", f'{mounted} && exec "$@"', "sh", program, "status", path, "--verbose")
+        see("a file system that is read-only", said, (1, b"", DEVICE + because(path, "its file system is read-only")))
+
+
+def limits(program, folder):
+    """The limit that a policy breaks is named."""
+    path, life = f"{folder}/limits.db", "is 1 to 315360000 seconds"
+    base = '--base begins with http:// or https://, has 8 to 256 bytes of ASCII, no space, none of " < > \\, and no / at its end'
+    rows = [(("--base", "ca.example"), base), (("--base", f"{BASE}/"), base), (("--base", BASE, "--nonce-life", "0"), f"--nonce-life {life}")]
+    rows += [(("--base", BASE, f"--{kind}-life", number), f"--{kind}-life {life}") for kind in ("order", "authz") for number in ("0", "315360001")]
+    rows += [(("--base", "", "--order-life", "0", "--authz-life", "0"), f"--order-life {life}")]
+    for terms, limit in rows:
+        see(f"make {terms}", run(program, "make", path, *terms), (2, b"", b"desk: bad policy\n"))
+        see(f"make {terms}: the limit", run(program, "make", path, *terms, "--verbose"), (2, b"", f"desk: bad policy\ndesk: {limit}\n".encode()))
+    see("no file for a bad policy", os.path.exists(path), False)
+
+
+def mode_of(path):
+    return stat.S_IMODE(os.stat(path).st_mode)
+
+
+def first_starts(program, folder):
+    """A new desk is its user's alone, and a file that is refused has no log afterwards that it had not before."""
+    path, text, other = (f"{folder}/{name}" for name in ("first.db", "text.db", "other.db"))
+    see("make with no mask", run(program, "make", path, "--base", BASE, preexec_fn=lambda: os.umask(0)), (0, b"made\n", b""))
+    see("modes of the file and its log", [mode_of(f"{path}{end}") for end in ("", "-wal")], [0o600, 0o600])
+    put(f"{folder}/given.db")
+    os.chmod(f"{folder}/given.db", 0o640)
+    see("make in an empty file", run(program, "make", f"{folder}/given.db", "--base", BASE)[0], 0)
+    see("its mode stays", mode_of(f"{folder}/given.db"), 0o640)
+    put(text, b"no database at all, but bytes")
+    with sqlite3.connect(other) as found:
+        found.execute("CREATE TABLE nonce (serial INTEGER PRIMARY KEY)")
+    found.close()
+    for foreign in (text, other):
+        before = bytes_of(foreign)
+        for words in (("status", foreign), ("check", foreign), ("batch", "--file", foreign), ("serve", foreign, "--port", "0", "--count", "0")):
+            see(f"{words}", run(program, *words), NOT_A_DESK)
+            see(f"{words}: what is there then", (bytes_of(foreign) == before, os.path.exists(f"{foreign}-wal")), (True, False))
+    put(f"{text}-wal")
+    see("a file with an empty log", run(program, "status", text), NOT_A_DESK)
+    see("its log stays", os.path.exists(f"{text}-wal"), True)
+
+
+def backups(program, folder):
+    """A copy is the desk, in one file that its user alone may read, and is served like it; nothing is written over."""
+    path, to = desk_with_calls(program, folder, "original", example("order")[0]), f"{folder}/copy.db"
+    tables = tables_of(path, folder)
+    see("a backup", run(program, "backup", path, to, preexec_fn=lambda: os.umask(0)), (0, b"no fault\ncopied\n", b""))
+    see("its mode, and no log", (mode_of(to), os.path.exists(f"{to}-wal")), (0o600, False))
+    see("its tables", tables_of(to, folder), tables)
+    see("the tables of the original", tables_of(path, folder), tables)
+    see("its bytes", bytes_of(to) == bytes_of(path), True)
+    see("it is served", run(program, "serve", to, "--port", "0", "--count", "0")[::2], (0, b""))
+    see("it answers", run(program, "check", to), (0, b"no fault\n", b""))
+    os.symlink(f"{folder}/nowhere.db", f"{folder}/link.db")
+    taken = (1, b"", b"desk: there is a file already\n")
+    for there in (to, path, folder, f"{folder}/link.db"):
+        see(f"a backup over {there}", run(program, "backup", path, there), taken)
+    see("what is there stays", (tables_of(to, folder), tables_of(path, folder), os.path.exists(f"{folder}/nowhere.db")), (tables, tables, False))
+    none = f"{folder}/none/copy.db"
+    see("a backup without a directory", run(program, "backup", path, none, "--verbose"),
+        (1, b"no fault\n", b"desk: copy\n" + because(none, "its directory is missing")))
+    see("a backup on a full output", run_on_full(program, "backup", path, f"{folder}/full.db"), (1, None, b"desk: output\n"))
+    see("no copy that nobody was told of", os.path.exists(f"{folder}/full.db"), False)
+    see("a backup of nothing", run(program, "backup", f"{folder}/gone.db", f"{folder}/full.db"), NOT_A_DESK)
+    see("no copy of nothing", os.path.exists(f"{folder}/full.db"), False)
+    see_wrong(program, ("backup",), (), (path,), (path, to, to), (path, to, "--json"))
+    change(path, "UPDATE account SET status = 'revoked'")
+    wrong = (3, b"account 1: stored revoked, derived deactivated\n", b"")
+    see("a backup of a wrong status", run(program, "backup", path, f"{folder}/wrong.db"), wrong)
+    see("no copy of a wrong status", os.path.exists(f"{folder}/wrong.db"), False)
+
+
+def copies_by_hand(program, folder):
+    """While a program has a desk some of it is in the log alone, and a copy of the file lacks that; a backup has it once the program is gone."""
+    path, to, calls = fresh(program, folder, "by-hand"), f"{folder}/whole.db", example("order")[0]
+    with subprocess.Popen([program, "batch", "--file", path], stdin=subprocess.PIPE, stdout=subprocess.PIPE) as batch:
+        for call in calls:
+            answered(batch, call)
+        put(f"{folder}/by-hand-copy.db", bytes_of(path))
+        batch.kill()
+    tables = tables_of(path, folder)
+    see("a copy by hand lacks what was answered", tables_of(f"{folder}/by-hand-copy.db", folder) == tables, False)
+    see("a backup behind a stop", run(program, "backup", path, to), (0, b"no fault\ncopied\n", b""))
+    see("it has what was answered", tables_of(to, folder), tables)
+
+
+def small_disk(program, folder):
+    """A copy that a full disk cuts off is removed, where the machine can make a disk."""
+    path, disk = desk_with_calls(program, folder, "large", example("order")[0]), f"{folder}/disk"
+    os.mkdir(disk)
+    mounted = f"mount -t tmpfs -o size=16k tmpfs {disk}"
+    if run("unshare", "--mount", "sh", "-c", mounted)[0] == 0:
+        said = run("unshare", "--mount", "sh", "-c", f'{mounted} && "$@"; ended=$?; ls {disk}; exit $ended', "sh", program, "backup", path, f"{disk}/copy.db",
+                   "--verbose")
+        see("a backup to a disk that is full", said, (1, b"no fault\n", b"desk: copy\n" + because(f"{disk}/copy.db", "its disk is full")))
+
+
+TRIES = (waits, served, causes, rights, limits, first_starts, backups, copies_by_hand, small_disk)

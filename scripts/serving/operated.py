@@ -1,0 +1,156 @@
+"""A desk that serves, as its operator sees it: the log of calls, revocations by its port, and its file taken away. A part of scripts/serving/serve.py."""
+import json
+import os
+import re
+import shutil
+import time
+
+from scripts.serving.served import DIRECTORY, NEW_NONCE, STOPPED, Client, Reply, Server, directory_reply, refusal, request, stranger
+from scripts.trying import DEVICE, fresh, run, run_on_full, see, tables_of
+
+LINE = re.compile(r"(\d{4}-\d\d-\d\dT\d\d:\d\d:\d\dZ) (\S+) (\S+) (\d+|-) (\d+|-) (\d+|-) (\d+|-)")
+
+
+def asked(server):
+    """Calls of many kinds, and what a log says of each: method, path, status, number, object."""
+    client = Client(server)
+    client.open_account()
+    client.order("a.example")
+    client.post("/order/1", "")
+    client.post("/order/1/finalize", {"csr": "AQID"}, 403)
+    client.post("/order/9", "", 404)
+    for method, path in (("GET", "/directory"), ("GET", "/nothing"), ("PUT", "/new-order"), ("GET", "/office/key/1"),
+                         ("POST", "/office/revoke-authz/1"), ("POST", "/office/revoke-authz/7"), ("HEAD", "/new-nonce")):
+        server.ask(request(method, path))
+    server.ask(b'GET /a"b\\c HTTP/1.1\r\n\r\n')
+    server.ask(b"\x00\xff\n\r\n")
+    with server.connect() as gone:
+        gone.sendall(b"GET /dir")
+    server.ask(DIRECTORY)
+    return [
+        ("GET", "/new-nonce", 204, None, None), ("POST", "/new-account", 201, None, 1), ("POST", "/new-order", 201, None, 1),
+        ("POST", "/order/1", 200, None, 1), ("POST", "/order/1/finalize", 403, 12, 1), ("POST", "/order/9", 404, 2, 9),
+        ("GET", "/directory", 200, None, None), ("GET", "/nothing", 404, 2, None), ("PUT", "/new-order", 405, 3, None),
+        ("GET", "/office/key/1", 200, None, 1), ("POST", "/office/revoke-authz/1", 200, None, 1),
+        ("POST", "/office/revoke-authz/7", 404, 2, 7), ("HEAD", "/new-nonce", 200, None, None), ("GET", "/a?b?c", 404, 2, None),
+        ("??", "-", 400, 1, None), ("GET", "/dir", 400, 1, None), ("GET", "/directory", 200, None, None),
+    ]
+
+
+def logged(program, folder):
+    """A line for each connection, as text and as JSON; none without the option."""
+    for words, is_json in ((("--log",), False), (("--log", "text"), False), (("--log", "json"), True)):
+        server = Server(program, fresh(program, folder, "-".join(words)), *words)
+        start = int(time.time())
+        wanted = asked(server)
+        for said in wanted:
+            see(f"{words}: the line of {said}", told(server.run.stdout.readline().decode().rstrip("\n"), is_json, start), said)
+        see(f"{words}: the end", server.stop(), STOPPED)
+    server = Server(program, fresh(program, folder, "silent"))
+    asked(server)
+    see("without --log", server.stop(), STOPPED)
+
+
+def told(line, is_json, start):
+    """What a line of a log says, where its moment is one since the start, and it took less than a minute."""
+    if is_json:
+        found = json.loads(line)
+        parts = [found[name] for name in ("moment", "method", "path", "status", "number", "object", "microseconds")]
+        if len(found) != 7 or line != json.dumps(found, separators=(",", ":")):
+            return line
+    else:
+        found = LINE.fullmatch(line)
+        if not found:
+            return line
+        parts = [*found.groups()[:3], *(None if part == "-" else int(part) for part in found.groups()[3:])]
+    last = time.strftime("%Y-%m-%dT%H:%M:%SZ", time.gmtime())
+    first = time.strftime("%Y-%m-%dT%H:%M:%SZ", time.gmtime(start))
+    if not first <= parts[0] <= last or (parts[3] is not None and parts[6] is not None and parts[6] > 60 * 10**6):
+        return line
+    return tuple(parts[1:6])
+
+
+def log_that_fails(program, folder):
+    """A log that can't be written ends the program, behind the reply; the file has the call."""
+    path = fresh(program, folder, "unlogged")
+    server = Server(program, path, "--log")
+    see("a log that is read", server.ask(DIRECTORY), directory_reply())
+    server.run.stdout.close()
+    server.run.stdout = open(os.devnull, "rb")
+    found = Reply(server.ask(NEW_NONCE))
+    see("a log that nobody reads: the reply", found.status, 204)
+    see("a log that nobody reads: the end", server.ended(), (1, b"", b"desk: output\n"))
+    see("a log that nobody reads: the file", len(tables_of(path, folder)["nonce"]), 1)
+
+
+def replaced(program, folder):
+    """A file that is replaced, cut or unlinked while it is served ends the program before the next call."""
+    def unlink(path):
+        os.remove(path)
+
+    def replace(path):
+        shutil.copy(path, f"{path}.copy")
+        os.rename(f"{path}.copy", path)
+
+    def cut(path):
+        os.truncate(path, os.path.getsize(path) // 2)
+
+    for change in (unlink, replace, cut):
+        server = Server(program, fresh(program, folder, change.__name__), "--verbose")
+        see(f"{change.__name__}: before", server.ask(DIRECTORY), directory_reply())
+        change(server.path)
+        see(f"{change.__name__}: no reply", server.ask(NEW_NONCE) in (b"", b"(reset)"), True)
+        cause = f"desk: {server.path}: it was replaced, cut or removed while it was served\n".encode()
+        see(f"{change.__name__}: the end", server.ended(), (1, b"", DEVICE + cause))
+    server = Server(program, fresh(program, folder, "beside"))
+    shutil.copy(server.path, f"{server.path}.copy")
+    os.rename(server.path, f"{server.path}.moved")
+    os.rename(f"{server.path}.moved", server.path)
+    see("a file that was copied, moved and moved back", server.ask(DIRECTORY), directory_reply())
+    see("beside: the end", server.stop(), STOPPED)
+
+
+def revoked(program, folder):
+    """The two revocations, asked of a desk that serves: what the words say of a file, they say of it."""
+    server = Server(program, fresh(program, folder, "revoked"))
+    client, port = Client(server), ("--port", str(server.port))
+    client.open_account()
+    client.order("a.example")
+
+    def words(word, number, *more):
+        return run(program, word, server.path, str(number), *(more or port))
+
+    see("an authorization", words("revoke-authz", 1), (0, b"authz 1 revoked\n", b""))
+    see("an authorization again", words("revoke-authz", 1), (0, b"authz 1 revoked\n", b""))
+    nothing = (1, b"", b"desk: there is nothing here\n")
+    see("no authorization", words("revoke-authz", 2), nothing)
+    see("an account", words("revoke-account", 1), (0, b"account 1 revoked\n", b""))
+    see("an account again", words("revoke-account", 1), (0, b"account 1 revoked\n", b""))
+    see("no account", words("revoke-account", 2**62), nothing)
+    client.post("/order/1", "", 401)
+    other = Client(server, {"crv": "P-256", "kty": "EC", "x": "Aw", "y": "BA"})
+    other.open_account()
+    other.post("/account/2", {"status": "deactivated"})
+    see("an account that has ended otherwise", words("revoke-account", 2), (1, b"", b"desk: the report does not fit the records\n"))
+    see("the file is the desk's", words("revoke-account", 1, "--port", port[1])[0], 0)
+    see("without a port", run(program, "revoke-account", server.path, "1"), (1, b"", DEVICE))
+    see("a full standard output", run_on_full(program, "revoke-account", server.path, "1", *port)[::2], (1, b"desk: output\n"))
+    see("revoked: the end", server.stop(), STOPPED)
+    gone = (1, b"", b"desk: connection\n")
+    see("nobody at the port", words("revoke-account", 1), gone)
+    see("a file that is not there", run(program, "revoke-account", f"{folder}/none", "1", *port), gone)
+    for said in (b"", b"HTTP/1.1 20", b"SSH-2.0-x\r\n", b"HTTP/1.1 405 Method Not Allowed\r\n\r\n"):
+        see(f"what says {said}", answered(program, server.path, said), gone)
+    see("a desk that could not act", answered(program, server.path, refusal(15, "/office/revoke-account/1")),
+        (1, b"", b"desk: the desk could not act\n"))
+
+
+def answered(program, path, said):
+    """How a revocation ends that a stranger answers, and what it is asked."""
+    with stranger(said) as (port, heard):
+        found = run(program, "revoke-account", path, "7", "--port", str(port))
+    see("what is asked", heard, [b"POST /office/revoke-account/7 HTTP/1.1\r\nHost: 127.0.0.1\r\nContent-Length: 0\r\n\r\n"])
+    return found
+
+
+OPERATED = (logged, log_that_fails, replaced, revoked)
