@@ -15,8 +15,7 @@ import sys
 import tempfile
 import time
 
-from scripts import repository
-from scripts.repository import ROOT, read
+from scripts.repository import ROOT, blocks, read, tracked
 from scripts.trying import free_port
 
 # What installs packages, compiles or wants a house, and is run elsewhere.
@@ -42,9 +41,9 @@ class Shown:
         self.command, self.lines = re.sub(r"\s+# .*", "", command).strip(), []
 
 
-def blocks(file):
+def shown_blocks(file):
     """The commands of each block of a document that shows what one of them prints."""
-    for block in repository.blocks(read(file)):
+    for block in blocks(read(file)):
         shown = []
         for line in block:
             if line.startswith("$ "):
@@ -111,7 +110,7 @@ class Shell:
 
 def furnish(folder, program):
     """Gives a folder what git knows of the repository, and the program as its bin/desk."""
-    for name in {path.split("/")[0] for path in repository.tracked()}:
+    for name in {path.split("/")[0] for path in tracked()}:
         os.symlink(f"{ROOT}/{name}", f"{folder}/{name}")
     os.mkdir(f"{folder}/bin")
     os.symlink(program, f"{folder}/bin/desk")
@@ -134,7 +133,7 @@ def run_block(program, file, block):
 
 def run(program, *files):
     """Runs the blocks of documents, and gives the exit status."""
-    here = [(file, block) for file in files for block in blocks(file) if not any(shown.command in ELSEWHERE for shown in block)]
+    here = [(file, block) for file in files for block in shown_blocks(file) if not any(shown.command in ELSEWHERE for shown in block)]
     well, count = sum(run_block(os.path.abspath(program), file, block) for file, block in here), sum(len(block) for _, block in here)
     print(f"Of {count} commands {well} print what is shown.")
     return 0 if well == count else 1
@@ -143,7 +142,7 @@ def run(program, *files):
 def said(command, output, *files):
     """Compares what a command printed with what documents show of it, and gives the exit status."""
     found = compared(read(output))
-    wanted = [(file, shown) for file in files for block in blocks(file) for shown in block if shown.command == command]
+    wanted = [(file, shown) for file in files for block in shown_blocks(file) for shown in block if shown.command == command]
     well = all([is_as_shown(file, shown, found) for file, shown in wanted])
     if well:
         print(f"`{command}` prints what is shown." if wanted else f"No document shows what `{command}` prints.")

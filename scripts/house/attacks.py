@@ -635,7 +635,7 @@ def heard(connection):
 GET_DIRECTORY = b"GET /directory HTTP/1.1\r\n\r\n"
 
 
-def answered(address, request=GET_DIRECTORY, **given):
+def fetched(address, request=GET_DIRECTORY, **given):
     """All that comes for a request over TLS."""
     with secured(address, **given) as client:
         client.sendall(request)
@@ -670,7 +670,7 @@ def limits(trial):
         said = crowded(address)
         for text in (b"\x1b[2Jx", b"a\rb", b"\x9b31m", b"\x07", b"%s%n\\x", b"\xe2\x80\xae"):
             lines.truncate(lines.seek(0))
-            answered(address, b"GET /" + text + b" HTTP/1.1\r\n\r\n")
+            fetched(address, b"GET /" + text + b" HTTP/1.1\r\n\r\n")
             found = lines.getvalue().removesuffix("\n").split("\n")
             tried(f"log of {text}", all(line.startswith("127.0.0.1 ") and line.isascii() and line.isprintable() for line in found))
         for suite in ("ECDHE-ECDSA-AES128-SHA", "ECDHE-ECDSA-AES256-SHA384", "ECDHE-ECDSA-AES128-SHA256", "AES128-SHA"):
@@ -680,7 +680,7 @@ def limits(trial):
     print(said)
     with fronted(folder, desk.Desk(str(free_port()), "https://localhost")) as (address, lines):
         for request in (GET_DIRECTORY, b"GET /office/orders HTTP/1.1\r\n\r\n", head + bytes(100)):
-            top, _, body = answered(address, request).partition(b"\r\n\r\n")
+            top, _, body = fetched(address, request).partition(b"\r\n\r\n")
             found = (top.split(b" ")[1], b"Retry-After: 10" in top, b"application/problem+json" in top, json.loads(body)["type"])
             tried(f"down: {request[:20]}", found, (b"503", True, True, f"{ERROR}serverInternal"))
 
@@ -692,14 +692,14 @@ def crowded(address):
     is_few = wait_for(lambda: threading.active_count() - threads == front.OF_ONE and len(ended(held)) == 400 - front.OF_ONE)
     tried("connections of one client, 400 of them silent", is_few)
     start = time.monotonic()
-    see("another client beside them", answered(address, source="127.0.0.2")[:15], b"HTTP/1.1 200 OK")
+    see("another client beside them", fetched(address, source="127.0.0.2")[:15], b"HTTP/1.1 200 OK")
     said = f"house: {len(ended(held))} of 400 connections of one client were refused, and another was answered in {time.monotonic() - start:.2f} s"
     held += [socket.create_connection(address, 5, (f"127.0.1.{number}", 0)) for number in range(1, 40)]
     tried("connections at one time", wait_for(lambda: threading.active_count() - threads == front.CONNECTIONS))
     front.HANDSHAKE = 1
     for connection in held:
         connection.close()
-    see("a client after them", answered(address)[:15], b"HTTP/1.1 200 OK")
+    see("a client after them", fetched(address)[:15], b"HTTP/1.1 200 OK")
     return said
 
 
@@ -742,7 +742,7 @@ def gone(trial):
         woken.clear(), called.gone.set()
         called.call = lambda method, path, body=None, patience=None: desk.Reply(200 if method == "GET" else 404, [], called.jwk)
         body = trial.client.signed("https://localhost/chall/7", {}, kid="https://localhost/account/1").encode()
-        answered(address, posted("/chall/7", body))
+        fetched(address, posted("/chall/7", body))
         tried("gone client, and what is said of another account's challenge", woken, [()])
     print("house: 40 clients were gone before their reply, and woke validator and office all the same")
 
@@ -755,7 +755,7 @@ def families(trial):
     for address, reached in (("::1", ["::1"]), ("::", ["::1", "127.0.0.1"])):
         with fronted(f"{trial.house.folder}/family", Down(), address) as (place, lines):
             for end in reached:
-                see(f"the front at {address}, reached at {end}", answered((end, place[1]))[:15], b"HTTP/1.1 200 OK")
+                see(f"the front at {address}, reached at {end}", fetched((end, place[1]))[:15], b"HTTP/1.1 200 OK")
                 see(f"the address in the log of {end}", lines.getvalue().split("\n")[-2].split(" ")[0], end)
     see("who counts as one client", [front.client_of("2001:db8::1") == front.client_of(other) for other in ("2001:db8::ffff:1:2", "2001:db8:0:1::1")],
         [True, False])

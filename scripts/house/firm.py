@@ -28,12 +28,12 @@ from cryptography.hazmat.primitives import hashes
 from cryptography.hazmat.primitives.asymmetric import ec
 from cryptography.hazmat.primitives.serialization import Encoding, load_pem_private_key
 
-from scripts.house.attacks import Down, attacked, csr_of, fronted, heard, posted, raised, tried, tried_refused, wait_for
+from scripts.house.attacks import Down, attacked, csr_of, fetched, fronted, heard, posted, raised, tried, tried_refused, wait_for
 from scripts.house.client import Web, new_key
 from scripts.house.housed import Run
 from scripts.house.trials import ERROR, other_client
 from scripts.repository import ROOT
-from scripts.trying import answered, begin, bytes_of, put, see
+from scripts.trying import begin, bytes_of, put, see
 
 import authority
 import command
@@ -332,7 +332,7 @@ def policies(trial):
         """The status, type and document of the reply to a request."""
         shown = {} if path == "/new-account" else {"kid": "https://localhost/account/1"}
         body = client.signed(f"https://localhost{path}", payload, key=key, **shown).encode()
-        head, _, text = answered(address, posted(path, body)).partition(b"\r\n\r\n")
+        head, _, text = fetched(address, posted(path, body)).partition(b"\r\n\r\n")
         document = json.loads(text)
         return int(head.split(b" ")[1]), document.get("type", "").removeprefix(ERROR), document
 
@@ -375,7 +375,7 @@ def policies(trial):
             tried(f"binding: {what}", sent(address, "/new-account", {"externalAccountBinding": binding})[:2], (status, kind))
         write("accounts", josepy.encode_b64jose(other.thumbprint()))
         see("a file that is read at each use", sent(address, "/new-account", {"externalAccountBinding": good})[:2], (403, "unauthorized"))
-        see("the directory's meta", b'"meta":{"externalAccountRequired":true}' in answered(address), True)
+        see("the directory's meta", b'"meta":{"externalAccountRequired":true}' in fetched(address), True)
 
 
 # ---- Roles.

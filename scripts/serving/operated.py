@@ -140,12 +140,12 @@ def revoked(program, folder):
     see("nobody at the port", words("revoke-account", 1), gone)
     see("a file that is not there", run(program, "revoke-account", f"{folder}/none", "1", *port), gone)
     for said in (b"", b"HTTP/1.1 20", b"SSH-2.0-x\r\n", b"HTTP/1.1 405 Method Not Allowed\r\n\r\n"):
-        see(f"what says {said}", answered(program, server.path, said), gone)
-    see("a desk that could not act", answered(program, server.path, refusal(15, "/office/revoke-account/1")),
+        see(f"what says {said}", ended_by(program, server.path, said), gone)
+    see("a desk that could not act", ended_by(program, server.path, refusal(15, "/office/revoke-account/1")),
         (1, b"", b"desk: the desk could not act\n"))
 
 
-def answered(program, path, said):
+def ended_by(program, path, said):
     """How a revocation ends that a stranger answers, and what it is asked."""
     with stranger(said) as (port, heard):
         found = run(program, "revoke-account", path, "7", "--port", str(port))
