@@ -16,7 +16,7 @@ import time
 from scripts.files.first_format import restore, upgraded
 from scripts.model.texts import canonical
 from scripts.serving.served import NEW_NONCE, Client, Reply, Server, serial_of
-from scripts.trying import BASE, checked, faults, finish, fresh, key_of, order_of, see, tables_of
+from scripts.trying import BASE, begin, checked, faults, finish, fresh, key_of, order_of, see, tables_of
 
 # How long the program serves, and how long it opens a file of format 1, before it is killed, in seconds, at most.
 LONGEST, LONGEST_OPENING = 0.08, 0.1
