@@ -84,7 +84,7 @@ def log_that_fails(program, folder):
 
 
 def replaced(program, folder):
-    """A file that is replaced, cut or unlinked while it is served ends the program before the next call."""
+    """A file that is replaced, cut or unlinked while it is served ends the program before the next call, and so does its log."""
     def unlink(path):
         os.remove(path)
 
@@ -95,12 +95,18 @@ def replaced(program, folder):
     def cut(path):
         os.truncate(path, os.path.getsize(path) // 2)
 
-    for change in (unlink, replace, cut):
+    def unlink_log(path):
+        unlink(f"{path}-wal")
+
+    def replace_log(path):
+        replace(f"{path}-wal")
+
+    for change in (unlink, replace, cut, unlink_log, replace_log):
         server = Server(program, fresh(program, folder, change.__name__), "--verbose")
         see(f"{change.__name__}: before", server.ask(DIRECTORY), directory_reply())
         change(server.path)
         see(f"{change.__name__}: no reply", server.ask(NEW_NONCE) in (b"", b"(reset)"), True)
-        cause = f"desk: {server.path}: it was replaced, cut or removed while it was served\n".encode()
+        cause = f"desk: {server.path}: it or its log was replaced, cut or removed while it was served\n".encode()
         see(f"{change.__name__}: the end", server.ended(), (1, b"", DEVICE + cause))
     server = Server(program, fresh(program, folder, "beside"))
     shutil.copy(server.path, f"{server.path}.copy")

@@ -181,7 +181,7 @@ enum FaultCause {
     // What looking at the file tells.
     #[error(transparent)]
     OfFile(FileCause),
-    #[error("it was replaced, cut or removed while it was served")]
+    #[error("it or its log was replaced, cut or removed while it was served")]
     Replaced,
     #[error("a growth of memory was refused")]
     Memory,

@@ -3,7 +3,7 @@ ghost use Rattle.app_tasks.specs.Deeds.{AnswersReader, Serves, ServesClients};
 
 use crate::desks::{adopt, clock_of};
 use crate::fault::Fault;
-use crate::overseeing::{FileOverseer, Identity};
+use crate::overseeing::{FileOverseer, Files};
 use crate::tasks::Task;
 use app_batch::batch;
 use app_words::Serving;
@@ -66,7 +66,7 @@ impl<'a, E: Write> ServeConnections<'a, E> {
     ) -> Result<u8, Fault>
         ensures { Serves K.Storage.sight K.Storage.causes self.old.serving clock desk.old desk.new result }
     {
-        let Ok(identity) = Identity::of(self.rt, self.path) else {
+        let Ok(files) = Files::at(self.rt, self.path) else {
             return Err(Fault::Serve(ServeFault::Replaced));
         };
         let (listener, bound) = bind(self.rt, self.serving.port)?;
@@ -76,8 +76,7 @@ impl<'a, E: Write> ServeConnections<'a, E> {
         let mut watch = Watch {
             overseer: FileOverseer {
                 rt: self.rt,
-                path: self.path,
-                identity,
+                files,
                 log: self.serving.log,
                 out,
             },

@@ -1,7 +1,8 @@
-//! The file and the log of a desk that is served.
+//! The files of a desk that is served, and the log of its calls.
 ghost use Rattle.std.specs.Prelude.{◌≡◌};
 ghost use Rattle.app_tasks.specs.CallLog.{TakesLine};
 
+use crate::beside::beside;
 use crate::call_log::write_entry;
 use app_words::LogForm;
 use desk_http::{Entry, Overseer};
@@ -32,18 +33,58 @@ impl Identity {
         })
     }
 
-    // Whether this is the file that it was then, and no shorter.
-    fn is_of(self, then: Identity) -> bool {
-        self.device == then.device && self.number == then.number && self.length >= then.length
+    // Whether this is the file that it was then.
+    fn is_same(self, then: Identity) -> bool {
+        self.device == then.device && self.number == then.number
     }
 }
 
-/// Sees to it that the file of a desk is the one that was opened, and writes a line for each connection, where a log is asked for.
+/// The file of a desk and its log beside it, as their paths led to them when it was opened.
+#[derive(Drop)]
+pub(crate) struct Files<'a> {
+    path: &'a str,
+    file: Identity,
+    log_path: String,
+    log: Identity,
+}
+
+impl<'a> Files<'a> {
+    /// Those of the desk that is open at a path.
+    ///
+    /// # Errors
+    ///
+    /// Where the path leads to none, one of them cannot be looked at, or there is no memory for the name of the log.
+    pub(crate) fn at(rt: &HostRuntime, path: &'a str) -> io::Result<Files<'a>> {
+        let log_path = beside(rt, path, "-wal")?;
+        let log = Identity::of(rt, log_path.as_str())?;
+        Ok(Files {
+            path,
+            file: Identity::of(rt, path)?,
+            log_path,
+            log,
+        })
+    }
+
+    // Whether the paths lead to them still, and the file is no shorter. The engine cuts its log itself.
+    fn are_in_place(&self, rt: &HostRuntime) -> bool {
+        match (
+            Identity::of(rt, self.path),
+            Identity::of(rt, self.log_path.as_str()),
+        ) {
+            (Ok(file), Ok(log)) => {
+                file.is_same(self.file) && file.length >= self.file.length && log.is_same(self.log)
+            }
+            _ => false,
+        }
+    }
+}
+
+/// Sees to it that the file of a desk and its log are those that were opened, and writes a line for each connection, where a log
+/// of the calls is asked for.
 #[derive(Drop)]
 pub(crate) struct FileOverseer<'a, W: Write> {
     pub(crate) rt: &'a HostRuntime,
-    pub(crate) path: &'a str,
-    pub(crate) identity: Identity,
+    pub(crate) files: Files<'a>,
     pub(crate) log: Option<LogForm>,
     pub(crate) out: &'a mut W,
 }
@@ -52,10 +93,7 @@ impl<'a, W: Write> Overseer for FileOverseer<'a, W> {
     ghost takes = { λ was note is. (is.log ≡ was.log) × TakesLine was.log (W.contents was.out.now) note (W.contents is.out.now) };
 
     fn is_in_place(&self) -> bool {
-        match Identity::of(self.rt, self.path) {
-            Ok(found) => found.is_of(self.identity),
-            Err(_) => false,
-        }
+        self.files.are_in_place(self.rt)
     }
 
     fn note(&mut self, entry: Entry<'_>) -> bool {

@@ -52,8 +52,8 @@ pub(crate) const DESK: &str = after!(
   21 device        another program has the file, as serve does while it runs; this user may not read
                    and write the file, its log or its directory; their file system is read-only; the
                    directory is missing; the file has a second name, by a hard link; a rollback
-                   journal stands beside it; it was replaced, cut or removed while it was served; the
-                   disk is full, or failed
+                   journal stands beside it; it or its log was replaced, cut or removed while it was
+                   served; the disk is full, or failed
   22 reopen        an earlier fault closed the desk, and the next start opens it
   23 not a desk    there is no file, an empty one, or one of something else; for make, one with bytes
   24 moment        a moment is past the last one that a desk knows, or further above the latest than
@@ -107,7 +107,7 @@ pub(crate) const SERVE: &str = synced!(
   been recorded, a nonce say; then start it as before.",
     "Files:
   While it serves, no other word works on the file: each ends with fault 21, at once or after its
-  --wait. Do not replace, cut or remove the file meanwhile: serve ends with fault 21 at the next call.",
+  --wait. Do not replace, cut or remove the file or its log meanwhile: serve ends with fault 21 then.",
     Example: "desk serve /var/lib/desk/desk.db --port 8555"
 );
 
