@@ -1,12 +1,12 @@
 -- What a sort tells of repeated keys, and when the rows of these keys have different ones.
-use Rattle.std.proofs.Common.{◌≡◌, ℕ, ◌+◌, Bool, true, false, List, [], ◌∷◌, ◌++◌, map, get_or, refl, sym, ap, ◌∙◌, subst, arith}
+use Rattle.std.proofs.Common.{◌≡◌, ℕ, ◌+◌, Bool, true, false, List, [], ◌∷◌, map, get_or, refl, sym, ap, ◌∙◌, subst, arith}
 use Rattle.std.proofs.Common.{Ordering, is_lt, is_eq, nat_cmp}
 use Rattle.std.specs.Prelude.{◌≢◌, ◌↔◌, IsTrue}
 use Rattle.std.specs.Cmp.{IsTotalOrder}
 use Rattle.std.specs.List.{AllByRecursion, IsAllAdjacentAnswer, IsDistinct}
 use Rattle.std.specs.List.Sorted.{IsSorted, IsStrictlySortedBy, IsPermutation}
 use Rattle.std.specs.Ordering.{eq_by_cmp, ordering_reverse}
-use Rattle.std.proofs.lemmas.{Bool.Decides.nat_tests, List.Sorted.IsPermutation-sym, List.append-nil}
+use Rattle.std.proofs.lemmas.{Bool.Decides.nat_tests, List.Sorted.IsPermutation-sym}
 use Rattle.std.proofs.lemmas.Map.Keys.{IsDistinct-from_sorted, IsDistinct-IsPermutation, Less-from_sorted, sorted_from_all_adjacent}
 use Rattle.desk_model.specs.Kept.{EachOf}
 use Rattle.model_laws.specs.Distinct.{Distinct}
@@ -99,7 +99,3 @@ equal-numbers m n h = grind (arith, nat_tests)
 
 pub numbers-equal : (m n : ℕ) → m ≡ n → is_eq (nat_cmp m n) ≡ true
 numbers-equal m n h = grind (arith, nat_tests)
-
--- nothing at the end
-pub ended : {X : Type 0} (xs ys zs : List X) → xs ++ ys ≡ zs → ys ≡ [] → xs ≡ zs
-ended xs ys zs all none = sym (append-nil xs) ∙ ap (λ l. xs ++ l) (sym none) ∙ all

@@ -1,13 +1,13 @@
 -- Rows in the order of their keys are those of a book.
-use Rattle.std.proofs.Common.{◌≡◌, ◌<◌, ◌≤◌, ◌+◌, ℕ, Bool, true, false, cond, List, [], ◌∷◌, map, filter, Option, Some, None, refl, sym, ap, subst, ◌∙◌, arith}
+use Rattle.std.proofs.Common.{◌≡◌, ◌<◌, ◌≤◌, ◌+◌, ℕ, Bool, true, false, cond, List, [], ◌∷◌, map, filter, refl, sym, ap, subst, ◌∙◌, arith}
 use Rattle.std.proofs.Common.{nat_cmp}
-use Rattle.std.specs.Prelude.{◌==◌, IsSome, option_map}
-use Rattle.std.specs.{List.cons_option, List.Sorted.IsPermutation, Cmp.nat_cmp_total, Ordering.eq_by_cmp}
+use Rattle.std.specs.Prelude.{◌==◌, IsSome}
+use Rattle.std.specs.{List.Sorted.IsPermutation, Cmp.nat_cmp_total, Ordering.eq_by_cmp}
 use Rattle.std.proofs.lemmas.{Bool.eqb-true, List.map-id, Map.Keys.IsDistinct-IsPermutation}
 use Rattle.std.proofs.lemmas.List.Sorted.{IsPermutation-map, IsPermutation-refl}
 use Rattle.store_columns.specs.Flat.{answer_key, bare_row, challenge_rows, key_rows}
 use Rattle.store_columns.specs.Limits.{AreStored, IsStoredAuthorization, IsStoredListed, IsStoredOrder}
-use Rattle.store_columns.specs.declared.columns.{AnswerKey.AnswerKey, BareChallenge.BareChallenge, FlatRows.FlatRows, Owned.Owned}
+use Rattle.store_columns.specs.declared.columns.{BareChallenge.BareChallenge, FlatRows.FlatRows, Owned.Owned}
 use Rattle.model_laws.specs.Distinct.{Distinct}
 use Rattle.model_laws.specs.Ordered.{Ascends, Below}
 use Rattle.model_laws.proofs.Basics.{each, each-map, each_all, each_of_map}
@@ -17,44 +17,13 @@ use Rattle.desk_model.specs.{Kept.EachOf, Tables.Tables}
 use Rattle.desk_model.specs.Questions.{account_on, authorization_on}
 use Rattle.desk_model.specs.declared.rows.{AccountRow.AccountRow, AuthorizationRow.AuthorizationRow, ChallengeRow.ChallengeRow, Listed.Listed, Meta.Meta}
 use Rattle.desk_model.specs.declared.rows.{OrderRow.OrderRow}
-use Rattle.store_book.specs.{FaultNumbers.challenges_of, Joining.with_answer, Nesting.IsNestOf}
+use Rattle.store_book.specs.{FaultNumbers.challenges_of, Joining.joined, Nesting.IsNestOf}
 use Rattle.store_book.specs.IsBook.{AreDistinct, AreInOrder, HaveReferences, IsBookOf, KeepCounters, ListsFound}
 use Rattle.store_book.proofs.Distinctness.{distinct-rows, equal-numbers, numbers-equal, values-distinct}
 use Rattle.store_book.proofs.{SortedLists.equal_flips, SoundBooks.all_numbers}
-use Rattle.store_book.proofs.Joins.{bare_so, unmapped_up}
-use Rattle.store_book.specs.BookRows.{AreBookRows, IsAmong, PlacesRise, RowsAreBooks, answered_numbers}
+use Rattle.store_book.proofs.Joins.{joined_has}
+use Rattle.store_book.specs.BookRows.{AreBookRows, IsAmong, PlacesRise, RowsAreBooks}
 use Rattle.store_book.proofs.Owners.{each_of_owner, found_among, is_of, nests_of, picked_of, rows_of, with_rows}
-
--- ---- challenges with the keys of their answers
-
--- challenges that have these rows, and these keys of their answers
-pub record Answered (cs : List (Owned BareChallenge)) (ks : List AnswerKey) : Type 0 where
-  pub rows : List (Owned ChallengeRow)
-  pub bare : map bare_row rows ≡ cs
-  pub keys : key_rows rows ≡ ks
-
--- where there is a key for each that was answered, in their order, there are such
-pub answers : (cs : List (Owned BareChallenge)) (ks : List AnswerKey) → map (λ k. k.challenge) ks ≡ answered_numbers cs → Answered cs ks
-answers [] [] same = record { rows = []; bare = refl; keys = refl }
-answers [] (k ∷ ks) same = absurd (cc same)
-answers (c ∷ cs) ks same = by c.row.answered (answers cs) ks same
-  where
-    by : (o : Option ℕ) → ((ks : List AnswerKey) → map (λ k. k.challenge) ks ≡ answered_numbers cs → Answered cs ks) → (ks : List AnswerKey)
-        → map (λ k. k.challenge) ks ≡ cons_option (option_map (λ _. c.row.number) o) (answered_numbers cs)
-        → Answered (bare_so c o ∷ cs) ks
-    by None behind ks same =
-        let rest = behind ks same in
-        record { rows = with_answer (bare_so c None) None ∷ rest.rows; bare = λ i. bare_so c None ∷ rest.bare i; keys = rest.keys }
-    by (Some date) behind [] same = absurd (cc same)
-    by (Some date) behind (k ∷ ks) same =
-        let first : k.challenge ≡ c.row.number = cc same in
-        let others : map (λ k. k.challenge) ks ≡ answered_numbers cs = cc same in
-        let rest = behind ks others in
-        record {
-          rows = with_answer (bare_so c (Some date)) (Some (record { date = date; thumb = k.thumb })) ∷ rest.rows;
-          bare = λ i. bare_so c (Some date) ∷ rest.bare i;
-          keys = λ i. (record { challenge = sym first i; thumb = k.thumb }) ∷ rest.keys i;
-        }
 
 -- ---- the rows of one owner
 
@@ -80,6 +49,11 @@ places_ascend n k (r ∷ rs) low up = by (r.owner == n) refl (λ k low. places_a
         )
     by false e rest = rest k low.1
 
+-- rows ascend as their images do
+unmapped_up : {X Y : Type 0} (f : X → Y) (key : Y → ℕ) (n : ℕ) (xs : List X) → Ascends key n (map f xs) → Ascends (λ x. key (f x)) n xs
+unmapped_up f key n [] up = tt
+unmapped_up f key n (x ∷ xs) up = (up.0, unmapped_up f key (key (f x) + 1) xs up.1)
+
 -- ---- numbers that differ in some order
 
 -- they differ in any other
@@ -100,40 +74,46 @@ abbrev with_listed : OrderRow → List Listed → OrderRow
 with_listed o ls = record o { listed = ls }
 
 -- the tables with these rows
-abbrev tables_of : Meta → FlatRows → List (Owned ChallengeRow) → Tables
-tables_of meta rows whole =
+abbrev pub tables_of : Meta → FlatRows → Tables
+tables_of meta rows =
     record {
       meta = meta;
       nonces = rows.nonces;
       accounts = rows.accounts;
-      authorizations = map (with_rows (λ (a : AuthorizationRow). a.number) with_challenges whole) rows.authorizations;
+      authorizations = map (with_rows (λ (a : AuthorizationRow). a.number) with_challenges (joined rows.challenges rows.keys)) rows.authorizations;
       orders = map (with_rows (λ (o : OrderRow). o.number) with_listed rows.listed) rows.orders;
     }
 
-module _ (meta : Meta) (rows : FlatRows) (stored : AreStored rows) (are : AreBookRows meta rows) (has : Answered rows.challenges rows.keys) where
+module _ (meta : Meta) (rows : FlatRows) (stored : AreStored rows) (are : AreBookRows meta rows) where
+  abbrev whole : List (Owned ChallengeRow)
+  whole = joined rows.challenges rows.keys
+
+  has : (map bare_row whole ≡ rows.challenges) × (key_rows whole ≡ rows.keys)
+  has = joined_has rows.challenges rows.keys are.keys
+
   abbrev T : Tables
-  T = tables_of meta rows has.rows
+  T = tables_of meta rows
 
   -- the challenges stand by number
-  whole_ascends : Ascends (λ c. c.row.number) 1 has.rows
+  whole_ascends : Ascends (λ c. c.row.number) 1 whole
   whole_ascends =
-      unmapped_up bare_row (λ c. c.row.number) 1 has.rows (subst (Ascends (λ (c : Owned BareChallenge). c.row.number) 1) (sym has.bare) are.challenges.table.0)
+      unmapped_up bare_row (λ c. c.row.number) 1 whole (subst (Ascends (λ (c : Owned BareChallenge). c.row.number) 1) (sym has.0) are.challenges.table.0)
 
   -- what holds of each as its table has it
-  each_whole : (P : Owned BareChallenge → Type 0) → EachOf P rows.challenges → EachOf (λ c. P (bare_row c)) has.rows
-  each_whole P h = each_of_map P bare_row has.rows (subst (EachOf P) (sym has.bare) h)
+  each_whole : (P : Owned BareChallenge → Type 0) → EachOf P rows.challenges → EachOf (λ c. P (bare_row c)) whole
+  each_whole P h = each_of_map P bare_row whole (subst (EachOf P) (sym has.0) h)
 
-  authorizations_nest : IsNestOf (λ (a : AuthorizationRow). a.number) (λ a. a.challenges) with_challenges (λ (c : ChallengeRow). c.number)
-      rows.authorizations has.rows T.authorizations
+  pub authorizations_nest : IsNestOf (λ (a : AuthorizationRow). a.number) (λ a. a.challenges) with_challenges (λ (c : ChallengeRow). c.number)
+      rows.authorizations whole T.authorizations
   authorizations_nest =
       nests_of (λ (a : AuthorizationRow). a.number) (λ a. a.challenges) with_challenges (λ (c : ChallengeRow). c.number)
       (record { number_kept = λ p ts. refl; children_are = λ p ts. refl; last_are = λ p ts us. refl; same = λ p. refl })
-      rows.authorizations has.rows are.authorizations.table.0
+      rows.authorizations whole are.authorizations.table.0
       (each IsStoredAuthorization (λ a. a.challenges ≡ []) rows.authorizations (λ a k. k.challenges) stored.authorizations)
       (each_whole (λ c. IsAmong (map (λ a. a.number) rows.authorizations) c.owner) are.challenges.authorizations_found)
-      (λ n. of_table (λ (c : ChallengeRow). c.number) n has.rows whole_ascends)
+      (λ n. of_table (λ (c : ChallengeRow). c.number) n whole whole_ascends)
 
-  orders_nest : IsNestOf (λ (o : OrderRow). o.number) (λ o. o.listed) with_listed (λ (l : Listed). l.place) rows.orders rows.listed T.orders
+  pub orders_nest : IsNestOf (λ (o : OrderRow). o.number) (λ o. o.listed) with_listed (λ (l : Listed). l.place) rows.orders rows.listed T.orders
   orders_nest =
       nests_of (λ (o : OrderRow). o.number) (λ o. o.listed) with_listed (λ (l : Listed). l.place)
       (record { number_kept = λ p ts. refl; children_are = λ p ts. refl; last_are = λ p ts us. refl; same = λ p. refl })
@@ -157,12 +137,12 @@ module _ (meta : Meta) (rows : FlatRows) (stored : AreStored rows) (are : AreBoo
   counters = record {
     nonces = are.nonces.1;
     accounts = are.accounts.table.1;
-    authorizations = each-map (λ a. a.number < meta.counters.authorizations + 1) (with_rows (λ (a : AuthorizationRow). a.number) with_challenges has.rows)
+    authorizations = each-map (λ a. a.number < meta.counters.authorizations + 1) (with_rows (λ (a : AuthorizationRow). a.number) with_challenges whole)
         rows.authorizations are.authorizations.table.1;
     challenges = each-map (λ a. Below (λ c. c.number) (meta.counters.challenges + 1) a.challenges)
-        (with_rows (λ (a : AuthorizationRow). a.number) with_challenges has.rows) rows.authorizations
-        (each_all (λ a. Below (λ c. c.number) (meta.counters.challenges + 1) (rows_of a.number has.rows)) rows.authorizations
-        (λ a. each_of_owner (λ c. c.number < meta.counters.challenges + 1) a.number has.rows
+        (with_rows (λ (a : AuthorizationRow). a.number) with_challenges whole) rows.authorizations
+        (each_all (λ a. Below (λ c. c.number) (meta.counters.challenges + 1) (rows_of a.number whole)) rows.authorizations
+        (λ a. each_of_owner (λ c. c.number < meta.counters.challenges + 1) a.number whole
         (each_whole (λ c. c.row.number < meta.counters.challenges + 1) are.challenges.table.1)));
     orders = each-map (λ o. o.number < meta.counters.orders + 1) (with_rows (λ (o : OrderRow). o.number) with_listed rows.listed)
         rows.orders are.orders.table.1;
@@ -174,13 +154,13 @@ module _ (meta : Meta) (rows : FlatRows) (stored : AreStored rows) (are : AreBoo
       found_among (λ (a : AuthorizationRow). a.number) n T.authorizations (subst (λ ns. IsAmong ns n) (sym (numbers_kept rows.authorizations)) among)
     where
       numbers_kept : (rest : List AuthorizationRow)
-          → map (λ a. a.number) (map (with_rows (λ (a : AuthorizationRow). a.number) with_challenges has.rows) rest) ≡ map (λ a. a.number) rest
+          → map (λ a. a.number) (map (with_rows (λ (a : AuthorizationRow). a.number) with_challenges whole) rest) ≡ map (λ a. a.number) rest
       numbers_kept [] = refl
       numbers_kept (a ∷ rest) = ap (λ l. a.number ∷ l) (numbers_kept rest)
 
   references : HaveReferences T
   references = record {
-    authorizations = each-map (λ a. IsSome (account_on T a.account)) (with_rows (λ (a : AuthorizationRow). a.number) with_challenges has.rows)
+    authorizations = each-map (λ a. IsSome (account_on T a.account)) (with_rows (λ (a : AuthorizationRow). a.number) with_challenges whole)
         rows.authorizations
         (each (λ a. IsAmong (map (λ a. a.number) rows.accounts) a.account) (λ a. IsSome (account_on T a.account)) rows.authorizations
         (λ a. found_among (λ (a : AccountRow). a.number) a.account rows.accounts) are.authorizations.accounts_found);
@@ -200,11 +180,11 @@ module _ (meta : Meta) (rows : FlatRows) (stored : AreStored rows) (are : AreBoo
     challenges = map-distinct (λ (c : ChallengeRow). c.number) (challenges_of T.authorizations)
         (subst (Distinct (λ n. n)) (all_numbers T.authorizations)
         (distinct-map (λ n. n) (λ (c : Owned ChallengeRow). c.row.number) (challenge_rows T.authorizations)
-        (distinct_moved (λ (c : Owned ChallengeRow). c.row.number) has.rows (challenge_rows T.authorizations) authorizations_nest.rows_are
-        (ascends_distinct (λ (c : Owned ChallengeRow). c.row.number) 1 has.rows whole_ascends))));
+        (distinct_moved (λ (c : Owned ChallengeRow). c.row.number) whole (challenge_rows T.authorizations) authorizations_nest.rows_are
+        (ascends_distinct (λ (c : Owned ChallengeRow). c.row.number) 1 whole whole_ascends))));
   }
 
-  book : IsBookOf rows T
+  pub book : IsBookOf rows T
   book = record {
     is_book = record { in_order = in_order; sound = record { counters = counters; references = references; distinct = distinct } };
     has_rows = record {
@@ -214,18 +194,16 @@ module _ (meta : Meta) (rows : FlatRows) (stored : AreStored rows) (are : AreBoo
       orders = orders_nest.parents_are;
       authorizations = authorizations_nest.parents_are;
       listed = orders_nest.rows_are;
-      challenges = subst (λ l. IsPermutation l (map bare_row (challenge_rows T.authorizations))) has.bare
-          (IsPermutation-map bare_row has.rows (challenge_rows T.authorizations) authorizations_nest.rows_are);
-      keys = subst (λ l. IsPermutation l (key_rows (challenge_rows T.authorizations))) has.keys
+      challenges = subst (λ l. IsPermutation l (map bare_row (challenge_rows T.authorizations))) has.0
+          (IsPermutation-map bare_row whole (challenge_rows T.authorizations) authorizations_nest.rows_are);
+      keys = subst (λ l. IsPermutation l (key_rows (challenge_rows T.authorizations))) has.1
           (picked_of (λ (a : AuthorizationRow). a.number) (λ a. a.challenges) with_challenges
           (record { number_kept = λ p ts. refl; children_are = λ p ts. refl; last_are = λ p ts us. refl; same = λ p. refl })
-          (λ (c : Owned ChallengeRow). answer_key c.row) rows.authorizations has.rows are.authorizations.table.0
+          (λ (c : Owned ChallengeRow). answer_key c.row) rows.authorizations whole are.authorizations.table.0
           (each_whole (λ c. IsAmong (map (λ a. a.number) rows.authorizations) c.owner) are.challenges.authorizations_found));
     };
   }
 
 -- such rows in their limits are those of a book
 pub rows_are_books : RowsAreBooks
-rows_are_books meta rows stored are =
-    let has = answers rows.challenges rows.keys are.keys in
-    (T meta rows stored are has, book meta rows stored are has)
+rows_are_books meta rows stored are = (tables_of meta rows, book meta rows stored are)

@@ -122,7 +122,7 @@ answered_up n (c ∷ cs) up = by c.row.answered (answered_up (c.row.number + 1) 
     by (Some date) rest = (up.0, rest)
 
 -- and are those of the keys of their answers
-key_numbers : (cs : List (Owned ChallengeRow)) → map (λ k. k.challenge) (key_rows cs) ≡ answered_numbers (map bare_row cs)
+pub key_numbers : (cs : List (Owned ChallengeRow)) → map (λ k. k.challenge) (key_rows cs) ≡ answered_numbers (map bare_row cs)
 key_numbers [] = refl
 key_numbers (c ∷ cs) = by c.row.answered (key_numbers cs)
   where

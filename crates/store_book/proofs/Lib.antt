@@ -7,7 +7,6 @@ pub mod KeyedRows
 pub mod NestedRows
 pub mod Nests
 pub mod OrderedRows
-pub mod Outcomes
 pub mod Owners
 pub mod Pushed
 pub mod Results

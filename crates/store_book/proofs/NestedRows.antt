@@ -1,43 +1,12 @@
--- Rows that are nested under their owners have these parents and these children, and none else do.
-use Rattle.std.proofs.Common.{◌≡◌, ℕ, ◌+◌, ◌<◌, ◌≤◌, Bool, true, false, cond, List, [], ◌∷◌, ◌++◌, map, refl, sym, ap, ◌∙◌, arith, append_assoc}
-use Rattle.std.specs.{Prelude.◌==◌, List.AllByRecursion}
-use Rattle.std.proofs.lemmas.Bool.{eqb-true, eq-eqb}
+-- Rows that are nested under their owners are what their parents and their children make.
+use Rattle.std.proofs.Common.{◌≡◌, ℕ, ◌+◌, ◌<◌, ◌≤◌, cond, List, [], ◌∷◌, ◌++◌, map, refl, ap, ◌∙◌, arith}
+use Rattle.std.specs.List.{AllByRecursion}
+use Rattle.std.proofs.lemmas.Bool.{eq-eqb}
 use Rattle.model_laws.specs.Ordered.{Ascends}
 use Rattle.store_columns.specs.declared.columns.Owned.{Owned}
 use Rattle.store_columns.specs.Flat.{owned_by}
-use Rattle.store_book.specs.Nesting.{IsNesting, child_rows, first_of, behind, nested, left_over}
+use Rattle.store_book.specs.Nesting.{IsNesting, child_rows, first_of, behind, nested}
 use Rattle.model_laws.proofs.Basics.{more_differs}
-
--- what is taken and what is left are all
-first-behind : {T : Type 0} (n : ℕ) (rs : List (Owned T)) → owned_by n (first_of n rs) ++ behind n rs ≡ rs
-first-behind n [] = refl
-first-behind {T} n (r ∷ rs) = by (r.owner == n) refl (first-behind n rs)
-  where
-    by : (b : Bool) → (r.owner == n) ≡ b → owned_by n (first_of n rs) ++ behind n rs ≡ rs →
-        owned_by n (cond b (r.row ∷ first_of n rs) []) ++ cond b (behind n rs) (r ∷ rs) ≡ r ∷ rs
-    by true e ih = let same : r.owner ≡ n = eqb-true r.owner n e in λ i. (record { owner = sym same i; row = r.row }) ∷ ih i
-    by false e ih = refl
-
--- the children of nested rows, and those that are left, are all
-pub children-nested : {P T : Type 0} (number : P → ℕ) (children : P → List T) (with_children : P → List T → P) → IsNesting number children with_children →
-    (ps : List P) (rs : List (Owned T)) →
-    child_rows number children (nested number with_children ps rs) ++ left_over number ps rs ≡ rs
-children-nested number children with_children laws [] rs = refl
-children-nested number children with_children laws (p ∷ ps) rs =
-    append_assoc (owned_by (number (with_children p (first_of (number p) rs))) (children (with_children p (first_of (number p) rs))))
-    (child_rows number children (nested number with_children ps (behind (number p) rs))) (left_over number ps (behind (number p) rs))
-    ∙ ap (λ l. owned_by (number (with_children p (first_of (number p) rs))) (children (with_children p (first_of (number p) rs))) ++ l)
-    (children-nested number children with_children laws ps (behind (number p) rs))
-    ∙ (λ i. owned_by (laws.number_kept p (first_of (number p) rs) i) (laws.children_are p (first_of (number p) rs) i) ++ behind (number p) rs)
-    ∙ first-behind (number p) rs
-
--- nested rows are the parents, but for their children
-pub parents-nested : {P T : Type 0} (number : P → ℕ) (children : P → List T) (with_children : P → List T → P) → IsNesting number children with_children →
-    (ps : List P) (rs : List (Owned T)) →
-    map (λ p. with_children p []) (nested number with_children ps rs) ≡ map (λ p. with_children p []) ps
-parents-nested number children with_children laws [] rs = refl
-parents-nested number children with_children laws (p ∷ ps) rs =
-    λ i. laws.last_are p (first_of (number p) rs) [] i ∷ parents-nested number children with_children laws ps (behind (number p) rs) i
 
 -- rows of higher owners
 abbrev AreAbove : {T : Type 0} → ℕ → List (Owned T) → Type 0
@@ -73,6 +42,14 @@ children-above {P} {T} number children k n (p ∷ ps) lt h =
     own [] above rest = rest
     own (t ∷ ts) above rest = (above, own ts above rest)
 
+-- parents with children keep their order
+pub nested_up : {P T : Type 0} (number : P → ℕ) (children : P → List T) (with_children : P → List T → P) → IsNesting number children with_children →
+    (n : ℕ) (ps : List P) (rs : List (Owned T)) → Ascends number n ps → Ascends number n (nested number with_children ps rs)
+nested_up number children with_children laws n [] rs up = tt
+nested_up number children with_children laws n (p ∷ ps) rs up =
+    let kept = laws.number_kept p (first_of (number p) rs) in
+    (rw kept up.0, rw kept (nested_up number children with_children laws (number p + 1) ps (behind (number p) rs) up.1))
+
 -- rows by number are what their parents and their children make
 pub nested-flat : {P T : Type 0} (number : P → ℕ) (children : P → List T) (with_children : P → List T → P) → IsNesting number children with_children →
     (n : ℕ) (ps : List P) → Ascends number n ps →
@@ -86,18 +63,6 @@ nested-flat number children with_children laws n (p ∷ ps) h =
     ∙ (λ i. with_children (with_children p []) (first-own (number p) (children p) (child_rows number children ps) above i)
     ∷ nested number with_children (map (λ p. with_children p []) ps) (behind-own (number p) (children p) (child_rows number children ps) above i))
     ∙ (λ i. (laws.last_are p [] (children p) ∙ laws.same p) i ∷ nested-flat number children with_children laws (number p + 1) ps h.1 i)
-
--- and nothing is left
-pub left_over-flat : {P T : Type 0} (number : P → ℕ) (children : P → List T) (with_children : P → List T → P) → IsNesting number children with_children →
-    (n : ℕ) (ps : List P) → Ascends number n ps →
-    left_over number (map (λ p. with_children p []) ps) (child_rows number children ps) ≡ []
-left_over-flat number children with_children laws n [] h = refl
-left_over-flat number children with_children laws n (p ∷ ps) h =
-    let above = children-above number children (number p) (number p + 1) ps (omega arith) h.1 in
-    ap (λ k. left_over number (map (λ p. with_children p []) ps)
-    (behind k (owned_by (number p) (children p) ++ child_rows number children ps))) (laws.number_kept p [])
-    ∙ ap (left_over number (map (λ p. with_children p []) ps)) (behind-own (number p) (children p) (child_rows number children ps) above)
-    ∙ left_over-flat number children with_children laws (number p + 1) ps h.1
 
 -- an owner's row before others is the first of its rows
 pub first-front : {T : Type 0} (n : ℕ) (t : T) (rs : List (Owned T)) → first_of n ((record { owner = n; row = t }) ∷ rs) ≡ t ∷ first_of n rs

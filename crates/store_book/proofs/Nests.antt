@@ -1,15 +1,13 @@
--- Nested rows with given parents and children: there are some exactly where nesting leaves nothing, and then they are these.
-use Rattle.std.proofs.Common.{◌≡◌, ℕ, List, [], ◌∷◌, ◌++◌, map, refl, sym, ap, ◌∙◌}
+-- Nested rows with given parents and children: they are what nesting gives.
+use Rattle.std.proofs.Common.{◌≡◌, ℕ, List, [], map, sym, ◌∙◌}
 use Rattle.std.specs.List.Sorted.{IsSorted, IsPermutation}
-use Rattle.std.proofs.lemmas.List.Sorted.{IsPermutation-sym, IsPermutation-trans, IsPermutation-map}
-use Rattle.std.proofs.lemmas.List.{append-nil}
-use Rattle.desk_model.specs.Kept.{EachOf}
+use Rattle.std.proofs.lemmas.List.Sorted.{IsPermutation-sym, IsPermutation-trans}
 use Rattle.model_laws.specs.Ordered.{Ascends}
 use Rattle.model_laws.proofs.RowLists.{ascends_map}
 use Rattle.store_columns.specs.declared.columns.Owned.{Owned}
-use Rattle.store_book.specs.Nesting.{IsNesting, IsNestOf, by_number, by_owner, child_rows, nested, left_over}
-use Rattle.store_book.proofs.NestedRows.{children-nested, parents-nested, nested-flat, left_over-flat}
-use Rattle.store_book.proofs.OrderedRows.{by_owner-total, same_by_number, same_ascending, strictly-children}
+use Rattle.store_book.specs.Nesting.{IsNesting, IsNestOf, by_owner, child_rows, nested}
+use Rattle.store_book.proofs.NestedRows.{nested-flat}
+use Rattle.store_book.proofs.OrderedRows.{by_owner-total, same_ascending, strictly-children}
 use Rattle.store_book.proofs.SortedLists.{same_sorted, same_strictly}
 
 -- parents of rows by number stand by number
@@ -17,50 +15,18 @@ parents-ascend : {P T : Type 0} (number : P → ℕ) (children : P → List T) (
     (ps : List P) → Ascends number 1 ps → Ascends number 1 (map (λ p. with_children p []) ps)
 parents-ascend number children with_children laws ps up = ascends_map number number (λ p. with_children p []) (λ p. laws.number_kept p []) 1 ps up
 
--- sorted parents and children are those of the rows that they come from
+-- parents by number and sorted children are those of the rows that they come from
 pub sorted-flat : {P T : Type 0} (number : P → ℕ) (children : P → List T) (with_children : P → List T → P) (child_number : T → ℕ) →
-    IsNesting number children with_children → (parents ordered : List P) (rows cs : List (Owned T)) (ps : List P) →
-    IsPermutation parents ordered → IsSorted (by_number number) ordered → IsPermutation rows cs → IsSorted (by_owner child_number) cs →
-    IsNestOf number children with_children child_number parents rows ps →
-    (nested number with_children ordered cs ≡ ps) × (left_over number ordered cs ≡ [])
-sorted-flat number children with_children child_number laws parents ordered rows cs ps moved up reordered rising nest =
-    let same_parents = same_by_number number 1 ordered (map (λ p. with_children p []) ps) up (parents-ascend number children with_children laws ps nest.ascends)
-    (IsPermutation-trans ordered parents (map (λ p. with_children p []) ps) (IsPermutation-sym parents ordered moved) nest.parents_are) in
+    IsNesting number children with_children → (parents : List P) (rows cs : List (Owned T)) (ps : List P) → Ascends number 1 parents →
+    IsPermutation rows cs → IsSorted (by_owner child_number) cs → IsNestOf number children with_children child_number parents rows ps →
+    nested number with_children parents cs ≡ ps
+sorted-flat number children with_children child_number laws parents rows cs ps up moved rising nest =
+    let same_parents = same_ascending number 1 1 parents (map (λ p. with_children p []) ps) up
+    (parents-ascend number children with_children laws ps nest.ascends) nest.parents_are in
     let same_children = same_sorted (by_owner child_number) (by_owner-total child_number) cs (child_rows number children ps) rising
     (strictly-children number children child_number 1 ps nest.ascends nest.children_ascend)
-    (IsPermutation-trans cs rows (child_rows number children ps) (IsPermutation-sym rows cs reordered) nest.rows_are) in (
-      (λ i. nested number with_children (same_parents i) (same_children i)) ∙ nested-flat number children with_children laws 1 ps nest.ascends,
-      (λ i. left_over number (same_parents i) (same_children i)) ∙ left_over-flat number children with_children laws 1 ps nest.ascends,
-    )
-
--- rows without children are their own parents
-bare-parents : {P T : Type 0} (number : P → ℕ) (children : P → List T) (with_children : P → List T → P) → IsNesting number children with_children →
-    (ps : List P) → EachOf (λ p. children p ≡ []) ps → map (λ p. with_children p []) ps ≡ ps
-bare-parents number children with_children laws [] h = refl
-bare-parents number children with_children laws (p ∷ ps) h =
-    λ i. (ap (λ l. with_children p l) (sym h.0) ∙ laws.same p) i ∷ bare-parents number children with_children laws ps h.1 i
-
--- nesting that leaves nothing gives rows with these parents and these children
-pub nests-rows : {P T : Type 0} (number : P → ℕ) (children : P → List T) (with_children : P → List T → P) (child_number : T → ℕ) →
-    IsNesting number children with_children → (parents ordered : List P) (rows cs : List (Owned T)) (ps : List P) →
-    IsPermutation parents ordered → IsPermutation rows cs → EachOf (λ p. children p ≡ []) parents →
-    ps ≡ nested number with_children ordered cs → left_over number ordered cs ≡ [] → Ascends number 1 ps
-    → EachOf (λ p. Ascends child_number 1 (children p)) ps →
-    IsNestOf number children with_children child_number parents rows ps
-nests-rows number children with_children child_number laws parents ordered rows cs ps moved reordered bare made none up ups =
-    record {
-      parents_are =
-          rw (ap (map (λ p. with_children p [])) made ∙ parents-nested number children with_children laws ordered cs)
-          (rw (← bare-parents number children with_children laws parents bare) (IsPermutation-map (λ p. with_children p []) parents ordered moved));
-      rows_are = rw (all ∙ children-nested number children with_children laws ordered cs) reordered;
-      ascends = up;
-      children_ascend = ups;
-    }
-  where
-    all : child_rows number children ps ≡ child_rows number children (nested number with_children ordered cs) ++ left_over number ordered cs
-    all =
-        ap (child_rows number children) made ∙ sym (append-nil (child_rows number children (nested number with_children ordered cs)))
-        ∙ ap (λ l. child_rows number children (nested number with_children ordered cs) ++ l) (sym none)
+    (IsPermutation-trans cs rows (child_rows number children ps) (IsPermutation-sym rows cs moved) nest.rows_are) in
+    (λ i. nested number with_children (same_parents i) (same_children i)) ∙ nested-flat number children with_children laws 1 ps nest.ascends
 
 -- there is but one such list
 pub same_nest : {P T : Type 0} (number : P → ℕ) (children : P → List T) (with_children : P → List T → P) (child_number : T → ℕ) →

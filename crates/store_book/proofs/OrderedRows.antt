@@ -2,15 +2,15 @@
 use Rattle.std.proofs.Common.{◌≡◌, ℕ, ◌+◌, ◌<◌, ◌≤◌, List, [], ◌∷◌, ◌++◌, nat_cmp, ap, ◌∙◌, arith, Ordering}
 use Rattle.std.specs.Cmp.{IsTotalOrder, nat_cmp_total, on_total, then_total}
 use Rattle.std.specs.{List.AllByRecursion, Ordering.ordering_then}
-use Rattle.std.specs.List.Sorted.{IsSorted, IsStrictlySortedBy, IsPermutation}
+use Rattle.std.specs.List.Sorted.{IsStrictlySortedBy, IsPermutation}
 use Rattle.std.proofs.lemmas.Bool.Decides.{nat_tests}
 use Rattle.desk_model.specs.Kept.{EachOf}
 use Rattle.model_laws.specs.Ordered.{Ascends}
 use Rattle.store_columns.specs.Flat.{owned_by}
 use Rattle.store_book.specs.Nesting.{by_number, by_owner, child_rows}
-use Rattle.store_book.proofs.SortedLists.{same_sorted, same_strictly}
+use Rattle.store_book.proofs.SortedLists.{same_strictly}
 
-pub by_number-total : {X : Type 0} (number : X → ℕ) → IsTotalOrder (by_number number)
+by_number-total : {X : Type 0} (number : X → ℕ) → IsTotalOrder (by_number number)
 by_number-total number = on_total number nat_cmp_total
 
 pub by_owner-total : {T : Type 0} (number : T → ℕ) → IsTotalOrder (by_owner number)
@@ -31,7 +31,7 @@ above_from_ascends number k n (x ∷ xs) lt h =
     (less_at k (number x) (omega arith), above_from_ascends number k (number x + 1) xs (omega arith) h.1)
 
 -- rows by number rise strictly
-pub strictly-from_ascends : {X : Type 0} (number : X → ℕ) (n : ℕ) (xs : List X) → Ascends number n xs → IsStrictlySortedBy (by_number number) xs
+strictly-from_ascends : {X : Type 0} (number : X → ℕ) (n : ℕ) (xs : List X) → Ascends number n xs → IsStrictlySortedBy (by_number number) xs
 unfolding IsStrictlySortedBy
 strictly-from_ascends number n [] h = tt
 strictly-from_ascends number n (x ∷ xs) h =
@@ -96,12 +96,6 @@ strictly-children number children child_number n (p ∷ ps) h own =
     (strictly-siblings child_number (number p) 1 (children p) own.0)
     (strictly-children number children child_number (number p + 1) ps h.1 own.1)
     (all_above_owners number children child_number (number p) (children p) (number p + 1) ps (omega arith) h.1)
-
--- sorted rows are the rows by number with the same elements
-pub same_by_number : {X : Type 0} (number : X → ℕ) (n : ℕ) (xs ys : List X) → IsSorted (by_number number) xs → Ascends number n ys
-    → IsPermutation xs ys → xs ≡ ys
-same_by_number number n xs ys up ascends moved =
-    same_sorted (by_number number) (by_number-total number) xs ys up (strictly-from_ascends number n ys ascends) moved
 
 -- rows by number with the same elements are equal
 pub same_ascending : {X : Type 0} (number : X → ℕ) (m n : ℕ) (xs ys : List X) → Ascends number m xs → Ascends number n ys → IsPermutation xs ys → xs ≡ ys

@@ -1,7 +1,7 @@
 -- Loops over a slice: what is left of it, by one more row, and nothing at the end.
-use Rattle.std.proofs.Common.{◌≡◌, ◌≤◌, ◌<◌, ◌+◌, ℕ, List, [], ◌∷◌, ◌++◌, length, drop, get_or, refl, sym, ap, ◌∙◌, append_assoc, append-nil}
+use Rattle.std.proofs.Common.{◌≡◌, ◌≤◌, ◌<◌, ◌+◌, ℕ, List, [], ◌∷◌, ◌++◌, length, take, drop, get_or, refl, sym, ap, ◌∙◌, append_assoc, append-nil}
 use Rattle.std.specs.Prelude.{Option, Some, None}
-use Rattle.std.proofs.lemmas.List.{at_drop_all, at_drop_more}
+use Rattle.std.proofs.lemmas.List.{at_drop_all, at_drop_more, take-append-drop}
 use Rattle.desk_model.specs.Derived.{and_status, authorization_numbered, numbers_of, stored_statuses}
 use Rattle.desk_model.specs.declared.{rows.AuthorizationRow.AuthorizationRow, rows.Listed.Listed, status.AuthzStatus.AuthzStatus}
 
@@ -28,6 +28,12 @@ one-more xs index d more = at_drop_more (λ l. l) xs index d more
 -- or nothing
 pub none-left : {X : Type 0} (xs : List X) (index : ℕ) → length xs ≤ index → drop index xs ≡ []
 none-left xs index all = at_drop_all (λ l. l) xs index all
+
+-- a row of a slice stands between those before it and those behind it
+pub row-among : {X : Type 0} (xs : List X) (index : ℕ) (d row : X) → index < length xs → row ≡ get_or xs index d
+    → take index xs ++ row ∷ drop (index + 1) xs ≡ xs
+row-among xs index d row more is =
+    ap (λ x. take index xs ++ x ∷ drop (index + 1) xs) is ∙ ap (λ l. take index xs ++ l) (sym (one-more xs index d more)) ∙ take-append-drop index xs
 
 -- the stored status of what is listed first, and those of the rest
 pub statuses-by_row : (rows : List AuthorizationRow) (l : Listed) (rest : List Listed) →

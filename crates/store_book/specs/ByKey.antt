@@ -1,5 +1,7 @@
 -- Rows that stand by key, table by table, and the law of those of a book.
-use Rattle.store_columns.specs.declared.columns.FlatRows.{FlatRows}
+use Rattle.std.specs.Prelude.{◌≡◌}
+use Rattle.store_columns.specs.{Columns.rows_columns, Limits.AreStored}
+use Rattle.store_columns.specs.declared.columns.{FlatRows.FlatRows, StoredRows.StoredRows}
 use Rattle.model_laws.specs.Ordered.{Ascends}
 use Rattle.desk_model.specs.Tables.{Tables}
 use Rattle.store_book.specs.{BookRows.AreBookRows, IsBook.IsBookOf, Passing.PlacedFrom}
@@ -13,6 +15,10 @@ pub record AreByKey (rows : FlatRows) : Type 0 where
   pub listed : PlacedFrom 0 0 rows.listed
   pub challenges : Ascends (λ c. c.row.number) 0 rows.challenges
   pub keys : Ascends (λ k. k.challenge) 0 rows.keys
+
+-- so do the rows, in their limits, that the columns spell
+abbrev pub AreStoredByKey : StoredRows → Type 0
+AreStoredByKey stored = (rows : FlatRows) → AreStored rows → stored ≡ rows_columns rows → AreByKey rows
 
 -- those of a book keep their counters and find what they refer to
 abbrev pub BooksHaveRows : Type 0

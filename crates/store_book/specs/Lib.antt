@@ -2,9 +2,7 @@ pub mod BookRows
 pub mod ByKey
 pub mod FaultNumbers
 pub mod IsBook
-pub mod Joined
 pub mod Joining
 pub mod Nesting
 pub mod Passing
 pub mod RowFaults
-pub mod Tests

@@ -1,5 +1,5 @@
 -- Rows under the rows that they belong to.
-use Rattle.std.specs.Prelude.{ℕ, ◌+◌, ◌≡◌, ◌==◌, ◌&&◌, List, [], ◌∷◌, Bool, true, nat_le, cond, map}
+use Rattle.std.specs.Prelude.{ℕ, ◌≡◌, ◌==◌, List, [], ◌∷◌, cond, map}
 use Rattle.std.specs.{List.flat_map, List.Sorted.IsPermutation}
 use Rattle.std.specs.Ordering.{nat_cmp, ordering_then}
 use Rattle.std.specs.declared.cmp.Ordering.{Ordering}
@@ -42,11 +42,6 @@ abbrev pub nested : {P T : Type 0} → (P → ℕ) → (P → List T → P) → 
 nested number with_children [] rs = []
 nested number with_children (p ∷ ps) rs = with_children p (first_of (number p) rs) ∷ nested number with_children ps (behind (number p) rs)
 
--- the children that they leave
-abbrev pub left_over : {P T : Type 0} → (P → ℕ) → List P → List (Owned T) → List (Owned T)
-left_over number [] rs = rs
-left_over number (p ∷ ps) rs = left_over number ps (behind (number p) rs)
-
 -- rows by number with these parents and these children, those of each by number
 pub record IsNestOf {P T : Type 0} (number : P → ℕ) (children : P → List T) (with_children : P → List T → P) (child_number : T → ℕ)
     (parents : List P) (rows : List (Owned T)) (ps : List P) : Type 0 where
@@ -54,8 +49,3 @@ pub record IsNestOf {P T : Type 0} (number : P → ℕ) (children : P → List T
   pub rows_are : IsPermutation rows (child_rows number children ps)
   pub ascends : Ascends number 1 ps
   pub children_ascend : EachOf (λ p. Ascends child_number 1 (children p)) ps
-
--- whether the numbers ascend, from n on
-abbrev pub ascends : {X : Type 0} → (X → ℕ) → ℕ → List X → Bool
-ascends number n [] = true
-ascends number n (x ∷ xs) = nat_le n (number x) && ascends number (number x + 1) xs

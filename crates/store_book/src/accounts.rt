@@ -1,12 +1,13 @@
 //! The rows of `account`.
 ghost use Rattle.std.specs.Prelude.{◌≡◌, ◌↔◌, [], IfOk, IsTrue, map};
+ghost use Rattle.std.specs.List.{IsDistinct};
+ghost use Rattle.std.specs.Ordering.{eq_by_cmp, is_lt};
 ghost use Rattle.model_laws.specs.Distinct.{Distinct};
 ghost use Rattle.store_book.specs.{BookRows.AreAccounts, Passing.IsUpTo};
 
 use crate::counter::Counter;
 use crate::numbers::Numbers;
 use crate::row_check::RowCheck;
-use crate::soundness::are_distinct;
 use desk_model::{AccountRow, Jwk};
 use std::alloc::{AllocError, Global};
 use store_columns::AccountColumns;
@@ -70,4 +71,19 @@ fn have_distinct_texts(alloc: Global, keys: &[Jwk]) -> Result<bool, AllocError>
         texts.push(key.canonical())?;
     }
     Ok(are_distinct(texts))
+}
+
+// Whether a key stands before the next.
+fn precedes<K: Ord>(key: &K, next: &K) -> bool
+    ensures { result ≡ is_lt (K.cmp key.now next.now) }
+{
+    key.cmp(next).is_lt()
+}
+
+// Whether no key stands twice.
+fn are_distinct<K: Ord + Drop>(mut keys: Vec<K>) -> bool
+    ensures { IsTrue result ↔ IsDistinct (eq_by_cmp K.cmp) keys.items }
+{
+    keys.sort_unstable();
+    keys.is_sorted_by(precedes)
 }

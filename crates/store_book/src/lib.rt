@@ -1,11 +1,11 @@
-//! The rows of a file's tables: made into a book, or checked one after the other, as they come by key; and the check of their statuses.
+//! The rows of a file's tables, checked one after the other, as they come by key, or made into a book; and the check of their statuses.
 //! `desk_store` opens a file by these, `sql_read` checks its rows as it reads them, and `store_passes` looks for status faults.
 #![tactic(auto)]
 
 mod accounts;
-mod assembling;
+mod checking;
+mod copied;
 mod counter;
-mod joined_rows;
 mod joining;
 mod keys;
 mod laws;
@@ -15,11 +15,9 @@ mod nesting;
 mod nonces;
 mod numbers;
 mod owned;
-mod parent;
 mod row_check;
 mod row_faults;
 mod rows_fault;
-mod soundness;
 mod status_check;
 mod stored_book;
 
@@ -34,6 +32,5 @@ pub use owned::{ChallengeCheck, OwnedCheck};
 pub use row_check::RowCheck;
 pub use row_faults::{account_fault, authorization_fault, challenge_fault, order_fault};
 pub use rows_fault::RowsFault;
-pub use soundness::are_distinct;
 pub use status_check::check;
 pub use stored_book::from_rows;

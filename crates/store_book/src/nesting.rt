@@ -1,22 +1,60 @@
-//! Rows put in order, and under the rows that they belong to.
-ghost use Rattle.std.specs.Prelude.{◌≡◌, ◌≢◌, [], ◌∷◌, IfOk, IsPermutation, MatchOption, MatchResult};
+//! Tables of rows, each with the rows that belong to it.
+ghost use Rattle.std.specs.Prelude.{◌≡◌, List, [], ◌∷◌, IfOk, IsPermutation, MatchOption, refl};
 ghost use Rattle.std.specs.List.Sorted.{IsSorted};
-ghost use Rattle.store_book.specs.Nesting.{by_number, by_owner, first_of, behind, nested, left_over};
-ghost use Rattle.store_book.specs.declared.rows_fault.RowsFault.TheVariants.{NotABook};
+ghost use Rattle.model_laws.specs.Ordered.{Ascends};
+ghost use Rattle.store_book.specs.Nesting.{IsNesting, IsNestOf, behind, by_owner, first_of, nested};
 
-use crate::parent::Parent;
-use crate::rows_fault::RowsFault;
-use desk_book::Row;
+use desk_book::{Row, Table};
+use desk_model::{AuthorizationRow, ChallengeRow, Listed, OrderRow, Sequence};
 use std::alloc::{AllocError, Global};
 use std::collections::VecDeque;
 use store_columns::Owned;
 
-/// Sorts rows by number.
-pub(crate) fn sort_by_number<R: Row>(rows: &mut Vec<R>)
-    ensures permutation { IsPermutation rows.old.items rows.new.items }
-    ensures sorted { IsSorted (by_number (λ row. R.number row)) rows.new.items }
-{
-    rows.sort_unstable_by_key(R::number);
+/// A row that has rows of a kind under it.
+pub(crate) trait Parent<T: Row>: Row {
+    ghost children: { Self → List T };
+
+    ghost with_children: { Self → List T → Self };
+
+    /// The row with these under it.
+    fn with_children(self, rows: Vec<T>) -> Self
+        ensures { result ≡ with_children self rows.items };
+
+    ghost nests: { IsNesting (λ row. Self.number row) children with_children };
+}
+
+impl Parent<ChallengeRow> for AuthorizationRow {
+    ghost children = { λ row. row.challenges };
+
+    ghost with_children = { λ row rows. record row { challenges = rows } };
+
+    ghost nests = { record { number_kept = λ p ts. refl; children_are = λ p ts. refl; last_are = λ p ts us. refl; same = λ p. refl } };
+
+    fn with_children(self, rows: Vec<ChallengeRow>) -> AuthorizationRow
+        ensures { result ≡ record self { challenges = rows.items } }
+    {
+        AuthorizationRow {
+            challenges: Sequence::new(rows),
+            ..self
+        }
+    }
+}
+
+impl Parent<Listed> for OrderRow {
+    ghost children = { λ row. row.listed };
+
+    ghost with_children = { λ row rows. record row { listed = rows } };
+
+    ghost nests = { record { number_kept = λ p ts. refl; children_are = λ p ts. refl; last_are = λ p ts us. refl; same = λ p. refl } };
+
+    fn with_children(self, rows: Vec<Listed>) -> OrderRow
+        ensures { result ≡ record self { listed = rows.items } }
+    {
+        OrderRow {
+            listed: Sequence::new(rows),
+            ..self
+        }
+    }
 }
 
 // The owner of a row, and its own number.
@@ -26,8 +64,8 @@ fn place_of<R: Row>(row: &Owned<R>) -> (u64, u64)
     (row.owner, row.row.number())
 }
 
-/// Sorts rows by owner, those of one owner by number.
-pub(crate) fn sort_by_owner<R: Row>(rows: &mut Vec<Owned<R>>)
+// Sorts rows by owner, those of one owner by number.
+fn sort_by_owner<R: Row>(rows: &mut Vec<Owned<R>>)
     ensures permutation { IsPermutation rows.old.items rows.new.items }
     ensures sorted { IsSorted (by_owner (λ row. R.number row)) rows.new.items }
 {
@@ -66,20 +104,13 @@ fn take_first<R: Drop>(
     Ok(taken)
 }
 
-/// The parents, each with its first children of those that the parents before it left.
-///
-/// # Errors
-///
-/// `NotABook` where children are left, `Memory` where there is none for the rows.
-pub(crate) fn nest<T: Row + Drop, P: Parent<T> + Drop>(
+// The parents, each with its first children of those that the parents before it left.
+fn nest<T: Row + Drop, P: Parent<T> + Drop>(
     alloc: Global,
     parents: Vec<P>,
     children: Vec<Owned<T>>,
-) -> Result<Vec<P>, RowsFault>
-    ensures { let left = left_over (λ row. P.Row.number row) parents.items children.items in
-        MatchResult result
-        (λ rows. (left ≡ []) × (rows.items ≡ nested (λ row. P.Row.number row) P.with_children parents.items children.items))
-        (λ fault. fault ≡ NotABook → left ≢ []) }
+) -> Result<Vec<P>, AllocError>
+    ensures { IfOk result (λ rows. rows.items ≡ nested (λ row. P.Row.number row) P.with_children parents.items children.items) }
 {
     let mut rest = VecDeque::from(children);
     let mut rows = Vec::new(alloc);
@@ -87,9 +118,41 @@ pub(crate) fn nest<T: Row + Drop, P: Parent<T> + Drop>(
         let taken = take_first(&mut rest, alloc, parent.number())?;
         rows.push(parent.with_children(taken))?;
     }
-    if rest.is_empty() {
-        Ok(rows)
-    } else {
-        Err(RowsFault::NotABook)
+    Ok(rows)
+}
+
+/// The table of rows whose numbers ascend.
+///
+/// # Errors
+///
+/// Where there is no memory for the table.
+pub(crate) fn table_of<R: Row + Drop>(alloc: Global, rows: Vec<R>) -> Result<Table<R>, AllocError>
+    requires { Ascends (λ row. R.number row) 1 rows.items }
+    ensures { IfOk result (λ table. table ≡ rows.items) }
+{
+    let mut table = Table::new(alloc);
+    for row in rows {
+        table.put(row)?;
     }
+    Ok(table)
+}
+
+/// The table of parents whose numbers ascend, each with its own of these children, by number.
+///
+/// # Errors
+///
+/// Where there is no memory for the table.
+pub(crate) fn nested_table_of<T: Row + Drop, P: Parent<T> + Drop>(
+    alloc: Global,
+    parents: Vec<P>,
+    children: Vec<Owned<T>>,
+) -> Result<Table<P>, AllocError>
+    requires { Ascends (λ row. P.Row.number row) 1 parents.items }
+    ensures { IfOk result (λ table. (rows : List P) →
+        IsNestOf (λ row. P.Row.number row) P.children P.with_children (λ child. T.number child) parents.items children.items rows → table ≡ rows) }
+{
+    let mut children = children;
+    sort_by_owner(&mut children);
+    let rows = nest(alloc, parents, children)?;
+    table_of(alloc, rows)
 }

@@ -1,23 +1,50 @@
-use Rattle.std.proofs.Common.{subst}
+use Rattle.std.proofs.Common.{◌≡◌, ap, refl, sym, subst, subst₂, ◌∙◌}
 use Rattle.std.proofs.lemmas.Result.{err_from_is_err_and}
-use Rattle.store_book.specs.IsBook.{IsSound}
-use Rattle.store_book.proofs.SoundBooks.{same-tables}
+use Rattle.model_laws.specs.Ordered.{Ascends}
+use Rattle.desk_model.specs.declared.objects.Nonce.{Nonce}
+use Rattle.desk_model.specs.declared.rows.{AccountRow.AccountRow, AuthorizationRow.AuthorizationRow, ChallengeRow.ChallengeRow}
+use Rattle.desk_model.specs.declared.rows.{Listed.Listed, OrderRow.OrderRow}
+use Rattle.store_book.specs.{IsBook.IsBookOf, Joining.joined, Nesting.IsNestOf}
+use Rattle.store_book.proofs.InOrder.{authorizations_nest, book, orders_nest, tables_of}
 use Rattle.store_book.proofs.stored_book.book_of_rows.Goals as goal
+
+pub returns-in_err-meta : goal.returns-in_err-meta
+returns-in_err-meta c =
+    let p = err_from_is_err_and c.from_residual.result c.from_residual.ensures.1 in
+    rw (p.1, p.2) (λ e. c.in_err-meta.ensures c.requires.passed.0 c.requires.passed.1.metas)
+
+pub table_of-requires : goal.table_of-requires
+table_of-requires c = subst (Ascends (λ (n : Nonce). n.serial) 1) (sym c.into_vec.ensures) c.requires.passed.1.nonces.0
+
+pub table_of-requires-2 : goal.table_of-requires-2
+table_of-requires-2 c = subst (Ascends (λ (a : AccountRow). a.number) 1) (sym c.into_vec-2.ensures) c.requires.passed.1.accounts.table.0
+
+pub nested_table_of-requires : goal.nested_table_of-requires
+nested_table_of-requires c =
+    subst (Ascends (λ (a : AuthorizationRow). a.number) 1) (sym c.into_vec-3.ensures) c.requires.passed.1.authorizations.table.0
+
+pub nested_table_of-requires-2 : goal.nested_table_of-requires-2
+nested_table_of-requires-2 c = subst (Ascends (λ (o : OrderRow). o.number) 1) (sym c.into_vec-4.ensures) c.requires.passed.1.orders.table.0
 
 pub returns : goal.returns
 returns c =
-    let made = c.in_ok-book.ensures in
-    record { is_book = record { in_order = made.0; sound = c.in_ok-check_soundness.ensures }; has_rows = made.1 }
-
-pub returns-in_err-book : goal.returns-in_err-book
-returns-in_err-book c =
-    let p = err_from_is_err_and c.from_residual.result c.from_residual.ensures.1 in
-    rw (p.1, p.2) (λ e T book. c.in_err-book.ensures e T book.is_book.in_order book.has_rows)
-
-pub returns-in_err-check_soundness : goal.returns-in_err-check_soundness
-returns-in_err-check_soundness c =
-    let made = c.in_ok-book in
-    let p = err_from_is_err_and c.from_residual-in_err-check_soundness.result c.from_residual-in_err-check_soundness.ensures.1 in
-    rw (p.1, p.2) (λ e T book.
-    let same = same-tables c.args.rows T made.book book.is_book.in_order book.has_rows made.ensures.0 made.ensures.1 in
-    c.in_err-check_soundness.ensures e (subst IsSound same book.is_book.sound))
+    let meta = c.requires.passed.0 in
+    let are = c.requires.passed.1 in
+    let stored = c.requires.stored in
+    let rows = c.args.rows in
+    let T = tables_of meta rows in
+    let first : c.in_ok-meta.meta ≡ meta = (let both = sym c.in_ok-meta.ensures ∙ are.metas in cc) in
+    let whole = c.in_ok-challenges.ensures ∙ (λ i. joined (c.as_slice.ensures i) (c.as_slice-2.ensures i)) in
+    let authorizations = c.in_ok-authorizations.ensures T.authorizations
+    (subst₂ (λ ps cs. IsNestOf (λ (a : AuthorizationRow). a.number) (λ a. a.challenges) (λ (a : AuthorizationRow) cs. record a { challenges = cs })
+    (λ (c : ChallengeRow). c.number) ps cs T.authorizations) (sym c.into_vec-3.ensures) (sym whole) (authorizations_nest meta rows stored are)) in
+    let orders = c.in_ok-orders.ensures T.orders
+    (subst₂ (λ ps ls. IsNestOf (λ (o : OrderRow). o.number) (λ o. o.listed) (λ (o : OrderRow) ls. record o { listed = ls })
+    (λ (l : Listed). l.place) ps ls T.orders) (sym c.into_vec-4.ensures) (sym c.into_vec-5.ensures) (orders_nest meta rows stored are)) in
+    subst (IsBookOf rows) (sym (c.of_tables.ensures ∙ (λ i. record {
+      meta = first i;
+      nonces = (c.in_ok-nonces.ensures ∙ c.into_vec.ensures) i;
+      accounts = (c.in_ok-accounts.ensures ∙ c.into_vec-2.ensures) i;
+      authorizations = authorizations i;
+      orders = orders i;
+    }))) (book meta rows stored are)

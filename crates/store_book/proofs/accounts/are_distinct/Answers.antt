@@ -1,7 +1,7 @@
 use Rattle.std.proofs.Common.{rules, is_lt}
 use Rattle.std.proofs.lemmas.List.Sorted.{answers_always}
 use Rattle.store_book.proofs.Distinctness.{distinct-answer}
-use Rattle.store_book.proofs.soundness.are_distinct.Goals as goal
+use Rattle.store_book.proofs.accounts.are_distinct.Goals as goal
 
 pub returns : goal.returns
 returns g c =

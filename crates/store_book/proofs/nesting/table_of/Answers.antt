@@ -2,7 +2,7 @@ use Rattle.std.proofs.Common.{◌++◌, ◌∷◌, [], ◌∙◌, sym, ap, appen
 use Rattle.model_laws.specs.Ordered.{Ascends}
 use Rattle.store_book.proofs.Ascending.{put-ascending}
 use Rattle.std.proofs.lemmas.List.{append-nil, nil_from_length}
-use Rattle.store_book.proofs.assembling.table_of_ascending.Goals as goal
+use Rattle.store_book.proofs.nesting.table_of.Goals as goal
 
 pub loop-row-preserved : goal.loop-row-preserved
 loop-row-preserved g c =
