@@ -21,9 +21,9 @@ use Rattle.store_book.specs.{FaultNumbers.challenges_of, Joining.joined, Nesting
 use Rattle.store_book.specs.IsBook.{AreDistinct, AreInOrder, HaveReferences, IsBookOf, KeepCounters, ListsFound}
 use Rattle.store_book.proofs.Distinctness.{distinct-rows, equal-numbers, numbers-equal, values-distinct}
 use Rattle.store_book.proofs.{SortedLists.equal_flips, SoundBooks.all_numbers}
-use Rattle.store_book.proofs.Joins.{joined_has}
+use Rattle.store_book.proofs.{Joins.joined_has, Swapped.picked-permutation}
 use Rattle.store_book.specs.BookRows.{AreBookRows, IsAmong, PlacesRise, RowsAreBooks}
-use Rattle.store_book.proofs.Owners.{each_of_owner, found_among, is_of, nests_of, picked_of, rows_of, with_rows}
+use Rattle.store_book.proofs.Owners.{each_of_owner, found_among, is_of, nests_of, rows_of, with_rows}
 
 -- ---- the rows of one owner
 
@@ -197,10 +197,7 @@ module _ (meta : Meta) (rows : FlatRows) (stored : AreStored rows) (are : AreBoo
       challenges = subst (λ l. IsPermutation l (map bare_row (challenge_rows T.authorizations))) has.0
           (IsPermutation-map bare_row whole (challenge_rows T.authorizations) authorizations_nest.rows_are);
       keys = subst (λ l. IsPermutation l (key_rows (challenge_rows T.authorizations))) has.1
-          (picked_of (λ (a : AuthorizationRow). a.number) (λ a. a.challenges) with_challenges
-          (record { number_kept = λ p ts. refl; children_are = λ p ts. refl; last_are = λ p ts us. refl; same = λ p. refl })
-          (λ (c : Owned ChallengeRow). answer_key c.row) rows.authorizations whole are.authorizations.table.0
-          (each_whole (λ c. IsAmong (map (λ a. a.number) rows.authorizations) c.owner) are.challenges.authorizations_found));
+          (picked-permutation (λ (c : Owned ChallengeRow). answer_key c.row) whole (challenge_rows T.authorizations) authorizations_nest.rows_are);
     };
   }
 

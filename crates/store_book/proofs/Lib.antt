@@ -1,5 +1,4 @@
 pub mod Among
-pub mod Ascending
 pub mod Distinctness
 pub mod InOrder
 mod Joins

@@ -8,27 +8,32 @@ use Rattle.store_columns.specs.Flat.{owned_by}
 use Rattle.store_book.specs.Nesting.{IsNesting, child_rows, first_of, behind, nested}
 use Rattle.model_laws.proofs.Basics.{more_differs}
 
+-- an owner's row before others is the first of its rows
+pub first-front : {T : Type 0} (n : ℕ) (t : T) (rs : List (Owned T)) → first_of n ((record { owner = n; row = t }) ∷ rs) ≡ t ∷ first_of n rs
+first-front n t rs = ap (λ b. cond b (t ∷ first_of n rs) []) (eq-eqb n n refl)
+
+-- and what is behind its rows is behind the others
+pub behind-front : {T : Type 0} (n : ℕ) (t : T) (rs : List (Owned T)) → behind n ((record { owner = n; row = t }) ∷ rs) ≡ behind n rs
+behind-front n t rs = ap (λ b. cond b (behind n rs) ((record { owner = n; row = t }) ∷ rs)) (eq-eqb n n refl)
+
 -- rows of higher owners
 abbrev AreAbove : {T : Type 0} → ℕ → List (Owned T) → Type 0
 AreAbove n rs = AllByRecursion (λ r. n < r.owner) rs
 
-first-above : {T : Type 0} (n : ℕ) (rs : List (Owned T)) → AreAbove n rs → first_of n rs ≡ []
-first-above n [] h = refl
-first-above {T} n (r ∷ rs) h = ap (λ b. cond b (r.row ∷ first_of n rs) []) (more_differs r.owner n h.0)
-
-behind-above : {T : Type 0} (n : ℕ) (rs : List (Owned T)) → AreAbove n rs → behind n rs ≡ rs
-behind-above n [] h = refl
-behind-above {T} n (r ∷ rs) h = ap (λ b. cond b (behind n rs) (r ∷ rs)) (more_differs r.owner n h.0)
+-- none of them is the lower owner's
+none-own : {T : Type 0} (n : ℕ) (rs : List (Owned T)) → AreAbove n rs → (first_of n rs ≡ []) × (behind n rs ≡ rs)
+none-own n [] h = (refl, refl)
+none-own {T} n (r ∷ rs) h =
+    let other = more_differs r.owner n h.0 in
+    (ap (λ b. cond b (r.row ∷ first_of n rs) []) other, ap (λ b. cond b (behind n rs) (r ∷ rs)) other)
 
 -- the first rows of an owner are its own, before rows of higher owners
-first-own : {T : Type 0} (n : ℕ) (ts : List T) (rs : List (Owned T)) → AreAbove n rs → first_of n (owned_by n ts ++ rs) ≡ ts
-first-own n [] rs h = first-above n rs h
-first-own n (t ∷ ts) rs h = ap (λ b. cond b (t ∷ first_of n (owned_by n ts ++ rs)) []) (eq-eqb n n refl) ∙ ap (λ l. t ∷ l) (first-own n ts rs h)
-
-behind-own : {T : Type 0} (n : ℕ) (ts : List T) (rs : List (Owned T)) → AreAbove n rs → behind n (owned_by n ts ++ rs) ≡ rs
-behind-own n [] rs h = behind-above n rs h
-behind-own n (t ∷ ts) rs h =
-    ap (λ b. cond b (behind n (owned_by n ts ++ rs)) ((record { owner = n; row = t }) ∷ (owned_by n ts ++ rs))) (eq-eqb n n refl) ∙ behind-own n ts rs h
+first-own : {T : Type 0} (n : ℕ) (ts : List T) (rs : List (Owned T)) → AreAbove n rs
+    → (first_of n (owned_by n ts ++ rs) ≡ ts) × (behind n (owned_by n ts ++ rs) ≡ rs)
+first-own n [] rs h = none-own n rs h
+first-own n (t ∷ ts) rs h =
+    let rest = first-own n ts rs h in
+    (first-front n t (owned_by n ts ++ rs) ∙ ap (λ l. t ∷ l) rest.0, behind-front n t (owned_by n ts ++ rs) ∙ rest.1)
 
 -- the children of rows by number are of higher owners than a lower number
 children-above : {P T : Type 0} (number : P → ℕ) (children : P → List T) (k n : ℕ) (ps : List P) → k < n → Ascends number n ps
@@ -57,17 +62,10 @@ pub nested-flat : {P T : Type 0} (number : P → ℕ) (children : P → List T) 
 nested-flat number children with_children laws n [] h = refl
 nested-flat number children with_children laws n (p ∷ ps) h =
     let above = children-above number children (number p) (number p + 1) ps (omega arith) h.1 in
+    let own = first-own (number p) (children p) (child_rows number children ps) above in
     let k = laws.number_kept p [] in
     (λ i. with_children (with_children p []) (first_of (k i) (owned_by (number p) (children p) ++ child_rows number children ps))
     ∷ nested number with_children (map (λ p. with_children p []) ps) (behind (k i) (owned_by (number p) (children p) ++ child_rows number children ps)))
-    ∙ (λ i. with_children (with_children p []) (first-own (number p) (children p) (child_rows number children ps) above i)
-    ∷ nested number with_children (map (λ p. with_children p []) ps) (behind-own (number p) (children p) (child_rows number children ps) above i))
+    ∙ (λ i. with_children (with_children p []) (own.0 i)
+    ∷ nested number with_children (map (λ p. with_children p []) ps) (own.1 i))
     ∙ (λ i. (laws.last_are p [] (children p) ∙ laws.same p) i ∷ nested-flat number children with_children laws (number p + 1) ps h.1 i)
-
--- an owner's row before others is the first of its rows
-pub first-front : {T : Type 0} (n : ℕ) (t : T) (rs : List (Owned T)) → first_of n ((record { owner = n; row = t }) ∷ rs) ≡ t ∷ first_of n rs
-first-front n t rs = ap (λ b. cond b (t ∷ first_of n rs) []) (eq-eqb n n refl)
-
--- and what is behind its rows is behind the others
-pub behind-front : {T : Type 0} (n : ℕ) (t : T) (rs : List (Owned T)) → behind n ((record { owner = n; row = t }) ∷ rs) ≡ behind n rs
-behind-front n t rs = ap (λ b. cond b (behind n rs) ((record { owner = n; row = t }) ∷ rs)) (eq-eqb n n refl)

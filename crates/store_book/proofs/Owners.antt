@@ -1,11 +1,11 @@
 -- Rows under their owners, in whatever order the owners' numbers stand in them.
 use Rattle.std.proofs.Common.{◌≡◌, ◌≢◌, ℕ, Bool, true, false, cond, List, [], ◌∷◌, ◌++◌, map, filter, Option, Some, None, refl, sym, ap, subst, ◌∙◌}
-use Rattle.std.specs.Prelude.{◌==◌, find, filter_map, not, IsSome, option_map}
-use Rattle.std.specs.List.{cons_option, flat_map}
-use Rattle.std.proofs.lemmas.{List.Elements.filter_map-append, Bool.eqb-true}
+use Rattle.std.specs.Prelude.{◌==◌, find, not, IsSome, option_map}
+use Rattle.std.specs.List.{flat_map}
+use Rattle.std.proofs.lemmas.Bool.{eqb-true}
 use Rattle.std.specs.List.Sorted.{IsPermutation}
-use Rattle.std.proofs.lemmas.List.Sorted.{IsPermutation-append_right, IsPermutation-cons, IsPermutation-filter_both, IsPermutation-middle}
-use Rattle.std.proofs.lemmas.List.Sorted.{IsPermutation-refl, IsPermutation-sym, IsPermutation-trans}
+use Rattle.std.proofs.lemmas.List.Sorted.{IsPermutation-append_right, IsPermutation-filter_both}
+use Rattle.std.proofs.lemmas.List.Sorted.{IsPermutation-refl, IsPermutation-trans}
 use Rattle.store_columns.specs.declared.columns.Owned.{Owned}
 use Rattle.store_columns.specs.Flat.{owned_by}
 use Rattle.model_laws.specs.{Ordered.Ascends, Distinct.Distinct}
@@ -120,57 +120,6 @@ rows_of_all {T} (m ∷ ms) rs apart owners =
     (IsPermutation-filter_both (is_of m) (λ r. not (is_of m r)) (λ r. refl) rs)
     (IsPermutation-append_right (filter (is_of m) rs) others (all_of ms rs) rest))
 
--- ---- what is made of some of them
-
--- what is made of those that pass a test and of those that do not
-picked_both : {X Y : Type 0} (h : X → Option Y) (p : X → Bool) (xs : List X)
-    → IsPermutation (filter_map h xs) (filter_map h (filter p xs) ++ filter_map h (filter (λ x. not (p x)) xs))
-picked_both h p [] = IsPermutation-refl []
-picked_both {X} {Y} h p (x ∷ xs) = by (p x) (h x) refl (picked_both h p xs)
-  where
-    by : (b : Bool) (o : Option Y) → h x ≡ o → IsPermutation (filter_map h xs) (filter_map h (filter p xs) ++ filter_map h (filter (λ x. not (p x)) xs))
-        → IsPermutation (cons_option o (filter_map h xs))
-        (filter_map h (cond b (x ∷ filter p xs) (filter p xs))
-        ++ filter_map h (cond (not b) (x ∷ filter (λ x. not (p x)) xs) (filter (λ x. not (p x)) xs)))
-    by true o is rest =
-        subst (λ m. IsPermutation (cons_option o (filter_map h xs)) (cons_option m (filter_map h (filter p xs)) ++ filter_map h (filter (λ x. not (p x)) xs)))
-        (sym is) (front o rest)
-      where
-        front : (o : Option Y) → IsPermutation (filter_map h xs) (filter_map h (filter p xs) ++ filter_map h (filter (λ x. not (p x)) xs))
-            → IsPermutation (cons_option o (filter_map h xs)) (cons_option o (filter_map h (filter p xs)) ++ filter_map h (filter (λ x. not (p x)) xs))
-        front None rest = rest
-        front (Some y) rest = IsPermutation-cons y (filter_map h xs) (filter_map h (filter p xs) ++ filter_map h (filter (λ x. not (p x)) xs)) rest
-    by false o is rest =
-        subst (λ m. IsPermutation (cons_option o (filter_map h xs)) (filter_map h (filter p xs) ++ cons_option m (filter_map h (filter (λ x. not (p x)) xs))))
-        (sym is) (middle o rest)
-      where
-        middle : (o : Option Y) → IsPermutation (filter_map h xs) (filter_map h (filter p xs) ++ filter_map h (filter (λ x. not (p x)) xs))
-            → IsPermutation (cons_option o (filter_map h xs)) (filter_map h (filter p xs) ++ cons_option o (filter_map h (filter (λ x. not (p x)) xs)))
-        middle None rest = rest
-        middle (Some y) rest =
-            let passed = filter_map h (filter p xs) in
-            let others = filter_map h (filter (λ x. not (p x)) xs) in
-            IsPermutation-trans (y ∷ filter_map h xs) (y ∷ (passed ++ others)) (passed ++ y ∷ others)
-            (IsPermutation-cons y (filter_map h xs) (passed ++ others) rest)
-            (IsPermutation-sym (passed ++ y ∷ others) (y ∷ (passed ++ others)) (IsPermutation-middle passed y others))
-
--- what is made of the rows of all owners
-picked_of_all : {T Y : Type 0} (h : Owned T → Option Y) (ns : List ℕ) (rs : List (Owned T)) → Distinct (λ n. n) ns → EachOf (λ r. IsAmong ns r.owner) rs
-    → IsPermutation (filter_map h rs) (filter_map h (all_of ns rs))
-picked_of_all h [] rs apart owners = subst (λ l. IsPermutation (filter_map h rs) (filter_map h l)) (no_owners rs owners) (IsPermutation-refl (filter_map h rs))
-picked_of_all {T} {Y} h (m ∷ ms) rs apart owners =
-    let others = filter (λ r. not (is_of m r)) rs in
-    let rest : IsPermutation (filter_map h others) (filter_map h (all_of ms rs)) =
-    subst (λ l. IsPermutation (filter_map h others) (filter_map h l)) (others_same m ms rs apart.0)
-    (picked_of_all h ms others apart.1 (owners_rest m ms rs owners)) in
-    subst (IsPermutation (filter_map h rs))
-    (sym (filter_map-append h (owned_by m (rows_of m rs)) (all_of ms rs)))
-    (subst (λ l. IsPermutation (filter_map h rs) (filter_map h l ++ filter_map h (all_of ms rs))) (sym (owned_again m rs))
-    (IsPermutation-trans (filter_map h rs) (filter_map h (filter (is_of m) rs) ++ filter_map h others)
-    (filter_map h (filter (is_of m) rs) ++ filter_map h (all_of ms rs))
-    (picked_both h (is_of m) rs)
-    (IsPermutation-append_right (filter_map h (filter (is_of m) rs)) (filter_map h others) (filter_map h (all_of ms rs)) rest)))
-
 -- ---- parents with their rows
 
 -- the children of parents that have their rows
@@ -204,11 +153,3 @@ nests_of number children with_children child_number laws ps rs up bare owners ri
       (each_all (λ p. Ascends child_number 1 (children (with_rows number with_children rs p))) ps
       (λ p. subst (Ascends child_number 1) (sym (laws.children_are p (rows_of (number p) rs))) (rising (number p))));
 }
-
--- what is made of some of these rows is made of some of theirs
-pub picked_of : {P T Y : Type 0} (number : P → ℕ) (children : P → List T) (with_children : P → List T → P) → IsNesting number children with_children
-    → (h : Owned T → Option Y) (ps : List P) (rs : List (Owned T)) → Ascends number 1 ps → EachOf (λ r. IsAmong (map number ps) r.owner) rs
-    → IsPermutation (filter_map h rs) (filter_map h (child_rows number children (map (with_rows number with_children rs) ps)))
-picked_of number children with_children laws h ps rs up owners =
-    subst (λ l. IsPermutation (filter_map h rs) (filter_map h l)) (sym (children_of number children with_children laws rs ps))
-    (picked_of_all h (map number ps) rs (distinct-map (λ n. n) number ps (ascends_distinct number 1 ps up)) owners)

@@ -8,7 +8,7 @@ use Rattle.store_columns.proofs.RowsApart.{rows-apart}
 use Rattle.store_columns.specs.Columns.{rows_columns}
 use Rattle.store_columns.specs.Limits.{AreStored}
 use Rattle.store_columns.specs.declared.{columns.StoredRows.StoredRows, columns.Owned.Owned, columns.FlatRows.FlatRows}
-use Rattle.store_columns.specs.Flat.{bare_row, challenge_rows, key_rows, listed_rows, owned_by}
+use Rattle.store_columns.specs.Flat.{bare_row, challenge_rows, key_rows, owned_by}
 use Rattle.model_laws.proofs.Distinctness.{distinct-map, map-distinct}
 use Rattle.model_laws.specs.Distinct.{Distinct}
 use Rattle.store_book.specs.FaultNumbers.{challenges_of}
@@ -38,9 +38,6 @@ rows_distinct T book =
 moved_both : {X : Type 0} (ys xs zs : List X) → IsPermutation ys xs → IsPermutation ys zs → IsPermutation xs zs
 moved_both ys xs zs left right = IsPermutation-trans xs ys zs (IsPermutation-sym ys xs left) right
 
-single-same : {X : Type 0} (xs : List X) (x y : X) → xs ≡ x ∷ [] → xs ≡ y ∷ [] → x ≡ y
-single-same xs x y p q = cc
-
 -- two books of the same rows are equal
 pub same-books : (rows : FlatRows) (T U : Tables) → IsBookOf rows T → IsBookOf rows U → T ≡ U
 same-books rows T U a b =
@@ -50,8 +47,9 @@ same-books rows T U a b =
     let s = b.has_rows in
     let ones = challenge_rows T.authorizations in
     let others = challenge_rows U.authorizations in
+    let first : T.meta ≡ U.meta = (let both = sym (same_single rows.metas T.meta r.metas) ∙ same_single rows.metas U.meta s.metas in cc) in
     λ i. record {
-      meta = single-same rows.metas T.meta U.meta (same_single rows.metas T.meta r.metas) (same_single rows.metas U.meta s.metas) i;
+      meta = first i;
       nonces = same_ascending (λ n. n.serial) 1 1 T.nonces U.nonces o.nonces p.nonces (moved_both rows.nonces T.nonces U.nonces r.nonces s.nonces) i;
       accounts = same_ascending (λ a. a.number) 1 1 T.accounts U.accounts o.accounts p.accounts
           (moved_both rows.accounts T.accounts U.accounts r.accounts s.accounts) i;

@@ -1,4 +1,4 @@
-use Rattle.std.proofs.Common.{◌≡◌, subst}
+use Rattle.std.proofs.Common.{subst}
 use Rattle.std.proofs.lemmas.Result.{MatchResult-weaker, err_from_is_err_and}
 use Rattle.store_book.specs.IsBook.{IsBookOf}
 use Rattle.store_book.proofs.{KeyedRows.books_have_rows, SoundBooks.stored-told}
