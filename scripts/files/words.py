@@ -49,6 +49,8 @@ HELP = {
     "revoke-authz": ("FILE", "N", "1 to 2^62", "--port", "desk: connection", *WAIT),
     "revoke-account": ("FILE", "N", "1 to 2^62", "--port", "desk: connection", *WAIT),
 }
+# A contact of characters that a terminal obeys or turns round: a control of C0, DEL, one of C1, a bidirectional override; and one beyond U+FFFF.
+UNSEEN = 'mailto:"x\\y\n\u001b\u007f\u009b\u202e\U0001f511~"@c.example'
 # The fixed texts of the page behind its head.
 PAGE_CLOCK = "</code></h1>\n<p>Its clock, the latest moment at which it recorded something: <b>"
 PAGE_COUNTS = "</b></p>\n<p>A table shows the first 50 rows, by number.</p>\n<h2>Objects by status</h2>\n<pre>"
@@ -204,13 +206,13 @@ def accounts(program, folder):
     """Accounts are listed, with their contacts as a client gave them, escaped, and the thumbprints of their keys."""
     desk = Desk(program, f"{folder}/accounts")
     desk.fetch()
-    see("an account with contacts", desk.answer(desk.signed("/new-account", {"contact": ["mailto:a@b.example", 'mailto:"x\\y\n\u001b"@c.example']}))[0], "201")
+    see("an account with contacts", desk.answer(desk.signed("/new-account", {"contact": ["mailto:a@b.example", UNSEEN]}))[0], "201")
     see("an account without", desk.answer(desk.signed("/new-account", {}, key=OTHER_KEY))[0], "201")
     see("its end", desk.answer(desk.signed("/account/2", {"status": "deactivated"}, key=OTHER_KEY))[0], "200")
-    contacts = '["mailto:a@b.example","mailto:\\"x\\\\y\\n\\u001b\\"@c.example"]'
+    contacts = json.dumps(["mailto:a@b.example", UNSEEN], separators=(",", ":"))
     thumbprints = [spelled(thumbprint(canonical(key))) for key in (KEY, OTHER_KEY)]
     see_listed(program, desk.path, "accounts", [(1, "valid", thumbprints[0], contacts), (2, "deactivated", thumbprints[1], "[]")])
-    see("contacts as JSON reads them", json.loads(contacts), ["mailto:a@b.example", 'mailto:"x\\y\n\u001b"@c.example'])
+    see("every byte of a contact is visible", all(32 <= byte < 127 for line in run(program, "accounts", desk.path)[1].splitlines() for byte in line), True)
     see_wrong(program, ("accounts", desk.path), ("--account", "1"), ("--name", "a.example"), ("--json", "--json"), ("1",))
 
 
@@ -267,7 +269,14 @@ def about(program, folder):
 
 def in_html(text):
     """A text as HTML shows it."""
-    return html.escape(text).replace("&#x27;", "&#39;")
+    text = html.escape(text.replace("\\", "\\\\")).replace("&#x27;", "&#39;")
+    return "".join(character if " " <= character <= "~" else "".join(f"\\u{unit:04x}" for unit in units_of(character)) for character in text)
+
+
+def units_of(character):
+    """Its units in UTF-16."""
+    encoded = character.encode("utf-16-be")
+    return [int.from_bytes(encoded[at:at + 2], "big") for at in range(0, len(encoded), 2)]
 
 
 def order_row(number, account, status, end, names, contacts):
@@ -304,7 +313,7 @@ def based_desk(program, folder, name, base):
 
 def page(program, folder):
     """The page of a desk: what clients gave is text, what waits and what ends soon is there."""
-    base, contacts = "https://ca.example/a&b'c", ["mailto:o'c@b.example", 'mailto:"<b>&amp;\u00fc"@c.example']
+    base, contacts = "https://ca.example/a&b'c", ["mailto:o'c@b.example", 'mailto:"<b>&amp;\u00fc"@c.example', UNSEEN]
     desk = based_desk(program, folder, "page", base)
     empty = page_text(base, "1970-01-01T00:00:00Z", counts_text(*NONE), [([], 0)] * 5)
     see("the page of an empty desk", run(program, "page", desk.path), (0, empty, b""))

@@ -4,3 +4,4 @@ pub mod Listed
 pub mod Printed
 pub mod Reported
 pub mod Tallied
+pub mod Visible

@@ -8,7 +8,7 @@ use Rattle.desk_model.specs.declared.rows.{AccountRow.AccountRow, AuthorizationR
 use Rattle.desk_model.specs.declared.rows.StatusFault.TheVariants as fault
 use Rattle.moments.specs.Capped.{capped}
 use Rattle.serde_json.specs.{Data.string, Written.compact_text}
-use Rattle.app_reports.specs.declared.form.Form.{Form}
+use Rattle.app_reports.specs.{Visible.visible, declared.form.Form.Form}
 use Rattle.app_reports.specs.declared.form.Form.TheVariants as form
 
 -- a line: the kind of the row, its number, the stored status and the one that its columns give
@@ -54,14 +54,22 @@ order_line form.Json row =
     codes "{\"number\":" ++ (decimal row.number ++ (codes ",\"account\":" ++ (decimal row.account ++ (codes ",\"status\":\""
     ++ (order_status_text row.status ++ (codes "\",\"expires\":\"" ++ (moment_text (capped row.expires) ++ codes "\"}\n")))))))
 
--- a line: the number of the account, its status, the thumbprint of its key, and its contacts as a list of JSON
+-- a line: the number of an account, its status, the thumbprint of its key, and its contacts
+abbrev pub account_text : (number : ℕ) (status thumb contacts : List ℕ) → List ℕ
+account_text number status thumb contacts =
+    (right_in_ten number ++ (codes " " ++ (left_in 11 status ++ (codes " " ++ (thumb ++ codes " "))))) ++ (contacts ++ codes "\n")
+
+abbrev pub account_document : (number : ℕ) (status thumb contacts : List ℕ) → List ℕ
+account_document number status thumb contacts =
+    (codes "{\"number\":" ++ (decimal number ++ (codes ",\"status\":\"" ++ (status ++ codes "\",\"contact\":"))))
+    ++ (contacts ++ (codes ",\"thumbprint\":\"" ++ (thumb ++ codes "\"}\n")))
+
+-- the contacts are a list of JSON in visible ASCII
 abbrev pub account_line : Form → AccountRow → List ℕ
 account_line form.Text row =
-    right_in_ten row.number ++ (codes " " ++ (left_in 11 (account_status_text row.status) ++ (codes " " ++ (base64url (thumbprint row.key)
-    ++ (codes " " ++ (compact_text (list (map string row.contacts)) ++ codes "\n"))))))
+    account_text row.number (account_status_text row.status) (base64url (thumbprint row.key)) (visible (compact_text (list (map string row.contacts))))
 account_line form.Json row =
-    codes "{\"number\":" ++ (decimal row.number ++ (codes ",\"status\":\"" ++ (account_status_text row.status ++ (codes "\",\"contact\":"
-    ++ (compact_text (list (map string row.contacts)) ++ (codes ",\"thumbprint\":\"" ++ (base64url (thumbprint row.key) ++ codes "\"}\n")))))))
+    account_document row.number (account_status_text row.status) (base64url (thumbprint row.key)) (visible (compact_text (list (map string row.contacts))))
 
 -- a line: the number of the authorization and its account's, its status, the moment at which it expires, and its name
 abbrev pub authorization_line : Form → AuthorizationRow → List ℕ

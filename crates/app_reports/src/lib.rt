@@ -9,6 +9,7 @@ mod faults;
 mod form;
 mod lists;
 mod tally;
+mod visible;
 
 pub use asked::{AuthorizationFilter, OrderFilter};
 pub use beside::{Beside, seconds_ahead};
@@ -17,3 +18,4 @@ pub use faults::{Checked, list_faults};
 pub use form::Form;
 pub use lists::{AllAccounts, RowList, list_rows};
 pub use tally::{tell_about, write_statuses};
+pub use visible::push_visible;

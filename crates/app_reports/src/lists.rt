@@ -3,13 +3,14 @@ ghost use Rattle.std.specs.Prelude.{◌≡◌, ◌↔◌, ⊤, IfOk, OnOk, ℕ, 
 ghost use Rattle.std.specs.Io.KnownBytes.{Appends};
 ghost use Rattle.store_api.specs.Sight.{ForTables, Reads};
 ghost use Rattle.app_reports.specs.Listed.{Prints, PrintsAll, Turns, roster, KeepsOrder, KeepsAuthorization};
-ghost use Rattle.app_reports.specs.Printed.{count_line, account_line, order_line, authorization_line};
+ghost use Rattle.app_reports.specs.Printed.{count_line, account_document, account_line, account_text, order_line, authorization_line};
 ghost use Rattle.app_reports.specs.{Reported.Reports, declared.form.Form.Form as ReportForm};
 ghost use Rattle.desk_model.specs.{Tables.Tables, Keys.thumbprint, Tokens.base64url};
 
 use crate::asked::{AuthorizationFilter, OrderFilter, allows_account, allows_listed, allows_name};
 use crate::fault::ReportFault;
 use crate::form::Form;
+use crate::visible::visible_text;
 use base64::engine::general_purpose::URL_SAFE_NO_PAD;
 use desk_book::Row;
 use desk_model::{AccountRow, AuthorizationRow, Jwk, OrderRow};
@@ -166,31 +167,74 @@ impl RowList for AllAccounts {
     }
 
     // As text: its number, right in ten places, its stored status, left in eleven, the thumbprint of its key, and its contacts as
-    // JSON, whose texts are a client's.
+    // JSON in visible ASCII, as their texts are a client's.
     fn write_line<W: Write>(
         alloc: Global,
         out: &mut W,
         form: Form,
         row: &AccountRow,
     ) -> io::Result<()> {
-        let AccountRow { number, .. } = row;
-        let status = row.status.as_str();
         let thumb = thumbprint_text(alloc, &row.key)?;
-        let thumb = thumb.as_str();
         let contacts = written_list(alloc, row.contacts.as_slice())?;
-        let contacts = contacts.as_str();
+        let contacts = visible_text(alloc, contacts.as_str())?;
+        let line = AccountLine {
+            number: row.number,
+            status: row.status.as_str(),
+            thumb: thumb.as_str(),
+            contacts: &contacts,
+        };
         match form {
-            Form::Text => writeln!(out, "{number:>10} {status:<11} {thumb} {contacts}"),
-            Form::Json => writeln!(
-                out,
-                "{{\"number\":{number},\"status\":\"{status}\",\"contact\":{contacts},\"thumbprint\":\"{thumb}\"}}"
-            ),
+            Form::Text => write_account(out, line),
+            Form::Json => write_account_document(out, line),
         }
     }
 
     fn noun() -> &'static str {
         "accounts"
     }
+}
+
+// What the line of an account has: its texts, and the bytes of the list of its contacts.
+struct AccountLine<'a> {
+    number: u64,
+    status: &'static str,
+    thumb: &'a str,
+    contacts: &'a [u8],
+}
+
+// The line of an account, as text.
+fn write_account<W: Write>(out: &mut W, line: AccountLine<'_>) -> io::Result<()>
+    ensures { OnOk result (Appends (W.contents out.old) (W.contents out.new)
+        (account_text line.entry.number line.entry.status.now line.entry.thumb.now line.entry.contacts.now)) }
+{
+    let AccountLine {
+        number,
+        status,
+        thumb,
+        contacts,
+    } = line;
+    write!(out, "{number:>10} {status:<11} {thumb} ")?;
+    out.write_all(contacts)?;
+    writeln!(out)
+}
+
+// The line of an account, as JSON.
+fn write_account_document<W: Write>(out: &mut W, line: AccountLine<'_>) -> io::Result<()>
+    ensures { OnOk result (Appends (W.contents out.old) (W.contents out.new)
+        (account_document line.entry.number line.entry.status.now line.entry.thumb.now line.entry.contacts.now)) }
+{
+    let AccountLine {
+        number,
+        status,
+        thumb,
+        contacts,
+    } = line;
+    write!(
+        out,
+        "{{\"number\":{number},\"status\":\"{status}\",\"contact\":"
+    )?;
+    out.write_all(contacts)?;
+    writeln!(out, ",\"thumbprint\":\"{thumb}\"}}")
 }
 
 // The thumbprint of a key in base64url (RFC 7638, 3).

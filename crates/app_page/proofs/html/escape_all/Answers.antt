@@ -1,15 +1,11 @@
-use Rattle.std.proofs.Common.{refl}
-use Rattle.std.specs.List.{flat_map}
-use Rattle.store_book.proofs.SliceLoops.{slice-end, slice-step}
+use Rattle.std.proofs.Common.{flat_map, sym, ap, ◌∙◌, map-id}
+use Rattle.std.proofs.lemmas.Iterator.{YieldsList-from_chars}
+use Rattle.std.proofs.lemmas.Iterator.Consumers.{YieldsList-end}
 use Rattle.app_page.specs.Html.{escape}
 use Rattle.app_page.proofs.html.escape_all.Goals as goal
 
--- the next byte
-pub loop-byte-preserved : goal.loop-byte-preserved
-loop-byte-preserved c =
-    slice-step (flat_map escape) escape (λ x rest. refl) c.args.text.now c.loop-byte.byte-index _ c.loop-byte.bytes.items _ _ c.loop-byte-test.true
-    c.in_ok-push_escaped.ensures c.loop-byte.invariant
-
 -- all of them
 pub returns : goal.returns
-returns c = slice-end (flat_map escape) refl c.args.text.now c.loop-byte.byte-index c.loop-byte.bytes.items _ c.loop-byte-test.false c.loop-byte.invariant
+returns c =
+    let end = YieldsList-end (YieldsList-from_chars c.args.text.now c.utf8.text cc) c.loop-c.yielded _ c.loop-c.yielded_by _ _ c.in-None.is c.next.ensures.steps in
+    c.loop-c.invariant ∙ ap (flat_map escape) (sym (map-id c.loop-c.yielded) ∙ end.0)
