@@ -466,8 +466,8 @@ def uncovered(crates):
     for crate in crates:
         changed = set()
         for edit in gate_edits(crate) + planted_edits(crate):
-            for path, old, _ in edit.pairs:
-                changed |= {it.key for it in functions_at(crate, path, old)[-1:]}
+            for path, old, new in edit.pairs:
+                changed |= set() if leaves_out(old, new) else {it.key for it in functions_at(crate, path, old)[-1:]}
         for it in public_functions(crate):
             all_ += 1
             if it.key not in changed:
