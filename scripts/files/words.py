@@ -515,15 +515,10 @@ def shared_revocation(program, folder):
     desk.order("a.example", at=now)
     listed = tables_of(desk.path, folder)["ord_authz"]
     see("what the orders list", sorted(listed), [(1, 1, 1), (2, 1, 2), (3, 1, 1), (3, 2, 3), (4, 1, 1)])
-    see("the orders before", orders_of(desk, folder), [b"valid", b"pending", b"pending", b"ready"])
+    see("the orders before", [row[-1] for row in tables_of(desk.path, folder)["ord"]], [b"valid", b"pending", b"pending", b"ready"])
     see("an authorization that is shared", run(program, "revoke-authz", desk.path, "1"), (0, b"authz 1 revoked\n", b""))
-    see("the orders after", orders_of(desk, folder), [b"valid", b"pending", b"invalid", b"invalid"])
+    see("the orders after", [row[-1] for row in tables_of(desk.path, folder)["ord"]], [b"valid", b"pending", b"invalid", b"invalid"])
     see("check after a shared end", run(program, "check", desk.path), (0, b"no fault\n", b""))
-
-
-def orders_of(desk, folder):
-    """The statuses of the orders."""
-    return [row[-1] for row in tables_of(desk.path, folder)["ord"]]
 
 
 def wrong_words(program, folder):

@@ -33,7 +33,7 @@ from cryptography.hazmat.primitives.asymmetric import dsa, ec, ed25519, rsa
 from cryptography.hazmat.primitives.serialization import Encoding, PublicFormat, load_pem_private_key
 
 from scripts.house.client import Names, Web
-from scripts.house.housed import housed, try_each
+from scripts.house.housed import in_house, try_each
 from scripts.house.trials import ERROR, Trial, account_by
 from scripts.repository import ROOT
 from scripts.trying import begin, bytes_of, finish, free_port, put, see
@@ -823,12 +823,15 @@ def attacked(program, web, attacks, beside=None):
     """Makes these attacks on a house around the desk of the program, one after the other, and one more beside them; says how many were tried, and
     gives the exit status."""
     names = Names()
-    with housed(program, web=web.server_port, names=names.server_address[1]) as house:
+
+    def attack(house):
         slow = threading.Thread(target=beside, args=[Trial(house, web, names)])
         slow.start()
         try_each(attacks, Trial(house, web, names))
         slow.join()
         see("faults that the house shows", [line for line in house.lines if "Traceback" in line], [])
+
+    in_house(program, attack, web=web.server_port, names=names.server_address[1])
     kinds = ", ".join(f"{word.rstrip(':')} {count}" for word, count in counts.items())
     print(f"house: {sum(counts.values())} attacks tried: {kinds}")
     return finish("house")

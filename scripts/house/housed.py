@@ -1,5 +1,4 @@
 """A house around a desk, for a while: the desk served, front, validator and offices running, and all of them ended by their ids."""
-import contextlib
 import re
 import socket
 import subprocess
@@ -129,15 +128,15 @@ class House:
             run.stop()
 
 
-@contextlib.contextmanager
-def housed(program, make=House, **options):
-    """A house in a folder of its own, with the lines that it says; where something is not as it should be, they are printed at its end."""
+def in_house(program, work, make=House, **options):
+    """Has work done on a house in a folder of its own, which has the lines that it says; where something is not as it should be, they are
+    printed at the end."""
     lines = []
     with tempfile.TemporaryDirectory(prefix="desk-house-") as folder:
         try:
             with make(program, folder, lines.append, **options) as house:
                 house.lines = lines
-                yield house
+                work(house)
         except Exception:
             faults.append(traceback.format_exc())
         see("the check of the desk", checked(program, f"{folder}/ca.db")[:2], (0, b"no fault\n"))

@@ -16,7 +16,7 @@ from cryptography.hazmat.primitives.asymmetric.utils import encode_dss_signature
 from cryptography.hazmat.primitives.hashes import SHA256
 
 from scripts.house.client import Client
-from scripts.house.housed import housed
+from scripts.house.housed import in_house
 from scripts.house.trials import signers
 from scripts.trying import begin, finish, see
 
@@ -133,13 +133,15 @@ class Sender:
 
 
 def main(program, times, seed):
-    with housed(program) as house:
+    def send(house):
         sender = Sender(random.Random(seed), Client(house.base, house.root))
         for _ in range(times):
             sender.send()
         see("both verdicts", min(sender.verdicts[True], sender.verdicts[False]) * 20 >= times, True)
         see("faults that the house shows", [line for line in house.lines if "Traceback" in line], [])
         print(f"house: {times} random signed requests, {sender.verdicts[True]} of them right")
+
+    in_house(program, send)
     return finish("house")
 
 

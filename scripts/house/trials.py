@@ -22,7 +22,7 @@ from cryptography.hazmat.primitives import hashes
 from cryptography.hazmat.primitives.serialization import Encoding, PublicFormat
 
 from scripts.house.client import Client, Names, Web, new_key
-from scripts.house.housed import House, housed, try_each
+from scripts.house.housed import House, in_house, try_each
 from scripts.trying import begin, finish, see
 
 # How long a test waits for an office of the house, in seconds.
@@ -315,8 +315,7 @@ def taken_port(program):
 
 def main(program):
     web, names = Web(), Names()
-    with housed(program, LosingHouse, web=web.server_port, names=names.server_address[1]) as house:
-        try_each(TRIALS, Trial(house, web, names))
+    in_house(program, lambda house: try_each(TRIALS, Trial(house, web, names)), LosingHouse, web=web.server_port, names=names.server_address[1])
     taken_port(program)
     return finish("house")
 
