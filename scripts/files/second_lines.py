@@ -128,11 +128,11 @@ def unheard(program, folder):
     """What is known of a revocation that no desk answered is said: whether anybody was asked."""
     path = f"{folder}/unheard.db"
     port = free_port()
-    words = ("revoke-authz", path, "7", "--port", str(port))
+    words = ("revoke-authz", "7", "--port", str(port))
     by_all(program, words, 1, CONNECTION, f"desk: port {port}: {UNREACHED}\n".encode())
     for reply in (b"", b"HTTP/1.1 302 ", b"HTTP/1.1 20", b"SSH-2.0-OpenSSH_9.2p1\r\n"):
         with stranger(reply) as (port, sent):
-            said = run(program, "revoke-account", path, "7", "--port", str(port), "--verbose")
+            said = run(program, "revoke-account", "7", "--port", str(port), "--verbose")
         see(f"a reply {reply!r}", said, (1, b"", CONNECTION + f"desk: port {port}: {UNANSWERED}\n".encode()))
         see("what was asked", sent[0].startswith(b"POST /office/revoke-account/7 HTTP/1.1\r\n"), True)
     see("no file is made", os.path.exists(path), False)
@@ -174,10 +174,10 @@ def ended(program, folder):
         by_all(program, (word, desk.path, number), 1, first, f"desk: {second}\n".encode())
     server = Server(program, desk.path)
     for word, number, first, second in rows:
-        by_all(program, (word, desk.path, number, "--port", str(server.port)), 1, first, f"desk: {second}\n".encode())
+        by_all(program, (word, number, "--port", str(server.port)), 1, first, f"desk: {second}\n".encode())
     server.stop()
     server = Server(program, desk.path, "--max-step", "1")
-    by_all(program, ("revoke-account", desk.path, "9", "--port", str(server.port)), 1, b"desk: the desk could not act\n",
+    by_all(program, ("revoke-account", "9", "--port", str(server.port)), 1, b"desk: the desk could not act\n",
            b"desk: account 9: the desk met a fault: see its log, and what it wrote on standard error\n")
     server.stop()
 

@@ -37,7 +37,8 @@ SYNCS = ("--sync", "once, twice", "default: twice", "loss of power", "the old or
 HELP = {
     "make": ("FILE", *CAUSES, "mode 600", "--base", "8 to 256 bytes", "--nonce-life", "3600", "--order-life", "604800", "--authz-life", "2592000", LIFE),
     "serve": ("FILE", *CAUSES, "no other word works on the file", "--port", "0 to 65535", "--count", "2^64 - 1", "--log", "text, json", "microseconds",
-              "--max-step <SECONDS>", "1 to 250000000000", "fault 24", "2592000 for 30 days", "once without --max-step", *SYNCS),
+              "--max-step <SECONDS>", "1 to 250000000000", "fault 24", "2592000 for 30 days", "once without --max-step",
+              "--max-ahead <SECONDS>", "restore a backup", *SYNCS),
     "batch": ("--file", "in memory", *SYNCS, *WAIT),
     "status": ("FILE", "--account", "1 to 2^62", "--status", "pending, ready, processing, valid, invalid", "--name", "--json", *WAIT),
     "about": ("FILE", *WAIT),
@@ -544,7 +545,7 @@ def numbers_of_other_forms(program, folder):
     rows += [("status", desk.path, "--account", form) for form in ("+1", "01")]
     rows += [("serve", desk.path, "--port", form) for form in ("+0", "00", "08080")]
     rows += [("serve", desk.path, "--port", "0", "--count", form) for form in ("+0", "00", "01")]
-    rows += [("serve", desk.path, "--port", "0", "--max-step", form) for form in ("+1", "01")]
+    rows += [("serve", desk.path, "--port", "0", option, form) for option in ("--max-step", "--max-ahead") for form in ("+1", "01")]
     rows += [("make", made, "--base", BASE, f"--{life}-life", form) for life in ("nonce", "order", "authz") for form in ("+60", "060")]
     for words in rows:
         ended, said, errors = run(program, *words)

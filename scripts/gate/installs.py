@@ -9,7 +9,7 @@ from scripts.trying import begin, finish, see, workspace
 FILES = {"bin/desk", "lib/systemd/system/desk.service", "lib/systemd/system/desk-front.service", "lib/sysusers.d/desk.conf",
          "share/bash-completion/completions/desk", "share/desk/house/house.py", "share/man/man1/desk.1"}
 # Words that are typed, the last one in part, and those that complete it.
-COMPLETED = {("desk", "se"): ["serve"], ("desk", "revoke-a"): ["revoke-authz", "revoke-account"], ("desk", "serve", "ca.db", "--max"): ["--max-step"],
+COMPLETED = {("desk", "se"): ["serve"], ("desk", "revoke-a"): ["revoke-authz", "revoke-account"], ("desk", "serve", "ca.db", "--max"): ["--max-step", "--max-ahead"],
              ("desk", "batch", "--sync", ""): ["once", "twice"], ("desk", "status", "--status", "p"): ["pending", "processing"], ("desk", "make", ""): [],
              ("desk", "check", "ca.db", "--q"): ["--quiet"]}
 

@@ -5,9 +5,12 @@ import re
 import shutil
 import time
 
-from scripts.serving.served import DIRECTORY, NEW_NONCE, STOPPED, Client, Reply, Server, directory_reply, refusal, request, stranger
+from scripts.serving.served import (DIRECTORY, NEW_NONCE, STOPPED, Client, Reply, Server, compact, directory_reply, refusal, reply, request,
+                                    stranger)
 from scripts.trying import DEVICE, fresh, run, run_on_full, see, tables_of
 
+# What is said of a file beside the port, and of what is no number in its place.
+BESIDE, PLACE = b"no FILE stands before N: desk WORD N --port P", b"with --port N stands in the place of FILE: a number, 1 to 2^62"
 LINE = re.compile(r"(\d{4}-\d\d-\d\dT\d\d:\d\d:\d\dZ) (\S+) (\S+) (\d+|-) (\d+|-) (\d+|-) (\d+|-)")
 
 
@@ -124,7 +127,7 @@ def revoked(program, folder):
     client.order("a.example")
 
     def words(word, number, *more):
-        return run(program, word, server.path, str(number), *(more or port))
+        return run(program, word, str(number), *(more or port))
 
     see("an authorization", words("revoke-authz", 1), (0, b"authz 1 revoked\n", b""))
     see("an authorization again", words("revoke-authz", 1), (0, b"authz 1 revoked\n", b""))
@@ -138,24 +141,48 @@ def revoked(program, folder):
     other.open_account()
     other.post("/account/2", {"status": "deactivated"})
     see("an account that has ended otherwise", words("revoke-account", 2), (1, b"", b"desk: the report does not fit the records\n"))
-    see("the file is the desk's", words("revoke-account", 1, "--port", port[1])[0], 0)
+    for place in ((), ("--wait", "1"), ("--verbose",)):
+        ended, said, errors = run(program, "revoke-account", server.path, "1", *port, *place)
+        see("a file beside the port", (ended, said, BESIDE in errors), (2, b"", True))
+    for number in ("0", str(2**62 + 1), "+1", "01", "one", ""):
+        ended, said, errors = run(program, "revoke-account", number, *port)
+        see(f"the number {number!r} by the port", (ended, said, PLACE in errors), (2, b"", True))
     see("without a port", run(program, "revoke-account", server.path, "1"), (1, b"", DEVICE))
-    see("a full standard output", run_on_full(program, "revoke-account", server.path, "1", *port)[::2], (1, b"desk: output\n"))
+    see("a full standard output", run_on_full(program, "revoke-account", "1", *port)[::2], (1, b"desk: output\n"))
     see("revoked: the end", server.stop(), STOPPED)
     gone = (1, b"", b"desk: connection\n")
     see("nobody at the port", words("revoke-account", 1), gone)
-    see("a file that is not there", run(program, "revoke-account", f"{folder}/none", "1", *port), gone)
-    for said in (b"", b"HTTP/1.1 20", b"SSH-2.0-x\r\n", b"HTTP/1.1 405 Method Not Allowed\r\n\r\n"):
-        see(f"what says {said}", ended_by(program, server.path, said), gone)
-    see("a desk that could not act", ended_by(program, server.path, refusal(15, "/office/revoke-account/1")),
-        (1, b"", b"desk: the desk could not act\n"))
+    for said in (b"", b"HTTP/1.1 20", b"SSH-2.0-x\r\n", b"HTTP/1.1 405 Method Not Allowed\r\n\r\n", *strange()):
+        see(f"what says {said[:200]}", ended_by(program, said), gone)
+    for said in (b"{}", compact({"identifier": {"type": "dns", "value": "a.example"}, "status": "revoked"}), compact(account_document(7))):
+        see(f"an authorization: what says {said}", ended_by(program, reply(200, said, "application/json"), "authz"), gone)
+    see("the document of the account", ended_by(program, reply(200, compact(account_document(7)), "application/json")), (0, b"account 7 revoked\n", b""))
+    document = {"challenges": [], "expires": "1970-01-31T00:00:00Z", "identifier": {"type": "dns", "value": "a.example"}, "status": "revoked"}
+    see("the document of an authorization", ended_by(program, reply(200, compact(document), "application/json"), "authz"), (0, b"authz 7 revoked\n", b""))
+    see("a desk that could not act", ended_by(program, refusal(15, "/office/revoke-account/1")), (1, b"", b"desk: the desk could not act\n"))
 
 
-def ended_by(program, path, said):
+def account_document(number, status="revoked", **members):
+    """The document of an account."""
+    return {"contact": [], "orders": f"https://ca.example/account/{number}/orders", "status": status, **members}
+
+
+def strange():
+    """Replies that no desk gives to a revocation of the account 7."""
+    documents = ({}, [], "revoked", {"status": "revoked"}, account_document(7, "valid"), account_document(8), account_document(17), account_document(70),
+                 account_document(7, orders=7), account_document(7, status=["revoked"]))
+    whole = reply(200, compact(account_document(7)), "application/json")
+    longer = reply(200, compact(account_document(7, contact=["mailto:" + "a" * 32768])), "application/json")
+    return [*(reply(200, compact(it), "application/json") for it in documents), whole[:-1], whole.replace(b"\r\n\r\n", b"\r\n"),
+            whole.replace(b" 200 ", b" 201 "), whole[:-2] + b"\xff" + whole[-2:], longer,
+            *(refusal(number).replace(b"detail", b"Detail") for number in (2, 14, 15)), refusal(14).replace(b" 409 ", b" 404 ")]
+
+
+def ended_by(program, said, kind="account"):
     """How a revocation ends that a stranger answers, and what it is asked."""
     with stranger(said) as (port, heard):
-        found = run(program, "revoke-account", path, "7", "--port", str(port))
-    see("what is asked", heard, [b"POST /office/revoke-account/7 HTTP/1.1\r\nHost: 127.0.0.1\r\nContent-Length: 0\r\n\r\n"])
+        found = run(program, f"revoke-{kind}", "7", "--port", str(port))
+    see("what is asked", heard, [f"POST /office/revoke-{kind}/7 HTTP/1.1\r\nHost: 127.0.0.1\r\nContent-Length: 0\r\n\r\n".encode()])
     return found
 
 

@@ -19,7 +19,7 @@ from scripts.serving.broken_connections import failing_reads, failing_writes
 from scripts.serving.operated import OPERATED
 from scripts.serving.served import (DIRECTORY, NEW_NONCE, STOPPED, Client, Reply, Server, compact, directory_reply, masked, nonce_reply, received,
                                     refusal, reply, request, serial_of, signed)
-from scripts.serving.stories import max_step, set_machine, stories
+from scripts.serving.stories import max_ahead, max_step, set_machine, stories
 from scripts.specification import BODY, HEAD, ROUTES, WORKED
 from scripts.trying import (BASE, DEVICE, KEY, NOT_A_DESK, faults, finish, fresh, nonce_text, order_of, put, run, run_on_full, see, small_files,
                             tables_of)
@@ -284,6 +284,7 @@ def words(program, folder):
     missing = f"{folder}/missing.db"
     wrong = ("", "--port", "--port 65536", "--port -1", "--port x", "--port 0 --count -1", "--port 0 --count x",
              "--port 0 --count", "--port 0 --max-step 0", "--port 0 --max-step 250000000001", "--port 0 --max-step x", "--port 0 --max-step",
+             "--port 0 --max-ahead 0", "--port 0 --max-ahead 250000000001", "--port 0 --max-ahead",
              "--port 0 --log xml", "--port 0 --log text json", "--port 0 more", f"--port 0 --base {BASE}")
     for more in [*map(str.split, wrong), ["--port", ""]]:
         status, out, said = run(program, "serve", missing, *more)
@@ -364,7 +365,7 @@ def full_disk(program, folder):
 
 
 PATIENT = (silent, dripping, staying, flooding)
-PROMPT = (worked, methods, key_changes, renewed, stories, set_machine, max_step, bad_requests, limits, slow, pipelined, gone, failing_reads,
+PROMPT = (worked, methods, key_changes, renewed, stories, set_machine, max_step, max_ahead, bad_requests, limits, slow, pipelined, gone, failing_reads,
           failing_writes, waiting, counts, words, together, outputs, terminated, full_disk, *OPERATED)
 
 

@@ -14,7 +14,7 @@ from scripts.repository import ROOT
 from scripts.serving.served import (DIRECTORY, NEW_NONCE, NONCE, STOPPED, Server, directory_reply, masked, nonce_reply, refusal, reply, request,
                                     route_of, serial_of)
 from scripts.specification import LAST, ROUTES
-from scripts.trying import BASE, example, fresh, library, nonce_text, put, see, tables_of
+from scripts.trying import BASE, example, fresh, library, nonce_text, put, run, see, tables_of
 
 
 ZERO_TOKEN = spelled(bytes(16)).encode()
@@ -172,12 +172,16 @@ def set_machine(program, folder):
         see(f"no {said}", server.ask(NEW_NONCE) in (b"", b"(reset)"), True)
         see(f"no {said}: the end", server.ended(), (1, b"", f"desk: {said}\n".encode()))
         see(f"no {said}: the tables", tables_of(path, folder), before)
-    few = Server(program, path, preexec_fn=lambda: resource.setrlimit(resource.RLIMIT_NOFILE, (6, 6)))
+    machine.set(250000000000)
+    few = Server(program, path, env=machine.env, preexec_fn=lambda: resource.setrlimit(resource.RLIMIT_NOFILE, (6, 6)))
     see("no room for a connection", few.ended(), (1, b"", b"desk: accept\n"))
 
 
 # A moment of November 2025; 30 days; the year 2099.
 TODAY, STEP, WRONG = 1764547200, 2592000, 4070908800
+# What is said where the desk's clock is ahead of the machine's, and where it is too far ahead.
+LEAD = b"desk: the desk's clock is %d seconds ahead of the machine's\n"
+TOO_FAR = b"desk: that is more than --max-ahead allows: set the machine's clock, or restore a backup from before the wrong reading\n"
 
 
 def stepped(server, machine, moments):
@@ -228,6 +232,27 @@ def max_step(program, folder):
     server = served(*words)
     stepped(server, machine, [(late + 1, False), (WRONG, True), (late + 2, False)])
     see("a desk that is bounded again: the end", server.stop(), STOPPED)
+
+
+def max_ahead(program, folder):
+    """A desk whose clock is ahead of the machine's is served with a line that says so, and by --max-ahead only where it is not too far ahead."""
+    machine = Machine(folder, library(folder))
+    path = fresh(program, folder, "lead")
+    machine.set(TODAY + STEP)
+    server = Server(program, path, "--max-ahead", "1", env=machine.env)
+    see("a new desk: a nonce", server.ask(NEW_NONCE), nonce_reply(1))
+    see("a new desk: the end", server.stop(), STOPPED)
+    for moment, said in ((TODAY + STEP, b""), (TODAY + 2 * STEP, b""), (-1, b""), (TODAY, LEAD % STEP)):
+        machine.set(moment)
+        for words in ((), ("--max-ahead", str(STEP)), ("--max-ahead", "250000000000")):
+            server = Server(program, path, *words, env=machine.env)
+            see(f"a machine at {moment}, {words}: the end", server.stop(), (*STOPPED[:2], said))
+    before = tables_of(path, folder)
+    for moment, most in ((TODAY, "1"), (TODAY, str(STEP - 1)), (TODAY + STEP - 2, "1"), (0, "86400")):
+        machine.set(moment)
+        found = run(program, "serve", path, "--port", "0", "--max-ahead", most, env=machine.env)
+        see(f"a machine at {moment}, --max-ahead {most}", found, (1, b"", LEAD % (TODAY + STEP - moment) + TOO_FAR))
+    see("the tables of a desk that is not served", tables_of(path, folder), before)
 
 
 def batch_of(name):

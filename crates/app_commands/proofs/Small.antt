@@ -9,7 +9,8 @@ use Rattle.app_words.specs.declared.fault.WordsFault.{WordsFault}
 use Rattle.app_words.specs.declared.fault.WordsFault.TheVariants as wordsfault
 use Rattle.app_tasks.specs.Asked.{IsSaid, RevokesServed, refused, revoked, unheard}
 use Rattle.app_tasks.specs.Deeds.{AnswersReader, ChecksStatuses, ListsRows, RevokesTarget, ServesClients, TellsAbout, TellsPage, AnswersLines, ByDesk, IsTold}
-use Rattle.app_tasks.specs.Deeds.{Revokes, Serves, adopted, clocked, clockless, served, unadopted, unserved, how_checked, how_listed, how_served}
+use Rattle.app_tasks.specs.Deeds.{Revokes, Serves, ServesUnlessAhead, adopted, clocked, clockless, served, unadopted, unserved}
+use Rattle.app_tasks.specs.Deeds.{how_checked, how_listed, how_served}
 use Rattle.app_tasks.specs.{Faults.IsOfOpening, declared.fault.Fault.Fault}
 use Rattle.app_commands.specs.Statuses.{EndsBackUp, IsToldCopied, IsToldWords}
 use Rattle.app_commands.specs.Statuses.{Ends, EndsBy, EndsList, EndsMake, EndsOverFiles, IsToldMade, status_of, terms_in_memory}
@@ -79,8 +80,8 @@ small_said what was is how (inr it) = small_as how _ it (omega arith)
 small_asked : (what : Revocation) (was is : Option (List ℕ)) (how : Result ℕ Fault) → RevokesServed what was is how → IsSmall how
 small_asked what was is how (unheard (inl it) same) = small_as how _ it.1 (omega arith)
 small_asked what was is how (unheard (inr it) same) = small_as how _ it (omega arith)
-small_asked what was is how (refused refusal it same) = small_as how _ it (omega arith)
-small_asked what was is how (revoked it) = small_said what was is how it
+small_asked what was is how (refused reply refusal says it same) = small_as how _ it (omega arith)
+small_asked what was is how (revoked reply says it) = small_said what was is how it
 
 -- what is done by a desk
 small_by : {S C : Type 0} (v : Sight S C) (was is : Option (List ℕ)) (Does : DeskState S → DeskState S → Result ℕ Fault → Type 0)
@@ -125,10 +126,15 @@ small_client v causes s clock desk ended how (unserved same (inr (inl it))) = sm
 small_client v causes s clock desk ended how (unserved same (inr (inr it))) = small_as how _ it (omega arith)
 small_client v causes s clock desk ended how (served by bound seen all it) = small_as how _ it (small_served by)
 
-small_serves : (s : Serving) → AreSmall (ServesClients s)
-small_serves s was is S C D v causes rows old new how (clockless why fails same) = omega arith
-small_serves s was is S C D v causes rows old new how (clocked end clock mid stands found it) =
-    small_by v was is (Serves v causes s clock) (small_client v causes s clock) mid new end it
+small_start : {S C : Type 0} (v : Sight S C) (causes : Causes S) (s : Serving) (now : Option ℕ) (clock : ℕ) (desk ended : DeskState S)
+    (how : Result ℕ Fault) → ServesUnlessAhead v causes s now clock desk ended how → IsSmall how
+small_start v causes s now clock desk ended how (inl it) = small_as how _ it.2 (omega arith)
+small_start v causes s now clock desk ended how (inr it) = small_client v causes s clock desk ended how it.1
+
+small_serves : (s : Serving) (now : Option ℕ) → AreSmall (ServesClients s now)
+small_serves s now was is S C D v causes rows old new how (clockless why fails same) = omega arith
+small_serves s now was is S C D v causes rows old new how (clocked end clock mid stands found it) =
+    small_by v was is (ServesUnlessAhead v causes s now clock) (small_start v causes s now clock) mid new end it
 
 -- a fault
 small_fault : (how : Result ℕ Fault) (P : Fault → Type 0) → IsErrAnd how P → IsSmall how
@@ -209,7 +215,7 @@ module _ {D : Type 0} (g : disk.Ghosts D) (image : Image) where
       → IsSmall how
   small_command bytes was is (command.Make file terms) how left it = small_make (terms_of terms) was is how left it
   small_command bytes was is (command.Serve file serving) how left it =
-      small_over (ServesClients serving) (small_serves serving) was is how left it
+      small_over (ServesClients serving it.0) (small_serves serving it.0) was is how left it.1
   small_command bytes was is (command.About file) how left (inl it) = small_as how _ it.2 (omega arith)
   small_command bytes was is (command.About file) how left (inr it) = small_over (TellsAbout it.0) (small_tells it.0) was is how left it.1
   small_command bytes was is (command.Page file) how left it = small_over TellsPage small_page was is how left it

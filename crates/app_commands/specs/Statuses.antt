@@ -3,7 +3,8 @@ use Rattle.std.specs.Prelude.{◌≡◌, ◌≢◌, ◌⊎◌, ℕ, Bool, List, 
 use Rattle.std.specs.Io.KnownBytes.{Appends}
 use Rattle.sqlite.specs.Recovery.{Image}
 use Rattle.sqlite_disk.specs.declared.Disk as disk
-use Rattle.app_words.specs.declared.command.{AuthorizationListing.AuthorizationListing, OrderListing.OrderListing, Command.Command, Syncs.Syncs}
+use Rattle.app_words.specs.declared.command.{AuthorizationListing.AuthorizationListing, OrderListing.OrderListing, Command.Command}
+use Rattle.app_words.specs.declared.command.{Serving.Serving, Syncs.Syncs}
 use Rattle.app_words.specs.declared.command.Command.TheVariants as command
 use Rattle.app_words.specs.declared.command.Revocation.{Revocation}
 use Rattle.desk_http.specs.declared.serve_fault.ServeFault.TheVariants as servefault
@@ -91,6 +92,10 @@ module _ {D : Type 0} (g : disk.Ghosts D) (image : Image) where
   EndsRevoke what was is how left =
       ((how ≡ Err (fault.Serve servefault.Clock)) × IsIdle was is left) ⊎ ((at : ℕ) × EndsOverFiles (RevokesTarget what at) was is how left)
 
+  -- connections were served, unless the desk's clock is too far ahead of a moment of the machine, where it told one
+  abbrev pub EndsServe : Serving → (was is : Option (List ℕ)) → Result ℕ Fault → Left D g → Type 0
+  EndsServe s was is how left = (now : Option ℕ) × EndsOverFiles (ServesClients s now) was is how left
+
   -- how a list ends whose words ask for nothing: by 2, or since there was no memory for them
   abbrev pub EndsUnasked : Unasked → (was is : Option (List ℕ)) → Result ℕ Fault → Left D g → Type 0
   EndsUnasked (unasked.Wrong why) was is how left = (how ≡ Ok 2) × IsIdle was is left
@@ -129,7 +134,7 @@ module _ {D : Type 0} (g : disk.Ghosts D) (image : Image) where
   -- these in the end, where that is known
   abbrev pub Ends : (bytes was is : Option (List ℕ)) → Command → Result ℕ Fault → Left D g → Type 0
   Ends bytes was is (command.Make file terms) how left = EndsMake (terms_of terms) was is how left
-  Ends bytes was is (command.Serve file serving) how left = EndsOverFiles (ServesClients serving) was is how left
+  Ends bytes was is (command.Serve file serving) how left = EndsServe serving was is how left
   Ends bytes was is (command.About file) how left = EndsAbout was is how left
   Ends bytes was is (command.Page file) how left = EndsOverFiles TellsPage was is how left
   Ends bytes was is (command.Status file listing) how left = EndsList (AreRight listing) (ListsOrders listing was is how left) was is how left

@@ -3,9 +3,9 @@ ghost use Rattle.std.specs.Prelude.{◌≡◌, ◌≤◌, ◌⊎◌, IfErr, IfOk
 ghost use Rattle.sqlite.specs.WalFiles.{image_at};
 ghost use Rattle.desk_model.specs.Terms.{are_terms};
 ghost use Rattle.desk.specs.declared.fault.DeskFault.TheVariants as deskfault;
-ghost use Rattle.app_tasks.specs.Deeds.{ChecksStatuses, ListsRows, ServesClients, TellsPage, form_of};
+ghost use Rattle.app_tasks.specs.Deeds.{ChecksStatuses, ListsRows, TellsPage, form_of};
 ghost use Rattle.app_tasks.specs.{Faults.IsOfOpening, GivenTerms.terms_of};
-ghost use Rattle.app_commands.specs.Statuses.{Ends, EndsAbout, EndsBy, EndsMake, EndsOverFiles, EndsRevoke, EndsUnasked, IsOfLog, IsToldMade};
+ghost use Rattle.app_commands.specs.Statuses.{Ends, EndsAbout, EndsBy, EndsMake, EndsOverFiles, EndsRevoke, EndsServe, EndsUnasked, IsOfLog, IsToldMade};
 ghost use Rattle.app_commands.specs.Statuses.{BySyncs, EndsSo, IsToldWords, status_of, supposes, syncs_of, terms_in_memory};
 ghost use Rattle.app_words.specs.declared.command.Command.{Command as CommandValue};
 ghost use Rattle.app_words.specs.declared.fault.WordsFault.{WordsFault as WordsFaultValue};
@@ -237,12 +237,13 @@ fn serve_file<S: Start, W: Write, E: Write>(
     out: &mut W,
     errors: &mut E,
 ) -> (Result<u8, Fault>, Left<FileFrom<S>>)
-    ensures { EndsOverFiles ⟦<FileFrom<S> as Disk>⟧ (image_at S.Start) (ServesClients serving) (W.contents out.old) (W.contents out.new) result.0 result.1 }
+    ensures { EndsServe ⟦<FileFrom<S> as Disk>⟧ (image_at S.Start) serving (W.contents out.old) (W.contents out.new) result.0 result.1 }
 {
     let task = ServeConnections {
         rt,
         path: file.path,
         serving,
+        now: moment(rt).ok(),
         errors,
     };
     run_over_file(rt, file.path, start, task, out)

@@ -126,5 +126,5 @@ module _ {D : Type 0} (g : disk.Ghosts D) where
         check = λ f was is. desk_stays_on (ChecksStatuses f was is) (all.check f was is);
         revoke = λ what at was is. life_goes_on (RevokesTarget what at was is) (TellsRevocation what at) (all.revoke what at was is);
         batch = λ bytes was is. life_goes_on (AnswersReader bytes was is) (TellsBatch bytes was is) (all.batch bytes was is);
-        serve = λ s was is. life_goes_on (ServesClients s was is) TellsAny (all.serve s was is);
+        serve = λ s now was is. life_goes_on (ServesClients s now was is) TellsAny (all.serve s now was is);
       }

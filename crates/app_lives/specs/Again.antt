@@ -109,4 +109,4 @@ module _ {D : Type 0} (g : disk.Ghosts D) where
     pub check : (f : Form) (was is : Option (List ℕ)) → StaysOn (ChecksStatuses f was is)
     pub revoke : (what : Revocation) (at : ℕ) (was is : Option (List ℕ)) → GoesOn (RevokesTarget what at was is) (TellsRevocation what at)
     pub batch : (bytes was is : Option (List ℕ)) → GoesOn (AnswersReader bytes was is) (TellsBatch bytes was is)
-    pub serve : (s : Serving) (was is : Option (List ℕ)) → GoesOn (ServesClients s was is) TellsAny
+    pub serve : (s : Serving) (now : Option ℕ) (was is : Option (List ℕ)) → GoesOn (ServesClients s now was is) TellsAny

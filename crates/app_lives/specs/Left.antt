@@ -84,4 +84,4 @@ module _ {D : Type 0} (g : disk.Ghosts D) where
     pub revoke : (what : Revocation) (at : ℕ) (was is : Option (List ℕ)) → LivesOn (RevokesTarget what at was is) (TellsRevocation what at)
     pub batch : (bytes was is : Option (List ℕ)) → LivesOn (AnswersReader bytes was is) (TellsBatch bytes was is)
     pub backup : CopiesHoldDesk
-    pub serve : (s : Serving) (was is : Option (List ℕ)) → LivesOn (ServesClients s was is) TellsAny
+    pub serve : (s : Serving) (now : Option ℕ) (was is : Option (List ℕ)) → LivesOn (ServesClients s now was is) TellsAny

@@ -1,4 +1,5 @@
 mod Bases
+mod Behind
 mod Done
 mod Entries
 mod Replied

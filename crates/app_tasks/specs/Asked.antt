@@ -3,10 +3,11 @@ use Rattle.std.specs.Prelude.{◌≡◌, ◌⊎◌, ℕ, List, ◌++◌, Option,
 use Rattle.std.specs.Io.KnownBytes.{Appends}
 use Rattle.app_words.specs.declared.command.Revocation.{Revocation}
 use Rattle.app_words.specs.declared.command.Revocation.TheVariants as revocation
-use Rattle.app_tasks.specs.declared.fault.Fault.{Fault}
+use Rattle.app_tasks.specs.{Outcomes.outcome_of, declared.fault.Fault.Fault}
 use Rattle.app_tasks.specs.declared.fault.Fault.TheVariants as fault
 use Rattle.desk.specs.declared.fault.DeskFault.TheVariants as deskfault
 use Rattle.desk_http.specs.declared.asking.Unheard.{Unheard}
+use Rattle.desk_http.specs.declared.asking.Unheard.TheVariants as cause
 use Rattle.desk_model.specs.declared.refusal.Refusal.{Refusal}
 
 -- the request for it, which has no body (RFC 9112, 3)
@@ -32,10 +33,22 @@ TellsReply what (Ok None) was is how = IsSaid what was is how
 TellsReply what (Ok (Some refusal)) was is how = (how ≡ Err (fault.Refused refusal)) × (is ≡ was)
 TellsReply what (Err why) was is how = (how ≡ Err why) × (is ≡ was)
 
--- how a revocation ends that a desk which is served was asked for: no reply came, and nothing was written; or the desk refused, and nothing
--- was written; or it says that it is done
+-- what is heard of a reply by its bytes: what they say; or that they are no reply of a desk to that, or that there was no memory for them
+abbrev pub IsHeard : Revocation → (reply : List ℕ) → Result (Option Refusal) Fault → Type 0
+IsHeard what reply (Ok outcome) = outcome_of what reply ≡ Some outcome
+IsHeard what reply (Err why) =
+    ((outcome_of what reply ≡ None) × (why ≡ fault.Connection cause.Unanswered)) ⊎ (why ≡ fault.Desk deskfault.Memory)
+
+-- what is heard of a desk that is asked: why there is no reply, or what one says
+abbrev pub Hears : Revocation → Result (Option Refusal) Fault → Type 0
+Hears what heard = ((why : Unheard) × (heard ≡ Err (fault.Connection why))) ⊎ ((reply : List ℕ) × IsHeard what reply heard)
+
+-- how a revocation ends that a desk which is served was asked for: no reply of a desk came, and nothing was written; or one that refuses, and
+-- nothing was; or the document of what is revoked, and that is said
 pub data RevokesServed (what : Revocation) (was is : Option (List ℕ)) (how : Result ℕ Fault) : Type 0 where
   unheard :
       ((why : Unheard) × (how ≡ Err (fault.Connection why))) ⊎ (how ≡ Err (fault.Desk deskfault.Memory)) → is ≡ was → RevokesServed what was is how
-  refused : (refusal : Refusal) → how ≡ Err (fault.Refused refusal) → is ≡ was → RevokesServed what was is how
-  revoked : IsSaid what was is how → RevokesServed what was is how
+  refused :
+      (reply : List ℕ) (refusal : Refusal) → outcome_of what reply ≡ Some (Some refusal) → how ≡ Err (fault.Refused refusal) → is ≡ was
+      → RevokesServed what was is how
+  revoked : (reply : List ℕ) → outcome_of what reply ≡ Some None → IsSaid what was is how → RevokesServed what was is how

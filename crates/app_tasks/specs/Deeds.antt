@@ -1,5 +1,6 @@
 -- What the words of the program do with the store of a desk, and how that ends.
-use Rattle.std.specs.Prelude.{if◌then◌else◌, ◌≡◌, ◌≢◌, ◌⊎◌, ◌↔◌, ℕ, List, [], Bool, true, false, Option, Some, None, Result, Ok, Err, IfOk, IsTrue, OnOk, unwrap_or}
+use Rattle.std.specs.Prelude.{if◌then◌else◌, ◌≡◌, ◌≢◌, ◌⊎◌, ◌↔◌, ℕ, List, [], Bool, true, false, Option, Some, None, Result, Ok, Err, IfOk, IsTrue, OnOk}
+use Rattle.std.specs.Prelude.{nat_lt, unwrap_or}
 use Rattle.std.specs.Io.KnownBytes.{Appends}
 use Rattle.app_batch.specs.InTurn.{AnswersFirst, StopsBehind}
 use Rattle.app_words.specs.declared.command.{Revocation.Revocation, Serving.Serving}
@@ -17,7 +18,7 @@ use Rattle.store_api.specs.Sight.{FailsToRead, ForTables, Sight, Stands}
 use Rattle.store_api.specs.{Storing.Causes, declared.fault.StorageFault.StorageFault}
 use Rattle.app_tasks.specs.Doing.{Deed}
 use Rattle.app_page.specs.Page.{page_html}
-use Rattle.app_reports.specs.{About.about_text, Printed.faults_text, Reported.Reports}
+use Rattle.app_reports.specs.{About.about_text, About.ahead, Printed.faults_text, Reported.Reports}
 use Rattle.app_reports.specs.Listed.{PrintsAll, Roster}
 use Rattle.app_reports.specs.declared.{beside.Beside.Beside, faults.Checked.Checked, form.Form.Form, fault.ReportFault.ReportFault}
 use Rattle.app_reports.specs.declared.form.Form.TheVariants as form
@@ -144,6 +145,19 @@ module _ {S C : Type 0} (v : Sight S C) (causes : Causes S) where
         (record { overseer = tt; bound = bound }) served
         → how ≡ how_served served → Serves s clock desk ended how
 
+-- a clock that is so far ahead is too far, where the greatest lead is given
+abbrev pub is_too_far : (lead most : Option ℕ) → Bool
+is_too_far (Some lead) (Some most) = nat_lt most lead
+is_too_far (Some lead) None = false
+is_too_far None most = false
+
+module _ {S C : Type 0} (v : Sight S C) (causes : Causes S) where
+  -- the clock of the desk is too far ahead of the machine's, and nothing was done; or it is not, and connections were served
+  abbrev pub ServesUnlessAhead : (s : Serving) (now : Option ℕ) (clock : ℕ) (desk ended : DeskState S) (how : Result ℕ Fault) → Type 0
+  ServesUnlessAhead s now clock desk ended how =
+      ((is_too_far (ahead clock now) s.max_ahead ≡ true) × (ended ≡ desk) × (how ≡ Err fault.Ahead))
+      ⊎ ((is_too_far (ahead clock now) s.max_ahead ≡ false) × Serves v causes s clock desk ended how)
+
 module _ {S D : Type 0} (rows : Sight S D) where
   -- the clock of the desk was not to be read, and nothing written; or it was, which changed nothing, and then this was done
   pub data BehindClock (was is : Option (List ℕ)) (Does : ℕ → S → S → Result ℕ Fault → Type 0) (old new : S) : Result ℕ Fault → Type 0 where
@@ -178,6 +192,6 @@ RevokesTarget what at was is _ _ _ v causes rows = ByDesk v was is (Revokes v wh
 abbrev pub AnswersReader : (bytes : Option (List ℕ)) → Deed Fault
 AnswersReader bytes was is _ _ _ v causes rows = ByDesk v was is (AnswersLines v bytes was is)
 
--- connections are served, once the clock is read
-abbrev pub ServesClients : Serving → Deed Fault
-ServesClients s was is _ _ _ v causes rows = BehindClock rows was is (λ clock. ByDesk v was is (Serves v causes s clock))
+-- connections are served, once the clock is read, unless it is too far ahead of this moment of the machine
+abbrev pub ServesClients : Serving → (now : Option ℕ) → Deed Fault
+ServesClients s now was is _ _ _ v causes rows = BehindClock rows was is (λ clock. ByDesk v was is (ServesUnlessAhead v causes s now clock))

@@ -5,3 +5,4 @@ pub mod Doing
 pub mod Faults
 pub mod Filters
 pub mod GivenTerms
+pub mod Outcomes

@@ -1,11 +1,13 @@
 //! Lines and connections, answered by a desk.
-ghost use Rattle.app_tasks.specs.Deeds.{AnswersReader, Serves, ServesClients};
+ghost use Rattle.app_tasks.specs.Deeds.{AnswersReader, Serves, ServesClients, ServesUnlessAhead};
 
+use crate::ahead::{is_too_far, tell_ahead};
 use crate::desks::{adopt, clock_of};
 use crate::fault::Fault;
 use crate::overseeing::{FileOverseer, Files};
 use crate::tasks::Task;
 use app_batch::batch;
+use app_reports::seconds_ahead;
 use app_words::Serving;
 use desk::Desk;
 use desk_http::{MomentBound, ServeFault, Watch, bind, serve_all};
@@ -52,11 +54,30 @@ pub struct ServeConnections<'a, E: Write> {
     pub path: &'a str,
     /// At which port, how many, how they are noted, and whether the cause is said where one fails.
     pub serving: Serving,
-    /// Where it says that a connection failed.
+    /// The machine's moment, in seconds since 1970-01-01T00:00:00Z, or `None` where its clock tells none.
+    pub now: Option<u64>,
+    /// Where it says that the desk's clock is ahead, and that a connection failed.
     pub errors: &'a mut E,
 }
 
 impl<'a, E: Write> ServeConnections<'a, E> {
+    // Serves a desk whose clock stands so, unless that is too far ahead of the machine's; gives the exit status.
+    fn start<K: Storage + Drop, W: Write>(
+        &mut self,
+        desk: &mut Desk<K>,
+        clock: u64,
+        out: &mut W,
+    ) -> Result<u8, Fault>
+        ensures { ServesUnlessAhead K.Storage.sight K.Storage.causes self.old.serving self.old.now clock desk.old desk.new result }
+    {
+        let lead = seconds_ahead(clock, self.now);
+        tell_ahead(self.errors, lead);
+        if is_too_far(lead, self.serving.max_ahead) {
+            return Err(Fault::Ahead);
+        }
+        self.serve(desk, clock, out)
+    }
+
     // Takes the port, prints the address, and serves a desk whose clock stands so; gives the exit status.
     fn serve<K: Storage + Drop, W: Write>(
         &mut self,
@@ -99,7 +120,7 @@ impl<'a, E: Write> ServeConnections<'a, E> {
 impl<'a, E: Write> Task for ServeConnections<'a, E> {
     type Fault = Fault;
 
-    ghost does = { λ task. ServesClients task.serving };
+    ghost does = { λ task. ServesClients task.serving task.now };
 
     fn run<K: Storage + RowsAbove + Drop, W: Write>(
         &mut self,
@@ -115,7 +136,7 @@ impl<'a, E: Write> Task for ServeConnections<'a, E> {
             Ok(desk) => desk,
             Err((store, fault)) => return (store, Err(fault)),
         };
-        let outcome = self.serve(&mut desk, clock, out);
+        let outcome = self.start(&mut desk, clock, out);
         (desk.into_store(), outcome)
     }
 }

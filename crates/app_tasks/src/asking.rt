@@ -1,17 +1,19 @@
 //! What the operator asks of a desk that is served.
-ghost use Rattle.std.specs.Prelude.{◌≡◌, IfErr, IfOk, string_bytes};
-ghost use Rattle.app_tasks.specs.Asked.{RevokesServed, TellsReply, request_of};
-ghost use Rattle.app_tasks.specs.declared.fault.Fault.TheVariants as fault;
-ghost use Rattle.desk_http.specs.declared.asking.Unheard.{Unheard};
+ghost use Rattle.std.specs.Prelude.{◌≡◌, IfOk, string_bytes};
+ghost use Rattle.app_tasks.specs.Asked.{Hears, IsHeard, RevokesServed, TellsReply, request_of};
 
 use crate::fault::Fault;
+use crate::outcomes::outcome_of;
 use crate::revoking::tell_revoked;
 use app_words::Revocation;
 use desk::DeskFault;
-use desk_http::ask_at;
+use desk_http::{Unheard, ask_at};
 use desk_model::Refusal;
 use std::alloc::{AllocError, Global};
 use std::io::Write;
+
+// The longest reply that is read: ten contacts take 20000 bytes at most.
+const LONGEST: usize = 32768;
 
 /// Has the desk that is served at a port of 127.0.0.1 revoke an authorization or an account, and says so; gives the exit status.
 ///
@@ -30,8 +32,8 @@ pub fn revoke_served<W: Write>(
     let Ok(request) = request_of(rt.alloc(), target) else {
         return Err(Fault::Desk(DeskFault::Memory));
     };
-    let reply = ask(rt, port, request.as_bytes());
-    tell_reply(reply, target, out)
+    let heard = ask(rt, port, request.as_bytes(), target);
+    tell_reply(heard, target, out)
 }
 
 // Says what the desk replied: that it is done, or why it is not; gives the exit status. It takes the result of asking,
@@ -65,11 +67,28 @@ fn request_of(alloc: Global, target: Revocation) -> Result<String, AllocError>
 }
 
 // Sends a request to the desk, and gives its refusal, if it refuses.
-fn ask(rt: &HostRuntime, port: u16, request: &[u8]) -> Result<Option<Refusal>, Fault>
-    ensures { IfErr result (λ e. (why : Unheard) × (e ≡ fault.Connection why)) }
+fn ask(
+    rt: &HostRuntime,
+    port: u16,
+    request: &[u8],
+    target: Revocation,
+) -> Result<Option<Refusal>, Fault>
+    ensures { Hears target result }
 {
-    match ask_at(rt, port, request) {
-        Ok(refusal) => Ok(refusal),
+    let mut buffer = [0u8; LONGEST];
+    match ask_at(rt, port, request, &mut buffer) {
+        Ok(count) => hear(rt.alloc(), target, &buffer[..count]),
         Err(unheard) => Err(Fault::Connection(unheard)),
+    }
+}
+
+// The refusal that a reply tells, or `None` where it says that it is done.
+fn hear(alloc: Global, target: Revocation, reply: &[u8]) -> Result<Option<Refusal>, Fault>
+    ensures { IsHeard target reply.now result }
+{
+    match outcome_of(alloc, target, reply) {
+        Ok(Some(outcome)) => Ok(outcome),
+        Ok(None) => Err(Fault::Connection(Unheard::Unanswered)),
+        Err(_) => Err(Fault::Desk(DeskFault::Memory)),
     }
 }

@@ -30,6 +30,9 @@ pub enum Fault {
     /// The desk that is served could not be asked, or gave no reply.
     #[error("connection")]
     Connection(Unheard),
+    /// The desk's clock is further ahead of the machine's than it may be.
+    #[error("that is more than --max-ahead allows: set the machine's clock, or restore a backup from before the wrong reading")]
+    Ahead,
     /// The machine failed, or the desk is served no longer.
     #[error(transparent)]
     Serve(ServeFault),

@@ -3,6 +3,7 @@
 //! gives a task the store of a file, and `app_commands` chooses the task by the words.
 #![tactic(auto)]
 
+mod ahead;
 mod answering;
 mod asking;
 mod begun;
@@ -15,6 +16,7 @@ mod fault;
 mod filters;
 mod limits;
 mod locks;
+mod outcomes;
 mod overseeing;
 mod ports;
 mod reports;

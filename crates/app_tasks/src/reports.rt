@@ -3,6 +3,7 @@ ghost use Rattle.std.specs.Prelude.{◌≡◌};
 ghost use Rattle.app_reports.specs.Listed.{roster};
 ghost use Rattle.app_tasks.specs.Deeds.{ChecksStatuses, ListsRows, TellsAbout, TellsPage, form_of, how_checked, how_listed};
 
+use crate::ahead::tell_ahead;
 use crate::fault::Fault;
 use crate::tasks::Task;
 use app_page::write_page;
@@ -123,7 +124,7 @@ impl<'a, E: Write> Task for CheckStatuses<'a, E> {
     ) -> (K, Result<u8, Fault>) {
         let mut store = store;
         let checked = list_faults(self.alloc, &mut store, out, self.form);
-        tell_ahead(self.errors, checked, self.now);
+        tell_checked(self.errors, checked, self.now);
         (store, check_status(checked))
     }
 }
@@ -144,13 +145,8 @@ fn check_status(checked: Result<Checked, ReportFault>) -> Result<u8, Fault>
 }
 
 // Says by how much the desk's clock is ahead of the machine's, if it is.
-fn tell_ahead<E: Write>(errors: &mut E, checked: Result<Checked, ReportFault>, now: Option<u64>) {
+fn tell_checked<E: Write>(errors: &mut E, checked: Result<Checked, ReportFault>, now: Option<u64>) {
     if let Ok(checked) = checked {
-        if let Some(seconds) = seconds_ahead(checked.clock, now) {
-            let _ = writeln!(
-                errors,
-                "desk: the desk's clock is {seconds} seconds ahead of the machine's"
-            );
-        }
+        tell_ahead(errors, seconds_ahead(checked.clock, now));
     }
 }

@@ -39,6 +39,9 @@ pub(crate) const COUNT: &str = "count";
 /// By how much a call's moment may be above the latest that is known.
 pub(crate) const MAX_STEP: &str = "max-step";
 
+/// By how much the desk's clock may be ahead of the machine's.
+pub(crate) const MAX_AHEAD: &str = "max-ahead";
+
 /// Whether a line is written for each connection.
 pub(crate) const LOG: &str = "log";
 

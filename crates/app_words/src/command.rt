@@ -124,6 +124,8 @@ pub struct Serving {
     pub count: Option<u64>,
     /// By how many seconds a call's moment may be above the latest that is known, or `None` for any number.
     pub max_step: Option<u64>,
+    /// By how many seconds the desk's clock may be ahead of the machine's, or `None` for any number.
+    pub max_ahead: Option<u64>,
     /// How a line for each connection is written, or `None` for none.
     pub log: Option<LogForm>,
     /// Whether the cause is said, too, where a connection fails.

@@ -35,6 +35,15 @@ fn arg<'a>(alloc: Global, argument: Argument) -> Result<Arg<'a>, AllocError> {
         Argument::Positional { id, value, help } => {
             positional(alloc, id, help).value_parser(value.parser())
         }
+        Argument::Unless {
+            id,
+            value,
+            option,
+            help,
+        } => positional(alloc, id, help)
+            .required(false)
+            .value_parser(value.parser())
+            .required_unless_present(option)?,
         Argument::Option {
             id,
             value_name,
@@ -72,6 +81,9 @@ fn command<'a>(alloc: Global, word: &'static Word) -> Result<Command<'a>, AllocE
     let mut command = Command::new(alloc, word.name)
         .about(word.about)
         .after_help(word.after);
+    if let Some(usage) = word.usage {
+        command = command.override_usage(usage);
+    }
     for &argument in word.arguments {
         command = command.arg(arg(alloc, argument)?)?;
     }

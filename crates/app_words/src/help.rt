@@ -104,7 +104,10 @@ pub(crate) const SERVE: &str = synced!(
   Nobody can tell a long silence from a wrong clock: choose more than the longest time without a call,
   2592000 for 30 days. The log has the machine's moment beside a 24. If it is wrong, set the machine's
   clock. If it is right, start serve once without --max-step, or with a larger one, until a call has
-  been recorded, a nonce say; then start it as before.",
+  been recorded, a nonce say; then start it as before.
+  Behind a wrong reading nothing ends before the machine's clock has come so far. A line on standard
+  error says where the desk's clock is ahead of it; by --max-ahead serve then ends, where it is more
+  than so many seconds. Set the machine's clock, or restore a backup from before the wrong reading.",
     "Files:
   While it serves, no other word works on the file: each ends with fault 21, at once or after its
   --wait. Do not replace, cut or remove the file or its log meanwhile: serve ends with fault 21 then.",
@@ -155,12 +158,26 @@ macro_rules! revoked {
     ($example:literal) => {
         after!(
             "While it is served:
-  A desk that serve has is asked by --port. Where no reply comes within a minute, the word ends
-  with desk: connection; the desk may then have revoked or not, and asking again is safe.",
+  A desk that serve has is asked by --port, without its file. Where it does not say within a minute
+  that it is done, or why it is not, the word ends with desk: connection; the desk may then have
+  revoked or not, and asking again is safe.",
             Example: $example
         )
     };
 }
+
+// How a revocation is used: on the desk in a file, or on one that is served.
+macro_rules! used {
+    ($word:literal) => {
+        concat!("desk ", $word, " [OPTIONS] <FILE> <N>\n       desk ", $word, " [OPTIONS] <N> --port <P>")
+    };
+}
+
+/// How `revoke-authz` is used.
+pub(crate) const REVOKE_AUTHZ_USAGE: &str = used!("revoke-authz");
+
+/// How `revoke-account` is used.
+pub(crate) const REVOKE_ACCOUNT_USAGE: &str = used!("revoke-account");
 
 /// Below the arguments of `revoke-authz`.
 pub(crate) const REVOKE_AUTHZ: &str = revoked!("desk revoke-authz /var/lib/desk/desk.db 7");

@@ -10,7 +10,7 @@ use crate::fault::WordsFault;
 use crate::grammar::desk;
 use crate::numbers::number_in;
 use crate::subcommand::Subcommand;
-use crate::words::{Argument, LOG_JSON, SYNC_ONCE, word_named};
+use crate::words::{Argument, LAST_NUMBER, LOG_JSON, SYNC_ONCE, word_named};
 use clap::ArgMatches;
 use clap::error::ErrorKind;
 use std::alloc::Global;
@@ -18,6 +18,14 @@ use std::alloc::Global;
 // What is said of a number that is written otherwise.
 const NOT_DECIMAL: &str =
     "a number is written in decimal, without a sign and without a zero in front";
+
+// What is said of a revocation whose words have both the port of a desk that is served and a file.
+const FILE_BESIDE_PORT: &str =
+    "with --port the desk that is served there is asked, and no FILE stands before N: desk WORD N --port P";
+
+// What is said of one that has neither a file nor a number.
+const NO_NUMBER: &str =
+    "with --port N stands in the place of FILE: a number, 1 to 2^62, without a sign and without a zero in front";
 
 // What the matches ask for, and how.
 fn asked<'a>(matches: &ArgMatches<'a>, is_terminal: bool) -> Option<Asked<'a>> {
@@ -78,11 +86,11 @@ fn with_file<'a>(
         Subcommand::Check => Some(Command::Check { file, json }),
         Subcommand::BackUp => back_up(file, given),
         Subcommand::RevokeAuthorization => {
-            let authorization = Revocation::Authorization(number(given)?);
+            let authorization = Revocation::Authorization(revoked(file, given)?);
             Some(revoke(file, given, authorization))
         }
         Subcommand::RevokeAccount => {
-            let account = Revocation::Account(number(given)?);
+            let account = Revocation::Account(revoked(file, given)?);
             Some(revoke(file, given, account))
         }
     }
@@ -122,6 +130,7 @@ fn serve<'a>(path: &'a str, given: &ArgMatches<'a>, is_verbose: bool) -> Option<
         port: given.get_one::<u16>(arguments::PORT)?,
         count: given.get_one::<u64>(arguments::COUNT),
         max_step: given.get_one::<u64>(arguments::MAX_STEP),
+        max_ahead: given.get_one::<u64>(arguments::MAX_AHEAD),
         log: log_form(given),
         is_verbose,
     };
@@ -164,9 +173,36 @@ fn synced<'a>(path: &'a str, given: &ArgMatches<'a>) -> SyncedFile<'a> {
     SyncedFile { path, syncs }
 }
 
-// The number of what is revoked.
-fn number(given: &ArgMatches<'_>) -> Option<u64> {
-    given.get_one::<u64>(arguments::NUMBER)
+// The number of what is revoked, which stands in the place of the file where a desk is asked that is served.
+fn revoked(file: &str, given: &ArgMatches<'_>) -> Option<u64> {
+    match given.get_one::<u64>(arguments::NUMBER) {
+        Some(number) => Some(number),
+        None => object_number(file),
+    }
+}
+
+// The number of an object that a text is.
+fn object_number(text: &str) -> Option<u64> {
+    match number_in(text) {
+        Some(number) if (1..=LAST_NUMBER).contains(&number) => Some(number),
+        _ => None,
+    }
+}
+
+// What is wrong with the words of a revocation by a desk that is served, if anything is.
+fn misplaced(matches: &ArgMatches<'_>) -> Option<&'static str> {
+    let (name, given) = matches.subcommand()?;
+    if !Subcommand::named(name)?.is_revocation() {
+        return None;
+    }
+    given.get_str(arguments::PORT)?;
+    if given.get_str(arguments::NUMBER).is_some() {
+        return Some(FILE_BESIDE_PORT);
+    }
+    match object_number(given.get_str(arguments::FILE)?) {
+        Some(_) => None,
+        None => Some(NO_NUMBER),
+    }
 }
 
 // The terms among them.
@@ -210,6 +246,10 @@ fn asked_by<'a>(
 ) -> Result<Asked<'a>, WordsFault> {
     if !are_decimal(matches) {
         let error = grammar.error(ErrorKind::ValueValidation, NOT_DECIMAL)?;
+        return Err(WordsFault::of(alloc, &error));
+    }
+    if let Some(text) = misplaced(matches) {
+        let error = grammar.error(ErrorKind::ArgumentConflict, text)?;
         return Err(WordsFault::of(alloc, &error));
     }
     match asked(matches, is_terminal) {

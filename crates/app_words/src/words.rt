@@ -4,8 +4,8 @@ use crate::subcommand::Subcommand;
 use crate::{arguments, help};
 use clap::builder::ValueParser;
 
-// The greatest number that an object may have, `LAST_NUMBER` of desk_model.
-const LAST_NUMBER: u64 = 1 << 62;
+/// The greatest number that an object may have, `LAST_NUMBER` of desk_model.
+pub(crate) const LAST_NUMBER: u64 = 1 << 62;
 
 // The last moment that a desk knows, `LAST_MOMENT` of desk_model, in seconds since 1970-01-01T00:00:00Z.
 const LAST_MOMENT: u64 = 250_000_000_000;
@@ -46,6 +46,8 @@ pub(crate) struct Word {
     pub(crate) after: &'static str,
     /// Its arguments, as help lists them.
     pub(crate) arguments: &'static [Argument],
+    /// How it is used, where that is not told by its arguments.
+    pub(crate) usage: Option<&'static str>,
 }
 
 /// An argument of a word.
@@ -55,6 +57,13 @@ pub(crate) enum Argument {
     Positional {
         id: &'static str,
         value: Value,
+        help: &'static str,
+    },
+    /// A value that has to be there unless an option is, told by its place.
+    Unless {
+        id: &'static str,
+        value: Value,
+        option: &'static str,
         help: &'static str,
     },
     /// An option that takes a value.
@@ -104,7 +113,7 @@ pub(crate) enum Value {
     Port,
     /// The number of an object.
     Number,
-    /// The seconds of a step of the clock.
+    /// The seconds of a step or a lead of a clock.
     Step,
     /// The status of an order.
     Status,
@@ -116,7 +125,9 @@ impl Argument {
     /// Its name, if its value is a number.
     pub(crate) fn number_id(self) -> Option<&'static str> {
         match self {
-            Argument::Positional { id, value, .. } | Argument::Option { id, value, .. }
+            Argument::Positional { id, value, .. }
+            | Argument::Unless { id, value, .. }
+            | Argument::Option { id, value, .. }
                 if value.is_number() => Some(id),
             Argument::Seconds { id, .. } => Some(id),
             Argument::Wait { .. } => Some(arguments::WAIT),
@@ -153,13 +164,6 @@ const DESK_FILE: Argument = Argument::Positional {
     id: arguments::FILE,
     value: Value::Text,
     help: "the file that holds the desk",
-};
-
-// The number of what is revoked.
-const NUMBER: Argument = Argument::Positional {
-    id: arguments::NUMBER,
-    value: Value::Number,
-    help: "its number, 1 to 2^62",
 };
 
 // How long to try again while another program has the desk's file.
@@ -240,6 +244,10 @@ const SERVE: &[Argument] = &[
         arguments::MAX_STEP, "SECONDS", Step,
         "refuses by fault 24 a call whose moment is more than this above the latest known one, 1 to 250000000000; without it none; see below"
     },
+    option! {
+        arguments::MAX_AHEAD, "SECONDS", Step,
+        "ends with status 1 where the desk's clock is more than this ahead of the machine's, 1 to 250000000000; without it never; see below"
+    },
     Argument::Optional {
         id: arguments::LOG,
         value: Value::LogForm,
@@ -292,20 +300,36 @@ const BACKUP: &[Argument] = on_desk! {
     },
 };
 
-const REVOKE: &[Argument] = on_desk! {
-    NUMBER,
-    option! { arguments::PORT, "N", Port, "asks the desk that is served at this port of 127.0.0.1, 0 to 65535, and leaves the file alone" },
-};
+const REVOKE: &[Argument] = &[
+    Argument::Positional {
+        id: arguments::FILE,
+        value: Value::Text,
+        help: "the file that holds the desk; with --port N stands in its place",
+    },
+    Argument::Unless {
+        id: arguments::NUMBER,
+        value: Value::Number,
+        option: arguments::PORT,
+        help: "its number, 1 to 2^62",
+    },
+    option! { arguments::PORT, "P", Port, "asks the desk that is served at this port of 127.0.0.1, 0 to 65535, in place of the file" },
+    DESK_WAIT,
+];
 
-// A word: what it asks for, its name, what it does, what help says below its arguments, and these.
+// A word: what it asks for, its name, what it does, what help says below its arguments, these, and how it is used, where these do not
+// tell that.
 macro_rules! word {
     ($subcommand:ident, $name:literal, $about:literal, $after:ident, $arguments:ident) => {
+        word!($subcommand, $name, $about, $after, $arguments, None)
+    };
+    ($subcommand:ident, $name:literal, $about:literal, $after:ident, $arguments:ident, $usage:expr) => {
         Word {
             subcommand: Subcommand::$subcommand,
             name: $name,
             about: $about,
             after: help::$after,
             arguments: $arguments,
+            usage: $usage,
         }
     };
 }
@@ -327,8 +351,8 @@ const OPERATOR_WORDS: &[Word] = &[
     },
     word! { Check, "check", "Lists the stored statuses that are wrong, and then ends with status 3", CHECK, CHECK },
     word! { BackUp, "backup", "Checks a desk, and copies it into a new file", BACKUP, BACKUP },
-    word! { RevokeAuthorization, "revoke-authz", "Revokes an authorization", REVOKE_AUTHZ, REVOKE },
-    word! { RevokeAccount, "revoke-account", "Revokes an account", REVOKE_ACCOUNT, REVOKE },
+    word! { RevokeAuthorization, "revoke-authz", "Revokes an authorization", REVOKE_AUTHZ, REVOKE, Some(help::REVOKE_AUTHZ_USAGE) },
+    word! { RevokeAccount, "revoke-account", "Revokes an account", REVOKE_ACCOUNT, REVOKE, Some(help::REVOKE_ACCOUNT_USAGE) },
 ];
 
 /// The word of this name.

@@ -1,0 +1,25 @@
+//! How far the clock of a desk is ahead of the machine's.
+ghost use Rattle.std.specs.Prelude.{◌≡◌};
+ghost use Rattle.app_tasks.specs.Deeds.{is_too_far};
+
+use std::io::Write;
+
+/// Says by how many seconds the desk's clock is ahead of the machine's, if it is.
+pub(crate) fn tell_ahead<E: Write>(errors: &mut E, lead: Option<u64>) {
+    if let Some(seconds) = lead {
+        let _ = writeln!(
+            errors,
+            "desk: the desk's clock is {seconds} seconds ahead of the machine's"
+        );
+    }
+}
+
+/// Whether it is further ahead than it may be.
+pub(crate) fn is_too_far(lead: Option<u64>, most: Option<u64>) -> bool
+    ensures { result ≡ is_too_far lead most }
+{
+    match (lead, most) {
+        (Some(lead), Some(most)) => most < lead,
+        _ => false,
+    }
+}
