@@ -15,7 +15,7 @@ use Rattle.store_api.specs.Sight.{Sight}
 
 -- ---- the reader's bytes
 
-prepend_nothing : (known : Option (List ℕ)) → prepend_known [] known ≡ known
+prepend_nothing : (remaining : Option (List ℕ)) → prepend_known [] remaining ≡ remaining
 prepend_nothing None = refl
 prepend_nothing (Some xs) = refl
 

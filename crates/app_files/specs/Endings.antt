@@ -108,7 +108,7 @@ module _ {D : Type 0} (g : disk.Ghosts D) where
     pub opened : Store (FileStore D g)
     pub ended : Store (FileStore D g)
     pub opens : OpensFiles bytes opened
-    pub known : OpensKnown bytes opened
+    pub shows : OpensKnown bytes opened
     pub did : OverStore does (over_files {g = g}) opened ended how
 
 module _ {D : Type 0} {g : disk.Ghosts D} where

@@ -129,7 +129,7 @@ pub(crate) fn open<S: Start>(
     start: S,
 ) -> Result<Store<DeskFile<S>>, (OpenFault, Left<FileFrom<S>>)>
     ensures opened { IfOk result (OpensFiles (image_at S.Start)) }
-    ensures known { IfOk result (OpensKnown (image_at S.Start)) }
+    ensures shows { IfOk result (OpensKnown (image_at S.Start)) }
     ensures unopened { IfErr result (λ e. IsUnopened (image_at S.Start) e.0 e.1) }
 {
     match holds_bytes(rt, path) {

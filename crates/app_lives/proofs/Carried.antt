@@ -3,7 +3,7 @@ use Rattle.std.proofs.Common.{◌≡◌, Result, Ok, Err, inl, inr}
 use Rattle.std.specs.Prelude.{IfErr, false}
 use Rattle.desk_model.specs.{Entry.History, declared.call.Call.Call, declared.reply.Reply.Reply}
 use Rattle.desk_model.specs.Tables.{Tables, picture}
-use Rattle.store_api.specs.Sight.{Sight, Stands}
+use Rattle.store_api.specs.Sight.{Sight, Unchanged}
 use Rattle.desk.specs.Answers.{Answers, Exits, ExitsBy, IsBroken, IsDeclined, IsEither}
 use Rattle.desk.specs.{Faults.closes, declared.fault.DeskFault.DeskFault}
 use Rattle.desk.specs.Seen.{IsExit, IsExitInPlace}
@@ -14,11 +14,11 @@ use Rattle.desk_files.proofs.Finding.{keeps_within}
 module _ {S C B : Type 0} (part : B → C) (has_in : B → Tables → Type 0) (v : Sight S C)
     (widens : (b : B) (T : Tables) → v.has (part b) T → has_in b T) where
   -- nothing changed
-  stands_within : (old new : S) → Stands v old new → Stands (sight_within part has_in v) old new
-  stands_within old new stands = record {
-    honest = stands.honest;
-    left = λ honest b. stands.left honest (part b);
-    tables = λ honest T keeps. record { tables = stands.tables honest T keeps.tables; left = λ c leaves. keeps.left c (stands.left honest c leaves) };
+  store_unchanged_within : (old new : S) → Unchanged v old new → Unchanged (sight_within part has_in v) old new
+  store_unchanged_within old new unchanged = record {
+    honest = unchanged.honest;
+    left = λ honest b. unchanged.left honest (part b);
+    tables = λ honest T keeps. record { tables = unchanged.tables honest T keeps.tables; left = λ c leaves. keeps.left c (unchanged.left honest c leaves) };
   }
 
   -- a call that is not made
@@ -54,10 +54,10 @@ module _ {S C B : Type 0} (part : B → C) (has_in : B → Tables → Type 0) (v
   exits_within F call (Err why) new is = exits_by F call why new is
 
   -- a fault after which the desk goes on
-  unchanged_within : (old new : S) (result : Result Reply DeskFault) → IfErr result (λ why. closes why ≡ false → Stands v old new)
-      → IfErr result (λ why. closes why ≡ false → Stands (sight_within part has_in v) old new)
+  unchanged_within : (old new : S) (result : Result Reply DeskFault) → IfErr result (λ why. closes why ≡ false → Unchanged v old new)
+      → IfErr result (λ why. closes why ≡ false → Unchanged (sight_within part has_in v) old new)
   unchanged_within old new (Ok reply) same = tt
-  unchanged_within old new (Err why) same = λ goes_on. stands_within old new (same goes_on)
+  unchanged_within old new (Err why) same = λ goes_on. store_unchanged_within old new (same goes_on)
 
   -- an answer
   answers_within : (call : Call) (old new : S) (result : Result Reply DeskFault) → Answers v call old new result

@@ -73,7 +73,7 @@ module _ {D : Type 0} (g : disk.Ghosts D) where
           opened = over.opened;
           ended = over.ended;
           opens = over.opens;
-          known = over.known;
+          shows = over.shows;
           did = subst (λ how. OverStore (ChecksStatuses form.Text was is) (over_files {g = g}) over.opened over.ended how) well over.did;
         } in
         let it = closed_well over.ended closing left closes (subst (λ how. IsTold IsOfOpening how closing (Ok 0)) well told) in

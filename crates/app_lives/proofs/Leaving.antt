@@ -16,16 +16,16 @@ use Rattle.app_words.specs.declared.command.{Revocation.Revocation, Serving.Serv
 use Rattle.app_tasks.specs.Deeds.{Adopts, AnswersLines, AnswersReader, BehindClock, ByDesk, FailsToAdopt, IsTold, Revokes, RevokesTarget, Serves}
 use Rattle.app_tasks.specs.Deeds.{ServesClients, ServesUnlessAhead, TakesAny, adopted, ask_of, clocked, clockless, served, unadopted, unserved}
 use Rattle.app_tasks.specs.declared.fault.Fault.{Fault}
-use Rattle.desk_http.specs.InTurn.{ServesAll, ServesFewer, ServesMany, ServesUntil}
-use Rattle.desk_http.specs.Noted.{Note}
+use Rattle.desk_http.specs.InTurn.{ServesConnections, ServesFewer, ServesMany, ServesUntil}
+use Rattle.desk_http.specs.Logged.{LogEntry}
 use Rattle.desk_http.specs.declared.{overseeing.Watch.Watch, serve_fault.ServeFault.ServeFault}
 use Rattle.desk_http.specs.declared.serve_fault.ServeFault.TheVariants as servefault
 use Rattle.desk.specs.{Answers.is_closed_after, Meets.ActsOnce, Seen.Told, State.DeskState, declared.fault.DeskFault.DeskFault}
 use Rattle.desk.specs.Office.{AnswersOffice, office_call}
 use Rattle.desk_http.proofs.Seeing.{one_acts}
 use Rattle.desk_model.specs.{Entry.History, History.terms, Legal.Legal, Tables.picture, declared.refusal.Refusal.Refusal, declared.reply.Reply.Reply}
-use Rattle.store_api.proofs.Readings.{reads_then, stands_both}
-use Rattle.store_api.specs.Sight.{Keeps, Sight, Stands}
+use Rattle.store_api.proofs.Readings.{reads_then, unchanged_both}
+use Rattle.store_api.specs.Sight.{Keeps, Sight, Unchanged}
 use Rattle.store_api.specs.Storing.{Causes}
 use Rattle.desk_store.specs.{Desks.store_sight, declared.store.Store.Store}
 use Rattle.app_files.specs.Endings.{IsDoneOver}
@@ -214,7 +214,7 @@ module _ {S C : Type 0} (v : Sight S C) where
   calls_on : (old mid new : DeskState S) → AreCalls v (Any v) old mid → ActsOnce v mid new → AreCalls v (Any v) old new
   calls_on old mid new before acts = of_calls v (Any v) (once_more v (Any v) old mid new before acts) tt
 
-  module _ (causes : Causes S) {O : Type 0} (takes : O → Note → O → Type 0) where
+  module _ (causes : Causes S) {O : Type 0} (takes : O → LogEntry → O → Type 0) where
     -- so many of them
     many_calls : (n : ℕ) (old new : DeskState S) (was is : Watch O) → ServesMany v causes takes n old was new is → AreCalls v (Any v) old new
     many_calls zero old new was is same = no_call v (Any v) tt old new same.0
@@ -232,7 +232,7 @@ module _ {S C : Type 0} (v : Sight S C) where
 
     -- all, or up to one that ended the serving
     all_calls : (most : ℕ) (old new : DeskState S) (was is : Watch O) (ended : Result Unit ServeFault)
-        → ServesAll v causes takes most old was new is ended → AreCalls v (Any v) old new
+        → ServesConnections v causes takes most old was new is ended → AreCalls v (Any v) old new
     all_calls most old new was is (Ok all) it = many_calls most old new was is it
     all_calls most old new was is (Err (servefault.Desk why)) it = until_calls most (Some why) old new was is it
     all_calls most old new was is (Err servefault.Output) it = until_calls most None old new was is it
@@ -294,15 +294,15 @@ module _ {S C : Type 0} (v : Sight S C) where
   keeps_adopted : (F : History) (old : S) (desk : DeskState S) → Adopts v old desk → v.is_honest desk.store → Keeps v old (picture F)
       → Keeps v desk.store (picture F)
   keeps_adopted F old desk adopts honest keeps = record {
-    tables = adopts.stands.tables honest (picture F) keeps.tables;
-    left = λ c may. keeps.left c (adopts.stands.left honest c may);
+    tables = adopts.unchanged.tables honest (picture F) keeps.tables;
+    left = λ c may. keeps.left c (adopts.unchanged.left honest c may);
   }
 
   -- a desk that is adopted once its clock is read is adopted over what there was
-  adopts_behind : (old mid : S) (desk : DeskState S) → Stands v old mid → Adopts v mid desk → Adopts v old desk
-  adopts_behind old mid desk stands adopts = record {
-    stands = stands_both stands adopts.stands;
-    policy = λ honest T held. adopts.policy honest T (stands.tables (adopts.stands.honest honest) T held);
+  adopts_behind : (old mid : S) (desk : DeskState S) → Unchanged v old mid → Adopts v mid desk → Adopts v old desk
+  adopts_behind old mid desk unchanged adopts = record {
+    unchanged = unchanged_both unchanged adopts.unchanged;
+    policy = λ honest T held. adopts.policy honest T (unchanged.tables (adopts.unchanged.honest honest) T held);
     opened = adopts.opened;
   }
 
@@ -311,10 +311,10 @@ module _ {S C : Type 0} (v : Sight S C) where
       → BehindClock v was is (λ clock. ByDesk v was is (Does clock)) old new how
       → ByDesk v was is (λ desk ended outcome. (clock : ℕ) × Does clock desk ended outcome) old new how
   behind_clock was is Does old new how (clockless why fails same) = unadopted why fails same
-  behind_clock was is Does old new how (clocked end clock mid stands found (unadopted why fails same)) =
-      unadopted why (record { why = fails.why; reads = reads_then (Err fails.why) stands fails.reads; fault = fails.fault }) same
-  behind_clock was is Does old new how (clocked end clock mid stands found (adopted outcome desk ended adopts does back)) =
-      adopted outcome desk ended (adopts_behind old mid desk stands adopts) (clock, does) back
+  behind_clock was is Does old new how (clocked end clock mid unchanged found (unadopted why fails same)) =
+      unadopted why (record { why = fails.why; reads = reads_then (Err fails.why) unchanged fails.reads; fault = fails.fault }) same
+  behind_clock was is Does old new how (clocked end clock mid unchanged found (adopted outcome desk ended adopts does back)) =
+      adopted outcome desk ended (adopts_behind old mid desk unchanged adopts) (clock, does) back
 
   by_desk : (P : Result ℕ Fault → List Told → Type 0) (was is : Option (List ℕ)) → ((why : Fault) → is ≡ was → P (Err why) [])
       → (Does : DeskState S → DeskState S → Result ℕ Fault → Type 0)
@@ -327,7 +327,7 @@ module _ {S C : Type 0} (v : Sight S C) where
       let are : AreCalls v (P outcome) desk ended = calls desk ended outcome adopts.opened does in
       let starts : v.is_honest desk.store = honest_at_first v desk ended are.told are.answered ends in
       record {
-        honest = adopts.stands.honest starts;
+        honest = adopts.unchanged.honest starts;
         left = λ keeps. record {
           told = are.told;
           desk = desk;

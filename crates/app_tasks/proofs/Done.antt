@@ -5,8 +5,8 @@ use Rattle.app_words.specs.declared.command.{Revocation.Revocation, Serving.Serv
 use Rattle.app_tasks.specs.Deeds.{AnswersLines, Revokes, Serves, TakesAny, ask_of, served, unserved, watch_at}
 use Rattle.app_tasks.specs.declared.fault.Fault.{Fault}
 use Rattle.app_tasks.specs.declared.fault.Fault.TheVariants as fault
-use Rattle.desk_http.specs.{InTurn.ServesAll, declared.serve_fault.ServeFault.ServeFault}
-use Rattle.desk_http.specs.declared.clients.MomentBound.{MomentBound}
+use Rattle.desk_http.specs.{InTurn.ServesConnections, declared.serve_fault.ServeFault.ServeFault}
+use Rattle.desk_http.specs.declared.moment_bound.MomentBound.{MomentBound}
 use Rattle.desk_http.specs.declared.serve_fault.ServeFault.TheVariants as servefault
 use Rattle.desk.specs.{Faults.closes, Office.AnswersOffice, SeenDesks.IsSeenOn, State.DeskState, declared.fault.DeskFault.DeskFault}
 use Rattle.store_api.specs.{Sight.Sight, Storing.Causes}
@@ -41,7 +41,7 @@ module _ {S C : Type 0} (v : Sight S C) where
 
     -- serving was ended by a fault
     pub served_until : (desk ended : DeskState S) (bound : MomentBound) (cause : ServeFault) (how : Result ℕ Fault) → IsSeenOn v desk ended
-        → ServesAll v causes TakesAny (unwrap_or s.count 18446744073709551615) desk (watch_at s.max_step clock) ended
+        → ServesConnections v causes TakesAny (unwrap_or s.count 18446744073709551615) desk (watch_at s.max_step clock) ended
         (record { overseer = tt; bound = bound }) (Err cause)
         → Fails how (fault.Serve cause) → Serves v causes s clock desk ended how
     served_until desk ended bound cause (Ok status) seen all told = absurd told

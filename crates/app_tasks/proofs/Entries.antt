@@ -2,7 +2,7 @@
 use Rattle.std.proofs.Common.{◌≡◌, ◌++◌, ◌∙◌, ℕ, List, codes, refl, subst, sym}
 use Rattle.app_words.specs.declared.command.LogForm.{LogForm}
 use Rattle.app_words.specs.declared.command.LogForm.TheVariants as form
-use Rattle.desk_http.specs.Noted.{Note}
+use Rattle.desk_http.specs.Logged.{LogEntry}
 use Rattle.app_tasks.specs.CallLog.{entry_line, number_text, request_text}
 
 -- the line as a document, of the texts of its members
@@ -12,7 +12,7 @@ document request status number object micros =
     ++ (codes ",\"microseconds\":" ++ (micros ++ codes "}\n")))))))))
 
 -- it is the line where these are those of the entry
-pub document_is_line : (f : LogForm) (e : Note) (request status number object micros : List ℕ) → f ≡ form.Json → request ≡ request_text f e
+pub document_is_line : (f : LogForm) (e : LogEntry) (request status number object micros : List ℕ) → f ≡ form.Json → request ≡ request_text f e
     → status ≡ number_text f e.status → number ≡ number_text f e.number → object ≡ number_text f e.object → micros ≡ number_text f e.micros
     → document request status number object micros ≡ entry_line f e
 document_is_line f e request status number object micros is by-request by-status by-number by-object by-micros =

@@ -2,8 +2,8 @@
 use Rattle.std.proofs.Common.{ℕ, zero, suc, Bool, true, Option, None, Some, Result, Ok, Err, ap, refl, subst, sym}
 use Rattle.store_api.specs.{Sight.Sight, Storing.Causes}
 use Rattle.desk.specs.{State.DeskState, declared.fault.DeskFault.DeskFault}
-use Rattle.desk_http.specs.InTurn.{ServesAll, ServesFewer, ServesMany, ServesOne, ServesUntil}
-use Rattle.desk_http.specs.Noted.{Note}
+use Rattle.desk_http.specs.InTurn.{ServesConnections, ServesFewer, ServesMany, ServesOne, ServesUntil}
+use Rattle.desk_http.specs.Logged.{LogEntry}
 use Rattle.desk_http.specs.declared.{overseeing.Watch.Watch, serve_fault.ServeFault.ServeFault}
 use Rattle.desk_http.specs.declared.serve_fault.ServeFault.TheVariants as servefault
 
@@ -11,9 +11,9 @@ use Rattle.desk_http.specs.declared.serve_fault.ServeFault.TheVariants as servef
 abbrev pub over : {O P : Type 0} → (O → P) → Watch O → Watch P
 over f w = record { overseer = f w.overseer; bound = w.bound }
 
-module _ {S C : Type 0} (v : Sight S C) (causes : Causes S) {O P : Type 0} (takes : O → Note → O → Type 0) (taken : P → Note → P → Type 0)
+module _ {S C : Type 0} (v : Sight S C) (causes : Causes S) {O P : Type 0} (takes : O → LogEntry → O → Type 0) (taken : P → LogEntry → P → Type 0)
     (Stays : O → Type 0) (f : O → P)
-    (each : (old : O) (note : Note) (new : O) → Stays old → takes old note new → Stays new × taken (f old) note (f new)) where
+    (each : (old : O) (log_entry : LogEntry) (new : O) → Stays old → takes old log_entry new → Stays new × taken (f old) log_entry (f new)) where
   one_over : (why : Option DeskFault) (kept : Bool) (old new : DeskState S) (was is : Watch O) → Stays was.overseer
       → ServesOne v causes takes why kept old was new is → ServesOne v causes taken why kept old (over f was) new (over f is)
   one_over why kept old new was is stays one = record {
@@ -22,12 +22,12 @@ module _ {S C : Type 0} (v : Sight S C) (causes : Causes S) {O P : Type 0} (take
     served = one.served;
     serves = one.serves;
     closed = one.closed;
-    noted = λ is_kept. let n = one.noted is_kept in (n.0, n.1, (each was.overseer n.0 is.overseer stays n.2).1);
+    logged = λ is_kept. let n = one.logged is_kept in (n.0, n.1, (each was.overseer n.0 is.overseer stays n.2).1);
   }
 
   one_stays : (why : Option DeskFault) (old new : DeskState S) (was is : Watch O) → Stays was.overseer
       → ServesOne v causes takes why true old was new is → Stays is.overseer
-  one_stays why old new was is stays one = let n = one.noted refl in (each was.overseer n.0 is.overseer stays n.2).0
+  one_stays why old new was is stays one = let n = one.logged refl in (each was.overseer n.0 is.overseer stays n.2).0
 
   many_stay : (n : ℕ) (old new : DeskState S) (was is : Watch O) → Stays was.overseer → ServesMany v causes takes n old was new is → Stays is.overseer
   many_stay zero old new was is stays many = subst (λ w. Stays w.overseer) (sym many.1) stays
@@ -68,7 +68,7 @@ module _ {S C : Type 0} (v : Sight S C) (causes : Causes S) {O P : Type 0} (take
   }
 
   pub all_over : (most : ℕ) (old new : DeskState S) (was is : Watch O) (ended : Result Unit ServeFault) → Stays was.overseer
-      → ServesAll v causes takes most old was new is ended → ServesAll v causes taken most old (over f was) new (over f is) ended
+      → ServesConnections v causes takes most old was new is ended → ServesConnections v causes taken most old (over f was) new (over f is) ended
   all_over most old new was is (Ok done) stays it = many_over most old new was is stays it
   all_over most old new was is (Err (servefault.Desk why)) stays it = until_over most (Some why) old new was is stays it
   all_over most old new was is (Err servefault.Output) stays it = until_over most None old new was is stays it
@@ -79,9 +79,9 @@ module _ {S C : Type 0} (v : Sight S C) (causes : Causes S) {O P : Type 0} (take
   all_over most old new was is (Err servefault.Replaced) stays it = fewer_over most old new was is stays it
 
 -- what was served under one overseer was so under the other, where that takes its notes
-pub over_all : {S C : Type 0} (v : Sight S C) (causes : Causes S) {O P : Type 0} (is : Watch O) (taken : P → Note → P → Type 0) (Stays : O → Type 0)
-    (f : O → P) (takes : O → Note → O → Type 0) (most : ℕ) (old new : DeskState S) (was : Watch O) (ended : Result Unit ServeFault)
-    → ServesAll v causes takes most old was new is ended → Stays was.overseer
-    → ((before : O) (note : Note) (after : O) → Stays before → takes before note after → Stays after × taken (f before) note (f after))
-    → ServesAll v causes taken most old (over f was) new (over f is) ended
+pub over_all : {S C : Type 0} (v : Sight S C) (causes : Causes S) {O P : Type 0} (is : Watch O) (taken : P → LogEntry → P → Type 0) (Stays : O → Type 0)
+    (f : O → P) (takes : O → LogEntry → O → Type 0) (most : ℕ) (old new : DeskState S) (was : Watch O) (ended : Result Unit ServeFault)
+    → ServesConnections v causes takes most old was new is ended → Stays was.overseer
+    → ((before : O) (log_entry : LogEntry) (after : O) → Stays before → takes before log_entry after → Stays after × taken (f before) log_entry (f after))
+    → ServesConnections v causes taken most old (over f was) new (over f is) ended
 over_all v causes is taken Stays f takes most old new was ended all stays each = all_over v causes takes taken Stays f each most old new was is ended stays all

@@ -3,7 +3,7 @@ use Rattle.std.specs.Prelude.{◌≡◌, ℕ, List, ◌++◌, Option, Some, None
 use Rattle.std.specs.Io.KnownBytes.{Appends}
 use Rattle.app_words.specs.declared.command.LogForm.{LogForm}
 use Rattle.app_words.specs.declared.command.LogForm.TheVariants as form
-use Rattle.desk_http.specs.Noted.{Note}
+use Rattle.desk_http.specs.Logged.{LogEntry}
 use Rattle.desk_model.specs.Moment.{moment_text}
 use Rattle.moments.specs.Capped.{capped}
 
@@ -14,14 +14,14 @@ number_text form.Text None = codes "-"
 number_text form.Json None = codes "null"
 
 -- what tells of the request: when its call acted, its method and its path; no member of the document needs an escape
-abbrev pub request_text : LogForm → Note → List ℕ
+abbrev pub request_text : LogForm → LogEntry → List ℕ
 request_text form.Text e = moment_text (capped e.at) ++ (codes " " ++ (e.method ++ (codes " " ++ e.path)))
 request_text form.Json e =
     codes "\"moment\":\"" ++ (moment_text (capped e.at) ++ (codes "\",\"method\":\"" ++ (e.method ++ (codes "\",\"path\":\"" ++ (e.path
     ++ codes "\"")))))
 
 -- the line of a connection that was served
-abbrev pub entry_line : LogForm → Note → List ℕ
+abbrev pub entry_line : LogForm → LogEntry → List ℕ
 entry_line form.Text e =
     request_text form.Text e ++ (codes " " ++ (number_text form.Text e.status ++ (codes " " ++ (number_text form.Text e.number
     ++ (codes " " ++ (number_text form.Text e.object ++ (codes " " ++ (number_text form.Text e.micros ++ codes "\n"))))))))
@@ -31,6 +31,6 @@ entry_line form.Json e =
     ++ (number_text form.Json e.micros ++ codes "}\n")))))))))
 
 -- its line was written behind what was there, in the form that is asked for, or nothing
-abbrev pub TakesLine : Option LogForm → (before : Option (List ℕ)) → Note → (after : Option (List ℕ)) → Type 0
+abbrev pub TakesLine : Option LogForm → (before : Option (List ℕ)) → LogEntry → (after : Option (List ℕ)) → Type 0
 TakesLine (Some f) before e after = Appends before after (entry_line f e)
 TakesLine None before e after = after ≡ before

@@ -7,14 +7,14 @@ use Rattle.app_words.specs.declared.command.{Revocation.Revocation, Serving.Serv
 use Rattle.app_words.specs.declared.command.Revocation.TheVariants as revocation
 use Rattle.app_tasks.specs.{Faults.report_fault, declared.fault.Fault.Fault}
 use Rattle.app_tasks.specs.declared.fault.Fault.TheVariants as fault
-use Rattle.desk_http.specs.{InTurn.ServesAll, Noted.Note, declared.serve_fault.ServeFault.ServeFault}
-use Rattle.desk_http.specs.declared.{clients.MomentBound.MomentBound, overseeing.Watch.Watch}
+use Rattle.desk_http.specs.{InTurn.ServesConnections, Logged.LogEntry, declared.serve_fault.ServeFault.ServeFault}
+use Rattle.desk_http.specs.declared.{moment_bound.MomentBound.MomentBound, overseeing.Watch.Watch}
 use Rattle.desk_http.specs.declared.serve_fault.ServeFault.TheVariants as servefault
 use Rattle.desk.specs.{Answers.is_closed_after, Faults.storage_fault, Office.AnswersOffice, SeenDesks.IsSeenOn, State.DeskState}
 use Rattle.desk.specs.declared.fault.DeskFault.{DeskFault}
 use Rattle.desk_model.specs.{Derived.status_faults, Tables.Tables, declared.call.OfficeAsk.OfficeAsk, declared.refusal.Refusal.Refusal}
 use Rattle.desk_model.specs.declared.call.OfficeAsk.TheVariants as ask
-use Rattle.store_api.specs.Sight.{FailsToRead, ForTables, Sight, Stands}
+use Rattle.store_api.specs.Sight.{FailsToRead, ForTables, Sight, Unchanged}
 use Rattle.store_api.specs.{Storing.Causes, declared.fault.StorageFault.StorageFault}
 use Rattle.app_tasks.specs.Doing.{Deed}
 use Rattle.app_page.specs.Page.{page_html}
@@ -69,7 +69,7 @@ module _ {S C : Type 0} (v : Sight S C) where
 module _ {S C : Type 0} (v : Sight S C) where
   -- a desk was adopted over the store: it is open, and has the policy of the tables
   pub record Adopts (old : S) (desk : DeskState S) : Type 0 where
-    pub stands : Stands v old desk.store
+    pub unchanged : Unchanged v old desk.store
     pub policy : ForTables v old desk.store (λ T. desk.policy ≡ T.meta.policy)
     pub opened : desk.is_closed ≡ false
 
@@ -126,8 +126,8 @@ IsUnserved how =
     (how ≡ Err (fault.Serve servefault.Bind)) ⊎ ((how ≡ Err fault.Output) ⊎ (how ≡ Err (fault.Serve servefault.Replaced)))
 
 -- whatever is noted of a connection
-abbrev pub TakesAny : Unit {0} → Note → Unit {0} → Type 0
-TakesAny before note after = Unit {0}
+abbrev pub TakesAny : Unit {0} → LogEntry → Unit {0} → Type 0
+TakesAny before log_entry after = Unit {0}
 
 -- what is known of moments, by the greatest step and the clock of the desk
 abbrev pub watch_at : (step : Option ℕ) → (clock : ℕ) → Watch (Unit {0})
@@ -141,7 +141,7 @@ module _ {S C : Type 0} (v : Sight S C) (causes : Causes S) where
     unserved : ended ≡ desk → IsUnserved how → Serves s clock desk ended how
     served :
         (served : Result Unit ServeFault) (bound : MomentBound) → IsSeenOn v desk ended
-        → ServesAll v causes TakesAny (unwrap_or s.count 18446744073709551615) desk (watch_at s.max_step clock) ended
+        → ServesConnections v causes TakesAny (unwrap_or s.count 18446744073709551615) desk (watch_at s.max_step clock) ended
         (record { overseer = tt; bound = bound }) served
         → how ≡ how_served served → Serves s clock desk ended how
 
@@ -163,7 +163,7 @@ module _ {S D : Type 0} (rows : Sight S D) where
   pub data BehindClock (was is : Option (List ℕ)) (Does : ℕ → S → S → Result ℕ Fault → Type 0) (old new : S) : Result ℕ Fault → Type 0 where
     clockless : (why : Fault) → FailsToAdopt rows old new why → is ≡ was → BehindClock was is Does old new (Err why)
     clocked :
-        (how : Result ℕ Fault) (clock : ℕ) (mid : S) → Stands rows old mid → ForTables rows old mid (λ T. clock ≡ T.meta.counters.clock)
+        (how : Result ℕ Fault) (clock : ℕ) (mid : S) → Unchanged rows old mid → ForTables rows old mid (λ T. clock ≡ T.meta.counters.clock)
         → Does clock mid new how → BehindClock was is Does old new how
 
 -- ---- the tasks, by what their writer was given before them and has behind them, where it is known

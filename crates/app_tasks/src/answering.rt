@@ -10,7 +10,7 @@ use app_batch::batch;
 use app_reports::seconds_ahead;
 use app_words::Serving;
 use desk::Desk;
-use desk_http::{MomentBound, ServeFault, Watch, bind, serve_all};
+use desk_http::{MomentBound, ServeFault, Watch, bind, serve_connections};
 use std::alloc::Global;
 use std::io::{Read, Write};
 use store_api::{RowsAbove, Storage};
@@ -103,7 +103,7 @@ impl<'a, E: Write> ServeConnections<'a, E> {
             },
             bound: MomentBound::new(self.serving.max_step, clock),
         };
-        serve_all(
+        serve_connections(
             self.rt.alloc(),
             self.rt,
             &listener,

@@ -2,7 +2,7 @@
 ghost use Rattle.std.specs.Prelude.{◌≡◌, IfOk, OnOk, string_bytes};
 ghost use Rattle.std.specs.Io.KnownBytes.{Appends};
 ghost use Rattle.app_tasks.specs.CallLog.{entry_line, number_text, request_text};
-ghost use Rattle.desk_http.specs.Noted.{as_note};
+ghost use Rattle.desk_http.specs.Logged.{as_log_entry};
 
 use app_words::LogForm;
 use desk_http::Entry;
@@ -22,7 +22,7 @@ pub(crate) fn write_entry<W: Write>(
     form: LogForm,
     entry: Entry<'_>,
 ) -> io::Result<()>
-    ensures { OnOk result (Appends (W.contents out.old) (W.contents out.new) (entry_line form (as_note entry.entry))) }
+    ensures { OnOk result (Appends (W.contents out.old) (W.contents out.new) (entry_line form (as_log_entry entry.entry))) }
 {
     let request = request_text(alloc, form, entry)?;
     let status = number_text(alloc, form, widened(entry.status))?;
@@ -42,7 +42,7 @@ pub(crate) fn write_entry<W: Write>(
 
 // What tells of the request: the moment at which its call acted, its method and its path.
 fn request_text(alloc: Global, form: LogForm, entry: Entry<'_>) -> Result<String, AllocError>
-    ensures { IfOk result (λ text. string_bytes text ≡ request_text form (as_note entry.entry)) }
+    ensures { IfOk result (λ text. string_bytes text ≡ request_text form (as_log_entry entry.entry)) }
 {
     let moment = capped_moment_text(alloc, entry.at)?;
     let (moment, method, path) = (moment.as_str(), entry.method, entry.path);

@@ -1,6 +1,6 @@
 //! The desk of a store, and its clock.
 ghost use Rattle.std.specs.Prelude.{◌≡◌, IfOk, MatchResult};
-ghost use Rattle.store_api.specs.Sight.{ForTables, Stands};
+ghost use Rattle.store_api.specs.Sight.{ForTables, Unchanged};
 ghost use Rattle.app_tasks.specs.Deeds.{Adopts, FailsToAdopt};
 
 use crate::fault::Fault;
@@ -32,7 +32,7 @@ pub(crate) fn adopt<K: Storage + Drop>(alloc: Global, store: K) -> Result<Desk<K
 /// `Desk` with the fault of the store.
 pub(crate) fn clock_of<K: LookUps>(alloc: Global, store: &mut K) -> Result<u64, Fault>
     ensures reads { MatchResult result
-        (λ clock. Stands K.LookUps.sight store.old store.new)
+        (λ clock. Unchanged K.LookUps.sight store.old store.new)
         (λ f. FailsToAdopt K.LookUps.sight store.old store.new f) }
     ensures found { ForTables K.LookUps.sight store.old store.new (λ T. IfOk result (λ clock. clock ≡ T.meta.counters.clock)) }
 {

@@ -90,13 +90,13 @@ pub(crate) struct FileOverseer<'a, W: Write> {
 }
 
 impl<'a, W: Write> Overseer for FileOverseer<'a, W> {
-    ghost takes = { λ was note is. (is.log ≡ was.log) × TakesLine was.log (W.contents was.out.now) note (W.contents is.out.now) };
+    ghost takes = { λ was log_entry is. (is.log ≡ was.log) × TakesLine was.log (W.contents was.out.now) log_entry (W.contents is.out.now) };
 
     fn is_in_place(&self) -> bool {
         self.files.are_in_place(self.rt)
     }
 
-    fn note(&mut self, entry: Entry<'_>) -> bool {
+    fn log_entry(&mut self, entry: Entry<'_>) -> bool {
         match self.log {
             Some(form) => {
                 write_entry(self.rt.alloc(), self.out, form, entry).is_ok()

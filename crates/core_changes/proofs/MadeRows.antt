@@ -20,7 +20,7 @@ use Rattle.model_laws.proofs.Basics.{each, each_both, each_of_map, find-append}
 use Rattle.model_laws.proofs.{Finds.found_moved, Local.moved_number}
 use Rattle.model_laws.proofs.RowLists.{ascends_above, ascends_found, ascends_map, none_below, numbered_ascends}
 use Rattle.model_laws.proofs.OrderFacts.{made_by_numbered, numbers_listed}
-use Rattle.core_changes.specs.Made.{AreStanding, made_row, made_rows}
+use Rattle.core_changes.specs.Made.{AreReusable, made_row, made_rows}
 use Rattle.desk_book.proofs.SweptRows.{find-moved}
 
 -- the numbers of new rows go up
@@ -56,8 +56,8 @@ abbrev Waits : List AuthorizationRow → ℕ → Type 0
 Waits rows n = holds (λ r. is_pending r.status) (authorization_numbered n rows) ≡ true
 
 -- it is valid
-abbrev Stands : List AuthorizationRow → ℕ → Type 0
-Stands rows n = holds (λ r. is_valid r.status) (authorization_numbered n rows) ≡ true
+abbrev IsReusable : List AuthorizationRow → ℕ → Type 0
+IsReusable rows n = holds (λ r. is_valid r.status) (authorization_numbered n rows) ≡ true
 
 -- new challenges are not reported
 none_reported : (cs : List Challenge) → list_any (λ c. holds (λ r. is_good r.outcome) c.reported) (map fresh_challenge cs) ≡ false
@@ -122,15 +122,15 @@ stood_found T m account n wanted row found =
     (found_moved (λ a. a.number == n) (moved_authorization (ordered account wanted) m T.accounts) (λ a. refl) T.authorizations row found)
 
 -- so what was valid stands
-standing_after : (T : Tables) (m account : ℕ) (wanted : List Wanted) (ws : List Wanted) → AreStanding T.authorizations ws →
-    EachOf (OfReused (Stands (authorizations_after T (ordered account wanted) m))) ws
-standing_after T m account wanted [] h = tt
-standing_after T m account wanted (new name tokens ∷ ws) h = (tt, standing_after T m account wanted ws h.1)
-standing_after T m account wanted (reused name n ∷ ws) h =
-    (by (authorization_numbered n T.authorizations) refl h.0, standing_after T m account wanted ws h.1)
+reusable_after : (T : Tables) (m account : ℕ) (wanted : List Wanted) (ws : List Wanted) → AreReusable T.authorizations ws →
+    EachOf (OfReused (IsReusable (authorizations_after T (ordered account wanted) m))) ws
+reusable_after T m account wanted [] h = tt
+reusable_after T m account wanted (new name tokens ∷ ws) h = (tt, reusable_after T m account wanted ws h.1)
+reusable_after T m account wanted (reused name n ∷ ws) h =
+    (by (authorization_numbered n T.authorizations) refl h.0, reusable_after T m account wanted ws h.1)
   where
     by : (o : Option AuthorizationRow) → authorization_numbered n T.authorizations ≡ o → holds (λ r. is_valid r.status) o ≡ true →
-        Stands (authorizations_after T (ordered account wanted) m) n
+        IsReusable (authorizations_after T (ordered account wanted) m) n
     by None e k = cc
     by (Some row) e k = ap (holds (λ r. is_valid r.status)) (stood_found T m account n wanted row e) ∙ k
 
@@ -147,10 +147,10 @@ waits_on (Some row) rest h = by row.status h
     by authz.Pending k = (refl, refl)
     by _ k = cc
 
-stands_on : (o : Option AuthorizationRow) (rest : List AuthzStatus) → holds (λ r. is_valid r.status) o ≡ true →
+valid_on : (o : Option AuthorizationRow) (rest : List AuthzStatus) → holds (λ r. is_valid r.status) o ≡ true →
     (list_any is_over (and_status o rest) ≡ list_any is_over rest) × (list_all is_valid (and_status o rest) ≡ list_all is_valid rest)
-stands_on None rest h = cc
-stands_on (Some row) rest h = by row.status h
+valid_on None rest h = cc
+valid_on (Some row) rest h = by row.status h
   where
     by : (s : AuthzStatus) → is_valid s ≡ true →
         ((is_over s || list_any is_over rest) ≡ list_any is_over rest) × ((is_valid s && list_all is_valid rest) ≡ list_all is_valid rest)
@@ -159,37 +159,37 @@ stands_on (Some row) rest h = by row.status h
 
 -- none of its authorizations is over
 none_over : (rows : List AuthorizationRow) (account date expires : ℕ) (ws : List Wanted) (n c : ℕ) →
-    EachOf (λ a. Waits rows a.number) (made_for account date expires ws n c) → EachOf (OfReused (Stands rows)) ws →
+    EachOf (λ a. Waits rows a.number) (made_for account date expires ws n c) → EachOf (OfReused (IsReusable rows)) ws →
     list_any is_over (stored_statuses rows (listed_by ws n)) ≡ false
 none_over rows account date expires [] n c h k = refl
 none_over rows account date expires (new name tokens ∷ ws) n c h k =
     (waits_on (authorization_numbered n rows) (stored_statuses rows (listed_by ws (n + 1))) h.0).0
     ∙ none_over rows account date expires ws (n + 1) _ h.1 k.1
 none_over rows account date expires (reused name j ∷ ws) n c h k =
-    (stands_on (authorization_numbered j rows) (stored_statuses rows (listed_by ws n)) k.0).0 ∙ none_over rows account date expires ws n c h k.1
+    (valid_on (authorization_numbered j rows) (stored_statuses rows (listed_by ws n)) k.0).0 ∙ none_over rows account date expires ws n c h k.1
 
 -- and all are valid where all are used again
 status_made : (rows : List AuthorizationRow) (account date expires : ℕ) (ws : List Wanted) (n c : ℕ) →
-    EachOf (λ a. Waits rows a.number) (made_for account date expires ws n c) → EachOf (OfReused (Stands rows)) ws →
+    EachOf (λ a. Waits rows a.number) (made_for account date expires ws n c) → EachOf (OfReused (IsReusable rows)) ws →
     order_status_by false false false (list_all is_valid (stored_statuses rows (listed_by ws n))) ≡ made_status ws
 status_made rows account date expires [] n c h k = refl
 status_made rows account date expires (new name tokens ∷ ws) n c h k =
     ap (order_status_by false false false) (waits_on (authorization_numbered n rows) (stored_statuses rows (listed_by ws (n + 1))) h.0).1
 status_made rows account date expires (reused name j ∷ ws) n c h k =
-    ap (order_status_by false false false) (stands_on (authorization_numbered j rows) (stored_statuses rows (listed_by ws n)) k.0).1
+    ap (order_status_by false false false) (valid_on (authorization_numbered j rows) (stored_statuses rows (listed_by ws n)) k.0).1
     ∙ status_made rows account date expires ws n c h k.1
 
 -- so a new order has the status that its names give
 pub status_is_made : (T : Tables) (m account : ℕ) (wanted : List Wanted) (o : Order) →
-    Below (λ a. a.number) (T.meta.counters.authorizations + 1) T.authorizations → AreStanding T.authorizations wanted →
+    Below (λ a. a.number) (T.meta.counters.authorizations + 1) T.authorizations → AreReusable T.authorizations wanted →
     o.authorizations ≡ listed_by wanted (T.meta.counters.authorizations + 1) → o.expires ≡ m + T.meta.policy.order_life →
     derived_order m (authorizations_after T (ordered account wanted) m) (fresh_order o) ≡ made_status wanted
-status_is_made T m account wanted o below standing lists ends =
+status_is_made T m account wanted o below reusable lists ends =
     let rows : List AuthorizationRow = authorizations_after T (ordered account wanted) m in
     let first : ℕ = T.meta.counters.authorizations + 1 in
     let ns : List ℕ = listed_by wanted first in
     let waiting = made_wait T m account wanted below in
-    let again = standing_after T m account wanted wanted standing in
+    let again = reusable_after T m account wanted wanted reusable in
     let now : nat_lt o.expires m ≡ false = le-ltb _ _ (omega (arith, ends)) in
     let same : stored_statuses rows (numbers_of (fresh_order o).listed) ≡ stored_statuses rows ns =
     ap (stored_statuses rows) (numbers_listed 1 o.authorizations ∙ lists) in
@@ -198,12 +198,12 @@ status_is_made T m account wanted o below standing lists ends =
     ∙ status_made rows account m (m + T.meta.policy.authz_life) wanted first (T.meta.counters.challenges + 1) waiting again)
 
 -- what an order may want is valid
-pub wanted_standing : (T : Tables) (account : ℕ) (ws : List Wanted) → list_all (may_want_on T account) ws ≡ true → AreStanding T.authorizations ws
-wanted_standing T account [] h = tt
-wanted_standing T account (new name tokens ∷ ws) h = (tt, wanted_standing T account ws h)
-wanted_standing T account (reused name n ∷ ws) h =
+pub wanted_reusable : (T : Tables) (account : ℕ) (ws : List Wanted) → list_all (may_want_on T account) ws ≡ true → AreReusable T.authorizations ws
+wanted_reusable T account [] h = tt
+wanted_reusable T account (new name tokens ∷ ws) h = (tt, wanted_reusable T account ws h)
+wanted_reusable T account (reused name n ∷ ws) h =
     let p = and_parts (may_want_on T account (reused name n)) _ h in
-    (by (authorization_numbered n T.authorizations) p.0, wanted_standing T account ws p.1)
+    (by (authorization_numbered n T.authorizations) p.0, wanted_reusable T account ws p.1)
   where
     by : (o : Option AuthorizationRow) → holds (serves account name (order_end T)) o ≡ true → holds (λ r. is_valid r.status) o ≡ true
     by None k = cc

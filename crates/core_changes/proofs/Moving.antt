@@ -15,11 +15,11 @@ use Rattle.desk_model.specs.declared.rows.Change.TheVariants.{PutNonce, RemoveNo
 use Rattle.model_laws.specs.Ordered.{Below, IsOrdered}
 use Rattle.model_laws.proofs.Basics.{each, each-map}
 use Rattle.model_laws.proofs.Plain.{issued_effect, spent_effect}
-use Rattle.core_changes.specs.Made.{AreStanding, next_order, next_rows, ordered_counters}
+use Rattle.core_changes.specs.Made.{AreReusable, next_order, next_rows, ordered_counters}
 use Rattle.core_changes.proofs.MadeRows.{status_is_made}
 use Rattle.core_changes.proofs.QuietEntries.{issued_counters, quiet_changes, spent_counters}
 use Rattle.desk_book.proofs.SweptRows.{swept_authorization-status}
-use Rattle.core_changes.specs.Moved.{standing_rows, stated_authorization}
+use Rattle.core_changes.specs.Moved.{swept_rows, stated_authorization}
 use Rattle.core_changes.specs.Recorded.{IsRecorded, IsUntouched, book_moves}
 use Rattle.core_changes.proofs.Recordings.{counters_then, one_more}
 
@@ -133,12 +133,12 @@ counters_ordered m T account wanted =
 
 -- its row
 pub ordered_one : (m : ℕ) (T : Tables) (account : ℕ) (wanted : List Wanted) → Below (λ a. a.number) (T.meta.counters.authorizations + 1) T.authorizations →
-    AreStanding T.authorizations wanted →
+    AreReusable T.authorizations wanted →
     (let e : Entry = ordered account wanted in
     map (λ o. restated_order m (authorizations_after T e m) (fresh_order o))
     (ordered_by e m T.meta.policy (T.meta.counters.authorizations + 1) (T.meta.counters.orders + 1))
     ≡ next_order T.meta.policy (record T.meta.counters { clock = m }) account wanted ∷ [])
-ordered_one m T account wanted below standing =
+ordered_one m T account wanted below reusable =
     let o : Order =
     record {
       number = T.meta.counters.orders + 1;
@@ -147,32 +147,32 @@ ordered_one m T account wanted below standing =
       expires = m + T.meta.policy.order_life;
       authorizations = listed_by wanted (T.meta.counters.authorizations + 1);
     } in
-    ap (λ s. record (fresh_order o) { status = s } ∷ []) (status_is_made T m account wanted o below standing refl refl)
+    ap (λ s. record (fresh_order o) { status = s } ∷ []) (status_is_made T m account wanted o below reusable refl refl)
 
 -- what is recorded of it
 ordered_changes : (m : ℕ) (T : Tables) (account : ℕ) (wanted : List Wanted) → Below (λ a. a.number) (T.meta.counters.authorizations + 1) T.authorizations →
-    AreStanding T.authorizations wanted →
+    AreReusable T.authorizations wanted →
     changes m T (ordered account wanted)
     ≡ map PutAuthorization (next_rows T.meta.policy (record T.meta.counters { clock = m }) account wanted)
     ++ PutOrder (next_order T.meta.policy (record T.meta.counters { clock = m }) account wanted) ∷ []
-ordered_changes m T account wanted below standing =
+ordered_changes m T account wanted below reusable =
     quiet_changes m T (ordered account wanted) (λ a. refl) (λ a. refl) (λ k. refl)
     ∙ (λ i. map PutAuthorization (next_rows T.meta.policy (record T.meta.counters { clock = m }) account wanted)
-    ++ map PutOrder (ordered_one m T account wanted below standing i))
+    ++ map PutOrder (ordered_one m T account wanted below reusable i))
 
 -- the authorizations that stand at the moment have no later number
-pub below_standing : (m n : ℕ) (rows : List AuthorizationRow) → Below (λ a. a.number) n rows → Below (λ a. a.number) n (standing_rows m rows)
-below_standing m n rows h =
+pub below_swept : (m n : ℕ) (rows : List AuthorizationRow) → Below (λ a. a.number) n rows → Below (λ a. a.number) n (swept_rows m rows)
+below_swept m n rows h =
     each-map (λ a. a.number < n) (swept_authorization m) rows
     (each _ _ rows (λ a lt. subst (λ k. k < n) (ap (λ (r : AuthorizationRow). r.number) (swept_authorization-status m a)) lt) h)
 
 -- a new order is recorded
 pub and_ordered : (m : ℕ) (B : Tables) (es : List Entry) (policy : Terms) (account : ℕ) (wanted : List Wanted) (done : List Change) (counters : Counters) →
-    B.meta.policy ≡ policy → IsOrdered B → IsUntouched m B es → AreStanding (swept m B).authorizations wanted → IsRecorded m B es done counters →
+    B.meta.policy ≡ policy → IsOrdered B → IsUntouched m B es → AreReusable (swept m B).authorizations wanted → IsRecorded m B es done counters →
     IsRecorded m B (es ++ ordered account wanted ∷ [])
     (done ++ (map PutAuthorization (next_rows policy counters account wanted) ++ PutOrder (next_order policy counters account wanted) ∷ []))
     (ordered_counters policy counters account wanted)
-and_ordered m B es policy account wanted done counters same is untouched standing h =
+and_ordered m B es policy account wanted done counters same is untouched reusable h =
     let T : Tables = effects m (swept m B) es in
     let terms : policy ≡ T.meta.policy = sym (h.policy ∙ same) in
     let then : counters ≡ record T.meta.counters { clock = m } = counters_then m B es done counters h in
@@ -180,10 +180,10 @@ and_ordered m B es policy account wanted done counters same is untouched standin
     let below : Below (λ a. a.number) (T.meta.counters.authorizations + 1) T.authorizations =
     subst (λ n. Below (λ a. a.number) (n + 1) T.authorizations) (sym last)
     (subst (Below (λ a. a.number) (B.meta.counters.authorizations + 1)) (sym untouched.authorizations)
-    (below_standing m (B.meta.counters.authorizations + 1) B.authorizations is.authorizations.1)) in
+    (below_swept m (B.meta.counters.authorizations + 1) B.authorizations is.authorizations.1)) in
     one_more m B es (ordered account wanted) done _ counters _ h
     ((λ i. map PutAuthorization (next_rows (terms i) (then i) account wanted) ++ PutOrder (next_order (terms i) (then i) account wanted) ∷ [])
-    ∙ sym (ordered_changes m T account wanted below (subst (λ rows. AreStanding rows wanted) (sym untouched.authorizations) standing)))
+    ∙ sym (ordered_changes m T account wanted below (subst (λ rows. AreReusable rows wanted) (sym untouched.authorizations) reusable)))
     ((λ i. ordered_counters (terms i) (then i) account wanted) ∙ sym (counters_ordered m T account wanted)) refl
 
 -- ---- entries that touch no row but the nonces'

@@ -9,7 +9,7 @@ use Rattle.desk_model.specs.declared.{rows.AuthorizationRow.AuthorizationRow, ro
 use Rattle.desk_model.specs.Derived.{and_status, authorization_numbered, numbers_of, stored_statuses}
 use Rattle.desk_model.specs.Effect.{swept_authorization, swept_order, touches_authorization, touches_order, names_order, lists_one, moved_authorization}
 use Rattle.model_laws.proofs.{Local.moved_number, SweptParts.touches_swept}
-use Rattle.core_changes.specs.Moved.{authorizations_moved, standing_rows, rows_after, moved_one, row_of, stated_authorization, touched_one}
+use Rattle.core_changes.specs.Moved.{authorizations_moved, swept_rows, rows_after, moved_one, row_of, stated_authorization, touched_one}
 use Rattle.desk_book.proofs.SweptRows.{swept_authorization-status, swept_order-status, find-moved}
 
 -- one row after the other
@@ -23,9 +23,9 @@ moved_rows-one touched differs move x xs = by (touched x && differs x (move x))
     by false = refl
 
 -- the authorization of a number at the moment
-pub standing_numbered : (m n : ℕ) (rows : List AuthorizationRow)
-    → authorization_numbered n (standing_rows m rows) ≡ option_map (swept_authorization m) (authorization_numbered n rows)
-standing_numbered m n rows =
+pub swept_numbered : (m n : ℕ) (rows : List AuthorizationRow)
+    → authorization_numbered n (swept_rows m rows) ≡ option_map (swept_authorization m) (authorization_numbered n rows)
+swept_numbered m n rows =
     find-moved (λ a. a.number == n) (swept_authorization m) rows
     (λ a. ap (λ k. k == n) (sym (ap (λ (r : AuthorizationRow). r.number) (swept_authorization-status m a))))
 
@@ -34,8 +34,8 @@ pub after_numbered : (e : Entry) (m n : ℕ) (accounts : List AccountRow) (rows 
     authorization_numbered n (rows_after e m accounts rows)
     ≡ option_map (λ r. moved_authorization e m accounts (swept_authorization m r)) (authorization_numbered n rows)
 after_numbered e m n accounts rows =
-    find-moved (λ a. a.number == n) (moved_authorization e m accounts) (standing_rows m rows) (λ a. ap (λ k. k == n) (moved_number e m accounts a))
-    ∙ ap (option_map (moved_authorization e m accounts)) (standing_numbered m n rows)
+    find-moved (λ a. a.number == n) (moved_authorization e m accounts) (swept_rows m rows) (λ a. ap (λ k. k == n) (moved_number e m accounts a))
+    ∙ ap (option_map (moved_authorization e m accounts)) (swept_numbered m n rows)
     ∙ twice (authorization_numbered n rows)
   where
     twice : (o : Option AuthorizationRow) → option_map (moved_authorization e m accounts) (option_map (swept_authorization m) o)
@@ -44,21 +44,21 @@ after_numbered e m n accounts rows =
     twice (Some r) = refl
 
 -- an order that lists one that is touched does so at the moment
-pub lists_standing : (e : Entry) (m : ℕ) (rows : List AuthorizationRow) (ns : List ℕ)
-    → lists_one (touches_authorization e) (standing_rows m rows) ns ≡ lists_one (touches_authorization e) rows ns
-lists_standing e m rows [] = refl
-lists_standing e m rows (n ∷ ns) = λ i. (ap (holds (touches_authorization e)) (standing_numbered m n rows)
-    ∙ same (authorization_numbered n rows)) i || lists_standing e m rows ns i
+pub lists_swept : (e : Entry) (m : ℕ) (rows : List AuthorizationRow) (ns : List ℕ)
+    → lists_one (touches_authorization e) (swept_rows m rows) ns ≡ lists_one (touches_authorization e) rows ns
+lists_swept e m rows [] = refl
+lists_swept e m rows (n ∷ ns) = λ i. (ap (holds (touches_authorization e)) (swept_numbered m n rows)
+    ∙ same (authorization_numbered n rows)) i || lists_swept e m rows ns i
   where
     same : (o : Option AuthorizationRow) → holds (touches_authorization e) (option_map (swept_authorization m) o) ≡ holds (touches_authorization e) o
     same None = refl
     same (Some r) = touches_swept e m r
 
-pub touches_standing : (e : Entry) (m : ℕ) (rows : List AuthorizationRow) (row : OrderRow) →
-    touches_order e (standing_rows m rows) (swept_order m rows row) ≡ touches_order e rows row
-touches_standing e m rows row =
-    ap (touches_order e (standing_rows m rows)) (sym (swept_order-status m rows row))
-    ∙ ap (λ b. names_order e row.number || b) (lists_standing e m rows (numbers_of row.listed))
+pub touches_swept_rows : (e : Entry) (m : ℕ) (rows : List AuthorizationRow) (row : OrderRow) →
+    touches_order e (swept_rows m rows) (swept_order m rows row) ≡ touches_order e rows row
+touches_swept_rows e m rows row =
+    ap (touches_order e (swept_rows m rows)) (sym (swept_order-status m rows row))
+    ∙ ap (λ b. names_order e row.number || b) (lists_swept e m rows (numbers_of row.listed))
 
 -- what is not touched is not moved
 pub moved_one-untouched : {X : Type 0} (touched : X → Bool) (differs : X → X → Bool) (move : X → X) (x : X) → touched x ≡ false
@@ -171,9 +171,9 @@ pub status-touched : (e : Entry) (m n : ℕ) (accounts : List AccountRow) (rows 
     option_map (λ r. r.status) found ≡ option_map (λ r. r.status) (authorization_numbered n (rows_after e m accounts rows))
 status-touched e m n accounts rows row found is moves looked =
     ap (option_map (λ r. r.status)) (looked
-    ∙ find-touched-at (λ a. a.number == n) (touches_authorization e) (stated_authorization e m accounts) (λ a. refl) (standing_rows m rows)
+    ∙ find-touched-at (λ a. a.number == n) (touches_authorization e) (stated_authorization e m accounts) (λ a. refl) (swept_rows m rows)
     (swept_authorization m row)
-    (standing_numbered m n rows ∙ ap (option_map (swept_authorization m)) is) (touches_swept e m row ∙ moves)
+    (swept_numbered m n rows ∙ ap (option_map (swept_authorization m)) is) (touches_swept e m row ∙ moves)
     ∙ ap (λ b. Some (cond b (stated_authorization e m accounts (swept_authorization m row)) (swept_authorization m row))) (sym (touches_swept e m row ∙ moves))
     ∙ sym (after_numbered e m n accounts rows ∙ ap (option_map (λ r. moved_authorization e m accounts (swept_authorization m r))) is))
 

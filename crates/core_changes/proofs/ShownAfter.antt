@@ -9,7 +9,7 @@ use Rattle.desk_model.specs.Document.{and_row, listed_rows, rows_of}
 use Rattle.desk_model.specs.Effect.{effect, fresh_account, fresh_order, has_row, lists_one, names_order, noted_account, noted_authorization, swept}
 use Rattle.desk_model.specs.Effect.{swept_authorization, moved_account, moved_authorization, moved_order, touches_account, touches_authorization, touches_order}
 use Rattle.desk_model.specs.Questions.{account_on, authorization_on, order_on, owner_on}
-use Rattle.core_changes.specs.Moved.{accounts_moved, authorizations_moved, orders_moved, standing_rows, stated_authorization, stated_order}
+use Rattle.core_changes.specs.Moved.{accounts_moved, authorizations_moved, orders_moved, swept_rows, stated_authorization, stated_order}
 use Rattle.core_changes.proofs.RowMoves.{find-touched}
 use Rattle.core_changes.proofs.Moving.{makes_nothing, moving_after}
 use Rattle.model_laws.proofs.Local.{moved_number}
@@ -62,7 +62,7 @@ pub names_moved : (m : ℕ) (B : Tables) (v : Move) (row : OrderRow) →
     map (λ a. a.name) (listed_rows (effect m (swept m B) (entry_of v)) row) ≡ map (λ a. a.name) (listed_rows B row)
 names_moved m B v row =
     ap (λ rows. map (λ a. a.name) (rows_of rows (numbers_of row.listed))) (moving_after m (swept m B) v)
-    ∙ names_kept (moved_authorization (entry_of v) m B.accounts) (moved_number (entry_of v) m B.accounts) name_moved (standing_rows m B.authorizations)
+    ∙ names_kept (moved_authorization (entry_of v) m B.accounts) (moved_number (entry_of v) m B.accounts) name_moved (swept_rows m B.authorizations)
     (numbers_of row.listed)
     ∙ names_at m B row
   where
@@ -89,7 +89,7 @@ pub authorization_moved : (m : ℕ) (B : Tables) (v : Move) (n : ℕ)
 authorization_moved m B v n those =
     ap (find (λ a. a.number == n)) (moving_after m (swept m B) v)
     ∙ sym (find-touched (λ a. a.number == n) (touches_authorization (entry_of v)) (stated_authorization (entry_of v) m B.accounts) those
-    (standing_rows m B.authorizations))
+    (swept_rows m B.authorizations))
 
 -- the authorization that a challenge is of
 pub owner_moved : (m : ℕ) (B : Tables) (v : Move) (n : ℕ) → ((a : AuthorizationRow) → has_row n a ≡ true → touches_authorization (entry_of v) a ≡ true) →
@@ -97,14 +97,14 @@ pub owner_moved : (m : ℕ) (B : Tables) (v : Move) (n : ℕ) → ((a : Authoriz
 owner_moved m B v n those =
     ap (find (has_row n)) (moving_after m (swept m B) v)
     ∙ sym (find-touched (has_row n) (touches_authorization (entry_of v)) (stated_authorization (entry_of v) m B.accounts) those
-    (standing_rows m B.authorizations))
+    (swept_rows m B.authorizations))
 
 -- the order of a number, which the move names
 pub order_moved : (m : ℕ) (B : Tables) (v : Move) (n : ℕ) → ((k : ℕ) → (k == n) ≡ true → names_order (entry_of v) k ≡ true) →
     order_on (effect m (swept m B) (entry_of v)) n ≡ find (λ o. o.number == n) (orders_moved (entry_of v) m B.accounts B.authorizations B.orders)
 order_moved m B v n those =
     ap (find (λ o. o.number == n)) (moving_orders m (swept m B) v)
-    ∙ sym (find-touched (λ o. o.number == n) (touches_order (entry_of v) (standing_rows m B.authorizations))
+    ∙ sym (find-touched (λ o. o.number == n) (touches_order (entry_of v) (swept_rows m B.authorizations))
     (stated_order (entry_of v) m B.accounts B.authorizations)
-    (λ o is. ap (λ b. b || lists_one (touches_authorization (entry_of v)) (standing_rows m B.authorizations) (numbers_of o.listed))
+    (λ o is. ap (λ b. b || lists_one (touches_authorization (entry_of v)) (swept_rows m B.authorizations) (numbers_of o.listed))
     (those o.number is)) (swept m B).orders)

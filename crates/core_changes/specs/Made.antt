@@ -40,8 +40,8 @@ abbrev pub next_order : Terms → Counters → ℕ → List Wanted → OrderRow
 next_order P C account wanted = made_order P C account wanted (C.authorizations + 1)
 
 -- the authorizations that the names use again are valid in these rows
-abbrev pub AreStanding : List AuthorizationRow → List Wanted → Type 0
-AreStanding rows wanted = EachOf (OfReused (λ n. holds (λ r. is_valid r.status) (authorization_numbered n rows) ≡ true)) wanted
+abbrev pub AreReusable : List AuthorizationRow → List Wanted → Type 0
+AreReusable rows wanted = EachOf (OfReused (λ n. holds (λ r. is_valid r.status) (authorization_numbered n rows) ≡ true)) wanted
 
 -- the counters after it
 abbrev pub ordered_counters : Terms → Counters → ℕ → List Wanted → Counters

@@ -9,11 +9,11 @@ use Rattle.desk_model.specs.declared.{entry.Entry.Entry, rows.AccountRow.Account
 use Rattle.core_changes.specs.declared.moved.Step.{Step}
 
 -- the authorizations at the moment, and after the entry
-abbrev pub standing_rows : ℕ → List AuthorizationRow → List AuthorizationRow
-standing_rows m rows = map (swept_authorization m) rows
+abbrev pub swept_rows : ℕ → List AuthorizationRow → List AuthorizationRow
+swept_rows m rows = map (swept_authorization m) rows
 
 abbrev pub rows_after : Entry → ℕ → List AccountRow → List AuthorizationRow → List AuthorizationRow
-rows_after e m accounts rows = map (moved_authorization e m accounts) (standing_rows m rows)
+rows_after e m accounts rows = map (moved_authorization e m accounts) (swept_rows m rows)
 
 -- the moved row, where it is touched and differs then
 abbrev pub moved_one : {X : Type 0} → (touched : X → Bool) → (differs : X → X → Bool) → (move : X → X) → X → List X
@@ -42,18 +42,18 @@ abbrev pub accounts_moved : Entry → ℕ → List AccountRow → List AccountRo
 accounts_moved e m rows = map (noted_account e m) (filter (touches_account e) rows)
 
 abbrev pub authorizations_moved : Entry → ℕ → List AccountRow → List AuthorizationRow → List AuthorizationRow
-authorizations_moved e m accounts rows = map (stated_authorization e m accounts) (filter (touches_authorization e) (standing_rows m rows))
+authorizations_moved e m accounts rows = map (stated_authorization e m accounts) (filter (touches_authorization e) (swept_rows m rows))
 
 abbrev pub orders_moved : Entry → ℕ → List AccountRow → List AuthorizationRow → List OrderRow → List OrderRow
 orders_moved e m accounts rows orders =
-    map (stated_order e m accounts rows) (filter (touches_order e (standing_rows m rows)) (map (swept_order m rows) orders))
+    map (stated_order e m accounts rows) (filter (touches_order e (swept_rows m rows)) (map (swept_order m rows) orders))
 
 -- the authorizations after a step, and those that it touches
 abbrev pub stepped_rows : Step → List AuthorizationRow
-stepped_rows s = rows_after (entry_of s.moved.now) s.moment s.book.now.accounts s.book.now.authorizations
+stepped_rows s = rows_after (entry_of s.motion.now) s.moment s.book.now.accounts s.book.now.authorizations
 
 abbrev pub touched_rows : Step → List AuthorizationRow
-touched_rows s = authorizations_moved (entry_of s.moved.now) s.moment s.book.now.accounts s.book.now.authorizations
+touched_rows s = authorizations_moved (entry_of s.motion.now) s.moment s.book.now.accounts s.book.now.authorizations
 
 -- these are the rows of a book that the entry touches, as it leaves them
 pub record AreMoved (m : ℕ) (B : Tables) (e : Entry) (xs : List AccountRow) (ys : List AuthorizationRow) (zs : List OrderRow) : Type 0 where

@@ -5,7 +5,7 @@ use Rattle.desk_model.specs.declared.rows.{AccountRow.AccountRow, OrderRow.Order
 use Rattle.desk_model.specs.Effect.{effects, swept, swept_order, noted_account, touches_account, touches_authorization, touches_order}
 use Rattle.desk_model.specs.Change.{all_changes, sweep_changes, moved_rows, account_differs, authorization_differs, order_differs}
 use Rattle.desk_model.specs.declared.rows.Change.TheVariants.{PutAccount, PutAuthorization, PutOrder}
-use Rattle.core_changes.specs.Moved.{standing_rows, stated_authorization, stated_order}
+use Rattle.core_changes.specs.Moved.{swept_rows, stated_authorization, stated_order}
 use Rattle.core_changes.specs.declared.recording.Recording.{Recording}
 
 -- these entries are recorded at m: the changes of rows so far, and the counters after them; the policy stays
@@ -26,7 +26,7 @@ IsAt m B C = C ≡ record B.meta.counters { clock = m; nonces = C.nonces }
 pub record IsUntouched (m : ℕ) (B : Tables) (es : List Entry) : Type 0 where
   pub counters : IsAt m B (effects m (swept m B) es).meta.counters
   pub accounts : (effects m (swept m B) es).accounts ≡ B.accounts
-  pub authorizations : (effects m (swept m B) es).authorizations ≡ standing_rows m B.authorizations
+  pub authorizations : (effects m (swept m B) es).authorizations ≡ swept_rows m B.authorizations
   pub orders : (effects m (swept m B) es).orders ≡ map (swept_order m B.authorizations) B.orders
 
 -- the rows of a book that the entry moves, as they stand at the moment
@@ -34,8 +34,8 @@ abbrev pub book_moves : ℕ → Tables → Entry → List Change
 book_moves m B e =
     map PutAccount (moved_rows (touches_account e) account_differs (noted_account e m) B.accounts)
     ++ (map PutAuthorization (moved_rows (touches_authorization e) authorization_differs (stated_authorization e m B.accounts)
-    (standing_rows m B.authorizations))
-    ++ map PutOrder (moved_rows (touches_order e (standing_rows m B.authorizations)) order_differs (stated_order e m B.accounts B.authorizations)
+    (swept_rows m B.authorizations))
+    ++ map PutOrder (moved_rows (touches_order e (swept_rows m B.authorizations)) order_differs (stated_order e m B.accounts B.authorizations)
     (map (swept_order m B.authorizations) B.orders)))
 
 -- ---- what the last change puts

@@ -8,7 +8,7 @@ ghost use Rattle.desk_model.specs.Effect.{touches_order};
 ghost use Rattle.desk_model.specs.Change.{account_differs, authorization_differs, order_differs, moved_rows};
 ghost use Rattle.desk_model.specs.declared.rows.{AuthorizationRow.AuthorizationRow as AuthorizationOf, Change.Change as ChangeOf};
 ghost use Rattle.desk_model.specs.declared.rows.Change.TheVariants.{PutAccount, PutAuthorization, PutOrder};
-ghost use Rattle.core_changes.specs.Moved.{AreMoved, moved_one, row_of, standing_rows, stated_authorization, stated_order, stepped_rows, touched_one};
+ghost use Rattle.core_changes.specs.Moved.{AreMoved, moved_one, row_of, swept_rows, stated_authorization, stated_order, stepped_rows, touched_one};
 ghost use Rattle.core_changes.specs.Moved.{touched_rows};
 ghost use Rattle.core_changes.specs.{Recorded.book_moves, declared.moved.Step.Step as StepOf};
 
@@ -94,7 +94,7 @@ fn push_row<R: Drop>(rows: &mut Vec<R>, row: Option<R>) -> Result<(), AllocError
 struct Step<'a> {
     alloc: Global,
     book: &'a Book,
-    moved: &'a Move,
+    motion: &'a Move,
     moment: u64,
 }
 
@@ -104,7 +104,7 @@ trait Movable: Row {
     ghost touched: { StepOf → Self → Bool };
 
     // The row at its moment.
-    ghost standing: { StepOf → Self → Self };
+    ghost swept: { StepOf → Self → Self };
 
     // The row as the step leaves it, with the status that it ought to have.
     ghost stated: { StepOf → Self → Self };
@@ -120,14 +120,14 @@ trait Movable: Row {
 
     /// Whether a step touches the row.
     fn is_touched(&self, step: &Step) -> bool
-        ensures { result ≡ touched step.now (standing step.now self.now) };
+        ensures { result ≡ touched step.now (swept step.now self.now) };
 
     /// Brings the row to the moment of a step.
-    fn stand(&mut self, step: &Step)
-        ensures { self.new ≡ standing step.now self.old };
+    fn sweep(&mut self, step: &Step)
+        ensures { self.new ≡ swept step.now self.old };
 
     /// Notes a step in the row, with the status that it then ought to have.
-    fn note(&mut self, step: &Step, after: &[AuthorizationRow]) -> Result<(), AllocError>
+    fn restate(&mut self, step: &Step, after: &[AuthorizationRow]) -> Result<(), AllocError>
         requires { Knows step.now after.now }
         ensures { OnOk result (self.new ≡ stated step.now self.old) };
 
@@ -161,16 +161,16 @@ fn restate_row<R: Movable + Drop>(
     changes: &mut Vec<Change>,
     step: &Step,
     after: &[AuthorizationRow],
-    standing: &R,
+    swept: &R,
 ) -> Result<R, AllocError>
     requires { R.Knows step.now after.now }
     ensures changes { OnOk result (changes.new.items ≡ changes.old.items
-        ++ map R.puts (cond (R.differs standing.now (R.stated step.now standing.now)) (R.stated step.now standing.now ∷ []) [])) }
-    ensures row { IfOk result (λ r. r ≡ R.stated step.now standing.now) }
+        ++ map R.puts (cond (R.differs swept.now (R.stated step.now swept.now)) (R.stated step.now swept.now ∷ []) [])) }
+    ensures row { IfOk result (λ r. r ≡ R.stated step.now swept.now) }
 {
-    let mut next = standing.clone()?;
-    next.note(step, after)?;
-    record_noted(changes, standing, &next)?;
+    let mut next = swept.clone()?;
+    next.restate(step, after)?;
+    record_noted(changes, swept, &next)?;
     Ok(next)
 }
 
@@ -183,15 +183,15 @@ fn move_row<R: Movable + Drop>(
 ) -> Result<Option<R>, AllocError>
     requires { R.Knows step.now after.now }
     ensures changes { OnOk result (changes.new.items ≡ changes.old.items
-        ++ map R.puts (moved_one (R.touched step.now) R.differs (R.stated step.now) (R.standing step.now row.now))) }
-    ensures row { IfOk result (λ o. o ≡ touched_one (R.touched step.now) (R.stated step.now) (R.standing step.now row.now)) }
+        ++ map R.puts (moved_one (R.touched step.now) R.differs (R.stated step.now) (R.swept step.now row.now))) }
+    ensures row { IfOk result (λ o. o ≡ touched_one (R.touched step.now) (R.stated step.now) (R.swept step.now row.now)) }
 {
     if !row.is_touched(step) {
         return Ok(None);
     }
-    let mut standing = row.clone()?;
-    standing.stand(step);
-    let next = restate_row(changes, step, after, &standing)?;
+    let mut swept = row.clone()?;
+    swept.sweep(step);
+    let next = restate_row(changes, step, after, &swept)?;
     Ok(Some(next))
 }
 
@@ -205,9 +205,9 @@ fn record_moved<R: Movable + Drop>(
 ) -> Result<(), AllocError>
     requires { R.Knows step.now after.now }
     ensures changes { OnOk result (changes.new.items ≡ changes.old.items
-        ++ map R.puts (moved_rows (R.touched step.now) R.differs (R.stated step.now) (map (R.standing step.now) table.now))) }
+        ++ map R.puts (moved_rows (R.touched step.now) R.differs (R.stated step.now) (map (R.swept step.now) table.now))) }
     ensures rows { OnOk result (rows.new.items ≡ rows.old.items
-        ++ map (R.stated step.now) (filter (R.touched step.now) (map (R.standing step.now) table.now))) }
+        ++ map (R.stated step.now) (filter (R.touched step.now) (map (R.swept step.now) table.now))) }
 {
     for row in table.iter() {
         let next = move_row(changes, step, after, row)?;
@@ -219,11 +219,11 @@ fn record_moved<R: Movable + Drop>(
 // ---- accounts
 
 impl Movable for AccountRow {
-    ghost touched = { λ s. touches_account (entry_of s.moved.now) };
+    ghost touched = { λ s. touches_account (entry_of s.motion.now) };
 
-    ghost standing = { λ s row. row };
+    ghost swept = { λ s row. row };
 
-    ghost stated = { λ s. noted_account (entry_of s.moved.now) s.moment };
+    ghost stated = { λ s. noted_account (entry_of s.motion.now) s.moment };
 
     ghost differs = { account_differs };
 
@@ -232,7 +232,7 @@ impl Movable for AccountRow {
     ghost Knows = { λ s after. ⊤ };
 
     fn is_touched(&self, step: &Step) -> bool {
-        match step.moved {
+        match step.motion {
             Move::ContactsChanged(number, _) => *number == self.number,
             Move::KeyChanged(number, _) => *number == self.number,
             Move::AccountEnded(number, _) => *number == self.number,
@@ -240,12 +240,12 @@ impl Movable for AccountRow {
         }
     }
 
-    fn stand(&mut self, _step: &Step) {}
+    fn sweep(&mut self, _step: &Step) {}
 
-    fn note(&mut self, step: &Step, _after: &[AuthorizationRow]) -> Result<(), AllocError> {
-        note_contacts(self, step.moved)?;
-        note_key(self, step.moved)?;
-        let end = account_end_by(step.moved, step.moment, self.number);
+    fn restate(&mut self, step: &Step, _after: &[AuthorizationRow]) -> Result<(), AllocError> {
+        note_contacts(self, step.motion)?;
+        note_key(self, step.motion)?;
+        let end = account_end_by(step.motion, step.moment, self.number);
         self.ended = self.ended.or(end);
         self.status = derived_account(self);
         Ok(())
@@ -266,11 +266,11 @@ impl Movable for AccountRow {
 // ---- authorizations
 
 impl Movable for AuthorizationRow {
-    ghost touched = { λ s. touches_authorization (entry_of s.moved.now) };
+    ghost touched = { λ s. touches_authorization (entry_of s.motion.now) };
 
-    ghost standing = { λ s. swept_authorization s.moment };
+    ghost swept = { λ s. swept_authorization s.moment };
 
-    ghost stated = { λ s. stated_authorization (entry_of s.moved.now) s.moment s.book.now.accounts };
+    ghost stated = { λ s. stated_authorization (entry_of s.motion.now) s.moment s.book.now.accounts };
 
     ghost differs = { authorization_differs };
 
@@ -279,18 +279,18 @@ impl Movable for AuthorizationRow {
     ghost Knows = { λ s after. ⊤ };
 
     fn is_touched(&self, step: &Step) -> bool {
-        touches_authorization(step.moved, self)
+        touches_authorization(step.motion, self)
     }
 
-    fn stand(&mut self, step: &Step) {
+    fn sweep(&mut self, step: &Step) {
         self.status = authorization_status(step.moment, self);
     }
 
-    fn note(&mut self, step: &Step, _after: &[AuthorizationRow]) -> Result<(), AllocError> {
+    fn restate(&mut self, step: &Step, _after: &[AuthorizationRow]) -> Result<(), AllocError> {
         let key = step.book.account_key(self.account);
         let rows = self.challenges.as_slice();
-        let challenges = noted_challenges(step.alloc, step.moved, step.moment, key, rows)?;
-        self.ended = end_after(step.moved, step.moment, self);
+        let challenges = noted_challenges(step.alloc, step.motion, step.moment, key, rows)?;
+        self.ended = end_after(step.motion, step.moment, self);
         self.challenges = challenges;
         self.status = derived_authorization(step.moment, self);
         Ok(())
@@ -315,7 +315,7 @@ fn status_after(step: &Step, after: &[AuthorizationRow], number: u64) -> Option<
     ensures { result ≡ option_map (λ r. r.status) (authorization_numbered number (stepped_rows step.now)) }
 {
     let row = step.book.authorization(number)?;
-    if !touches_authorization(step.moved, row) {
+    if !touches_authorization(step.motion, row) {
         return Some(authorization_status(step.moment, row));
     }
     let next = row_numbered(after, number)?;
@@ -339,11 +339,11 @@ fn statuses_after(
 }
 
 impl Movable for OrderRow {
-    ghost touched = { λ s. touches_order (entry_of s.moved.now) (standing_rows s.moment s.book.now.authorizations) };
+    ghost touched = { λ s. touches_order (entry_of s.motion.now) (swept_rows s.moment s.book.now.authorizations) };
 
-    ghost standing = { λ s. swept_order s.moment s.book.now.authorizations };
+    ghost swept = { λ s. swept_order s.moment s.book.now.authorizations };
 
-    ghost stated = { λ s. stated_order (entry_of s.moved.now) s.moment s.book.now.accounts s.book.now.authorizations };
+    ghost stated = { λ s. stated_order (entry_of s.motion.now) s.moment s.book.now.accounts s.book.now.authorizations };
 
     ghost differs = { order_differs };
 
@@ -352,16 +352,16 @@ impl Movable for OrderRow {
     ghost Knows = { λ s after. after ≡ touched_rows s };
 
     fn is_touched(&self, step: &Step) -> bool {
-        touches_order(step.moved, step.book, self)
+        touches_order(step.motion, step.book, self)
     }
 
-    fn stand(&mut self, step: &Step) {
+    fn sweep(&mut self, step: &Step) {
         self.status = order_status(step.book, step.moment, self);
     }
 
-    fn note(&mut self, step: &Step, after: &[AuthorizationRow]) -> Result<(), AllocError> {
+    fn restate(&mut self, step: &Step, after: &[AuthorizationRow]) -> Result<(), AllocError> {
         let statuses = statuses_after(step, after, self.listed.as_slice())?;
-        note_dates(self, step.moved, step.moment)?;
+        note_dates(self, step.motion, step.moment)?;
         self.status = derived_order(step.moment, self, &statuses);
         Ok(())
     }
@@ -383,20 +383,20 @@ pub(crate) fn record_rows<'a>(
     alloc: Global,
     rows: &mut MovedRows,
     book: &'a Book,
-    moved: &'a Move,
+    motion: &'a Move,
     moment: u64,
 ) -> Result<(), AllocError>
     requires accounts { rows.old.accounts.items ≡ [] }
     requires authorizations { rows.old.authorizations.items ≡ [] }
     requires orders { rows.old.orders.items ≡ [] }
-    ensures changes { OnOk result (changes.new.items ≡ changes.old.items ++ book_moves moment book.now (entry_of moved.now)) }
-    ensures rows { OnOk result (AreMoved moment book.now (entry_of moved.now) rows.new.accounts.items rows.new.authorizations.items
+    ensures changes { OnOk result (changes.new.items ≡ changes.old.items ++ book_moves moment book.now (entry_of motion.now)) }
+    ensures rows { OnOk result (AreMoved moment book.now (entry_of motion.now) rows.new.accounts.items rows.new.authorizations.items
         rows.new.orders.items) }
 {
     let step = Step {
         alloc,
         book,
-        moved,
+        motion,
         moment,
     };
     record_moved(changes, &mut rows.accounts, book.accounts(), &step, &[])?;

@@ -20,10 +20,10 @@ use std::alloc::{AllocError, Global};
 // ---- which rows a move touches
 
 /// Whether a move touches an authorization.
-pub(crate) fn touches_authorization(moved: &Move, row: &AuthorizationRow) -> bool
-    ensures { result ≡ touches_authorization (entry_of moved.now) row.now }
+pub(crate) fn touches_authorization(motion: &Move, row: &AuthorizationRow) -> bool
+    ensures { result ≡ touches_authorization (entry_of motion.now) row.now }
 {
-    match moved {
+    match motion {
         Move::Answered(challenge) => has_challenge(row, *challenge),
         Move::Reported(challenge, _) => has_challenge(row, *challenge),
         Move::AuthorizationEnded(number, _) => *number == row.number,
@@ -33,10 +33,10 @@ pub(crate) fn touches_authorization(moved: &Move, row: &AuthorizationRow) -> boo
 }
 
 // Whether a move names the order of a number.
-fn names_order(moved: &Move, number: u64) -> bool
-    ensures { result ≡ names_order (entry_of moved.now) number }
+fn names_order(motion: &Move, number: u64) -> bool
+    ensures { result ≡ names_order (entry_of motion.now) number }
 {
-    match moved {
+    match motion {
         Move::Finalized(order, _) => *order == number,
         Move::Certified(order, _) => *order == number,
         Move::Failed(order, _) => *order == number,
@@ -45,21 +45,21 @@ fn names_order(moved: &Move, number: u64) -> bool
 }
 
 // Whether a move touches the authorization of a number.
-fn touches_number(moved: &Move, book: &Book, number: u64) -> bool
-    ensures { result ≡ holds (touches_authorization (entry_of moved.now)) (authorization_numbered number book.now.authorizations) }
+fn touches_number(motion: &Move, book: &Book, number: u64) -> bool
+    ensures { result ≡ holds (touches_authorization (entry_of motion.now)) (authorization_numbered number book.now.authorizations) }
 {
     match book.authorization(number) {
-        Some(row) => touches_authorization(moved, row),
+        Some(row) => touches_authorization(motion, row),
         None => false,
     }
 }
 
 // Whether a move touches one of the authorizations that an order lists.
-fn lists_touched(moved: &Move, book: &Book, listed: &[Listed]) -> bool
-    ensures { result ≡ lists_one (touches_authorization (entry_of moved.now)) book.now.authorizations (numbers_of listed.now) }
+fn lists_touched(motion: &Move, book: &Book, listed: &[Listed]) -> bool
+    ensures { result ≡ lists_one (touches_authorization (entry_of motion.now)) book.now.authorizations (numbers_of listed.now) }
 {
     for place in listed {
-        if touches_number(moved, book, place.authorization) {
+        if touches_number(motion, book, place.authorization) {
             return true;
         }
     }
@@ -67,10 +67,10 @@ fn lists_touched(moved: &Move, book: &Book, listed: &[Listed]) -> bool
 }
 
 /// Whether a move touches an order: it names it, or touches an authorization that it lists.
-pub(crate) fn touches_order(moved: &Move, book: &Book, row: &OrderRow) -> bool
-    ensures { result ≡ touches_order (entry_of moved.now) book.now.authorizations row.now }
+pub(crate) fn touches_order(motion: &Move, book: &Book, row: &OrderRow) -> bool
+    ensures { result ≡ touches_order (entry_of motion.now) book.now.authorizations row.now }
 {
-    names_order(moved, row.number) || lists_touched(moved, book, row.listed.as_slice())
+    names_order(motion, row.number) || lists_touched(motion, book, row.listed.as_slice())
 }
 
 // ---- what it writes into them
@@ -78,10 +78,10 @@ pub(crate) fn touches_order(moved: &Move, book: &Book, row: &OrderRow) -> bool
 // ---- accounts
 
 /// Notes the contacts of a move in the row of an account.
-pub(crate) fn note_contacts(row: &mut AccountRow, moved: &Move) -> Result<(), AllocError>
-    ensures { OnOk result (row.new ≡ record row.old { contacts = unwrap_or (changing row.old.number (entry_of moved.now)) row.old.contacts }) }
+pub(crate) fn note_contacts(row: &mut AccountRow, motion: &Move) -> Result<(), AllocError>
+    ensures { OnOk result (row.new ≡ record row.old { contacts = unwrap_or (changing row.old.number (entry_of motion.now)) row.old.contacts }) }
 {
-    if let Move::ContactsChanged(number, contacts) = moved {
+    if let Move::ContactsChanged(number, contacts) = motion {
         if *number == row.number {
             row.contacts = contacts.clone()?;
         }
@@ -90,10 +90,10 @@ pub(crate) fn note_contacts(row: &mut AccountRow, moved: &Move) -> Result<(), Al
 }
 
 /// Notes the key of a move in the row of an account.
-pub(crate) fn note_key(row: &mut AccountRow, moved: &Move) -> Result<(), AllocError>
-    ensures { OnOk result (row.new ≡ record row.old { key = unwrap_or (rekeying row.old.number (entry_of moved.now)) row.old.key }) }
+pub(crate) fn note_key(row: &mut AccountRow, motion: &Move) -> Result<(), AllocError>
+    ensures { OnOk result (row.new ≡ record row.old { key = unwrap_or (rekeying row.old.number (entry_of motion.now)) row.old.key }) }
 {
-    if let Move::KeyChanged(number, key) = moved {
+    if let Move::KeyChanged(number, key) = motion {
         if *number == row.number {
             row.key = key.clone()?;
         }
@@ -102,10 +102,10 @@ pub(crate) fn note_key(row: &mut AccountRow, moved: &Move) -> Result<(), AllocEr
 }
 
 /// The end of the account of a number by a move.
-pub(crate) fn account_end_by(moved: &Move, moment: u64, number: u64) -> Option<AccountEnd>
-    ensures { result ≡ account_ends number (entry_of moved.now) moment }
+pub(crate) fn account_end_by(motion: &Move, moment: u64, number: u64) -> Option<AccountEnd>
+    ensures { result ≡ account_ends number (entry_of motion.now) moment }
 {
-    let Move::AccountEnded(account, ending) = moved else {
+    let Move::AccountEnded(account, ending) = motion else {
         return None;
     };
     (*account == number).then_some(AccountEnd {
@@ -142,10 +142,10 @@ fn reported_challenge(outcome: Outcome, moment: u64, row: &ChallengeRow) -> Chal
 }
 
 // The row of a challenge after a move, whose account has a key.
-fn noted_challenge(moved: &Move, moment: u64, key: &str, row: &ChallengeRow) -> ChallengeRow
-    ensures { result ≡ noted_challenge (entry_of moved.now) moment key.now row.now }
+fn noted_challenge(motion: &Move, moment: u64, key: &str, row: &ChallengeRow) -> ChallengeRow
+    ensures { result ≡ noted_challenge (entry_of motion.now) moment key.now row.now }
 {
-    match moved {
+    match motion {
         Move::Answered(number) => {
             if *number == row.number {
                 return answered_challenge(moment, key, row);
@@ -165,16 +165,16 @@ fn noted_challenge(moved: &Move, moment: u64, key: &str, row: &ChallengeRow) -> 
 /// The rows of challenges after a move, whose account has a key.
 pub(crate) fn noted_challenges(
     alloc: Global,
-    moved: &Move,
+    motion: &Move,
     moment: u64,
     key: &str,
     rows: &[ChallengeRow],
 ) -> Result<Sequence<ChallengeRow>, AllocError>
-    ensures { IfOk result (λ s. s ≡ map (noted_challenge (entry_of moved.now) moment key.now) rows.now) }
+    ensures { IfOk result (λ s. s ≡ map (noted_challenge (entry_of motion.now) moment key.now) rows.now) }
 {
     let mut noted = Vec::new(alloc);
     for row in rows {
-        noted.push(noted_challenge(moved, moment, key, row))?;
+        noted.push(noted_challenge(motion, moment, key, row))?;
     }
     Ok(Sequence::new(noted))
 }
@@ -200,10 +200,10 @@ fn reported_end(
 }
 
 // How a move ends an authorization, if it does.
-fn end_by(moved: &Move, moment: u64, row: &AuthorizationRow) -> Option<AuthorizationEnd>
-    ensures { result ≡ row_ends row.now (entry_of moved.now) moment }
+fn end_by(motion: &Move, moment: u64, row: &AuthorizationRow) -> Option<AuthorizationEnd>
+    ensures { result ≡ row_ends row.now (entry_of motion.now) moment }
 {
-    let (ended, ending) = match moved {
+    let (ended, ending) = match motion {
         Move::Reported(challenge, outcome) => {
             return reported_end(*challenge, *outcome, moment, row);
         }
@@ -227,14 +227,14 @@ fn in_time(expires: u64, end: Option<AuthorizationEnd>) -> Option<AuthorizationE
 
 /// The end of an authorization after a move: the first one stays.
 pub(crate) fn end_after(
-    moved: &Move,
+    motion: &Move,
     moment: u64,
     row: &AuthorizationRow,
 ) -> Option<AuthorizationEnd>
-    ensures { result ≡ earlier row.now.ended (in_time row.now.expires (row_ends row.now (entry_of moved.now) moment)) }
+    ensures { result ≡ earlier row.now.ended (in_time row.now.expires (row_ends row.now (entry_of motion.now) moment)) }
 {
     row.ended
-        .or(in_time(row.expires, end_by(moved, moment, row)))
+        .or(in_time(row.expires, end_by(motion, moment, row)))
 }
 
 // ---- which then differ

@@ -78,11 +78,11 @@ fn note_problem(
 }
 
 /// Notes a move in the dated columns of an order: what came first stays.
-pub(crate) fn note_dates(row: &mut OrderRow, moved: &Move, moment: u64) -> Result<(), AllocError>
-    ensures { OnOk result (row.new ≡ noted_order (entry_of moved.now) moment row.old) }
+pub(crate) fn note_dates(row: &mut OrderRow, motion: &Move, moment: u64) -> Result<(), AllocError>
+    ensures { OnOk result (row.new ≡ noted_order (entry_of motion.now) moment row.old) }
 {
     let number = row.number;
-    match moved {
+    match motion {
         Move::Finalized(order, csr) => {
             note_bytes(&mut row.finalized, *order == number, moment, csr)
         }

@@ -3,7 +3,7 @@ ghost use Rattle.model_laws.specs.Ordered.{IsOrdered};
 ghost use Rattle.desk_model.specs.{Change.recorded_changes, Effect.swept, Entry.entry_of, Tables.Tables, declared.entry.Entry.Entry as EntryOf};
 ghost use Rattle.desk_model.specs.Limits.{last_moment, last_number};
 ghost use Rattle.desk_model.specs.Run.{count_new, count_tokens};
-ghost use Rattle.core_changes.specs.Made.{AreStanding, next_account, next_order, next_rows, ordered_counters};
+ghost use Rattle.core_changes.specs.Made.{AreReusable, next_account, next_order, next_rows, ordered_counters};
 ghost use Rattle.std.specs.Prelude.{◌≡◌, ◌<◌, ◌≤◌, map, ◌+◌, ◌++◌, ◌∷◌, [], IfOk, OnOk, ℕ, List, option_copied};
 ghost use Rattle.core_changes.specs.Moved.{AreMoved};
 ghost use Rattle.core_changes.specs.Recorded.{GoesOn, IsRecorded, IsUntouched, book_moves, last_account, last_order};
@@ -148,14 +148,14 @@ impl Recording {
         &mut self,
         alloc: Global,
         book: &Book,
-        moved: &Move,
+        motion: &Move,
     ) -> Result<MovedRows, AllocError>
-        ensures changes { OnOk result (self.new.changes.items ≡ self.old.changes.items ++ book_moves self.old.counters.clock book.now (entry_of moved.now)) }
+        ensures changes { OnOk result (self.new.changes.items ≡ self.old.changes.items ++ book_moves self.old.counters.clock book.now (entry_of motion.now)) }
         ensures counters { OnOk result (self.new.counters ≡ self.old.counters) }
-        ensures rows { IfOk result (λ r. AreMoved self.old.counters.clock book.now (entry_of moved.now) r.accounts.items
+        ensures rows { IfOk result (λ r. AreMoved self.old.counters.clock book.now (entry_of motion.now) r.accounts.items
             r.authorizations.items r.orders.items) }
         ensures recorded { OnOk result ((m : ℕ) (es : List EntryOf) → IsUntouched m book.now es
-            → GoesOn m book.now es (entry_of moved.now ∷ []) self.old self.new) }
+            → GoesOn m book.now es (entry_of motion.now ∷ []) self.old self.new) }
     {
         let moment = self.counters.clock.moment();
         let mut rows = MovedRows {
@@ -163,7 +163,7 @@ impl Recording {
             authorizations: Vec::new(alloc),
             orders: Vec::new(alloc),
         };
-        record_rows(&mut self.changes, alloc, &mut rows, book, moved, moment)?;
+        record_rows(&mut self.changes, alloc, &mut rows, book, motion, moment)?;
         Ok(rows)
     }
 
@@ -188,7 +188,7 @@ impl Recording {
             ++ PutOrder (next_order policy.now self.old.counters account wanted.now) ∷ [])) }
         ensures counters { OnOk result (self.new.counters ≡ ordered_counters policy.now self.old.counters account wanted.now) }
         ensures recorded { OnOk result ((m : ℕ) (B : Tables) (es : List EntryOf) → B.meta.policy ≡ policy.now → IsOrdered B → IsUntouched m B es
-            → AreStanding (swept m B).authorizations wanted.now → GoesOn m B es (ordered account wanted.now ∷ []) self.old self.new) }
+            → AreReusable (swept m B).authorizations wanted.now → GoesOn m B es (ordered account wanted.now ∷ []) self.old self.new) }
     {
         let first = self.counters.authorizations + 1;
         let rows = self.make_rows(alloc, policy, account, wanted)?;

@@ -9,8 +9,8 @@ use Rattle.desk_model.specs.declared.call.Target.TheVariants as to
 use Rattle.desk_model.specs.declared.refusal.Refusal.TheVariants as refusal
 use Rattle.core_rules.specs.OrderVerdicts.{order_verdict}
 use Rattle.identifiers.specs.AskedOrders.{order_by, order_if, target_order}
-use Rattle.identifiers.specs.declared.parsed.AskedOrder.{AskedOrder}
-use Rattle.identifiers.specs.declared.parsed.AskedOrder.TheVariants as order
+use Rattle.identifiers.specs.declared.payloads.AskedOrder.{AskedOrder}
+use Rattle.identifiers.specs.declared.payloads.AskedOrder.TheVariants as order
 
 -- of identifiers
 by_faults : (T : Tables) (random : List ℕ) (n : ℕ) (ids : List Identifier) (faults : List Subproblem) →

@@ -14,8 +14,8 @@ use Rattle.core_rules.specs.declared.fault.CoreFault.{CoreFault}
 use Rattle.core_rules.specs.declared.fault.CoreFault.TheVariants as core
 use Rattle.identifiers.specs.declared.parsed.CallFault.{CallFault}
 use Rattle.identifiers.specs.declared.parsed.CallFault.TheVariants as callfault
-use Rattle.store_api.proofs.Readings.{stands_both, stands_here, stands_read}
-use Rattle.store_api.specs.Sight.{Sight, Keeps, Stands}
+use Rattle.store_api.proofs.Readings.{unchanged_both, unchanged_here, unchanged_read}
+use Rattle.store_api.specs.Sight.{Sight, Keeps, Unchanged}
 use Rattle.store_api.specs.Storing.{Causes, Fit, IsCutFrom, Loads, Saving, SavesFrom}
 use Rattle.store_api.specs.declared.fault.StorageFault.{StorageFault}
 use Rattle.store_api.specs.declared.fault.StorageFault.TheVariants as storagefault
@@ -104,12 +104,12 @@ module _ {S C : Type 0} (v : Sight S C) where
   -- ---- stores that stand
 
   -- what stands keeps its tables
-  keeps_on : (old new : S) (T : Tables) → v.is_honest new → Stands v old new → Keeps v old T → Keeps v new T
-  keeps_on old new T h stands keeps = record { tables = stands.tables h T keeps.tables; left = λ c l. keeps.left c (stands.left h c l) }
+  keeps_on : (old new : S) (T : Tables) → v.is_honest new → Unchanged v old new → Keeps v old T → Keeps v new T
+  keeps_on old new T h unchanged keeps = record { tables = unchanged.tables h T keeps.tables; left = λ c l. keeps.left c (unchanged.left h c l) }
 
   -- changes that were not saved, out of memory
   unwritten : (R : Type 0) (old new : S) (part : Tables) (changes : List Change) (cause : StorageFault) → SavesFrom v part changes old new (failed R cause) →
-      closes (storage_fault cause) ≡ false → Stands v old new
+      closes (storage_fault cause) ≡ false → Unchanged v old new
   unwritten R old new part changes storagefault.Memory s going = s.without_memory refl
   unwritten R old new part changes storagefault.Device s going = absurd (cc going)
   unwritten R old new part changes storagefault.Reopen s going = absurd (cc going)
@@ -165,7 +165,7 @@ module _ {S C : Type 0} (v : Sight S C) where
   late_declines call here formed late = record {
     formed = formed;
     honest = λ h. h;
-    unchanged = λ opened. stands_here;
+    unchanged = λ opened. unchanged_here;
     exit = λ h F legal keeps. record { cause = late_fault F call late; keeps = keeps };
   }
 
@@ -186,10 +186,10 @@ module _ {S C : Type 0} (v : Sight S C) where
       record {
         formed = formed;
         honest = l.reads.honest;
-        unchanged = λ going. stands_read l.reads;
+        unchanged = λ going. unchanged_read l.reads;
         exit =
             λ h F legal keeps. subst (λ w. ExitsBy v F call w new) (sym is)
-            (is_declined F call new e (refuses F legal (l.part h F legal keeps.tables)) (keeps_on old new (picture F) h (stands_read l.reads) keeps));
+            (is_declined F call new e (refuses F legal (l.part h F legal keeps.tables)) (keeps_on old new (picture F) h (unchanged_read l.reads) keeps));
       }
 
   -- the decision changes nothing
@@ -202,7 +202,7 @@ module _ {S C : Type 0} (v : Sight S C) where
         unchanged = tt;
         exit =
             λ h F legal keeps. answers F call new changes reply (decides F legal (l.part h F legal keeps.tables))
-            (subst (λ cs. Keeps v new (applied cs (picture F))) (sym none) (keeps_on old new (picture F) h (stands_read l.reads) keeps));
+            (subst (λ cs. Keeps v new (applied cs (picture F))) (sym none) (keeps_on old new (picture F) h (unchanged_read l.reads) keeps));
       }
 
   -- its changes are saved
@@ -218,7 +218,7 @@ module _ {S C : Type 0} (v : Sight S C) where
             let enough = l.part (s.honest h) F legal keeps.tables in
             let d = decides F legal enough in
             answers F call new changes reply d (s.saved h (picture F) (enough.kept, enough.cut) (fits F call changes reply d)
-            ((stands_read l.reads).tables (s.honest h) (picture F) keeps.tables));
+            ((unchanged_read l.reads).tables (s.honest h) (picture F) keeps.tables));
       }
 
   -- they are not
@@ -231,14 +231,14 @@ module _ {S C : Type 0} (v : Sight S C) where
         formed = formed;
         honest = λ h. l.reads.honest (s.honest h);
         unchanged =
-            subst (λ w. closes w ≡ false → Stands v old new) (sym is)
-            (λ going. stands_both (stands_read l.reads) (unwritten R mid new book changes cause s going));
+            subst (λ w. closes w ≡ false → Unchanged v old new) (sym is)
+            (λ going. unchanged_both (unchanged_read l.reads) (unwritten R mid new book changes cause s going));
         exit =
             λ h F legal keeps.
             let enough = l.part (s.honest h) F legal keeps.tables in
             subst (λ w. ExitsBy v F call w new) (sym is)
             (save_fails R F call mid new book changes reply cause h (enough.kept, enough.cut) (decides F legal enough)
-            (keeps_on old mid (picture F) (s.honest h) (stands_read l.reads) keeps) s);
+            (keeps_on old mid (picture F) (s.honest h) (unchanged_read l.reads) keeps) s);
       }
 
   -- ---- what faults come from
@@ -256,11 +256,11 @@ module _ {S C : Type 0} (v : Sight S C) where
     call_caused old new callfault.Moment = tt
 
     -- a fault of the store comes of it
-    storage_caused : (old mid new : S) (saving : Option Saving) (cause : StorageFault) → Stands v old mid → causes saving mid new cause
+    storage_caused : (old mid new : S) (saving : Option Saving) (cause : StorageFault) → Unchanged v old mid → causes saving mid new cause
         → IsCaused v causes old new (storage_fault cause)
-    storage_caused old mid new saving storagefault.Memory stood is = tt
-    storage_caused old mid new saving storagefault.Device stood is = record { from = mid; stood = stood; saving = saving; cause = is }
-    storage_caused old mid new saving storagefault.Reopen stood is = record { from = mid; stood = stood; saving = saving; cause = is }
+    storage_caused old mid new saving storagefault.Memory unchanged is = tt
+    storage_caused old mid new saving storagefault.Device unchanged is = record { from = mid; unchanged = unchanged; saving = saving; cause = is }
+    storage_caused old mid new saving storagefault.Reopen unchanged is = record { from = mid; unchanged = unchanged; saving = saving; cause = is }
 
     -- and so of results
     pub result_caused : (old new : S) (why : DeskFault) (result : Result Reply DeskFault) → IsCaused v causes old new why → Faults result why →
@@ -269,6 +269,6 @@ module _ {S C : Type 0} (v : Sight S C) where
     result_caused old new why (Err e) caused is = subst (IsCaused v causes old new) (sym is) caused
 
     pub storage_result_caused : (old mid new : S) (saving : Option Saving) (cause : StorageFault) (result : Result Reply DeskFault)
-        → Stands v old mid → causes saving mid new cause → Faults result (storage_fault cause) → IfErr result (IsCaused v causes old new)
-    storage_result_caused old mid new saving cause result stood caused is =
-        result_caused old new (storage_fault cause) result (storage_caused old mid new saving cause stood caused) is
+        → Unchanged v old mid → causes saving mid new cause → Faults result (storage_fault cause) → IfErr result (IsCaused v causes old new)
+    storage_result_caused old mid new saving cause result unchanged caused is =
+        result_caused old new (storage_fault cause) result (storage_caused old mid new saving cause unchanged caused) is

@@ -3,7 +3,7 @@ use Rattle.std.specs.Prelude.{◌≡◌, ◌⊎◌, Bool, false, None, Result, O
 use Rattle.desk_model.specs.{Entry.History, Legal.Legal, Tables.picture, declared.call.Call.Call, declared.reply.Reply.Reply}
 use Rattle.desk_model.specs.Decide.{decide, after}
 use Rattle.desk_model.specs.Run.{fault, IsFormedCall}
-use Rattle.store_api.specs.Sight.{Sight, Keeps, Stands}
+use Rattle.store_api.specs.Sight.{Sight, Keeps, Unchanged}
 use Rattle.desk.specs.Faults.{IsFault, closes}
 use Rattle.desk.specs.declared.fault.DeskFault.{DeskFault}
 use Rattle.desk.specs.declared.fault.DeskFault.TheVariants as deskfault
@@ -45,7 +45,7 @@ module _ {S C : Type 0} (v : Sight S C) where
   pub record Answers (call : Call) (old new : S) (result : Result Reply DeskFault) : Type 0 where
     pub formed : IsFormedCall call
     pub honest : v.is_honest new → v.is_honest old
-    pub unchanged : IfErr result (λ why. closes why ≡ false → Stands v old new)
+    pub unchanged : IfErr result (λ why. closes why ≡ false → Unchanged v old new)
     pub exit : v.is_honest new → (F : History) → Legal F → Keeps v old (picture F) → Exits F call result new
 
 -- whether the desk is closed after an answer

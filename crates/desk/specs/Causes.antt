@@ -1,6 +1,6 @@
 -- What the faults of a call come from, over a store of which this is so before and after a call of its own that failed.
 use Rattle.std.specs.Prelude.{Option}
-use Rattle.store_api.specs.Sight.{Sight, Stands}
+use Rattle.store_api.specs.Sight.{Sight, Unchanged}
 use Rattle.store_api.specs.Storing.{Causes, Saving}
 use Rattle.store_api.specs.declared.fault.StorageFault.{StorageFault}
 use Rattle.store_api.specs.declared.fault.StorageFault.TheVariants as storagefault
@@ -11,7 +11,7 @@ module _ {S C : Type 0} (v : Sight S C) (causes : Causes S) where
   -- the store failed by this fault, at once or behind look-ups that changed nothing: in a look-up, or in a saving
   pub record FailsBehind (old new : S) (why : StorageFault) : Type 0 where
     pub from : S
-    pub stood : Stands v old from
+    pub unchanged : Unchanged v old from
     pub saving : Option Saving
     pub cause : causes saving from new why
 

@@ -1,6 +1,6 @@
 //! One desk, which answers calls one after the other.
 ghost use Rattle.std.specs.Prelude.{◌≡◌, ◌≢◌, ◌<◌, ◌↔◌, IsTrue, true, false, drop, length, Err, IfErr, IfOk, IfSome, MatchResult, Ok, Some, []};
-ghost use Rattle.store_api.specs.Sight.{FailsToRead, ForTables, Stands};
+ghost use Rattle.store_api.specs.Sight.{FailsToRead, ForTables, Unchanged};
 ghost use Rattle.store_api.specs.Storing.{Loads};
 ghost use Rattle.desk.specs.declared.fault.DeskFault.TheVariants as fault;
 ghost use Rattle.desk.specs.Answers.{Answers, is_closed_after};
@@ -50,7 +50,7 @@ fn attempt_by<K: Storage + Drop>(
 ) -> Result<Reply, DeskFault>
     requires { IsFormedCall call.now }
     ensures in_time { result ≢ Err fault.Moment }
-    ensures caused { (was : K) → Stands K.Storage.sight was store.old → IfErr result (IsCaused K.Storage.sight K.Storage.causes was store.new) }
+    ensures caused { (was : K) → Unchanged K.Storage.sight was store.old → IfErr result (IsCaused K.Storage.sight K.Storage.causes was store.new) }
     ensures exit { (was : K) → Loads K.Storage.sight call.now was store.old (Ok part.now) → Answers K.Storage.sight call.now was store.new result }
 {
     let decision = decide(alloc, part, call)?;
@@ -87,7 +87,7 @@ impl<K: Storage + Drop> Desk<K> {
     /// The fault of the store, which comes back with it.
     pub fn adopt(alloc: Global, store: K) -> Result<Desk<K>, Unadopted<K>>
         ensures reads { MatchResult result
-            (λ desk. Stands K.Storage.sight store desk.store)
+            (λ desk. Unchanged K.Storage.sight store desk.store)
             (λ un. FailsToRead K.Storage.sight store un.store un.fault) }
         ensures policy { IfOk result (λ desk. ForTables K.Storage.sight store desk.store (λ T. desk.policy ≡ T.meta.policy)) }
         ensures opened { IfOk result (λ desk. desk.is_closed ≡ false) }

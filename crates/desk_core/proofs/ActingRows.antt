@@ -20,11 +20,11 @@ use Rattle.model_laws.proofs.RowLists.{ascends_map, none_below}
 use Rattle.model_laws.proofs.Basics.{each, each_of_map}
 use Rattle.core_changes.specs.Recorded.{IsAt, IsRecorded}
 use Rattle.desk_core.specs.HasTexts.{HasTexts}
-use Rattle.core_changes.specs.Made.{AreStanding, made_row, next_account, next_order}
+use Rattle.core_changes.specs.Made.{AreReusable, made_row, next_account, next_order}
 use Rattle.core_changes.proofs.MadeRows.{find-after, made_found, stood_found}
 use Rattle.model_laws.proofs.OrderFacts.{numbers_listed}
 use Rattle.identifiers.proofs.NamesKept.{same_names}
-use Rattle.core_changes.proofs.Moving.{below_standing, ordered_one}
+use Rattle.core_changes.proofs.Moving.{below_swept, ordered_one}
 use Rattle.desk_core.proofs.ShownTexts.{order_ends}
 use Rattle.desk_book.proofs.SweptRows.{find-moved}
 
@@ -68,10 +68,10 @@ opened_found m B C key contacts at is =
 -- ---- an order that is made
 
 -- it is found by its number
-order_after : (m : ℕ) (B : Tables) (account : ℕ) (wanted : List Wanted) → IsOrdered B → AreStanding (swept m B).authorizations wanted →
+order_after : (m : ℕ) (B : Tables) (account : ℕ) (wanted : List Wanted) → IsOrdered B → AreReusable (swept m B).authorizations wanted →
     order_on (effect m (swept m B) (ordered account wanted)) (B.meta.counters.orders + 1)
     ≡ Some (next_order B.meta.policy (record B.meta.counters { clock = m }) account wanted)
-order_after m B account wanted is standing =
+order_after m B account wanted is reusable =
     find-after (λ o. o.number == B.meta.counters.orders + 1) stood _
     (find-moved (λ o. o.number == B.meta.counters.orders + 1) (moved_order e m S.authorizations (authorizations_after S e m)) S.orders
     (λ o. ap (λ k. k == B.meta.counters.orders + 1) (order_number e m S.authorizations (authorizations_after S e m) o))
@@ -81,7 +81,7 @@ order_after m B account wanted is standing =
     ∙ ap (option_map (swept_order m B.authorizations))
     (none_below (λ o. o.number) (B.meta.counters.orders + 1) (B.meta.counters.orders + 1) B.orders (omega arith) is.orders.1)))
     ∙ ap (find (λ o. o.number == B.meta.counters.orders + 1))
-    (ordered_one m S account wanted (below_standing m (B.meta.counters.authorizations + 1) B.authorizations is.authorizations.1) standing)
+    (ordered_one m S account wanted (below_swept m (B.meta.counters.authorizations + 1) B.authorizations is.authorizations.1) reusable)
     ∙ ap (λ b. cond b (Some (next_order B.meta.policy (record B.meta.counters { clock = m }) account wanted)) None)
     (eq-eqb (B.meta.counters.orders + 1) (B.meta.counters.orders + 1) refl)
   where
@@ -95,10 +95,10 @@ order_after m B account wanted is standing =
     stood = map (moved_order e m S.authorizations (authorizations_after S e m)) S.orders
 
 pub ordered_found : (m : ℕ) (B : Tables) (C : Counters) (account : ℕ) (wanted : List Wanted) → IsAt m B C → IsOrdered B →
-    AreStanding (swept m B).authorizations wanted →
+    AreReusable (swept m B).authorizations wanted →
     (let T : Tables = effect m (swept m B) (ordered account wanted) in order_on T T.meta.counters.orders ≡ Some (next_order B.meta.policy C account wanted))
-ordered_found m B C account wanted at is standing =
-    order_after m B account wanted is standing
+ordered_found m B C account wanted at is reusable =
+    order_after m B account wanted is reusable
     ∙ ap (λ x. Some (next_order B.meta.policy x account wanted)) (sym at)
 
 -- ---- its names
@@ -167,7 +167,7 @@ names_after m B account wanted is may =
     ap (λ ns. map (λ a. a.name) (rows_of (effect m (swept m B) (ordered account wanted)).authorizations ns)) (numbers_listed 1 (listed_by wanted first))
     ∙ names_listed (effect m (swept m B) (ordered account wanted)).authorizations account m (m + B.meta.policy.authz_life) wanted first
     (B.meta.counters.challenges + 1)
-    (made_named (swept m B) m account wanted (below_standing m first B.authorizations is.authorizations.1))
+    (made_named (swept m B) m account wanted (below_swept m first B.authorizations is.authorizations.1))
     (reused_named (swept m B) m account wanted wanted may)
 
 pub ordered_names : (m : ℕ) (B : Tables) (C : Counters) (account : ℕ) (wanted : List Wanted) → IsAt m B C → IsOrdered B →
@@ -191,8 +191,8 @@ may_be_wanted m t B account wanted clock is may =
 
 -- its moment has a text
 pub ordered_text : (m : ℕ) (B : Tables) (C : Counters) (account : ℕ) (wanted : List Wanted) → IsAt m B C → IsOrdered B →
-    AreStanding (swept m B).authorizations wanted →
+    AreReusable (swept m B).authorizations wanted →
     HasTexts (effect m (swept m B) (ordered account wanted)) → (next_order B.meta.policy C account wanted).expires ≤ last_end
-ordered_text m B C account wanted at is standing texts =
-    subst (λ o. IfSome o (λ o. o.expires ≤ last_end)) (ordered_found m B C account wanted at is standing)
+ordered_text m B C account wanted at is reusable texts =
+    subst (λ o. IfSome o (λ o. o.expires ≤ last_end)) (ordered_found m B C account wanted at is reusable)
     (order_ends (effect m (swept m B) (ordered account wanted)) (B.meta.counters.orders + 1) texts)

@@ -8,7 +8,7 @@ use Rattle.desk_model.specs.Effect.{touches_authorization, touches_order}
 use Rattle.desk_model.specs.{Derived.numbers_of, Entry.entry_of, Tables.Tables, declared.entry.Entry.Entry, declared.entry.Move.Move}
 use Rattle.desk_model.specs.declared.rows.{AccountRow.AccountRow, AuthorizationRow.AuthorizationRow, OrderRow.OrderRow}
 use Rattle.desk_model.specs.declared.entry.Move.TheVariants as move
-use Rattle.core_changes.specs.Moved.{AreMoved, accounts_moved, authorizations_moved, orders_moved, standing_rows, stated_authorization, stated_order}
+use Rattle.core_changes.specs.Moved.{AreMoved, accounts_moved, authorizations_moved, orders_moved, swept_rows, stated_authorization, stated_order}
 use Rattle.desk_core.specs.There.{IsAmong}
 
 -- a row that is found, and touched, is found among the touched ones, which keep what it is found by
@@ -37,28 +37,28 @@ account_stays e m n rows touched h =
 -- the authorization of a number
 authorization_stays : (e : Entry) (m n : ℕ) (accounts : List AccountRow) (rows : List AuthorizationRow)
     → ((a : AuthorizationRow) → touches_authorization e a ≡ (n == a.number)) →
-    IsSome (find (λ a. a.number == n) (standing_rows m rows)) → IsSome (find (λ a. a.number == n) (authorizations_moved e m accounts rows))
+    IsSome (find (λ a. a.number == n) (swept_rows m rows)) → IsSome (find (λ a. a.number == n) (authorizations_moved e m accounts rows))
 authorization_stays e m n accounts rows touched h =
     still_found (λ a. a.number == n) (touches_authorization e) (stated_authorization e m accounts) (λ a. refl)
-    (λ a is. touched a ∙ eq_turn n a.number ∙ is) (standing_rows m rows) h
+    (λ a is. touched a ∙ eq_turn n a.number ∙ is) (swept_rows m rows) h
 
 -- that of a challenge
 owner_stays : (e : Entry) (m n : ℕ) (accounts : List AccountRow) (rows : List AuthorizationRow)
     → ((a : AuthorizationRow) → touches_authorization e a ≡ has_row n a) →
-    IsSome (find (has_row n) (standing_rows m rows)) → IsSome (find (has_row n) (authorizations_moved e m accounts rows))
+    IsSome (find (has_row n) (swept_rows m rows)) → IsSome (find (has_row n) (authorizations_moved e m accounts rows))
 owner_stays e m n accounts rows touched h =
     still_found (has_row n) (touches_authorization e) (stated_authorization e m accounts)
     (λ a.
     list_any-map (λ c. n == c.number) (noted_challenge e m (key_numbered a.account accounts)) a.challenges
     ∙ list_any-same _ _ a.challenges (λ c. ap (λ k. n == k) (challenge_number e m (key_numbered a.account accounts) c)))
-    (λ a is. touched a ∙ is) (standing_rows m rows) h
+    (λ a is. touched a ∙ is) (swept_rows m rows) h
 
 -- the order of a number
 order_stays : (e : Entry) (m n : ℕ) (B : Tables) → ((k : ℕ) → names_order e k ≡ (n == k)) →
     IsSome (find (λ o. o.number == n) (swept m B).orders) → IsSome (find (λ o. o.number == n) (orders_moved e m B.accounts B.authorizations B.orders))
 order_stays e m n B named h =
-    still_found (λ o. o.number == n) (touches_order e (standing_rows m B.authorizations)) (stated_order e m B.accounts B.authorizations) (λ o. refl)
-    (λ o is. ap (λ b. b || lists_one (touches_authorization e) (standing_rows m B.authorizations) (numbers_of o.listed))
+    still_found (λ o. o.number == n) (touches_order e (swept_rows m B.authorizations)) (stated_order e m B.accounts B.authorizations) (λ o. refl)
+    (λ o is. ap (λ b. b || lists_one (touches_authorization e) (swept_rows m B.authorizations) (numbers_of o.listed))
     (named o.number ∙ eq_turn n o.number ∙ is)) (swept m B).orders h
 
 -- each move

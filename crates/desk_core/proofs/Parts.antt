@@ -34,8 +34,8 @@ texts_then m T P v alike texts =
     record {
       authorizations =
           subst (EachOf HasMoments) (sym alike.authorizations)
-          (each-map HasMoments (with_challenges alike.challenges) (filter alike.standing (effects m (swept m T) (entries_of v)).authorizations)
-          (filtered_each _ alike.standing (effects m (swept m T) (entries_of v)).authorizations
+          (each-map HasMoments (with_challenges alike.challenges) (filter alike.kept (effects m (swept m T) (entries_of v)).authorizations)
+          (filtered_each _ alike.kept (effects m (swept m T) (entries_of v)).authorizations
           (each _ _ (effects m (swept m T) (entries_of v)).authorizations (λ a f kept. some_moments alike.challenges a f) texts.authorizations)));
       orders = alike.ends last_end texts.orders;
     }

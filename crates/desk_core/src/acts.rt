@@ -36,17 +36,17 @@ fn act_on_rows(
     alloc: Global,
     book: &Book,
     recording: &mut Recording,
-    moved: &Move,
+    motion: &Move,
 ) -> Result<Reply, AllocError>
-    requires there { NamesRows (swept recording.old.counters.clock book.now) (moves moved.now) }
+    requires there { NamesRows (swept recording.old.counters.clock book.now) (moves motion.now) }
     ensures recorded { OnOk result ((m : ℕ) (es : List EntryOf) → IsUntouched m book.now es
-        → GoesOn m book.now es (entry_of moved.now ∷ []) recording.old recording.new) }
+        → GoesOn m book.now es (entry_of motion.now ∷ []) recording.old recording.new) }
     ensures reply { IfOk result (λ r. (let T : Tables = effects recording.old.counters.clock (swept recording.old.counters.clock book.now)
-        (entry_of moved.now ∷ []) in
-        HasTexts T → r ≡ moved_reply T moved.now)) }
+        (entry_of motion.now ∷ []) in
+        HasTexts T → r ≡ moved_reply T motion.now)) }
 {
-    let rows = recording.shift(alloc, book, moved)?;
-    show_moved(alloc, book, moved, &rows)
+    let rows = recording.shift(alloc, book, motion)?;
+    show_moved(alloc, book, motion, &rows)
 }
 
 // Opens an account, and shows it.
@@ -142,7 +142,7 @@ pub(crate) fn act(
         Verdict::Orders(account, wanted) => {
             act_on_order(alloc, book, recording, account, wanted.as_slice())
         }
-        Verdict::Moves(moved) => act_on_rows(alloc, book, recording, &moved),
+        Verdict::Moves(motion) => act_on_rows(alloc, book, recording, &motion),
     }
 }
 
@@ -311,15 +311,15 @@ pub(crate) fn show(
 fn show_moved(
     alloc: Global,
     book: &Book,
-    moved: &Move,
+    motion: &Move,
     rows: &MovedRows,
 ) -> Result<Reply, AllocError>
-    requires among { IsAmong moved.now rows.now.accounts.items rows.now.authorizations.items rows.now.orders.items }
-    ensures { IfOk result (λ r. (m : ℕ) → AreMoved m book.now (entry_of moved.now) rows.now.accounts.items rows.now.authorizations.items rows.now.orders.items
-        → (let T : Tables = effects m (swept m book.now) (entry_of moved.now ∷ []) in HasTexts T → r ≡ moved_reply T moved.now)) }
+    requires among { IsAmong motion.now rows.now.accounts.items rows.now.authorizations.items rows.now.orders.items }
+    ensures { IfOk result (λ r. (m : ℕ) → AreMoved m book.now (entry_of motion.now) rows.now.accounts.items rows.now.authorizations.items rows.now.orders.items
+        → (let T : Tables = effects m (swept m book.now) (entry_of motion.now ∷ []) in HasTexts T → r ≡ moved_reply T motion.now)) }
 {
     let policy = &book.meta().policy;
-    match moved {
+    match motion {
         Move::ContactsChanged(number, _) => {
             account_reply(alloc, policy, rows.account(*number).unwrap())
         }

@@ -5,7 +5,7 @@ use Rattle.desk_model.specs.{History.first_history, Terms.Terms}
 use Rattle.desk_model.specs.Tables.{Tables, picture}
 use Rattle.sql_schema.specs.Stays.{Asks}
 use Rattle.store_api.specs.Sight.{Keeps, Reads}
-use Rattle.desk_store.proofs.Standing.{desk_stays}
+use Rattle.desk_store.proofs.NothingWritten.{desk_stays}
 use Rattle.desk_store.specs.{Desks.store_sight, declared.open_fault.OpenFault.OpenFault, declared.store.Store.Store}
 use Rattle.desk_store.specs.Making.{IsMade, IsOfStorage}
 use Rattle.desk_store.specs.declared.open_fault.OpenFault.TheVariants.{NewerFormat, NotADesk}

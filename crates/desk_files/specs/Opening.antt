@@ -82,7 +82,7 @@ module _ {D : Type 0} {g : disk.Ghosts D} where
   pub record OpensKnown (image : Image) (store : Store (FileStore D g)) : Type 0 where
     pub from : Held (FileStore D g)
     pub connects : Connects image from
-    pub known : HasCleanDisk (file_state store.conn) → ShowsKnownFormat (over_files {g = g}) from
+    pub shows : HasCleanDisk (file_state store.conn) → ShowsKnownFormat (over_files {g = g}) from
 
   -- or none was made, where there was no object, by that of the store's making
   pub record FailedToMakeOver (policy : Terms) (at : ℕ) (image : Image) (why : OpenFault) (conn : Held (FileStore D g)) : Type 0 where

@@ -59,7 +59,7 @@ fn begin_from<S: Start>(
     first: Option<First>,
 ) -> Result<Store<FileStore<FileFrom<S>>>, NotOpened<FileStore<FileFrom<S>>, FileFrom<S>>>
     ensures opened { first ≡ None → IfOk result (OpensFiles (image_at S.Start)) }
-    ensures known { first ≡ None → IfOk result (OpensKnown (image_at S.Start)) }
+    ensures shows { first ≡ None → IfOk result (OpensKnown (image_at S.Start)) }
     ensures made { IfSome first (λ it. IfOk result (MakesFiles it.policy it.at)) }
     ensures unreached { IfErr result (λ un. un.conn ≡ None → un.refused ≡ None → IsOfStorage un.fault) }
     ensures refused { IfErr result (λ un. IfSome un.refused (RefusesNoDatabase (image_at S.Start) un.fault)) }
@@ -103,7 +103,7 @@ pub fn open_from<S: Start>(
     start: S,
 ) -> Result<Store<FileStore<FileFrom<S>>>, NotOpened<FileStore<FileFrom<S>>, FileFrom<S>>>
     ensures opened { IfOk result (OpensFiles (image_at S.Start)) }
-    ensures known { IfOk result (OpensKnown (image_at S.Start)) }
+    ensures shows { IfOk result (OpensKnown (image_at S.Start)) }
     ensures unreached { IfErr result (λ un. un.conn ≡ None → un.refused ≡ None → IsOfStorage un.fault) }
     ensures refused { IfErr result (λ un. IfSome un.refused (RefusesNoDatabase (image_at S.Start) un.fault)) }
     ensures cause { IfErr result (λ un. IfSome un.refused (RefusedBy (image_at S.Start) un.fault)) }

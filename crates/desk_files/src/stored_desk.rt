@@ -74,7 +74,7 @@ pub fn open_desk<S: Alter + Drop>(
         → HasFirst (state S.Store conn) T → IsDeskOf S.Store T desk) }
     ensures desk { IfErr result (λ un. HasCleanDisk (state S.Store un.conn) → (T : Tables) → HasDesk (state S.Store conn) T → IsOfStorage un.fault) }
     ensures first { IfErr result (λ un. HasCleanDisk (state S.Store un.conn) → (T : Tables) → HasFirst (state S.Store conn) T → IsOfStorage un.fault) }
-    ensures known { IfOk result (λ desk. HasCleanDisk (state S.Store desk.store.conn) → ShowsKnownFormat S.Store conn) }
+    ensures shows { IfOk result (λ desk. HasCleanDisk (state S.Store desk.store.conn) → ShowsKnownFormat S.Store conn) }
     ensures whole { IfOk result (λ desk. HasCleanDisk (state S.Store desk.store.conn) → IsTrue (uses_key_table (state S.Store conn).now.schema)
         → IsWhole S.Store conn) }
     ensures whole_first { IfOk result (λ desk. HasCleanDisk (state S.Store desk.store.conn) → uses_key_table (state S.Store conn).now.schema ≡ false

@@ -33,7 +33,7 @@ fn open_tables<A: Alter>(alloc: Global, conn: Connection<A>) -> Result<Store<A>,
     ensures failed { IfErr result (λ un. FailedToOpen A.Store conn un.conn un.fault) }
     ensures newer { IfErr result (λ un. HasCleanDisk (state A.Store un.conn) → un.fault ≡ newer_format → ShowsNewerFormat A.Store conn) }
     ensures no_later { IfErr result (λ un. HasCleanDisk (state A.Store un.conn) → un.fault ≡ not_a_desk → ShowsNoLaterFormat A.Store conn) }
-    ensures known { IfOk result (λ store. HasCleanDisk (state A.Store store.conn) → ShowsKnownFormat A.Store conn) }
+    ensures shows { IfOk result (λ store. HasCleanDisk (state A.Store store.conn) → ShowsKnownFormat A.Store conn) }
 {
     match Store::open(alloc, conn) {
         Ok(store) => Ok(store),
@@ -108,7 +108,7 @@ pub(crate) fn begin<A: Alter>(
     ensures newer { first ≡ None → IfErr result (λ un. HasCleanDisk (state A.Store un.conn) → un.fault ≡ newer_format → ShowsNewerFormat A.Store conn) }
     ensures no_later { first ≡ None
         → IfErr result (λ un. HasCleanDisk (state A.Store un.conn) → un.fault ≡ not_a_desk → ShowsNoLaterFormat A.Store conn) }
-    ensures known { first ≡ None → IfOk result (λ store. HasCleanDisk (state A.Store store.conn) → ShowsKnownFormat A.Store conn) }
+    ensures shows { first ≡ None → IfOk result (λ store. HasCleanDisk (state A.Store store.conn) → ShowsKnownFormat A.Store conn) }
     ensures making { IfSome first (λ it. has_objects (state A.Store conn).now.schema ≡ false
         → IfErr result (λ un. FailedToMake A.Store it.policy it.at conn un.conn un.fault)) }
 {

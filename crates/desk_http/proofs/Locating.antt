@@ -3,7 +3,7 @@ use Rattle.std.proofs.Common.{◌≡◌, ◌≢◌, ◌∙◌, ℕ, List, [], �
 use Rattle.std.specs.Prelude.{MatchOption}
 use Rattle.std.proofs.lemmas.List.{append_cancel_left}
 use Rattle.http_routes.specs.Routes.{HasNumber}
-use Rattle.desk_http.specs.Noted.{IsLocated, IsPathOf, IsUrlOf}
+use Rattle.desk_http.specs.Logged.{IsLocated, IsPathOf, IsUrlOf}
 
 -- the number of a URL is that of its path
 pub located_by : (base url path : List ℕ) (o : Option ℕ) → url ≡ base ++ path

@@ -12,13 +12,13 @@ use Rattle.desk_http.specs.declared.serving.Unanswered.{Unanswered}
 use Rattle.desk_http.specs.declared.serving.Unanswered.TheVariants as cause
 
 -- the request that was read is the input's
-spelled : (known : Option (List ℕ)) (h : ParsedRequest) (q : Request) → IsParsedOf known h → h.request ≡ Ok q
-    → IfSome known (λ input. Spells input q)
+spelled : (remaining : Option (List ℕ)) (h : ParsedRequest) (q : Request) → IsParsedOf remaining h → h.request ≡ Ok q
+    → IfSome remaining (λ input. Spells input q)
 spelled None h q is e = tt
 spelled (Some input) h q is e = rw e at is.request
 
 -- and so is how its reply is written
-pub form_parsed : (known : Option (List ℕ)) (h : ParsedRequest) → IsParsedOf known h → IfSome known (λ input. IsReplyForm input h.form)
+pub form_parsed : (remaining : Option (List ℕ)) (h : ParsedRequest) → IsParsedOf remaining h → IfSome remaining (λ input. IsReplyForm input h.form)
 form_parsed None h is = tt
 form_parsed (Some input) h is = is.form
 
@@ -30,15 +30,15 @@ no_text v causes at random read q old new (cause.Desk fault) e l = record { requ
 no_text v causes at random read q old new cause.Reading e l = l
 no_text v causes at random read q old new cause.Text e l = absurd l
 
-module _ {S C : Type 0} (v : Sight S C) (causes : Causes S) (at : ℕ) (random : List ℕ) (known : Option (List ℕ)) (h : ParsedRequest) where
+module _ {S C : Type 0} (v : Sight S C) (causes : Causes S) (at : ℕ) (random : List ℕ) (remaining : Option (List ℕ)) (h : ParsedRequest) where
   -- the answer to what was read is the answer to the input
-  pub answered : (old new : DeskState S) (result : Result Reply DeskFault) → IsParsedOf known h
-      → ReadAnswer v causes at random h.request old new result → HasAnswer v causes at random known old new result
-  answered old new result is a = record { request = a.request; spelled = spelled known h a.request is a.is_read; responds = a.responds }
+  pub answered : (old new : DeskState S) (result : Result Reply DeskFault) → IsParsedOf remaining h
+      → ReadAnswer v causes at random h.request old new result → HasAnswer v causes at random remaining old new result
+  answered old new result is a = record { request = a.request; spelled = spelled remaining h a.request is a.is_read; responds = a.responds }
 
   -- why what was read did not have its reply is why the input did not
-  pub fails : (old new : DeskState S) (why : Unanswered) → IsParsedOf known h
-      → LacksText v causes at random h.request why old new → Fails v causes at random known old new why
+  pub fails : (old new : DeskState S) (why : Unanswered) → IsParsedOf remaining h
+      → LacksText v causes at random h.request why old new → Fails v causes at random remaining old new why
   fails old new (cause.Desk fault) is l = answered old new _ is l
   fails old new cause.Reading is l = l
   fails old new cause.Text is l = (l.0, answered old new _ is l.1)

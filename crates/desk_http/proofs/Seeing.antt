@@ -4,9 +4,9 @@ use Rattle.store_api.specs.{Sight.Sight, Storing.Causes}
 use Rattle.desk.specs.{SeenDesks.IsSeenOn, State.DeskState, Meets.ActsOnce, declared.fault.DeskFault.DeskFault}
 use Rattle.desk.proofs.SeeingDesks.{seen_once_more, seen_untouched}
 use Rattle.desk_http.proofs.Acting.{once_acts}
-use Rattle.desk_http.specs.Noted.{Note}
+use Rattle.desk_http.specs.Logged.{LogEntry}
 use Rattle.desk_http.specs.declared.{serving.IoFault.IoFault, serving.Served.Served, serve_fault.ServeFault.ServeFault}
-use Rattle.desk_http.specs.declared.{clients.MomentBound.MomentBound, overseeing.Watch.Watch}
+use Rattle.desk_http.specs.declared.{moment_bound.MomentBound.MomentBound, overseeing.Watch.Watch}
 use Rattle.desk_http.specs.InTurn.{ServesClient, ServesMany, ServesNext, ServesOne, parsed, unread}
 use Rattle.desk_http.specs.declared.serve_fault.ServeFault.TheVariants as servefault
 
@@ -17,7 +17,7 @@ module _ {S C : Type 0} (v : Sight S C) (causes : Causes S) where
   client_acts bound came asked served next old new (unread same kept none failed stays) = inl same
   client_acts bound came asked served next old new (parsed s at about follows) = once_acts v causes s.at s.random new.policy.base old new served s.does
 
-  module _ {O : Type 0} (takes : O → Note → O → Type 0) where
+  module _ {O : Type 0} (takes : O → LogEntry → O → Type 0) where
     -- so does one of those that are served in turn
     pub one_acts : (why : Option DeskFault) (kept : Bool) (old new : DeskState S) (was is : Watch O) → ServesOne v causes takes why kept old was new is
         → ActsOnce v old new

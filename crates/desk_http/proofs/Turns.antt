@@ -2,12 +2,12 @@
 use Rattle.std.proofs.Common.{◌≡◌, ◌<◌, Err, ℕ, ◌+◌, Bool, true, Option, None, Some, add-one, false, inl, inr, refl}
 use Rattle.store_api.specs.{Sight.Sight, Storing.Causes}
 use Rattle.desk.specs.{State.DeskState, declared.fault.DeskFault.DeskFault}
-use Rattle.desk_http.specs.InTurn.{IsOfMachine, ServesAll, ServesFewer, ServesMany, ServesNext, ServesOne, ended_by}
-use Rattle.desk_http.specs.Noted.{Note}
+use Rattle.desk_http.specs.InTurn.{IsOfMachine, ServesConnections, ServesFewer, ServesMany, ServesNext, ServesOne, ended_by}
+use Rattle.desk_http.specs.Logged.{LogEntry}
 use Rattle.desk_http.specs.declared.{overseeing.Watch.Watch, serve_fault.ServeFault.ServeFault}
 use Rattle.desk_http.specs.declared.serve_fault.ServeFault.TheVariants as servefault
 
-module _ {S C : Type 0} (v : Sight S C) (causes : Causes S) {O : Type 0} (takes : O → Note → O → Type 0) where
+module _ {S C : Type 0} (v : Sight S C) (causes : Causes S) {O : Type 0} (takes : O → LogEntry → O → Type 0) where
   -- one more connection is served
   pub serves_more : (n : ℕ) (old mid new : DeskState S) (was between is : Watch O) → ServesMany v causes takes n old was mid between
       → ServesOne v causes takes None true mid between new is → ServesMany v causes takes (n + 1) old was new is
@@ -23,7 +23,7 @@ module _ {S C : Type 0} (v : Sight S C) (causes : Causes S) {O : Type 0} (takes 
   -- the serving ends at a connection
   pub serves_last : (why : ServeFault) (n most : ℕ) (old mid new : DeskState S) (was between is : Watch O) → n < most
       → ServesMany v causes takes n old was mid between → ServesNext v causes takes mid between new is (Err why)
-      → ServesAll v causes takes most old was new is (Err why)
+      → ServesConnections v causes takes most old was new is (Err why)
   serves_last (servefault.Desk why) n most old mid new was between is le many one = record {
     count = n;
     fewer = le;

@@ -11,9 +11,9 @@ use Rattle.http_routes.specs.declared.request.Request.{Request}
 use Rattle.http_routes.specs.declared.request.Request.TheVariants as request
 use Rattle.http_wire.specs.declared.call.ParsedRequest.{ParsedRequest}
 use Rattle.desk_http.specs.MomentBounds.{followed, moment_for}
-use Rattle.desk_http.specs.Noted.{IsNoteOf, Note, object_asked}
+use Rattle.desk_http.specs.Logged.{IsLogEntryOf, LogEntry, object_asked}
 use Rattle.desk_http.specs.Serving.{Breaks, IsParsedOf, Serves}
-use Rattle.desk_http.specs.declared.{clients.MomentBound.MomentBound, overseeing.Watch.Watch}
+use Rattle.desk_http.specs.declared.{moment_bound.MomentBound.MomentBound, overseeing.Watch.Watch}
 use Rattle.desk_http.specs.declared.{serving.Unanswered.Unanswered, serving.IoFault.IoFault, serving.Served.Served, serve_fault.ServeFault.ServeFault}
 use Rattle.desk_http.specs.declared.serving.Unanswered.TheVariants as cause
 use Rattle.desk_http.specs.declared.serving.IoFault.TheVariants as iofault
@@ -34,7 +34,7 @@ abbrev pub fault_after : Result Served IoFault → Bool → Option DeskFault
 fault_after (Ok served) is_closed = fault_of served.cause
 fault_after (Err why) is_closed = if_closes deskfault.Reopen is_closed
 
--- how the serving of a connection ends, by the fault that closed the desk and whether its note is kept
+-- how the serving of a connection ends, by the fault that closed the desk and whether its entry is kept
 abbrev pub ended_by : Option DeskFault → Bool → Result Unit ServeFault
 ended_by (Some why) kept = Err (servefault.Desk why)
 ended_by None true = Ok tt
@@ -60,38 +60,38 @@ random_for _ = 0
 module _ {S C : Type 0} (v : Sight S C) (causes : Causes S) where
   -- how the request of a client was served that sends these bytes, and what was written behind these earlier ones, where they are known;
   -- or that its connection failed. Its call had some moment, and the random bytes that it may take
-  pub record ServesParsed (known before after : Option (List ℕ)) (old new : DeskState S) (served : Result Served IoFault) : Type 0 where
+  pub record ServesParsed (remaining before after : Option (List ℕ)) (old new : DeskState S) (served : Result Served IoFault) : Type 0 where
     pub parsed : ParsedRequest
-    pub is_heard : IsParsedOf known parsed
+    pub is_heard : IsParsedOf remaining parsed
     pub at : ℕ
     pub random : List ℕ
     pub enough : length random ≡ random_for parsed.request
     pub does :
-        MatchResult served (Serves v causes at random new.policy.base known before after old new)
-        (Breaks v causes at random new.policy.base known before after old new)
+        MatchResult served (Serves v causes at random new.policy.base remaining before after old new)
+        (Breaks v causes at random new.policy.base remaining before after old new)
 
   -- and that this was the moment of its call
-  abbrev pub ServesAt : ℕ → (known before after : Option (List ℕ)) → (old new : DeskState S) → Result Served IoFault → Type 0
-  ServesAt at known before after old new served = (it : ServesParsed known before after old new served) × (it.at ≡ at)
+  abbrev pub ServesAt : ℕ → (remaining before after : Option (List ℕ)) → (old new : DeskState S) → Result Served IoFault → Type 0
+  ServesAt at remaining before after old new served = (it : ServesParsed remaining before after old new served) × (it.at ≡ at)
 
   -- and this what was read
-  abbrev pub ServesRead : ℕ → ParsedRequest → (known before after : Option (List ℕ)) → (old new : DeskState S) → Result Served IoFault → Type 0
-  ServesRead at parsed known before after old new served =
-      (it : ServesParsed known before after old new served) × (it.at ≡ at) × (it.parsed ≡ parsed)
+  abbrev pub ServesRead : ℕ → ParsedRequest → (remaining before after : Option (List ℕ)) → (old new : DeskState S) → Result Served IoFault → Type 0
+  ServesRead at parsed remaining before after old new served =
+      (it : ServesParsed remaining before after old new served) × (it.at ≡ at) × (it.parsed ≡ parsed)
 
   -- a client that came at a moment of the machine, by what is then known of the moment: its request could not be read, and then nothing was
   -- done; or it was served at the moment that the bound gives, and the bound follows. What it asked about is told, too
-  pub data ServesClient (bound : MomentBound) (came : ℕ) (known before after : Option (List ℕ)) (old new : DeskState S) (asked : Option ℕ)
+  pub data ServesClient (bound : MomentBound) (came : ℕ) (remaining before after : Option (List ℕ)) (old new : DeskState S) (asked : Option ℕ)
       (served : Result Served IoFault) (next : MomentBound) : Type 0 where
     unread :
         new ≡ old → Keeps before after → asked ≡ None → served ≡ Err iofault.Read → next ≡ bound
-        → ServesClient bound came known before after old new asked served next
+        → ServesClient bound came remaining before after old new asked served next
     parsed :
-        (s : ServesParsed known before after old new served) → s.at ≡ moment_for bound came → asked ≡ object_asked s.parsed.request
-        → next ≡ followed bound came → ServesClient bound came known before after old new asked served next
+        (s : ServesParsed remaining before after old new served) → s.at ≡ moment_for bound came → asked ≡ object_asked s.parsed.request
+        → next ≡ followed bound came → ServesClient bound came remaining before after old new asked served next
 
-  module _ {O : Type 0} (takes : O → Note → O → Type 0) where
-    -- one connection, by the watch before and after: the fault by which the desk is closed after it, if it is, and whether its note was kept,
+  module _ {O : Type 0} (takes : O → LogEntry → O → Type 0) where
+    -- one connection, by the watch before and after: the fault by which the desk is closed after it, if it is, and whether its entry was kept,
     -- which then is of what was served. A socket tells neither what its client sends nor what it was given
     pub record ServesOne (why : Option DeskFault) (kept : Bool) (old : DeskState S) (was : Watch O) (new : DeskState S) (is : Watch O) : Type 0 where
       pub came : ℕ
@@ -99,9 +99,9 @@ module _ {S C : Type 0} (v : Sight S C) (causes : Causes S) where
       pub served : Result Served IoFault
       pub serves : ServesClient was.bound came None None None old new asked served is.bound
       pub closed : fault_after served new.is_closed ≡ why
-      pub noted : IsTrue kept → (note : Note) × IsNoteOf came asked served note × takes was.overseer note is.overseer
+      pub logged : IsTrue kept → (log_entry : LogEntry) × IsLogEntryOf came asked served log_entry × takes was.overseer log_entry is.overseer
 
-    -- so many connections, one after the other, none of which closed the desk, each with its note
+    -- so many connections, one after the other, none of which closed the desk, each with its entry
     abbrev pub ServesMany : ℕ → DeskState S → Watch O → DeskState S → Watch O → Type 0
     ServesMany zero old was new is = (new ≡ old) × (is ≡ was)
     ServesMany (suc n) old was new is =
@@ -126,12 +126,12 @@ module _ {S C : Type 0} (v : Sight S C) (causes : Causes S) where
       pub many : ServesMany count old was new between
       pub overseer : is.overseer ≡ between.overseer
 
-    -- all connections; or fewer, and then the one by whose fault the desk is closed, or of which no note is kept, or a failure of the machine
-    abbrev pub ServesAll : ℕ → DeskState S → Watch O → DeskState S → Watch O → Result Unit ServeFault → Type 0
-    ServesAll most old was new is (Ok done) = ServesMany most old was new is
-    ServesAll most old was new is (Err (servefault.Desk why)) = ServesUntil most (Some why) old was new is
-    ServesAll most old was new is (Err servefault.Output) = ServesUntil most None old was new is
-    ServesAll most old was new is (Err machine) = ServesFewer most old was new is
+    -- all connections; or fewer, and then the one by whose fault the desk is closed, or of which no entry is kept, or a failure of the machine
+    abbrev pub ServesConnections : ℕ → DeskState S → Watch O → DeskState S → Watch O → Result Unit ServeFault → Type 0
+    ServesConnections most old was new is (Ok done) = ServesMany most old was new is
+    ServesConnections most old was new is (Err (servefault.Desk why)) = ServesUntil most (Some why) old was new is
+    ServesConnections most old was new is (Err servefault.Output) = ServesUntil most None old was new is
+    ServesConnections most old was new is (Err machine) = ServesFewer most old was new is
 
     -- one connection of them
     abbrev pub ServesNext : DeskState S → Watch O → DeskState S → Watch O → Result Unit ServeFault → Type 0

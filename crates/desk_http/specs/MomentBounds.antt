@@ -1,7 +1,7 @@
 -- Which readings of the machine's clock a desk that is served takes for true.
 use Rattle.std.specs.Prelude.{ℕ, ◌+◌, ◌&&◌, ◌||◌, Bool, true, Option, Some, None, if◌then◌else◌, max, nat_eq, nat_le}
 use Rattle.desk_model.specs.Limits.{last_moment}
-use Rattle.desk_http.specs.declared.clients.MomentBound.{MomentBound}
+use Rattle.desk_http.specs.declared.moment_bound.MomentBound.{MomentBound}
 
 -- a moment is no more than so many seconds above the latest that is known, or none is
 abbrev pub is_near : (latest step at : ℕ) → Bool

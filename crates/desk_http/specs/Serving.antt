@@ -14,7 +14,7 @@ use Rattle.http_routes.specs.declared.request.Request.{Request}
 use Rattle.http_routes.specs.declared.request.Request.TheVariants as request
 use Rattle.http_wire.specs.{Replies.reply_bytes, ParsedRequest.Parses, declared.call.ParsedRequest.ParsedRequest, declared.call.ReplyForm.ReplyForm}
 use Rattle.http_wire.specs.Spelled.{IsReplyForm, Spells}
-use Rattle.desk_http.specs.Noted.{IsSummaryOf}
+use Rattle.desk_http.specs.Logged.{IsSummaryOf}
 use Rattle.desk_http.specs.declared.{serving.Unanswered.Unanswered, serving.IoFault.IoFault, serving.Served.Served, overseeing.ReplySummary.ReplySummary}
 use Rattle.desk_http.specs.declared.serving.Unanswered.TheVariants as cause
 use Rattle.desk_http.specs.declared.serving.IoFault.TheVariants as iofault
@@ -25,11 +25,11 @@ call_of at random what = record { at = at; random = random; ask = what }
 
 -- the input, where it is known, is this request
 abbrev pub Spelled : Option (List ℕ) → Request → Type 0
-Spelled known q = IfSome known (λ input. Spells input q)
+Spelled remaining q = IfSome remaining (λ input. Spells input q)
 
 -- this was read of the input, where it is known
 abbrev pub IsParsedOf : Option (List ℕ) → ParsedRequest → Type 0
-IsParsedOf known parsed = IfSome known (λ input. Parses input parsed)
+IsParsedOf remaining parsed = IfSome remaining (λ input. Parses input parsed)
 
 -- ---- what is written in place of a reply: that the desk could not act, or nothing where memory for it was refused
 
@@ -78,51 +78,51 @@ module _ {S C : Type 0} (v : Sight S C) (causes : Causes S) where
     -- ---- one request, of a reader whose bytes may be known
 
     -- the input's request had this answer
-    pub record HasAnswer (known : Option (List ℕ)) (old new : DeskState S) (result : Result Reply DeskFault) : Type 0 where
+    pub record HasAnswer (remaining : Option (List ℕ)) (old new : DeskState S) (result : Result Reply DeskFault) : Type 0 where
       pub request : Request
-      pub spelled : Spelled known request
+      pub spelled : Spelled remaining request
       pub responds : Responds old request result new
 
     -- why the request did not have its reply written, and what the desk then is
     abbrev pub Fails : Option (List ℕ) → DeskState S → DeskState S → Unanswered → Type 0
-    Fails known old new (cause.Desk why) = HasAnswer known old new (Err why)
-    Fails known old new cause.Reading = new ≡ old
-    Fails known old new cause.Text = (reply : Reply) × HasAnswer known old new (Ok reply)
+    Fails remaining old new (cause.Desk why) = HasAnswer remaining old new (Err why)
+    Fails remaining old new cause.Reading = new ≡ old
+    Fails remaining old new cause.Text = (reply : Reply) × HasAnswer remaining old new (Ok reply)
 
     -- the reply was written, or in its place that the desk could not act
     abbrev pub ServesBy : List ℕ → Option (List ℕ) → Option (List ℕ) → Option (List ℕ) → DeskState S → DeskState S → ReplyForm
         → Option Unanswered → Bool → Option ReplySummary → Type 0
-    ServesBy base known before after old new form None written summary =
-        (reply : Reply) × HasAnswer known old new (Ok reply) × Appends before after (reply_bytes base reply form.head_only) × (written ≡ true)
+    ServesBy base remaining before after old new form None written summary =
+        (reply : Reply) × HasAnswer remaining old new (Ok reply) × Appends before after (reply_bytes base reply form.head_only) × (written ≡ true)
         × HasSummary base reply summary
-    ServesBy base known before after old new form (Some why) written summary =
-        Fails known old new why × WritesFault base (index_for why form) form.head_only before after written × (summary ≡ None)
+    ServesBy base remaining before after old new form (Some why) written summary =
+        Fails remaining old new why × WritesFault base (index_for why form) form.head_only before after written × (summary ≡ None)
 
     -- what was served: how the reply is written is the input's, too
     abbrev pub Serves : List ℕ → Option (List ℕ) → Option (List ℕ) → Option (List ℕ) → DeskState S → DeskState S → Served → Type 0
-    Serves base known before after old new served =
-        (form : ReplyForm) × IfSome known (λ input. IsReplyForm input form)
-        × ServesBy base known before after old new form served.cause served.written served.summary
+    Serves base remaining before after old new served =
+        (form : ReplyForm) × IfSome remaining (λ input. IsReplyForm input form)
+        × ServesBy base remaining before after old new form served.cause served.written served.summary
 
     -- the writer failed where the reply was written, or in its place that the desk could not act: a beginning of that was written
     abbrev pub CutOffBy : List ℕ → Option (List ℕ) → Option (List ℕ) → Option (List ℕ) → DeskState S → DeskState S → ReplyForm
         → Option Unanswered → Type 0
-    CutOffBy base known before after old new form None =
-        (reply : Reply) × HasAnswer known old new (Ok reply) × AppendsBeginning before after (reply_bytes base reply form.head_only)
-    CutOffBy base known before after old new form (Some why) =
-        Fails known old new why × AppendsBeginning before after (fault_bytes base (index_for why form) form.head_only)
+    CutOffBy base remaining before after old new form None =
+        (reply : Reply) × HasAnswer remaining old new (Ok reply) × AppendsBeginning before after (reply_bytes base reply form.head_only)
+    CutOffBy base remaining before after old new form (Some why) =
+        Fails remaining old new why × AppendsBeginning before after (fault_bytes base (index_for why form) form.head_only)
 
     -- how what was cut off is written is the input's, too
-    pub record IsCutOff (base : List ℕ) (known before after : Option (List ℕ)) (old new : DeskState S) : Type 0 where
+    pub record IsCutOff (base : List ℕ) (remaining before after : Option (List ℕ)) (old new : DeskState S) : Type 0 where
       pub form : ReplyForm
-      pub formed : IfSome known (λ input. IsReplyForm input form)
+      pub formed : IfSome remaining (λ input. IsReplyForm input form)
       pub cause : Option Unanswered
-      pub by : CutOffBy base known before after old new form cause
+      pub by : CutOffBy base remaining before after old new form cause
 
     -- where the reader fails nothing is done; where the writer fails the desk is as its answer left it, and what was written begins its reply
     abbrev pub Breaks : List ℕ → Option (List ℕ) → Option (List ℕ) → Option (List ℕ) → DeskState S → DeskState S → IoFault → Type 0
-    Breaks base known before after old new iofault.Read = (new ≡ old) × Keeps before after
-    Breaks base known before after old new iofault.Write = IsCutOff base known before after old new
+    Breaks base remaining before after old new iofault.Read = (new ≡ old) × Keeps before after
+    Breaks base remaining before after old new iofault.Write = IsCutOff base remaining before after old new
 
     -- ---- steps
 

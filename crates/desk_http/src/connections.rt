@@ -1,18 +1,18 @@
 //! Clients, one after the other.
 ghost use Rattle.std.specs.Prelude.{◌≡◌, ℕ, List, None, Option, false, IfErr, IfOk, unwrap_or};
 ghost use Rattle.desk_http.specs.declared.serve_fault.ServeFault.TheVariants as fault;
-ghost use Rattle.desk_http.specs.InTurn.{Ends, IsOfMachine, ServesAll, ServesClient, ServesNext, ServesRead, ended_by, fault_after, random_for};
+ghost use Rattle.desk_http.specs.InTurn.{Ends, IsOfMachine, ServesConnections, ServesClient, ServesNext, ServesRead, ended_by, fault_after, random_for};
 ghost use Rattle.desk_http.specs.MomentBounds.{admits, followed};
-ghost use Rattle.desk_http.specs.Noted.{IsNoteOf, as_note, first_of, object_asked, object_of};
+ghost use Rattle.desk_http.specs.Logged.{IsLogEntryOf, as_log_entry, first_of, object_asked, object_of};
 ghost use Rattle.desk_http.specs.Serving.{IsParsedOf};
 ghost use Rattle.desk.specs.SeenDesks.{IsSeenOn};
 
 use crate::clients::{PATIENCE, Patient, end};
 use crate::overseeing::{
-    Entry, Noting, Overseer, Watch, number_of_ask, outcome_number, outcome_status,
+    Entry, LineKeeper, Overseer, Watch, number_of_ask, outcome_number, outcome_status,
 };
 use crate::serve_fault::ServeFault;
-use crate::serving::{IoFault, Served, Unanswered, serve_parsed};
+use crate::serving::{IoFault, Served, Unanswered, respond};
 use crate::{ParsedRequest, Request, Routes, read_call_by};
 use desk::{Desk, DeskFault};
 use desk_model::{Ask, MOST_NAMES, Target};
@@ -53,13 +53,13 @@ pub fn bind<N: Net<Stream = TcpStream, Listener = TcpListener>>(
 
 /// Serves so many connections, or 2^64 - 1 without a count, one request of each (RFC 9112, 9.6). A connection that fails is
 /// told on `errors`, with its cause where that is asked for, and the next is taken. The overseer is asked before each call, and
-/// gets a note of each connection that was served. A call whose moment is out of the watch's bound is refused by fault 24.
+/// gets an entry of each connection that was served. A call whose moment is out of the watch's bound is refused by fault 24.
 ///
 /// # Errors
 ///
-/// `Accept`, `Clock` or `Random` where the machine failed; `Replaced` where the desk is not in its place, `Output` where a note
+/// `Accept`, `Clock` or `Random` where the machine failed; `Replaced` where the desk is not in its place, `Output` where an entry
 /// is not kept; `Desk` where the desk is closed, and only there.
-pub fn serve_all<M: Clock + RandomSource, K: Storage + Drop, O: Overseer, E: Write>(
+pub fn serve_connections<M: Clock + RandomSource, K: Storage + Drop, O: Overseer, E: Write>(
     alloc: Global,
     machine: &M,
     listener: &TcpListener,
@@ -70,7 +70,8 @@ pub fn serve_all<M: Clock + RandomSource, K: Storage + Drop, O: Overseer, E: Wri
     is_verbose: bool,
 ) -> Result<(), ServeFault>
     ensures policy { desk.new.policy ≡ desk.old.policy }
-    ensures served { ServesAll K.Storage.sight K.Storage.causes O.takes (unwrap_or count 18446744073709551615) desk.old watch.old desk.new watch.new result }
+    ensures served { ServesConnections K.Storage.sight K.Storage.causes O.takes (unwrap_or count 18446744073709551615) desk.old watch.old desk.new watch.new
+        result }
     ensures seen { IsSeenOn K.Storage.sight desk.old desk.new }
     ensures ends { desk.old.is_closed ≡ false → Ends result desk.new }
 {
@@ -80,7 +81,7 @@ pub fn serve_all<M: Clock + RandomSource, K: Storage + Drop, O: Overseer, E: Wri
         let Ok((stream, _)) = listener.accept() else {
             return Err(ServeFault::Accept);
         };
-        match serve_stream(
+        match serve_connection(
             alloc,
             machine,
             &mut routes,
@@ -98,7 +99,7 @@ pub fn serve_all<M: Clock + RandomSource, K: Storage + Drop, O: Overseer, E: Wri
 }
 
 // Serves the client at the other end of a stream, and tells on `errors` where its connection failed.
-fn serve_stream<M: Clock + RandomSource, K: Storage + Drop, O: Overseer, E: Write>(
+fn serve_connection<M: Clock + RandomSource, K: Storage + Drop, O: Overseer, E: Write>(
     alloc: Global,
     machine: &M,
     routes: &mut Routes,
@@ -113,7 +114,7 @@ fn serve_stream<M: Clock + RandomSource, K: Storage + Drop, O: Overseer, E: Writ
     ensures ends { desk.old.is_closed ≡ false → Ends result desk.new }
 {
     let at = moment(machine)?;
-    let mut reader = Noting::new(Patient::new(stream, machine, PATIENCE));
+    let mut reader = LineKeeper::new(Patient::new(stream, machine, PATIENCE));
     let mut writer = Patient::new(stream, machine, PATIENCE);
     let (served, call) = serve_client(
         alloc,
@@ -127,7 +128,7 @@ fn serve_stream<M: Clock + RandomSource, K: Storage + Drop, O: Overseer, E: Writ
     )?;
     let is_kept = watch
         .overseer
-        .note(entry_of(machine, &reader, call, served));
+        .log_entry(entry_of(machine, &reader, call, served));
     match served {
         Ok(_) => end(stream, machine),
         Err(_) => tell_broken(errors, served, is_verbose),
@@ -152,7 +153,7 @@ fn cause_of(fault: IoFault) -> &'static str {
     }
 }
 
-// How the serving of a connection ends, by the fault that closed the desk and whether its note is kept.
+// How the serving of a connection ends, by the fault that closed the desk and whether its entry is kept.
 fn ended_by(closed_by: Option<DeskFault>, is_kept: bool) -> Result<(), ServeFault>
     ensures { result ≡ ended_by closed_by is_kept }
 {
@@ -165,7 +166,7 @@ fn ended_by(closed_by: Option<DeskFault>, is_kept: bool) -> Result<(), ServeFaul
 
 // What is noted of a call that was read.
 #[derive(Clone, Copy)]
-struct CallNote {
+struct CallSummary {
     // The machine's moment when it came.
     at: u64,
     // The number of the object that it asks about, where there is one.
@@ -177,11 +178,11 @@ struct CallNote {
 // What is noted of a connection that was served, behind its reply.
 fn entry_of<'e, M: Clock, R: Read + Drop>(
     machine: &M,
-    reader: &'e Noting<R>,
-    call: CallNote,
+    reader: &'e LineKeeper<R>,
+    call: CallSummary,
     served: Result<Served, IoFault>,
 ) -> Entry<'e>
-    ensures { IsNoteOf call.at call.object served (as_note result) }
+    ensures { IsLogEntryOf call.at call.object served (as_log_entry result) }
 {
     Entry {
         at: call.at,
@@ -195,7 +196,7 @@ fn entry_of<'e, M: Clock, R: Read + Drop>(
 }
 
 // The number of the object that was made, or of the one that was asked about.
-fn object_of(call: CallNote, served: Result<Served, IoFault>) -> Option<u64>
+fn object_of(call: CallSummary, served: Result<Served, IoFault>) -> Option<u64>
     ensures { result ≡ object_of call.object served }
 {
     match served {
@@ -241,7 +242,7 @@ fn serve_client<M: Clock + RandomSource, O: Overseer, R: Read, W: Write, K: Stor
     reader: &mut R,
     writer: &mut W,
     desk: &mut Desk<K>,
-) -> Result<(Result<Served, IoFault>, CallNote), ServeFault>
+) -> Result<(Result<Served, IoFault>, CallSummary), ServeFault>
     ensures policy { desk.new.policy ≡ desk.old.policy }
     ensures served { IfOk result (λ r. ServesClient K.Storage.sight K.Storage.causes watch.old.bound at
         (R.remaining reader.old) (W.contents writer.old) (W.contents writer.new) desk.old desk.new r.1.object r.0 watch.new.bound) }
@@ -250,13 +251,13 @@ fn serve_client<M: Clock + RandomSource, O: Overseer, R: Read, W: Write, K: Stor
     ensures failed { IfErr result (λ e. IsOfMachine e × (desk.new ≡ desk.old)) }
 {
     match read_call_by(alloc, routes, reader) {
-        Ok(parsed) => serve_in_place(alloc, machine, watch, writer, desk, at, parsed),
+        Ok(parsed) => respond_in_place(alloc, machine, watch, writer, desk, at, parsed),
         Err(_) => Ok((Err(IoFault::Read), nothing_read(at))),
     }
 }
 
-// Serves a request that was read and came at a moment of the machine, if the desk is in its place.
-fn serve_in_place<M: Clock + RandomSource, O: Overseer, W: Write, K: Storage + Drop>(
+// Responds to a request that was read and came at a moment of the machine, if the desk is in its place.
+fn respond_in_place<M: Clock + RandomSource, O: Overseer, W: Write, K: Storage + Drop>(
     alloc: Global,
     machine: &M,
     watch: &mut Watch<O>,
@@ -264,10 +265,11 @@ fn serve_in_place<M: Clock + RandomSource, O: Overseer, W: Write, K: Storage + D
     desk: &mut Desk<K>,
     at: u64,
     parsed: ParsedRequest,
-) -> Result<(Result<Served, IoFault>, CallNote), ServeFault>
+) -> Result<(Result<Served, IoFault>, CallSummary), ServeFault>
     ensures policy { desk.new.policy ≡ desk.old.policy }
-    ensures served { (known : Option (List ℕ)) → IsParsedOf known parsed → IfOk result (λ r. ServesClient K.Storage.sight K.Storage.causes watch.old.bound at
-        known (W.contents writer.old) (W.contents writer.new) desk.old desk.new r.1.object r.0 watch.new.bound) }
+    ensures served { (remaining : Option (List ℕ)) → IsParsedOf remaining parsed
+        → IfOk result (λ r. ServesClient K.Storage.sight K.Storage.causes watch.old.bound at
+        remaining (W.contents writer.old) (W.contents writer.new) desk.old desk.new r.1.object r.0 watch.new.bound) }
     ensures at { IfOk result (λ r. r.1.at ≡ at) }
     ensures overseer { watch.new.overseer ≡ watch.old.overseer }
     ensures followed { IfOk result (λ r. watch.new.bound ≡ followed watch.old.bound at) }
@@ -277,20 +279,20 @@ fn serve_in_place<M: Clock + RandomSource, O: Overseer, W: Write, K: Storage + D
     if !watch.overseer.is_in_place() {
         return Err(ServeFault::Replaced);
     }
-    let call = note_of(machine, at, &parsed);
+    let call = call_summary(machine, at, &parsed);
     let acting = watch.bound.moment_for(at);
-    match serve_read(alloc, machine, writer, desk, acting, parsed) {
+    match respond_with_random(alloc, machine, writer, desk, acting, parsed) {
         Ok(served) => Ok((served, call)),
         Err(fault) => Err(fault),
     }
 }
 
 // What is noted where no call was read.
-fn nothing_read(at: u64) -> CallNote
+fn nothing_read(at: u64) -> CallSummary
     ensures at { result.at ≡ at }
     ensures object { result.object ≡ None }
 {
-    CallNote {
+    CallSummary {
         at,
         object: None,
         read: None,
@@ -298,11 +300,11 @@ fn nothing_read(at: u64) -> CallNote
 }
 
 // What is noted of a call that was just read.
-fn note_of<M: Clock>(machine: &M, at: u64, parsed: &ParsedRequest) -> CallNote
+fn call_summary<M: Clock>(machine: &M, at: u64, parsed: &ParsedRequest) -> CallSummary
     ensures at { result.at ≡ at }
     ensures object { result.object ≡ object_asked parsed.now.request }
 {
-    CallNote {
+    CallSummary {
         at,
         object: object_asked(parsed),
         read: match Instant::now(machine) {
@@ -322,8 +324,8 @@ fn object_asked(parsed: &ParsedRequest) -> Option<u64>
     }
 }
 
-// Serves a request that was read, with as many random bytes as its call may take.
-fn serve_read<M: RandomSource, W: Write, K: Storage + Drop>(
+// Responds to a request that was read, with as many random bytes as its call may take.
+fn respond_with_random<M: RandomSource, W: Write, K: Storage + Drop>(
     alloc: Global,
     machine: &M,
     writer: &mut W,
@@ -332,14 +334,14 @@ fn serve_read<M: RandomSource, W: Write, K: Storage + Drop>(
     parsed: ParsedRequest,
 ) -> Result<Result<Served, IoFault>, ServeFault>
     ensures policy { desk.new.policy ≡ desk.old.policy }
-    ensures served { (known : Option (List ℕ)) → IsParsedOf known parsed → IfOk result (ServesRead K.Storage.sight K.Storage.causes
-        at parsed known (W.contents writer.old) (W.contents writer.new) desk.old desk.new) }
+    ensures served { (remaining : Option (List ℕ)) → IsParsedOf remaining parsed → IfOk result (ServesRead K.Storage.sight K.Storage.causes
+        at parsed remaining (W.contents writer.old) (W.contents writer.new) desk.old desk.new) }
     ensures failed { IfErr result (λ e. (e ≡ fault.Random) × (desk.new ≡ desk.old)) }
 {
     let mut random = [0u8; MOST_RANDOM];
     let random = &mut random[..random_for(&parsed)];
     draw(machine, random)?;
-    Ok(serve_parsed(alloc, writer, desk, at, random, parsed))
+    Ok(respond(alloc, writer, desk, at, random, parsed))
 }
 
 // How many random bytes the call of a request may take: a nonce's, and for a new order as many tokens as one may need.

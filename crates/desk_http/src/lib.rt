@@ -5,16 +5,17 @@
 mod asking;
 mod clients;
 mod connections;
+mod moment_bound;
 mod overseeing;
 mod serve_fault;
 mod serving;
 
 pub use asking::{Unheard, ask, ask_at};
-pub use clients::{MomentBound, admits};
-pub use connections::{bind, moment, serve_all};
+pub use connections::{bind, moment, serve_connections};
 pub use http_routes::{Request, Routes};
 pub use http_wire::{ParsedRequest, ReadFailed, ReplyForm, read_call, read_call_by, reply_text};
 pub use json_texts::problem_document;
+pub use moment_bound::{MomentBound, admits};
 pub use overseeing::{Entry, Overseer, ReplySummary, Watch};
 pub use serve_fault::ServeFault;
-pub use serving::{IoFault, Served, Unanswered, serve_one, serve_one_by, serve_parsed};
+pub use serving::{IoFault, Served, Unanswered, respond, serve_request, serve_request_by};

@@ -1,9 +1,9 @@
 //! Who watches the serving of a desk, and what is noted of each connection, its requests and their replies.
 ghost use Rattle.std.specs.Prelude.{◌≡◌, ◌≢◌, ◌++◌, ℕ, IsTrue, List, MatchOption};
-ghost use Rattle.desk_http.specs.Noted.{IsLocated, IsPathOf, IsSummaryOf, IsUrlOf, Note, as_note, refusal_number, shown, number_by, number_of_ask, number_of_cause};
-ghost use Rattle.desk_http.specs.Noted.{number_of_office, number_of_target, outcome_number, outcome_status, status_by};
+ghost use Rattle.desk_http.specs.Logged.{IsLocated, IsPathOf, IsSummaryOf, IsUrlOf, LogEntry, as_log_entry, refusal_number, shown, number_by, number_of_ask, number_of_cause};
+ghost use Rattle.desk_http.specs.Logged.{number_of_office, number_of_target, outcome_number, outcome_status, status_by};
 
-use crate::clients::MomentBound;
+use crate::moment_bound::MomentBound;
 use crate::serving::{IoFault, Served, Unanswered};
 use desk::DeskFault;
 use desk_model::{Ask, Body, OfficeAsk, Reply, Target};
@@ -90,16 +90,16 @@ const KEPT: usize = 256;
 
 /// A reader that keeps the beginning of what it reads, in visible characters.
 #[derive(Drop)]
-pub(crate) struct Noting<R: Read + Drop> {
+pub(crate) struct LineKeeper<R: Read + Drop> {
     reader: R,
     line: [u8; KEPT],
     len: usize,
 }
 
-impl<R: Read + Drop> Noting<R> {
+impl<R: Read + Drop> LineKeeper<R> {
     /// The reader, of which nothing is read yet.
-    pub(crate) fn new(reader: R) -> Noting<R> {
-        Noting {
+    pub(crate) fn new(reader: R) -> LineKeeper<R> {
+        LineKeeper {
             reader,
             line: [0; KEPT],
             len: 0,
@@ -141,7 +141,7 @@ impl<R: Read + Drop> Noting<R> {
     }
 }
 
-impl<R: Read + Drop> Read for Noting<R> {
+impl<R: Read + Drop> Read for LineKeeper<R> {
     fn read(&mut self, buf: &mut [u8]) -> io::Result<usize> {
         let count = self.reader.read(buf)?;
         if let Some(bytes) = buf.get(..count) {
@@ -164,7 +164,7 @@ fn or_dash(word: &str) -> &str {
     if word.is_empty() { "-" } else { word }
 }
 
-// A byte as a note has it: a visible character of ASCII but `"` and `\`, a space for one and for the end of a line, else `?`.
+// A byte as an entry has it: a visible character of ASCII but `"` and `\`, a space for one and for the end of a line, else `?`.
 fn shown(byte: u8) -> u8
     ensures { result ≡ shown byte }
 {
@@ -202,15 +202,15 @@ pub struct Entry<'e> {
 
 /// Who watches the serving of a desk.
 pub trait Overseer {
-    // That it took this note: what it was before, and what it is then.
-    ghost takes: { Self → Note → Self → Type 0 };
+    // That it took this entry: what it was before, and what it is then.
+    ghost takes: { Self → LogEntry → Self → Type 0 };
 
     /// Whether the desk is where it was opened.
     fn is_in_place(&self) -> bool;
 
-    /// Takes a note, and gives whether it is kept.
-    fn note(&mut self, entry: Entry<'_>) -> bool
-        ensures kept { IsTrue result → takes self.old (as_note entry.entry) self.new };
+    /// Takes an entry, and gives whether it is kept.
+    fn log_entry(&mut self, entry: Entry<'_>) -> bool
+        ensures kept { IsTrue result → takes self.old (as_log_entry entry.entry) self.new };
 }
 
 /// What goes along with the serving of a desk.

@@ -14,7 +14,7 @@ pub enum ServeFault {
     Clock,
     /// The machine gave no random bytes.
     Random,
-    /// A note of a connection that was served is not kept.
+    /// An entry of a connection that was served is not kept.
     Output,
     /// The desk is no more where it was opened.
     Replaced,

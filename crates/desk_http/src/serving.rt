@@ -35,7 +35,7 @@ pub struct Served {
 /// # Errors
 ///
 /// Where the reader or the writer fails.
-pub fn serve_one<R: Read, W: Write, K: Storage + Drop>(
+pub fn serve_request<R: Read, W: Write, K: Storage + Drop>(
     alloc: Global,
     reader: &mut R,
     writer: &mut W,
@@ -53,15 +53,15 @@ pub fn serve_one<R: Read, W: Write, K: Storage + Drop>(
     ensures taken { TakesAtMost (R.remaining reader.old) (R.remaining reader.new) (longest_head + longest_body) }
 {
     let mut routes = Routes::new();
-    serve_one_by(alloc, &mut routes, reader, writer, desk, at, random)
+    serve_request_by(alloc, &mut routes, reader, writer, desk, at, random)
 }
 
-/// Serves one request as `serve_one` does, by routes that are lent for one request after the other.
+/// Serves one request as `serve_request` does, by routes that are lent for one request after the other.
 ///
 /// # Errors
 ///
 /// Where the reader or the writer fails.
-pub fn serve_one_by<R: Read, W: Write, K: Storage + Drop>(
+pub fn serve_request_by<R: Read, W: Write, K: Storage + Drop>(
     alloc: Global,
     routes: &mut Routes,
     reader: &mut R,
@@ -80,17 +80,17 @@ pub fn serve_one_by<R: Read, W: Write, K: Storage + Drop>(
     ensures taken { TakesAtMost (R.remaining reader.old) (R.remaining reader.new) (longest_head + longest_body) }
 {
     match read_call_by(alloc, routes, reader) {
-        Ok(parsed) => serve_parsed(alloc, writer, desk, at, random, parsed),
+        Ok(parsed) => respond(alloc, writer, desk, at, random, parsed),
         Err(_) => Err(IoFault::Read),
     }
 }
 
-/// Serves a request that was read, as `serve_one` does.
+/// Responds to a request that was read, as `serve_request` does.
 ///
 /// # Errors
 ///
 /// `Write` where the writer fails.
-pub fn serve_parsed<W: Write, K: Storage + Drop>(
+pub fn respond<W: Write, K: Storage + Drop>(
     alloc: Global,
     writer: &mut W,
     desk: &mut Desk<K>,
@@ -99,12 +99,12 @@ pub fn serve_parsed<W: Write, K: Storage + Drop>(
     parsed: ParsedRequest,
 ) -> Result<Served, IoFault>
     ensures policy { desk.new.policy ≡ desk.old.policy }
-    ensures served { (known : Option (List ℕ)) → IsParsedOf known parsed → IfOk result (λ s.
+    ensures served { (remaining : Option (List ℕ)) → IsParsedOf remaining parsed → IfOk result (λ s.
         Serves K.Storage.sight K.Storage.causes at random.now desk.new.policy.base
-        known (W.contents writer.old) (W.contents writer.new) desk.old desk.new s) }
-    ensures failed { (known : Option (List ℕ)) → IsParsedOf known parsed → IfErr result (λ e.
+        remaining (W.contents writer.old) (W.contents writer.new) desk.old desk.new s) }
+    ensures failed { (remaining : Option (List ℕ)) → IsParsedOf remaining parsed → IfErr result (λ e.
         Breaks K.Storage.sight K.Storage.causes at random.now desk.new.policy.base
-        known (W.contents writer.old) (W.contents writer.new) desk.old desk.new e) }
+        remaining (W.contents writer.old) (W.contents writer.new) desk.old desk.new e) }
 {
     let form = parsed.form;
     match reply_bytes(alloc, desk, at, random, parsed.request, form.head_only) {

@@ -21,7 +21,7 @@ use Rattle.desk_store.specs.Known.{IsKnownOf}
 use Rattle.desk_store.specs.Opening.{IsUpgraded, IsWhole, IsWholeFirst, ShowsBook, ShowsFirstBook, ShowsNoBook, ShowsNoDesk, ShowsNoFirstBook}
 use Rattle.desk_store.specs.declared.{open_fault.OpenFault.OpenFault, store.Store.Store}
 use Rattle.desk_store.specs.declared.open_fault.OpenFault.TheVariants.{NewerFormat, NotADesk}
-use Rattle.desk_store.proofs.{Standing.failed, Upgrading.first_unchanged}
+use Rattle.desk_store.proofs.{NothingWritten.failed, Upgrading.first_unchanged}
 use Rattle.sql_tables.specs.Holds.{Holds}
 use Rattle.sql_upgrade.specs.FirstDesks.{HasFirst, HasSecond}
 

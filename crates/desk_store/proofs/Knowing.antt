@@ -173,10 +173,10 @@ found_ends end None xs none = none_mapped _ end xs none
 found_ends end (Some m) xs earliest = each_of_map (λ n. m ≤ n) end xs earliest.1
 
 -- so what is set under a status is so
-noted_ends : {X : Type 0} (code end : X → ℕ) (ends : List ℕ) (place : ℕ) (found : Option ℕ) (xs : List X)
+learned_ends : {X : Type 0} (code end : X → ℕ) (ends : List ℕ) (place : ℕ) (found : Option ℕ) (xs : List X)
     → IsEarliest (map end (filter (λ x. code x == place) xs)) found → EndFrom code end ends xs
     → EndFrom code end (slice_set ends place (bound_of found)) xs
-noted_ends {X} code end ends place found xs earliest h =
+learned_ends {X} code end ends place found xs earliest h =
     let m = bound_of found in
     each _ _ xs (λ (x : X) both. one x both.0 both.1)
     (each_both _ _ xs h (each_filtered (λ x. m ≤ end x) (λ x. code x == place) xs (found_ends end found (filter (λ x. code x == place) xs) earliest)))
@@ -197,9 +197,9 @@ noted_ends {X} code end ends place found xs earliest h =
         ]
 
 -- the desk's own row
-pub meta_noted : (old new : Known) (x : Meta) → IfSome new.meta (λ meta. meta ≡ x) → new ≡ record old { meta = new.meta } → (T : Tables) → x ≡ T.meta
+pub meta_learned : (old new : Known) (x : Meta) → IfSome new.meta (λ meta. meta ≡ x) → new ≡ record old { meta = new.meta } → (T : Tables) → x ≡ T.meta
     → IsKnownOf old T → IsKnownOf new T
-meta_noted old new x noted rest T is known =
+meta_learned old new x noted rest T is known =
     subst (λ k. IsKnownOf k T) (sym rest)
     (record {
       meta = subst (λ m. IfSome new.meta (λ meta. meta ≡ m)) is noted;
@@ -210,9 +210,9 @@ meta_noted old new x noted rest T is known =
     })
 
 -- when the earliest nonce was issued
-pub issue_noted : (old new : Known) (found : Option ℕ) → new ≡ record old { first_issue = bound_of found } → (T : Tables) → IsEarliest (issues T) found
+pub issue_learned : (old new : Known) (found : Option ℕ) → new ≡ record old { first_issue = bound_of found } → (T : Tables) → IsEarliest (issues T) found
     → IsKnownOf old T → IsKnownOf new T
-issue_noted old new found rest T earliest known =
+issue_learned old new found rest T earliest known =
     subst (λ k. IsKnownOf k T) (sym rest)
     (record {
       meta = known.meta;
@@ -223,31 +223,31 @@ issue_noted old new found rest T earliest known =
     })
 
 -- when the earliest order of a status ends
-pub order_end_noted : (old new : Known) (s : OrderStatus) (found : Option ℕ)
+pub order_end_learned : (old new : Known) (s : OrderStatus) (found : Option ℕ)
     → new ≡ record old { order_ends = slice_set old.order_ends (order_code s) (bound_of found) } → (T : Tables) → IsEarliest (order_ends T s) found
     → IsKnownOf old T → IsKnownOf new T
-order_end_noted old new s found rest T earliest known =
+order_end_learned old new s found rest T earliest known =
     subst (λ k. IsKnownOf k T) (sym rest)
     (record {
       meta = known.meta;
       nonces = known.nonces;
       issues = known.issues;
-      orders = noted_ends (λ o. order_code o.status) (λ o. o.expires) old.order_ends (order_code s) found T.orders earliest known.orders;
+      orders = learned_ends (λ o. order_code o.status) (λ o. o.expires) old.order_ends (order_code s) found T.orders earliest known.orders;
       authorizations = known.authorizations;
     })
 
 -- when the earliest authorization of a status ends
-pub authorization_end_noted : (old new : Known) (s : AuthzStatus) (found : Option ℕ)
+pub authorization_end_learned : (old new : Known) (s : AuthzStatus) (found : Option ℕ)
     → new ≡ record old { authorization_ends = slice_set old.authorization_ends (authz_code s) (bound_of found) } → (T : Tables)
     → IsEarliest (authorization_ends T s) found → IsKnownOf old T → IsKnownOf new T
-authorization_end_noted old new s found rest T earliest known =
+authorization_end_learned old new s found rest T earliest known =
     subst (λ k. IsKnownOf k T) (sym rest)
     (record {
       meta = known.meta;
       nonces = known.nonces;
       issues = known.issues;
       orders = known.orders;
-      authorizations = noted_ends (λ r. authz_code r.status) (λ r. r.expires) old.authorization_ends (authz_code s) found T.authorizations earliest
+      authorizations = learned_ends (λ r. authz_code r.status) (λ r. r.expires) old.authorization_ends (authz_code s) found T.authorizations earliest
           known.authorizations;
     })
 

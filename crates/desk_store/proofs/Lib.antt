@@ -10,5 +10,5 @@ pub mod Openings
 pub mod RowReadings
 pub mod SavedDesks
 pub mod Silence
-pub mod Standing
+pub mod NothingWritten
 pub mod Upgrading

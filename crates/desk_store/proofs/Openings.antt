@@ -8,7 +8,7 @@ use Rattle.sql_read.proofs.Results.{unchanged_after}
 use Rattle.sql_schema.specs.Stays.{Asks}
 use Rattle.desk_store.specs.Opening.{OpensKnown}
 use Rattle.desk_store.specs.declared.open_fault.OpenFault.{OpenFault}
-use Rattle.desk_store.proofs.{Books.whole_still, Failing.opened_behind, Standing.desk_unchanged, Upgrading.first_unchanged}
+use Rattle.desk_store.proofs.{Books.whole_still, Failing.opened_behind, NothingWritten.desk_unchanged, Upgrading.first_unchanged}
 use Rattle.desk_store.proofs.EitherFormat.{asks_behind, back_behind, first_still, keys_behind, of_answer, of_failure, of_faults, settled_behind}
 use Rattle.desk_store.proofs.EitherFormat.{upgraded_behind}
 

@@ -17,7 +17,7 @@ use Rattle.desk_store.specs.declared.open_fault.OpenFault.{OpenFault}
 use Rattle.desk_store.specs.declared.open_fault.OpenFault.TheVariants.{NotADesk, Storage}
 use Rattle.desk_store.proofs.{Books.always_ok, EitherFormat.of_faults}
 use Rattle.desk_store.proofs.OpeningFaults.{book_is_known, book_met, failure_is_storage, no_desk_is_other, none_has, opening_met, reading_is_known}
-use Rattle.desk_store.proofs.Standing.{failed, same_fault}
+use Rattle.desk_store.proofs.NothingWritten.{failed, same_fault}
 
 module _ {S : Type 0} (g : Ghosts S) {Has : State → Tables → Type 0} {Shows Lacks : Held S → Type 0} where
   -- where a reading failed

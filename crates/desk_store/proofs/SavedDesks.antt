@@ -17,15 +17,15 @@ use Rattle.sql_write.specs.Committing.{GoesBack, HasCommitted, IsBeforeCommit, I
 use Rattle.sql_write.specs.declared.fault.SaveFault.{SaveFault}
 use Rattle.sql_schema.specs.Stays.{Asks}
 use Rattle.sql_write.specs.Fitting.{FitAfter, Saves as Puts}
-use Rattle.sql_write.specs.Standing.{HasSome, IsRow, IsWithout, Stand, StandsIn}
+use Rattle.sql_write.specs.Stored.{HasSome, IsRow, IsWithout, AreFound, IsPartOf}
 use Rattle.model_lives.specs.Thinned.{with_challenges, with_listed}
 use Rattle.model_lives.proofs.Lists.{filtered_each}
-use Rattle.sql_write.proofs.{KnownRows.all_of, Numbered.find_none, OrderedFit.ordered_fit}
+use Rattle.sql_write.proofs.{StoredRows.all_of, Numbered.find_none, OrderedFit.ordered_fit}
 use Rattle.store_api.specs.Sight.{Sight}
 use Rattle.store_api.specs.Storing.{Fit, HasChanges, HasSaved, IsCutFrom, SavesOf}
 use Rattle.store_api.specs.declared.fault.StorageFault.{StorageFault}
 use Rattle.store_api.specs.declared.fault.StorageFault.TheVariants as fault
-use Rattle.desk_store.proofs.Standing.{desk_back, desk_unchanged, failed, honest_by, stands_by}
+use Rattle.desk_store.proofs.NothingWritten.{desk_back, desk_unchanged, failed, honest_by, unchanged_by}
 use Rattle.desk_store.specs.Desks.{IsDesk, store_sight}
 use Rattle.desk_store.specs.Known.{IsKnownOf}
 use Rattle.desk_store.specs.declared.store.Store.{Store}
@@ -40,9 +40,9 @@ may_save T changes fit = ordered_fit T changes fit.kept (record {
 })
 
 -- a database with the changes is a desk with the tables after them, where what is known stands in them
-desk_after : (known : Tables) (T : Tables) (changes : List Change) (old new : Database) → StandsIn known T → Fit T changes → IsDesk old T
-    → Puts known changes old new → IsDesk new (applied changes T)
-desk_after known T changes old new stands fit was puts = record { holds = puts T was.holds stands (may_save T changes fit); book = fit.book }
+desk_after : (part : Tables) (T : Tables) (changes : List Change) (old new : Database) → IsPartOf part T → Fit T changes → IsDesk old T
+    → Puts part changes old new → IsDesk new (applied changes T)
+desk_after part T changes old new is_part fit was puts = record { holds = puts T was.holds is_part (may_save T changes fit); book = fit.book }
 
 -- a call that was answered
 abbrev done : Result (Unit {0}) StorageFault
@@ -51,14 +51,14 @@ done = Ok tt
 module _ {S : Type 0} (g : Ghosts S) (part : Tables) where
   -- what a stop may leave of the commit has the changes
   pub changes_left : (changes : List Change) (old : Store S) (c : Trees) → IsLeft (Puts part changes (state g old.conn).now) c
-      → HasChanges (store_sight g) (StandsIn part) changes old c
+      → HasChanges (store_sight g) (IsPartOf part) changes old c
   changes_left changes old c left T there fit has = (left.0, left.1, desk_after part T changes (state g old.conn).now left.0 there fit has.desk.desk left.2)
 
   -- what was committed has the changes
   pub saved_by : (changes : List Change) (old new : Store S) → ((T : Tables) → IsKnownOf old.known T → IsKnownOf new.known (applied changes T))
       → (state g new.conn).in_transaction ≡ false
       → (state g new.conn).step_limit ≡ (state g old.conn).step_limit
-      → HasCommitted (state g old.conn) (state g new.conn) (Puts part changes) → HasSaved (store_sight g) (StandsIn part) changes old new
+      → HasCommitted (state g old.conn) (state g new.conn) (Puts part changes) → HasSaved (store_sight g) (IsPartOf part) changes old new
   saved_by changes old new follows idle limit it T there fit has =
       let desk = desk_after part T changes (state g old.conn).now (state g new.conn).committed there fit has.desk.desk it.does in
       record {
@@ -78,7 +78,7 @@ module _ {S : Type 0} (g : Ghosts S) (part : Tables) where
   -- what a stop may leave of a save
   left_of : (changes : List Change) (old new : Store S) → Survives (state g old.conn) (state g new.conn) (IsLeft (Puts part changes (state g old.conn).now))
       → HasCleanDisk (state g new.conn) → (c : Trees) → (state g new.conn).may_leave c
-      → (state g old.conn).may_leave c ⊎ HasChanges (store_sight g) (StandsIn part) changes old c
+      → (state g old.conn).may_leave c ⊎ HasChanges (store_sight g) (IsPartOf part) changes old c
   left_of changes old new survives clean c may =
       elim (survives.crash clean c may) [ inl was ↦ inl was | inr made ↦ inr (changes_left changes old c made) ]
 
@@ -87,7 +87,7 @@ module _ {S : Type 0} (g : Ghosts S) (part : Tables) where
       → (state g new.conn).in_transaction ≡ false
       → Survives (state g old.conn) (state g new.conn) (IsLeft (Puts part changes (state g old.conn).now))
       → (HasCleanDisk (state g new.conn) → HasCommitted (state g old.conn) (state g new.conn) (Puts part changes))
-      → SavesOf (store_sight g) (StandsIn part) changes old new done
+      → SavesOf (store_sight g) (IsPartOf part) changes old new done
   saves_ok changes old new follows idle survives committed = record {
     honest = honest_by g old new survives;
     left = left_of changes old new survives;
@@ -101,7 +101,7 @@ module _ {S : Type 0} (g : Ghosts S) (part : Tables) where
       → Survives (state g old.conn) mid (IsLeft (Puts part changes (state g old.conn).now)) → (HasCleanDisk mid → GoesBack (state g old.conn) mid)
       → (IsBeforeCommit cause → Survives (state g old.conn) mid (λ _. ⊥)) → Asks mid (state g new.conn)
       → (HasCleanDisk (state g new.conn) → why ≡ fault.Memory → IsUnchanged mid (state g new.conn)) → (why ≡ fault.Memory → IsBeforeCommit cause)
-      → SavesOf (store_sight g) (StandsIn part) changes old new (failed (Unit {0}) why)
+      → SavesOf (store_sight g) (IsPartOf part) changes old new (failed (Unit {0}) why)
   saves_err changes old new mid why cause known idle survives back early tested same before =
       let whole = survives_then (state g old.conn) mid (state g new.conn) _ _ (IsLeft (Puts part changes (state g old.conn).now))
       (λ _ _ left. left) (λ _ _ none. absurd none) survives tested.survives in
@@ -110,7 +110,7 @@ module _ {S : Type 0} (g : Ghosts S) (part : Tables) where
         left = left_of changes old new whole;
         saved = λ clean. tt;
         without_memory = λ memory.
-            stands_by g old new
+            unchanged_by g old new
             (survives_then (state g old.conn) mid (state g new.conn) _ _ (λ _. ⊥) (λ _ _ none. none)
             (λ _ _ none. none) (early (before memory)) tested.survives)
             (λ T _. known T)
@@ -143,12 +143,12 @@ abbrev AreAmong : {X : Type 0} → (X → ℕ) → List X → List X → Type 0
 AreAmong key part rows = (n : ℕ) → IfSome (find (λ r. key r == n) part) (λ x. find (λ r. key r == n) rows ≡ Some x)
 
 -- so is that of rows that were chosen by number, of rows whose numbers rise
-stand_chosen : {X : Type 0} (key : X → ℕ) (test : ℕ → Bool) (m : ℕ) (rows : List X) → Ascends key m rows
+found_chosen : {X : Type 0} (key : X → ℕ) (test : ℕ → Bool) (m : ℕ) (rows : List X) → Ascends key m rows
     → AreAmong key (filter (λ r. test (key r)) rows) rows
-stand_chosen key test m [] up n = tt
-stand_chosen key test m (z ∷ zs) up n =
+found_chosen key test m [] up n = tt
+found_chosen key test m (z ∷ zs) up n =
     go (test (key z)) (key z == n) refl (find (λ r. key r == n) (filter (λ r. test (key r)) zs)) refl
-    (stand_chosen key test (key z + 1) zs up.1 n)
+    (found_chosen key test (key z + 1) zs up.1 n)
   where
     none : (key z == n) ≡ true → find (λ r. key r == n) zs ≡ None
     none is = find_none key n zs
@@ -173,8 +173,8 @@ stand_chosen key test m (z ∷ zs) up n =
     go false true e (Some x) found h = absurd (let both : None ≡ Some x = sym (none e) ∙ h in cc)
 
 -- they stand there
-stand_whole : {X : Type 0} (key : X → ℕ) (part rows : List X) → AreAmong key part rows → Stand key IsRow part rows
-stand_whole key part rows among n = go (find (λ r. key r == n) part) (among n)
+found_whole : {X : Type 0} (key : X → ℕ) (part rows : List X) → AreAmong key part rows → AreFound key IsRow part rows
+found_whole key part rows among n = go (find (λ r. key r == n) part) (among n)
   where
     go : (o : Option _) → IfSome o (λ x. find (λ r. key r == n) rows ≡ Some x)
         → IfSome o (λ x. (y : _) × (find (λ r. key r == n) rows ≡ Some y) × IsRow x y)
@@ -182,9 +182,9 @@ stand_whole key part rows among n = go (find (λ r. key r == n) part) (among n)
     go (Some x) h = (x, h, refl)
 
 -- and do so without some of what belongs to them
-stand_thin : {X : Type 0} (key : X → ℕ) (IsOf : X → X → Type 0) (thin : X → X) → ((x : X) → key (thin x) ≡ key x) → ((x : X) → IsOf (thin x) x)
-    → (part rows : List X) → AreAmong key part rows → Stand key IsOf (map thin part) rows
-stand_thin key IsOf thin same is part rows among n =
+found_thin : {X : Type 0} (key : X → ℕ) (IsOf : X → X → Type 0) (thin : X → X) → ((x : X) → key (thin x) ≡ key x) → ((x : X) → IsOf (thin x) x)
+    → (part rows : List X) → AreAmong key part rows → AreFound key IsOf (map thin part) rows
+found_thin key IsOf thin same is part rows among n =
     subst (λ o. IfSome o (λ x. (y : _) × (find (λ r. key r == n) rows ≡ Some y) × IsOf x y))
     (sym (find-map (λ r. key r == n) thin part ∙ ap (option_map thin) (found part))) (go (find (λ r. key r == n) part) (among n))
   where
@@ -205,14 +205,14 @@ some_own c x = record {
 }
 
 -- the rows of a part stand in the tables that it was cut from
-pub part_stands : (part T : Tables) → IsCutFrom part T → AreRising T → StandsIn part T
-part_stands part T cut rising =
-    subst (λ (P : Tables). StandsIn P T) (sym cut.1) (record {
+pub part_found : (part T : Tables) → IsCutFrom part T → AreRising T → IsPartOf part T
+part_found part T cut rising =
+    subst (λ (P : Tables). IsPartOf P T) (sym cut.1) (record {
       meta = refl;
-      accounts = stand_whole (λ (a : AccountRow). a.number) _ T.accounts
-          (stand_chosen (λ (a : AccountRow). a.number) cut.0.rows.accounts 0 T.accounts rising.accounts);
-      authorizations = stand_thin (λ (a : AuthorizationRow). a.number) HasSome (with_challenges cut.0.challenges) (λ a. refl) (some_own cut.0.challenges) _
-          T.authorizations (stand_chosen (λ (a : AuthorizationRow). a.number) cut.0.rows.authorizations 0 T.authorizations rising.authorizations);
-      orders = stand_thin (λ (o : OrderRow). o.number) IsWithout (with_listed cut.0.listed) (λ o. refl) (λ o. refl) _ T.orders
-          (stand_chosen (λ (o : OrderRow). o.number) cut.0.rows.orders 0 T.orders rising.orders);
+      accounts = found_whole (λ (a : AccountRow). a.number) _ T.accounts
+          (found_chosen (λ (a : AccountRow). a.number) cut.0.rows.accounts 0 T.accounts rising.accounts);
+      authorizations = found_thin (λ (a : AuthorizationRow). a.number) HasSome (with_challenges cut.0.challenges) (λ a. refl) (some_own cut.0.challenges) _
+          T.authorizations (found_chosen (λ (a : AuthorizationRow). a.number) cut.0.rows.authorizations 0 T.authorizations rising.authorizations);
+      orders = found_thin (λ (o : OrderRow). o.number) IsWithout (with_listed cut.0.listed) (λ o. refl) (λ o. refl) _ T.orders
+          (found_chosen (λ (o : OrderRow). o.number) cut.0.rows.orders 0 T.orders rising.orders);
     })

@@ -111,7 +111,7 @@ module _ {S : Type 0} (g : Ghosts S) where
 
   -- changes were not saved, where this part of the tables is known
   abbrev pub FailedToChange : Tables → List Change → Held S → Held S → StorageFault → Type 0
-  FailedToChange known changes = FailedToSave (EachOf FitsColumns changes) (save_statements known changes)
+  FailedToChange part changes = FailedToSave (EachOf FitsColumns changes) (save_statements part changes)
 
   -- a look-up failed, and wrote nothing; or a saving failed, of a store that was in no transaction
   abbrev pub Failed : Option Saving → Held S → Held S → StorageFault → Type 0

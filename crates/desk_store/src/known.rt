@@ -140,7 +140,7 @@ impl Known {
     }
 
     /// Keeps a copy of the desk's own row, if there is memory for it.
-    pub(crate) fn note_meta(&mut self, meta: &Meta)
+    pub(crate) fn learn_meta(&mut self, meta: &Meta)
         ensures meta { IfSome self.new.meta (λ copy. copy ≡ meta.now) }
         ensures rest { self.new ≡ record self.old { meta = self.new.meta } }
     {
@@ -148,21 +148,21 @@ impl Known {
     }
 
     /// Keeps when the earliest nonce was issued.
-    pub(crate) fn note_issue(&mut self, earliest: Option<u64>)
+    pub(crate) fn learn_issue(&mut self, earliest: Option<u64>)
         ensures { self.new ≡ record self.old { first_issue = bound_of earliest } }
     {
         self.first_issue = bound_of(earliest);
     }
 
     /// Keeps when the earliest order of a status ends.
-    pub(crate) fn note_order_end(&mut self, status: OrderStatus, earliest: Option<u64>)
+    pub(crate) fn learn_order_end(&mut self, status: OrderStatus, earliest: Option<u64>)
         ensures { self.new ≡ record self.old { order_ends = slice_set self.old.order_ends (order_code status) (bound_of earliest) } }
     {
         self.order_ends[status.place()] = bound_of(earliest);
     }
 
     /// Keeps when the earliest authorization of a status ends.
-    pub(crate) fn note_authorization_end(&mut self, status: AuthzStatus, earliest: Option<u64>)
+    pub(crate) fn learn_authorization_end(&mut self, status: AuthzStatus, earliest: Option<u64>)
         ensures { self.new ≡ record self.old { authorization_ends = slice_set self.old.authorization_ends (authz_code status) (bound_of earliest) } }
     {
         self.authorization_ends[status.place()] = bound_of(earliest);
@@ -193,7 +193,7 @@ impl Known {
         ensures { (T : Tables) → IsKnownOf self.old T → IsKnownOf self.new (applied_one change.now T) }
     {
         match change {
-            Change::PutMeta(meta) => self.note_meta(meta),
+            Change::PutMeta(meta) => self.learn_meta(meta),
             Change::PutNonce(nonce) => self.add_nonce(nonce),
             Change::PutAuthorization(row) => lower(
                 &mut self.authorization_ends,

@@ -158,7 +158,7 @@ impl<S: Alter> Store<S> {
         let read = rows::meta_row(alloc, &mut self.conn);
         match self.or_fault(read) {
             Ok(meta) => {
-                self.known.note_meta(&meta);
+                self.known.learn_meta(&meta);
                 Ok(meta)
             }
             Err(fault) => Err(fault),
@@ -180,7 +180,7 @@ impl<S: Alter> Store<S> {
         let read = rows::earliest_issue(&mut self.conn);
         match self.or_fault(read) {
             Ok(earliest) => {
-                self.known.note_issue(earliest);
+                self.known.learn_issue(earliest);
                 Ok(self.known.first_issue() >= moment)
             }
             Err(fault) => Err(fault),
@@ -202,7 +202,7 @@ impl<S: Alter> Store<S> {
         let read = rows::earliest_order_end(&mut self.conn, status);
         match self.or_fault(read) {
             Ok(earliest) => {
-                self.known.note_order_end(status, earliest);
+                self.known.learn_order_end(status, earliest);
                 Ok(self.known.order_end(status) >= moment)
             }
             Err(fault) => Err(fault),
@@ -229,7 +229,7 @@ impl<S: Alter> Store<S> {
         let read = rows::earliest_authorization_end(&mut self.conn, status);
         match self.or_fault(read) {
             Ok(earliest) => {
-                self.known.note_authorization_end(status, earliest);
+                self.known.learn_authorization_end(status, earliest);
                 Ok(self.known.authorization_end(status) >= moment)
             }
             Err(fault) => Err(fault),

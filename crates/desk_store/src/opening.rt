@@ -41,7 +41,7 @@ fn opening_fault<S: Alter>(conn: &mut Connection<S>, error: Error) -> OpenFault
 
 // That the tables are not of a later format.
 fn check_format<S: Alter>(conn: &mut Connection<S>) -> Result<(), OpenFault>
-    ensures known { HasCleanDisk (state S.Store conn.new)
+    ensures shows { HasCleanDisk (state S.Store conn.new)
         → OnOk result (ShowsFormats (state S.Store conn.old) (state S.Store conn.new) (λ rows. ¬ IsNewer rows)) }
     ensures newer { HasCleanDisk (state S.Store conn.new) → result ≡ Err newer_format → ShowsFormats (state S.Store conn.old) (state S.Store conn.new) IsNewer }
     ensures refused { HasCleanDisk (state S.Store conn.new) → result ≡ Err not_a_desk → RefusesFormat S.Store conn.old }
@@ -173,7 +173,7 @@ pub(crate) fn open_desk<S: Alter>(alloc: Global, conn: &mut Connection<S>) -> Re
     ensures opens { OpensKnown S.Store conn.old conn.new result }
     ensures refused { IfErr result (λ why. (why ≡ not_a_desk) ⊎ (why ≡ newer_format) → Asks (state S.Store conn.old) (state S.Store conn.new)) }
     ensures newer { HasCleanDisk (state S.Store conn.new) → result ≡ Err newer_format → ShowsNewerFormat S.Store conn.old }
-    ensures known { HasCleanDisk (state S.Store conn.new) → OnOk result (ShowsKnownFormat S.Store conn.old) }
+    ensures shows { HasCleanDisk (state S.Store conn.new) → OnOk result (ShowsKnownFormat S.Store conn.old) }
     ensures no_later { HasCleanDisk (state S.Store conn.new) → result ≡ Err not_a_desk → ShowsNoLaterFormat S.Store conn.old }
     ensures no_desk { HasCleanDisk (state S.Store conn.new) → result ≡ Err not_a_desk
         → RefusesFormat S.Store conn.old ⊎ ShowsNoDesk S.Store conn.old }

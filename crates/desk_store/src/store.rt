@@ -4,7 +4,7 @@ ghost use Rattle.sqlite.specs.State.{HasCleanDisk, IsUnchanged, Survives};
 ghost use Rattle.sqlite.specs.{Held.state, Tree.Trees};
 ghost use Rattle.desk_model.specs.History.{first_history};
 ghost use Rattle.desk_model.specs.Tables.{Tables, picture};
-ghost use Rattle.sql_write.specs.{Committing.GoesBack, Standing.StandsIn};
+ghost use Rattle.sql_write.specs.{Committing.GoesBack, Stored.IsPartOf};
 ghost use Rattle.sql_schema.specs.Names.{uses_key_table};
 ghost use Rattle.sql_schema.specs.{Schema.no_schema, Stays.Asks};
 ghost use Rattle.sql_read.specs.{Failures.MayRead, Held.ForHeld, LookUpFaults.IsOfMemoryOrDisk};
@@ -124,7 +124,7 @@ impl<S: Alter> Store<S> {
             (λ un. Survives (state S.Store conn) (state S.Store un.conn) (IsUpgraded (state S.Store conn))) }
         ensures spared { IfErr result (λ un. un.fault ≡ of_storage memory → Survives (state S.Store conn) (state S.Store un.conn) (λ _. ⊥)) }
         ensures newer { IfErr result (λ un. HasCleanDisk (state S.Store un.conn) → un.fault ≡ newer_format → ShowsNewerFormat S.Store conn) }
-        ensures known { IfOk result (λ store. HasCleanDisk (state S.Store store.conn) → ShowsKnownFormat S.Store conn) }
+        ensures shows { IfOk result (λ store. HasCleanDisk (state S.Store store.conn) → ShowsKnownFormat S.Store conn) }
         ensures no_later { IfErr result (λ un. HasCleanDisk (state S.Store un.conn) → un.fault ≡ not_a_desk → ShowsNoLaterFormat S.Store conn) }
         ensures no_desk { IfErr result (λ un. HasCleanDisk (state S.Store un.conn) → un.fault ≡ not_a_desk
             → RefusesFormat S.Store conn ⊎ ShowsNoDesk S.Store conn) }
@@ -195,19 +195,19 @@ impl<S: Alter> Store<S> {
     pub fn save(
         &mut self,
         alloc: Global,
-        known: &Book,
+        part: &Book,
         changes: &[Change],
     ) -> Result<(), StorageFault>
-        ensures saves { SavesOf (store_sight S.Store) (StandsIn known.now) changes.now self.old self.new result }
+        ensures saves { SavesOf (store_sight S.Store) (IsPartOf part.now) changes.now self.old self.new result }
         ensures failed { IfErr result (λ why. self.old.conn.in_transaction ≡ false
-            → FailedToChange S.Store known.now changes.now self.old.conn self.new.conn why) }
+            → FailedToChange S.Store part.now changes.now self.old.conn self.new.conn why) }
         ensures closed { IsTrue self.old.conn.in_transaction → (result ≡ Err reopen) × (self.new ≡ self.old) }
     {
         // No call leaves a transaction open; a store that had one would not know what it holds.
         if !self.conn.is_autocommit() {
             return Err(StorageFault::Reopen);
         }
-        match save_all(alloc, &mut self.conn, known, changes) {
+        match save_all(alloc, &mut self.conn, part, changes) {
             Ok(()) => {
                 self.known.follow(changes);
                 Ok(())

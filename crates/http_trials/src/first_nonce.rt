@@ -1,6 +1,6 @@
 //! The first nonce of a desk (docs/SPECIFICATION.md, 12): what asks for it, its reply, and the desk that gives it.
 use desk::{Desk, Memory};
-use desk_http::{IoFault, Served, serve_one};
+use desk_http::{IoFault, Served, serve_request};
 use desk_model::{Clock, Policy};
 use std::alloc::Global;
 use std::io::{Read, Write};
@@ -32,12 +32,12 @@ pub fn new_desk(rt: &impl Abort, alloc: Global) -> Result<Desk<Memory>, Fail> {
 ///
 /// # Errors
 ///
-/// As of `serve_one`.
+/// As of `serve_request`.
 pub fn serve<R: Read, W: Write>(
     alloc: Global,
     reader: &mut R,
     writer: &mut W,
     desk: &mut Desk<Memory>,
 ) -> Result<Served, IoFault> {
-    serve_one(alloc, reader, writer, desk, 0, &[0u8; 1616])
+    serve_request(alloc, reader, writer, desk, 0, &[0u8; 1616])
 }

@@ -7,10 +7,11 @@ use Rattle.std.specs.Io.KnownBytes.{IsAtEnd}
 use Rattle.http_wire.specs.{Head.Adds, ParsedRequest.IsBody}
 
 -- a body that was begun whole
-pub begun_whole : {V E : Type 0} (items : V → List ℕ) (known : Option (List ℕ)) (begun : List ℕ) (count : ℕ) (res : Result (Option V) E) → count ≤ length begun
+pub begun_whole : {V E : Type 0} (items : V → List ℕ) (remaining : Option (List ℕ)) (begun : List ℕ) (count : ℕ) (res : Result (Option V) E)
+    → count ≤ length begun
     → IfOk res (λ o. option_map items o ≡ Some (take count begun))
-    → IfOk res (λ o. IfSome known (λ left. IsBody (begun ++ left) count (option_map items o)))
-begun_whole items known begun count (Err e) le is = tt
+    → IfOk res (λ o. IfSome remaining (λ left. IsBody (begun ++ left) count (option_map items o)))
+begun_whole items remaining begun count (Err e) le is = tt
 begun_whole items None begun count (Ok o) le is = tt
 begun_whole items (Some xs) begun count (Ok o) le is =
     rw is (omega (arith, length-append begun xs, le), sym (take-append-le count begun xs le))
@@ -21,9 +22,9 @@ written_whole n new old long le =
     ap (λ l. take n (new ++ l)) (drop_all (length new) old (omega (arith, long))) ∙ (ap (take n) (append-nil new) ∙ take_all n new le)
 
 -- what was read fills the body
-pub read_whole : (known left : Option (List ℕ)) (begun old new : List ℕ) (count filled : ℕ) (body : List ℕ) → body ≡ new
-    → take (length begun) old ≡ begun → length new ≡ count → count ≤ filled → Adds known left (take (length begun) old) (take filled new)
-    → IfSome known (λ ys. IsBody (begun ++ ys) count (Some body))
+pub read_whole : (remaining left : Option (List ℕ)) (begun old new : List ℕ) (count filled : ℕ) (body : List ℕ) → body ≡ new
+    → take (length begun) old ≡ begun → length new ≡ count → count ≤ filled → Adds remaining left (take (length begun) old) (take filled new)
+    → IfSome remaining (λ ys. IsBody (begun ++ ys) count (Some body))
 read_whole None left begun old new count filled body is starts long le adds = tt
 read_whole (Some xs) None begun old new count filled body is starts long le adds = absurd adds.2
 read_whole (Some xs) (Some ys) begun old new count filled body is starts long le adds =
@@ -35,9 +36,9 @@ read_whole (Some xs) (Some ys) begun old new count filled body is starts long le
     (fits, is ∙ front)
 
 -- the input ended before
-pub read_short : (known left : Option (List ℕ)) (begun old new : List ℕ) (count filled : ℕ) → take (length begun) old ≡ begun
+pub read_short : (remaining left : Option (List ℕ)) (begun old new : List ℕ) (count filled : ℕ) → take (length begun) old ≡ begun
     → length new ≡ count → filled < count
-    → Adds known left (take (length begun) old) (take filled new) → IsAtEnd left → IfSome known (λ ys. IsBody (begun ++ ys) count None)
+    → Adds remaining left (take (length begun) old) (take filled new) → IsAtEnd left → IfSome remaining (λ ys. IsBody (begun ++ ys) count None)
 read_short None left begun old new count filled starts long less adds end = tt
 read_short (Some xs) None begun old new count filled starts long less adds end = absurd adds.2
 read_short (Some xs) (Some ys) begun old new count filled starts long less adds end =

@@ -78,8 +78,8 @@ malformed_input bytes ys h le (inr short) r =
     subst H (sym whole) (parsed_none bytes h refusal.Malformed (λ head rest b. short.1 head rest b.reads) r.0 r.1 (spelled.malformed (inr (short.0, short.1))))
 
 -- what is malformed by the bytes read so far is parsed as malformed
-pub malformed_parsed : (known left : Option (List ℕ)) (bytes : List ℕ) (headers : List HeaderSpan) (h : ParsedRequest) → length bytes ≤ longest_head
-    → HeadSays bytes headers left read.Malformed → Consumes known left bytes → IsRefusedBy refusal.Malformed h → IfSome known (λ input. Parses input h)
+pub malformed_parsed : (remaining left : Option (List ℕ)) (bytes : List ℕ) (headers : List HeaderSpan) (h : ParsedRequest) → length bytes ≤ longest_head
+    → HeadSays bytes headers left read.Malformed → Consumes remaining left bytes → IsRefusedBy refusal.Malformed h → IfSome remaining (λ input. Parses input h)
 malformed_parsed None left bytes headers h le says k r = tt
 malformed_parsed (Some xs) None bytes headers h le says k r = absurd k
 malformed_parsed (Some xs) (Some ys) bytes headers h le says k r =
@@ -97,8 +97,8 @@ too_large_input bytes ys h says r =
     parsed_none (bytes ++ ys) h refusal.TooLarge none r.0 r.1 (spelled.long_head large)
 
 -- what is too large by the bytes read so far is parsed as too large
-pub too_large_parsed : (known left : Option (List ℕ)) (bytes : List ℕ) (headers : List HeaderSpan) (h : ParsedRequest)
-    → HeadSays bytes headers left read.TooLarge → Consumes known left bytes → IsRefusedBy refusal.TooLarge h → IfSome known (λ input. Parses input h)
+pub too_large_parsed : (remaining left : Option (List ℕ)) (bytes : List ℕ) (headers : List HeaderSpan) (h : ParsedRequest)
+    → HeadSays bytes headers left read.TooLarge → Consumes remaining left bytes → IsRefusedBy refusal.TooLarge h → IfSome remaining (λ input. Parses input h)
 too_large_parsed None left bytes headers h says k r = tt
 too_large_parsed (Some xs) None bytes headers h says k r = absurd k
 too_large_parsed (Some xs) (Some ys) bytes headers h says k r =
@@ -154,12 +154,12 @@ inner {E} (Err e) ys P h = tt
 inner {E} (Ok q) ys P h = h
 
 -- what lies behind a whole head is parsed as it is
-pub complete_parsed : (known left : Option (List ℕ)) (bytes : List ℕ) (headers : List HeaderSpan) (spans : RequestSpans) (h : ParsedRequest)
+pub complete_parsed : (remaining left : Option (List ℕ)) (bytes : List ℕ) (headers : List HeaderSpan) (spans : RequestSpans) (h : ParsedRequest)
     → length bytes ≤ longest_head → length headers ≡ most_fields
-    → HeadSays bytes headers left (read.Complete spans) → Consumes known left bytes
+    → HeadSays bytes headers left (read.Complete spans) → Consumes remaining left bytes
     → h.form ≡ form_by (span_bytes bytes spans.method) (span_bytes bytes spans.path)
     → IfOk h.request (λ q. IfSome left (λ ys. parsed.IsRequestAt bytes headers spans ys q))
-    → IfSome known (λ input. Parses input h)
+    → IfSome remaining (λ input. Parses input h)
 complete_parsed None left bytes headers spans h le n says k m r = tt
 complete_parsed (Some xs) None bytes headers spans h le n says k m r = absurd k
 complete_parsed (Some xs) (Some ys) bytes headers spans h le n says k m r =
@@ -172,12 +172,12 @@ complete_parsed (Some xs) (Some ys) bytes headers spans h le n says k m r =
     })
 
 -- the same, unless the reader failed
-pub complete_read : {E : Type 0} (known left : Option (List ℕ)) (bytes : List ℕ) (headers : List HeaderSpan) (spans : RequestSpans)
+pub complete_read : {E : Type 0} (remaining left : Option (List ℕ)) (bytes : List ℕ) (headers : List HeaderSpan) (spans : RequestSpans)
     (res : Result ParsedRequest E)
     → length bytes ≤ longest_head → length headers ≡ most_fields
-    → HeadSays bytes headers left (read.Complete spans) → Consumes known left bytes
+    → HeadSays bytes headers left (read.Complete spans) → Consumes remaining left bytes
     → IfOk res (λ h. h.form ≡ form_by (span_bytes bytes spans.method) (span_bytes bytes spans.path))
     → IfOk res (λ h. IfOk h.request (λ q. IfSome left (λ ys. parsed.IsRequestAt bytes headers spans ys q)))
-    → IfOk res (λ h. IfSome known (λ input. Parses input h))
-complete_read {E} known left bytes headers spans (Err e) le n says k m r = tt
-complete_read {E} known left bytes headers spans (Ok h) le n says k m r = complete_parsed known left bytes headers spans h le n says k m r
+    → IfOk res (λ h. IfSome remaining (λ input. Parses input h))
+complete_read {E} remaining left bytes headers spans (Err e) le n says k m r = tt
+complete_read {E} remaining left bytes headers spans (Ok h) le n says k m r = complete_parsed remaining left bytes headers spans h le n says k m r

@@ -42,11 +42,11 @@ pub record IsTooLarge (input : List ℕ) : Type 0 where
 
 -- these bytes behind the earlier ones, and no others, were read
 abbrev pub Adds : Option (List ℕ) → Option (List ℕ) → List ℕ → List ℕ → Type 0
-Adds known left before after = (bytes : List ℕ) × (after ≡ before ++ bytes) × Consumes known left bytes
+Adds remaining left before after = (bytes : List ℕ) × (after ≡ before ++ bytes) × Consumes remaining left bytes
 
 -- no more bytes than this were read
 abbrev pub TakesAtMost : Option (List ℕ) → Option (List ℕ) → ℕ → Type 0
-TakesAtMost known left most = (bytes : List ℕ) × Consumes known left bytes × (length bytes ≤ most)
+TakesAtMost remaining left most = (bytes : List ℕ) × Consumes remaining left bytes × (length bytes ≤ most)
 
 -- what the bytes that were read say of the head, and how the reader stands then
 abbrev pub HeadSays : List ℕ → List HeaderSpan → Option (List ℕ) → HeadRead → Type 0

@@ -44,7 +44,7 @@ body_allow _ = []
 
 -- what keeps a reply from caches (RFC 8555, 7.2)
 abbrev pub cache_line : Bool → List ℕ
-cache_line stands = if stands then field (codes "Cache-Control") (codes "no-store") else []
+cache_line is_given = if is_given then field (codes "Cache-Control") (codes "no-store") else []
 
 -- a link (RFC 8288, 3)
 abbrev pub link : List ℕ → List ℕ → List ℕ
@@ -52,7 +52,7 @@ link target kind = codes "Link: <" ++ target ++ codes ">;rel=\"" ++ kind ++ code
 
 -- the link to the directory (RFC 8555, 7.1)
 abbrev pub index_line : Bool → List ℕ → List ℕ
-index_line stands base = if stands then link (base ++ codes "/directory") (codes "index") else []
+index_line is_given base = if is_given then link (base ++ codes "/directory") (codes "index") else []
 
 -- the link to a challenge's authorization (RFC 8555, 7.5.1)
 abbrev pub up_link : Option (List ℕ) → List ℕ

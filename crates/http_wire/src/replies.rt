@@ -240,10 +240,10 @@ fn push_content(alloc: Global, out: &mut Vec<u8>, len: usize, kind: &str) -> Res
 }
 
 // The field that keeps a reply from caches (RFC 8555, 7.2).
-fn push_cache(out: &mut Vec<u8>, stands: bool) -> Result<(), AllocError>
-    ensures { OnOk result (out.new.items ≡ out.old.items ++ cache_line stands) }
+fn push_cache(out: &mut Vec<u8>, is_given: bool) -> Result<(), AllocError>
+    ensures { OnOk result (out.new.items ≡ out.old.items ++ cache_line is_given) }
 {
-    if stands {
+    if is_given {
         push_field(out, "Cache-Control", "no-store")
     } else {
         Ok(())
@@ -251,10 +251,10 @@ fn push_cache(out: &mut Vec<u8>, stands: bool) -> Result<(), AllocError>
 }
 
 // The link to the directory (RFC 8555, 7.1).
-fn push_index(out: &mut Vec<u8>, stands: bool, base: &str) -> Result<(), AllocError>
-    ensures { OnOk result (out.new.items ≡ out.old.items ++ index_line stands base.now) }
+fn push_index(out: &mut Vec<u8>, is_given: bool, base: &str) -> Result<(), AllocError>
+    ensures { OnOk result (out.new.items ≡ out.old.items ++ index_line is_given base.now) }
 {
-    if stands {
+    if is_given {
         push_link(out, base, "/directory", "index")
     } else {
         Ok(())

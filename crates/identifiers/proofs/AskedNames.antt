@@ -6,7 +6,7 @@ use Rattle.desk_model.specs.Rules.{names_asked, names_of, subproblems}
 use Rattle.desk_model.specs.declared.{payload.Identifier.Identifier, call.Target.Target, reply.Subproblem.Subproblem}
 use Rattle.desk_model.specs.declared.call.Target.TheVariants as to
 use Rattle.identifiers.specs.AskedOrders.{order_by, order_if, order_names, target_order}
-use Rattle.identifiers.specs.declared.parsed.AskedOrder.TheVariants as order
+use Rattle.identifiers.specs.declared.payloads.AskedOrder.TheVariants as order
 
 -- of identifiers
 by_faults : (ids : List Identifier) (faults : List Subproblem) → order_names (order_by ids faults) ≡ names_of ids faults

@@ -6,8 +6,8 @@ use Rattle.desk_model.specs.declared.{payload.Identifier.Identifier, call.Target
 use Rattle.desk_model.specs.declared.call.Target.TheVariants as to
 use Rattle.serde_json.specs.{Read.read, View.view}
 use Rattle.serde_json.specs.declared.value.Value.{Value}
-use Rattle.identifiers.specs.declared.parsed.AskedOrder.{AskedOrder}
-use Rattle.identifiers.specs.declared.parsed.AskedOrder.TheVariants as order
+use Rattle.identifiers.specs.declared.payloads.AskedOrder.{AskedOrder}
+use Rattle.identifiers.specs.declared.payloads.AskedOrder.TheVariants as order
 
 -- the value was read in the text
 abbrev pub IsValueOf : List ℕ → Option Value → Type 0

@@ -4,7 +4,9 @@
 
 mod names;
 mod parsed;
+mod payloads;
 
 pub use desk_model::DnsName;
 pub use names::{NameFault, names_are_unique, read_name};
-pub use parsed::{AskedOrder, CallFault, ParsedAsk, ParsedCall, ParsedSigned, says_deactivated};
+pub use parsed::{CallFault, ParsedAsk, ParsedCall, ParsedSigned};
+pub use payloads::{AskedOrder, says_deactivated};

@@ -26,12 +26,12 @@ use Rattle.model_laws.proofs.Recorded.{issued_up, opened_up, ordered_up, made_up
 -- ---- one table
 
 -- the row is found by its number
-abbrev pub Stands : {X : Type 0} → (X → ℕ) → List X → X → Type 0
-Stands number rows x = find (λ y. number y == number x) rows ≡ Some x
+abbrev pub IsFound : {X : Type 0} → (X → ℕ) → List X → X → Type 0
+IsFound number rows x = find (λ y. number y == number x) rows ≡ Some x
 
 -- what holds of each row that a test picks, moved
 each_moved : {X : Type 0} (number : X → ℕ) (test : X → Bool) (move : X → X) (rows : List X) (Q : X → Type 0) →
-    ((x : X) → test x ≡ true → Stands number rows x → Q (move x)) → (xs : List X) → EachOf (Stands number rows) xs →
+    ((x : X) → test x ≡ true → IsFound number rows x → Q (move x)) → (xs : List X) → EachOf (IsFound number rows) xs →
     EachOf Q (map move (filter test xs))
 each_moved number test move rows Q f [] h = tt
 each_moved number test move rows Q f (x ∷ xs) h = by (test x) refl (each_moved number test move rows Q f xs h.1)
@@ -54,7 +54,7 @@ each_fresh number last n rows Q f lt below (x ∷ xs) h =
 -- what holds of the moved rows that differ, and of new ones
 each_put : {X : Type 0} (number : X → ℕ) (touched : X → Bool) (differs : X → X → Bool) (move : X → X) (last : ℕ) (rows fresh : List X)
     (Q : X → Type 0) →
-    ((x : X) → differs x (move x) ≡ true → Stands number rows x → Q (move x)) → ((x : X) → find (λ y. number y == number x) rows ≡ None → Q x) →
+    ((x : X) → differs x (move x) ≡ true → IsFound number rows x → Q (move x)) → ((x : X) → find (λ y. number y == number x) rows ≡ None → Q x) →
     IsTable number last rows → Ascends number (last + 1) fresh → EachOf Q (moved_rows touched differs move rows ++ fresh)
 each_put number touched differs move last rows fresh Q f g h up =
     each-append Q (moved_rows touched differs move rows) fresh
@@ -65,7 +65,7 @@ each_put number touched differs move last rows fresh Q f g h up =
 -- ---- what is put is not there yet
 
 -- another row than the one that stands there
-another : {X : Type 0} (number : X → ℕ) (rows : List X) (x y : X) → number y ≡ number x → x ≢ y → Stands number rows x →
+another : {X : Type 0} (number : X → ℕ) (rows : List X) (x y : X) → number y ≡ number x → x ≢ y → IsFound number rows x →
     find (λ z. number z == number y) rows ≢ Some y
 another number rows x y same differs here k =
     let there : find (λ z. number z == number y) rows ≡ Some x = ap (λ n. find (λ z. number z == n) rows) same ∙ here in
@@ -82,9 +82,9 @@ others differs never x y h e = let no : differs x y ≡ false = ap (differs x) (
 -- ---- what is put keeps its children
 
 -- of the row that stands there
-of_standing : {X : Type 0} (number : X → ℕ) (rows : List X) (x y : X) (P : X → Type 0) → number y ≡ number x → P x → Stands number rows x →
+of_found : {X : Type 0} (number : X → ℕ) (rows : List X) (x y : X) (P : X → Type 0) → number y ≡ number x → P x → IsFound number rows x →
     IfSome (find (λ z. number z == number y) rows) P
-of_standing number rows x y P same p here = subst (λ o. IfSome o P) (sym (ap (λ n. find (λ z. number z == n) rows) same ∙ here)) p
+of_found number rows x y P same p here = subst (λ o. IfSome o P) (sym (ap (λ n. find (λ z. number z == n) rows) same ∙ here)) p
 
 -- of no row
 of_none : {X : Type 0} (number : X → ℕ) (rows : List X) (x : X) (P : X → Type 0) → find (λ z. number z == number x) rows ≡ None →
@@ -192,13 +192,13 @@ puts_keep_children T m e h =
     (λ r. restated_authorization m (noted_authorization e m T.accounts r)) T.meta.counters.authorizations T.authorizations _ _
     (λ x d.
     let y : AuthorizationRow = restated_authorization m (noted_authorization e m T.accounts x) in
-    of_standing (λ a. a.number) T.authorizations x y _ refl
+    of_found (λ a. a.number) T.authorizations x y _ refl
     (record { numbers = challenge_numbers e m _ x.challenges; answers = stay_noted e m _ x.challenges }))
     (λ x. of_none (λ a. a.number) T.authorizations x _) h.authorizations
     (made_up e m T.meta.policy.authz_life (T.meta.counters.authorizations + 1) (T.meta.counters.challenges + 1)))
     (each_put (λ o. o.number) (touches_order e T.authorizations) order_differs
     (λ r. restated_order m (authorizations_after T e m) (noted_order e m r)) T.meta.counters.orders T.orders _ _
-    (λ x d. of_standing (λ o. o.number) T.orders x (restated_order m (authorizations_after T e m) (noted_order e m x)) _ refl refl)
+    (λ x d. of_found (λ o. o.number) T.orders x (restated_order m (authorizations_after T e m) (noted_order e m x)) _ refl refl)
     (λ x. of_none (λ o. o.number) T.orders x _) h.orders
     (ordered_up e m T.meta.policy (T.meta.counters.authorizations + 1) (T.meta.counters.orders + 1) (authorizations_after T e m)))
 
@@ -250,9 +250,9 @@ pub swept_puts_keep_children : (T : Tables) (m : ℕ) → IsOrdered T → EachOf
 swept_puts_keep_children T m h =
     each_sweep (KeepsChildren T) T m (each_all _ (nonces_gone m T) (λ n. tt))
     (each_moved (λ a. a.number) (is_overdue m) (λ (r : AuthorizationRow). record r { status = authz.Expired }) T.authorizations _
-    (λ x picked. of_standing (λ a. a.number) T.authorizations x (record x { status = authz.Expired }) _ refl
+    (λ x picked. of_found (λ a. a.number) T.authorizations x (record x { status = authz.Expired }) _ refl
     (record { numbers = refl; answers = stay_same x.challenges }))
     T.authorizations (ascends_found (λ a. a.number) 1 T.authorizations h.authorizations.0))
     (each_moved (λ o. o.number) (falls m T.authorizations) (λ (r : OrderRow). record r { status = order.Invalid }) T.orders _
-    (λ x picked. of_standing (λ o. o.number) T.orders x (record x { status = order.Invalid }) _ refl refl)
+    (λ x picked. of_found (λ o. o.number) T.orders x (record x { status = order.Invalid }) _ refl refl)
     T.orders (ascends_found (λ o. o.number) 1 T.orders h.orders.0))

@@ -291,7 +291,7 @@ pub carries_by : (k : Kept) (T : Tables) (m : ℕ) (v : Verdict) → IsOrdered T
     ≡ verdict_reply index (effects m (swept m T) (entries_of v)) v) → CarriesOutAs m T (restricted k T) v
 carries_by k T m v h holders same =
     record {
-      standing = λ r. (open_kept k T).authorizations r.number;
+      kept = λ r. (open_kept k T).authorizations r.number;
       challenges = all_challenges;
       authorizations = authorizations_stand k T m v h holders ∙ sym (whole_authorizations _);
       ends = orders_end k T m v;

@@ -27,16 +27,16 @@ use Rattle.model_lives.proofs.Extends.{extends_earlier, histories_are_legal}
 -- ---- a challenge through its authorization
 
 -- a challenge that stands in the tables, and its authorization
-pub record Stands (T : Tables) (n : ℕ) (row : ChallengeRow) : Type 0 where
+pub record HasOwner (T : Tables) (n : ℕ) (row : ChallengeRow) : Type 0 where
   pub owner : AuthorizationRow
   pub owned : owner_on T n ≡ Some owner
   pub found : challenge_of n owner ≡ Some row
 
 -- each challenge of the tables stands in one
-stands : (T : Tables) (n : ℕ) (row : ChallengeRow) → challenge_on T n ≡ Some row → Stands T n row
-stands T n row h = by (owner_on T n) refl h
+has_owner : (T : Tables) (n : ℕ) (row : ChallengeRow) → challenge_on T n ≡ Some row → HasOwner T n row
+has_owner T n row h = by (owner_on T n) refl h
   where
-    by : (o : Option AuthorizationRow) → owner_on T n ≡ o → challenge_in_rows n o ≡ Some row → Stands T n row
+    by : (o : Option AuthorizationRow) → owner_on T n ≡ o → challenge_in_rows n o ≡ Some row → HasOwner T n row
     by None e k = cc
     by (Some a) e k = record { owner = a; owned = e; found = k }
 
@@ -92,7 +92,7 @@ entry_stays T e m stated may = record { accounts = accounts_stay; orders = order
     challenges_stay : (n : ℕ) (row : ChallengeRow) → challenge_on T n ≡ Some row → IsTrue (is_final_challenge row.status) →
         challenge_on (effect m T e) n ≡ Some row
     challenges_stay n row found ended =
-        let s = stands T n row found in
+        let s = has_owner T n row found in
         ap (challenge_in_rows n) (find-append (has_row n) (map (moved_authorization e m T.accounts) T.authorizations) _
         (moved_authorization e m T.accounts s.owner)
         (found_moved (has_row n) (moved_authorization e m T.accounts) (has_row-moved n e m T.accounts) T.authorizations s.owner s.owned))
@@ -137,7 +137,7 @@ time_stays T m =
     challenges_stay : (n : ℕ) (row : ChallengeRow) → challenge_on T n ≡ Some row → IsTrue (is_final_challenge row.status) →
         challenge_on (swept m T) n ≡ Some row
     challenges_stay n row found ended =
-        let s = stands T n row found in
+        let s = has_owner T n row found in
         ap (challenge_in_rows n) (found_moved (has_row n) (swept_authorization m)
         (λ a. one_kept (has_row n) (is_overdue m a) (record a { status = authz.Expired }) a refl) T.authorizations s.owner s.owned)
         ∙ one_kept (challenge_of n) (is_overdue m s.owner) (record s.owner { status = authz.Expired }) s.owner refl

@@ -102,7 +102,7 @@ pub carried_by : (k : Kept) (T : Tables) (m : ℕ) (v : Verdict) →
     CarriesOutAs m T (restricted k T) v
 carried_by k T m v after same =
     record {
-      standing = λ r. k.authorizations r.number;
+      kept = λ r. k.authorizations r.number;
       challenges = all_challenges;
       authorizations = ap (λ (E : Tables). E.authorizations) after ∙ sym (whole_authorizations _);
       ends = λ n all. subst (EachOf (λ o. o.expires ≤ n)) (sym (ap (λ (E : Tables). E.orders) after))
@@ -186,7 +186,7 @@ whole_settles T m a =
     record {
       judged = refl;
       verdict = record {
-        standing = λ r. true;
+        kept = λ r. true;
         challenges = all_challenges;
         authorizations =
             sym (whole_authorizations _

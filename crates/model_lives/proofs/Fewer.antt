@@ -25,7 +25,7 @@ use Rattle.model_lives.proofs.Enough.{issues_as, passes_as, settles_as}
 use Rattle.model_lives.proofs.Grown.{KeepsNamed, KeepsRestated, KeepsRows, answers_challenge, grown, grown_closed, grown_part, kept_number, keeps_falling}
 use Rattle.model_lives.proofs.Grown.{keeps_named, target_answers}
 use Rattle.model_lives.proofs.Lists.{any_wider, each_filtered, each_member, filter_nothing, filter_same, filtered_each, or_cases, same_number}
-use Rattle.model_lives.proofs.Unheld.{IsOfAuthorization, settles_unheld, unheld}
+use Rattle.model_lives.proofs.WithoutAccounts.{IsOfAuthorization, settles_without_accounts, without_accounts}
 
 -- ---- by their numbers
 
@@ -186,11 +186,11 @@ minimal_issue T m a h all needed none =
     subst (IssuesAs m T) (grown_part k T) (issues_as (grown k T) T m a (minimal_ready T m a h all needed none))
 
 -- where no account is named, and none is needed: they answer with all accounts, and so without
-minimal_unheld : (T : Tables) (m : ℕ) (a : OfficeAsk) → IsNoWork a → IsOrdered T → IsOfAuthorization a →
+minimal_without_accounts : (T : Tables) (m : ℕ) (a : OfficeAsk) → IsNoWork a → IsOrdered T → IsOfAuthorization a →
     ((x : AccountRow) → is_needed_account T (ask.Office a) x ≡ false) → SettlesAs m a T (restricted (minimal_kept T m (ask.Office a)) T)
-minimal_unheld T m a none h of no_account =
+minimal_without_accounts T m a none h of no_account =
     subst (SettlesAs m a T) without
-    (settles_unheld T (restricted with_all T) m a of
+    (settles_without_accounts T (restricted with_all T) m a of
     (subst (SettlesAs m a T) (grown_part with_all T)
     (settles_as (grown with_all T) T m a none
     (ready_with with_all T m (ask.Office a) h (minimal_listed T m (ask.Office a) h refl) refl (each_all _ T.authorizations (λ r so. refl)) holds))))
@@ -213,7 +213,7 @@ minimal_unheld T m a none h of no_account =
           orders = held.orders;
         }
 
-    without : unheld (restricted with_all T) ≡ restricted k T
+    without : without_accounts (restricted with_all T) ≡ restricted k T
     without = λ i. record (restricted k T) {
       accounts = (filter_nothing T.accounts
           ∙ sym (filter_same (λ (x : AccountRow). k.accounts x.number) (λ x. false) T.accounts
@@ -228,8 +228,8 @@ minimal_held T m a none h needed =
     subst (SettlesAs m a T) (grown_part k T) (settles_as (grown k T) T m a none (minimal_ready T m (ask.Office a) h refl needed refl))
 
 pub minimal_settle : (T : Tables) (m : ℕ) (a : OfficeAsk) → IsNoWork a → IsOrdered T → SettlesAs m a T (restricted (minimal_kept T m (ask.Office a)) T)
-minimal_settle T m (office.Report n finding) none h = minimal_unheld T m (office.Report n finding) none h tt (λ x. refl)
-minimal_settle T m (office.RevokeAuthz n) none h = minimal_unheld T m (office.RevokeAuthz n) none h tt (λ x. refl)
+minimal_settle T m (office.Report n finding) none h = minimal_without_accounts T m (office.Report n finding) none h tt (λ x. refl)
+minimal_settle T m (office.RevokeAuthz n) none h = minimal_without_accounts T m (office.RevokeAuthz n) none h tt (λ x. refl)
 minimal_settle T m office.ChallengeWork none h = absurd none
 minimal_settle T m office.OrderWork none h = absurd none
 minimal_settle T m a none h = minimal_held T m a none h refl

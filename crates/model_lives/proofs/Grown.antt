@@ -24,12 +24,12 @@ use Rattle.model_lives.proofs.{Listed.KeepsListed, Reusing.KeepsAsked}
 use Rattle.model_lives.proofs.Lists.{any_gives, any_wider, each_filtered, each_member, filter_same, or_cases, same_number}
 
 -- a row has the number
-abbrev pub stands : {X : Type 0} → (X → ℕ) → List X → ℕ → Bool
-stands number xs n = list_any (λ x. number x == n) xs
+abbrev pub has_number : {X : Type 0} → (X → ℕ) → List X → ℕ → Bool
+has_number number xs n = list_any (λ x. number x == n) xs
 
 -- these numbers and those that no row has
 abbrev pub with_others : {X : Type 0} → (X → ℕ) → List X → (ℕ → Bool) → ℕ → Bool
-with_others number xs kept n = kept n || not (stands number xs n)
+with_others number xs kept n = kept n || not (has_number number xs n)
 
 abbrev pub grown : Kept → Tables → Kept
 grown k T =
@@ -43,7 +43,7 @@ grown k T =
 -- for the rows themselves nothing is added
 pub same_kept : {X : Type 0} (number : X → ℕ) (xs : List X) (kept : ℕ → Bool) → EachOf (λ x. with_others number xs kept (number x) ≡ kept (number x)) xs
 same_kept number xs kept =
-    each _ _ xs (λ x f. by (kept (number x)) (stands number xs (number x)) (f (λ y. number y == number x) (same_number (number x)))) (each_member xs)
+    each _ _ xs (λ x f. by (kept (number x)) (has_number number xs (number x)) (f (λ y. number y == number x) (same_number (number x)))) (each_member xs)
   where
     by : (b c : Bool) → c ≡ true → (b || not c) ≡ b
     by true c e = refl
@@ -66,15 +66,15 @@ grown_part k T =
     }
 
 -- a number above all is no row's
-none_stands : {X : Type 0} (number : X → ℕ) (last n : ℕ) (xs : List X) → Below number (last + 1) xs → last < n → stands number xs n ≡ false
-none_stands number last n [] h lt = refl
-none_stands number last n (x ∷ xs) h lt =
+none_has_number : {X : Type 0} (number : X → ℕ) (last n : ℕ) (xs : List X) → Below number (last + 1) xs → last < n → has_number number xs n ≡ false
+none_has_number number last n [] h lt = refl
+none_has_number number last n (x ∷ xs) h lt =
     let low : number x < last + 1 = h.0 in
-    ap (λ b. b || stands number xs n) (less_differs (number x) n (omega arith)) ∙ none_stands number last n xs h.1 lt
+    ap (λ b. b || has_number number xs n) (less_differs (number x) n (omega arith)) ∙ none_has_number number last n xs h.1 lt
 
 pub new_kept : {X : Type 0} (number : X → ℕ) (last : ℕ) (xs : List X) (kept : ℕ → Bool) → Below number (last + 1) xs →
     (n : ℕ) → last < n → with_others number xs kept n ≡ true
-new_kept number last xs kept h n lt = or_right (kept n) (not (stands number xs n)) (ap not (none_stands number last n xs h lt))
+new_kept number last xs kept h n lt = or_right (kept n) (not (has_number number xs n)) (ap not (none_has_number number last n xs h lt))
 
 -- it is closed
 pub grown_closed : (k : Kept) (T : Tables) → IsOrdered T → KeepsListed k T → IsClosed (grown k T) T
@@ -105,14 +105,14 @@ pub record KeepsTouched (k : Kept) (T : Tables) (m : ℕ) (a : Ask) : Type 0 whe
 pub kept_number : {X : Type 0} (number : X → ℕ) (xs : List X) (kept : ℕ → Bool) (test : ℕ → Bool) →
     EachOf (λ x. test (number x) ≡ true → with_others number xs kept (number x) ≡ true) xs →
     (n : ℕ) → test n ≡ true → with_others number xs kept n ≡ true
-kept_number number xs kept test h n so = by (stands number xs n) refl
+kept_number number xs kept test h n so = by (has_number number xs n) refl
   where
-    by : (b : Bool) → stands number xs n ≡ b → with_others number xs kept n ≡ true
+    by : (b : Bool) → has_number number xs n ≡ b → with_others number xs kept n ≡ true
     by true e =
         any_gives (λ x. number x == n) xs e
         (each _ _ xs (λ x f here. let same : number x ≡ n = eqb-true (number x) n here in
         subst (λ j. with_others number xs kept j ≡ true) same (f (ap test same ∙ so))) h)
-    by false e = or_right (kept n) (not (stands number xs n)) (ap not e)
+    by false e = or_right (kept n) (not (has_number number xs n)) (ap not e)
 
 pub keeps_touched : (k : Kept) (T : Tables) (m : ℕ) (a : Ask) → Keeps k (touched_rows T m a) → KeepsTouched (grown k T) T m a
 keeps_touched k T m a h =

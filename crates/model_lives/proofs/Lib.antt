@@ -1,6 +1,6 @@
 mod KeyPayloads
 pub mod Answering
-pub mod Bared
+pub mod Trimming
 pub mod Between
 pub mod Cut
 pub mod Ended
@@ -31,10 +31,10 @@ pub mod Sound
 pub mod SoundCalls
 pub mod Steps
 pub mod Thin
-pub mod Unheld
+pub mod WithoutAccounts
 pub mod Unlisted
 pub mod Verdicts
 pub mod Walks
-pub mod Wholly
+pub mod TrimmedVerdicts
 pub mod Work
 pub mod WorkLoading

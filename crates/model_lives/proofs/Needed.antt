@@ -13,14 +13,14 @@ use Rattle.model_lives.specs.AnswersAs.{AnswersAs}
 use Rattle.model_lives.specs.MinimalPart.{as_needed, authorization_as_needed, minimal_rows, is_needed_authorization, is_needed_order, is_moved_authorization}
 use Rattle.model_lives.specs.MinimalPart.{is_restated_authorization, is_whole_authorization, needed_rows, changes_statuses}
 use Rattle.model_lives.specs.Thinned.{Thinning, thin, thinned, with_challenges, with_listed}
-use Rattle.model_lives.proofs.Bared.{AreWhole, bared, those}
+use Rattle.model_lives.proofs.Trimming.{AreWhole, trimmed, those}
 use Rattle.model_lives.proofs.Cut.{at_number, numbered}
 use Rattle.model_lives.proofs.Fewer.{minimal_cut, minimal_kept}
 use Rattle.model_lives.proofs.Grown.{kept_number, new_kept, same_kept, with_others}
 use Rattle.model_lives.proofs.ListedAlone.{needed_listed, needed_same, unlisted}
 use Rattle.model_lives.proofs.Lists.{each_member, filter_nothing, filtered_each, turned}
 use Rattle.model_lives.proofs.Thin.{whole_authorizations, whole_orders}
-use Rattle.model_lives.proofs.Wholly.{IsNoList, KeepsWhole, answers_bared}
+use Rattle.model_lives.proofs.TrimmedVerdicts.{IsNoList, KeepsWhole, answers_trimmed}
 
 abbrev number : AuthorizationRow → ℕ
 number r = r.number
@@ -108,11 +108,11 @@ module _ (T : Tables) (m : ℕ) (a : Ask) (h : IsOrdered T) where
   pub needed_answers : IsNoList a → AnswersAs m a T rows → AnswersAs m a T (thinned (needed T m a) T)
   needed_answers none answers =
       subst (AnswersAs m a T) same
-      (answers_bared T rows m (needed_whole T m a) a none
+      (answers_trimmed T rows m (needed_whole T m a) a none
       (new_kept number T.meta.counters.authorizations T.authorizations (at_number number (is_whole_authorization T m a) T.authorizations) h.authorizations.1)
       (kept_each _ (whole_each (is_overdue m) (λ r past. or_left _ _ (or_left _ _ past)))) kept_whole answers)
     where
-      same : bared (needed_whole T m a) rows ≡ thinned (needed T m a) T
+      same : trimmed (needed_whole T m a) rows ≡ thinned (needed T m a) T
       same = λ i. record (thinned (needed T m a) T) {
         authorizations = map (with_challenges (those (needed_whole T m a))) (whole_authorizations (restricted (minimal_kept T m a) T).authorizations i);
         orders = whole_orders rows.orders i;

@@ -177,11 +177,11 @@ pub carries_thin : (T P : Tables) (m : ℕ) (v : Verdict) (c : ℕ → Challenge
     CarriesOutAs m T P v → CarriesOutAs m T (thin c l P) v
 carries_thin T P m v c l after same h =
     record {
-      standing = h.standing;
+      kept = h.kept;
       challenges = λ n x. h.challenges n x && c n x;
       authorizations =
           ap (λ (E : Tables). E.authorizations) after ∙ ap (map (with_challenges c)) h.authorizations
-          ∙ thin_both h.challenges c (filter h.standing (effects m (swept m T) (entries_of v)).authorizations);
+          ∙ thin_both h.challenges c (filter h.kept (effects m (swept m T) (entries_of v)).authorizations);
       ends = λ n all. subst (EachOf (λ o. o.expires ≤ n)) (sym (ap (λ (E : Tables). E.orders) after))
           (each-map _ (with_listed l) (effects m (swept m P) (entries_of v)).orders (h.ends n all));
       shows = λ index. ap (λ E. verdict_reply index E v) after ∙ same index ∙ h.shows index;

@@ -34,7 +34,7 @@ use Rattle.model_lives.proofs.Cut.{at_number, no_part, no_rows, numbered}
 use Rattle.model_lives.proofs.Enough.{answers_at, restricted_ordered}
 use Rattle.model_lives.proofs.Fewer.{minimal_issue, minimal_kept, minimal_pass, minimal_settle}
 use Rattle.model_lives.proofs.Grown.{grown, grown_closed, grown_part}
-use Rattle.model_lives.proofs.{Listed.KeepsListed, Replies.rows_same, Walks.IsNoWork, Wholly.IsNoList}
+use Rattle.model_lives.proofs.{Listed.KeepsListed, Replies.rows_same, Walks.IsNoWork, TrimmedVerdicts.IsNoList}
 use Rattle.model_lives.proofs.ListedAlone.{all_needed, needed_pass}
 use Rattle.model_lives.proofs.Needed.{needed, needed_answers, needed_cut}
 use Rattle.model_lives.proofs.Lists.{each_member, filter_nothing, filter_same, same_number}

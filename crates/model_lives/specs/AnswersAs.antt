@@ -17,10 +17,10 @@ pub record IssuesAs (m : ℕ) (whole part : Tables) : Type 0 where
 
 -- the verdict shows the same, and then the part's authorizations are among the whole's, with some of their challenges, and its orders end no later
 pub record CarriesOutAs (m : ℕ) (whole part : Tables) (v : Verdict) : Type 0 where
-  pub standing : AuthorizationRow → Bool
+  pub kept : AuthorizationRow → Bool
   pub challenges : ℕ → ChallengeRow → Bool
   pub authorizations : (effects m (swept m part) (entries_of v)).authorizations
-      ≡ map (with_challenges challenges) (filter standing (effects m (swept m whole) (entries_of v)).authorizations)
+      ≡ map (with_challenges challenges) (filter kept (effects m (swept m whole) (entries_of v)).authorizations)
   pub ends : (n : ℕ) → EachOf (λ o. o.expires ≤ n) (effects m (swept m whole) (entries_of v)).orders
       → EachOf (λ o. o.expires ≤ n) (effects m (swept m part) (entries_of v)).orders
   pub shows : (index : Bool) → verdict_reply index (effects m (swept m part) (entries_of v)) v

@@ -60,7 +60,7 @@ module _ {S : Type 0} (g : Ghosts S) where
         → (HasCleanDisk (state g new) → IsOutOfMemory e ⊎ FailsHere g old text Fits e)
         → (HasCleanDisk (state g new) → IsMet (state g old) (state g new) e) → Asks (state g old) (state g new) → Checks g format old new P N r
     checks_failed {e} {r} readable at is_err same fails refused met asks = record {
-      known = λ clean. IfOk-from_err r _ is_err;
+      answer = λ clean. IfOk-from_err r _ is_err;
       none = λ clean. IfOk-from_err r _ is_err;
       fails = λ clean T has may texts. failed_as r e IsFailure (fails clean may (readable T has texts)) same;
       refused = λ clean. failed_as r e (λ e. IsOutOfMemory e ⊎ FailsIn format g old e) (elim (refused clean) [
@@ -78,7 +78,7 @@ module _ {S : Type 0} (g : Ghosts S) where
         → (HasCleanDisk (state g new) → IsUnchanged (state g old) (state g new)) → Asks (state g old) (state g new)
         → Checks g format old new P N (Ok false)
     checks_stopped none same asks = record {
-      known = λ clean is. absurd (cc is);
+      answer = λ clean is. absurd (cc is);
       none = λ clean _. none clean;
       fails = λ clean T has may texts. tt;
       refused = λ clean. tt;
@@ -92,8 +92,8 @@ module _ {S : Type 0} (g : Ghosts S) where
       → (HasCleanDisk (state g new) → P (state g old).now)
       → (HasCleanDisk (state g new) → IsUnchanged (state g old) (state g new)) → Asks (state g old) (state g new)
       → Checks g format old new P N (Ok true)
-  checks_last known same asks = record {
-    known = λ clean _. known clean;
+  checks_last answer same asks = record {
+    answer = λ clean _. answer clean;
     none = λ clean is. absurd (cc is);
     fails = λ clean T has may texts. tt;
     refused = λ clean. tt;
@@ -109,7 +109,7 @@ module _ {S : Type 0} (g : Ghosts S) where
       → N (state g old).now meta rows → M (state g old).now meta rows)
       → (HasCleanDisk (state g mid) → IsUnchanged (state g old) (state g mid)) → Asks (state g old) (state g mid) → Checks g format old new P N r
   checks_then {format} {P} {Q} {N} {M} {old} {mid} {new} {r} rest so kept same asks = record {
-    known = λ clean. told r (honest clean) (rest.known clean);
+    answer = λ clean. told r (honest clean) (rest.answer clean);
     none = λ clean. stopped r (honest clean) (rest.none clean);
     fails = λ clean T has may texts.
         let still = same (honest clean) in
@@ -126,17 +126,17 @@ module _ {S : Type 0} (g : Ghosts S) where
       honest : HasCleanDisk (state g new) → HasCleanDisk (state g mid)
       honest clean = omega (arith, clean, rest.asks.survives.clean)
 
-      told : (r : Result Bool Error) → HasCleanDisk (state g mid) → IfOk r (λ known. IsTrue known → Q (state g mid).now)
-          → IfOk r (λ known. IsTrue known → P (state g old).now)
-      told (Ok known) clean q = λ is. so clean (subst Q (same clean).0.now_is (q is))
+      told : (r : Result Bool Error) → HasCleanDisk (state g mid) → IfOk r (λ answer. IsTrue answer → Q (state g mid).now)
+          → IfOk r (λ answer. IsTrue answer → P (state g old).now)
+      told (Ok answer) clean q = λ is. so clean (subst Q (same clean).0.now_is (q is))
       told (Err e) clean q = tt
 
       NoneOf : (Database → Meta → FlatRows → Type 0) → Database → Bool → Type 0
-      NoneOf K db known = known ≡ false → (meta : Meta) (rows : FlatRows) → ShowsBookRowsOnly g db format meta rows → K db meta rows → ⊥
+      NoneOf K db answer = answer ≡ false → (meta : Meta) (rows : FlatRows) → ShowsBookRowsOnly g db format meta rows → K db meta rows → ⊥
 
       stopped : (r : Result Bool Error) → HasCleanDisk (state g mid) → IfOk r (NoneOf M (state g mid).now) → IfOk r (NoneOf N (state g old).now)
-      stopped (Ok known) clean none = λ is meta rows shows are.
-          (subst (λ db. NoneOf M db known) (same clean).0.now_is none) is meta rows shows (kept clean meta rows shows are)
+      stopped (Ok answer) clean none = λ is meta rows shows are.
+          (subst (λ db. NoneOf M db answer) (same clean).0.now_is none) is meta rows shows (kept clean meta rows shows are)
       stopped (Err e) clean none = tt
 
 -- a table of which more is known

@@ -92,8 +92,8 @@ module _ {S : Type 0} (g : Ghosts S) (db : Database) where
 -- fails for memory or the disk alone, where it held a desk in this format
 pub record Checks {S : Type 0} (g : Ghosts S) (format : Format) (old new : Held S) (P : Database → Type 0) (Known : Database → Meta → FlatRows → Type 0)
     (result : Result Bool Error) : Type 0 where
-  pub known : HasCleanDisk (state g new) → IfOk result (λ known. IsTrue known → P (state g old).now)
-  pub none : HasCleanDisk (state g new) → IfOk result (λ known. known ≡ false → (meta : Meta) (rows : FlatRows)
+  pub answer : HasCleanDisk (state g new) → IfOk result (λ answer. IsTrue answer → P (state g old).now)
+  pub none : HasCleanDisk (state g new) → IfOk result (λ answer. answer ≡ false → (meta : Meta) (rows : FlatRows)
       → ShowsBookRowsOnly g (state g old).now format meta rows → Known (state g old).now meta rows → ⊥)
   pub fails : HasCleanDisk (state g new) → (T : Tables) → HoldsIn format (state g old).now T → MayRead (state g old) → HasTexts T → IfErr result IsFailure
   pub refused : HasCleanDisk (state g new) → IfErr result (λ e. IsOutOfMemory e ⊎ FailsIn format g old e)

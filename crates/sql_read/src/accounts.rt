@@ -53,8 +53,7 @@ fn query_of<'a>(which: AccountsWhere<'a>) -> Query<'a>
 ///
 /// # Errors
 ///
-/// The engine's, and `NotARow` where a row is not one of a desk; nothing is changed. Of a desk's tables it fails for memory or the
-/// disk alone.
+/// As of each reading (`lib.rt`).
 pub fn find_accounts<S: Alter>(
     alloc: Global,
     conn: &mut Connection<S>,
@@ -69,8 +68,7 @@ pub fn find_accounts<S: Alter>(
 ///
 /// # Errors
 ///
-/// The engine's, and `NotARow` where a row is not one of a desk; nothing is changed. Of a desk's tables it fails for memory or the
-/// disk alone.
+/// As of each reading (`lib.rt`).
 pub fn account_above<S: Alter>(
     alloc: Global,
     conn: &mut Connection<S>,

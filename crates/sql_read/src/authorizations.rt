@@ -125,8 +125,7 @@ fn query_of<'a>(which: AuthorizationsWhere<'a>) -> Query<'a>
 ///
 /// # Errors
 ///
-/// The engine's, and `NotARow` where a row is not one of a desk; nothing is changed. Of a desk's tables it fails for memory or the
-/// disk alone.
+/// As of each reading (`lib.rt`).
 pub fn find_authorizations<S: Alter>(
     alloc: Global,
     conn: &mut Connection<S>,
@@ -141,8 +140,7 @@ pub fn find_authorizations<S: Alter>(
 ///
 /// # Errors
 ///
-/// The engine's, and `NotARow` where a row is not one of a desk; nothing is changed. Of a desk's tables it fails for memory or the
-/// disk alone.
+/// As of each reading (`lib.rt`).
 pub fn bare_authorizations<S: Alter>(
     alloc: Global,
     conn: &mut Connection<S>,
@@ -158,8 +156,7 @@ pub fn bare_authorizations<S: Alter>(
 ///
 /// # Errors
 ///
-/// The engine's, and `NotARow` where a row is not one of a desk; nothing is changed. Of a desk's tables it fails for memory or the
-/// disk alone.
+/// As of each reading (`lib.rt`).
 pub fn owners_of<S: Alter>(
     alloc: Global,
     conn: &mut Connection<S>,
@@ -177,8 +174,7 @@ pub fn owners_of<S: Alter>(
 ///
 /// # Errors
 ///
-/// The engine's, and `NotARow` where a row is not one of a desk; nothing is changed. Of a desk's tables it fails for memory or the
-/// disk alone.
+/// As of each reading (`lib.rt`).
 pub fn waiting_challenges<S: Alter>(
     alloc: Global,
     conn: &mut Connection<S>,
@@ -197,8 +193,7 @@ pub fn waiting_challenges<S: Alter>(
 ///
 /// # Errors
 ///
-/// The engine's, and `NotARow` where a row is not one of a desk; nothing is changed. Of a desk's tables it fails for memory or the
-/// disk alone.
+/// As of each reading (`lib.rt`).
 pub fn authorization_above<S: Alter>(
     alloc: Global,
     conn: &mut Connection<S>,
@@ -214,8 +209,7 @@ pub fn authorization_above<S: Alter>(
 ///
 /// # Errors
 ///
-/// The engine's, and `NotARow` where a row is not one of a desk; nothing is changed. Of a desk's tables it fails for memory or the
-/// disk alone.
+/// As of each reading (`lib.rt`).
 pub fn challenge_above<S: Alter>(
     alloc: Global,
     conn: &mut Connection<S>,
@@ -231,8 +225,7 @@ pub fn challenge_above<S: Alter>(
 ///
 /// # Errors
 ///
-/// The engine's, and `NotARow` where a row is not one of a desk; nothing is changed. Of a desk's tables it fails for memory or the
-/// disk alone.
+/// As of each reading (`lib.rt`).
 pub fn earliest_authorization_end<S: Alter>(
     conn: &mut Connection<S>,
     status: AuthzStatus,

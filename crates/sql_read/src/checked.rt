@@ -289,9 +289,9 @@ fn check_meta<S: Alter>(alloc: Global, conn: &mut Connection<S>) -> Result<bool,
 ///
 /// The engine's; the connection is as it was, or what was not committed is undone.
 pub fn has_book_rows<S: Alter>(alloc: Global, conn: &mut Connection<S>) -> Result<bool, Error>
-    ensures book { HasCleanDisk (state S.Store conn.new) → IfOk result (λ known. IsTrue known
+    ensures book { HasCleanDisk (state S.Store conn.new) → IfOk result (λ answer. IsTrue answer
         → (stored : StoredRows) × AreShown S.Store conn.old stored × (T : Tables) × IsBookOfStored stored T) }
-    ensures none { HasCleanDisk (state S.Store conn.new) → IfOk result (λ known. known ≡ false → (T : Tables)
+    ensures none { HasCleanDisk (state S.Store conn.new) → IfOk result (λ answer. answer ≡ false → (T : Tables)
         → ShowsOnlyBook S.Store (state S.Store conn.old).now T → ⊥) }
     ensures found { ForHeld (state S.Store conn.old) (state S.Store conn.new) (λ T. IsStoredBook T → IfOk result IsTrue) }
     ensures fails { ForHeld (state S.Store conn.old) (state S.Store conn.new) (λ T. MayRead (state S.Store conn.old) → HasTexts T → IfErr result IsFailure) }

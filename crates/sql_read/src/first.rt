@@ -118,10 +118,10 @@ fn checked_meta<S: Alter>(alloc: Global, conn: &mut Connection<S>) -> Result<Opt
 ///
 /// The engine's; the connection is as it was, or what was not committed is undone.
 pub fn first_meta<S: Alter>(alloc: Global, conn: &mut Connection<S>) -> Result<Option<Meta>, Error>
-    ensures book { HasCleanDisk (state S.Store conn.new) → IfOk result (λ known. IsSome known
+    ensures book { HasCleanDisk (state S.Store conn.new) → IfOk result (λ answer. IsSome answer
         → (stored : StoredRows) × AreFirstShown S.Store conn.old stored × (T : Tables) × IsBookOfStored stored T) }
-    ensures none { HasCleanDisk (state S.Store conn.new) → IfOk result (λ known. known ≡ None → HasNoFirstBook S.Store conn.old) }
-    ensures found { ForFirst (state S.Store conn.old) (state S.Store conn.new) (λ T. IsStoredBook T → IfOk result (λ known. known ≡ Some T.meta)) }
+    ensures none { HasCleanDisk (state S.Store conn.new) → IfOk result (λ answer. answer ≡ None → HasNoFirstBook S.Store conn.old) }
+    ensures found { ForFirst (state S.Store conn.old) (state S.Store conn.new) (λ T. IsStoredBook T → IfOk result (λ answer. answer ≡ Some T.meta)) }
     ensures fails { ForFirst (state S.Store conn.old) (state S.Store conn.new) (λ T. MayRead (state S.Store conn.old) → HasTexts T → IfErr result IsFailure) }
     ensures refused { HasCleanDisk (state S.Store conn.new) → IfErr result (λ e. IsOutOfMemory e ⊎ FailsAtFirst S.Store conn.old e) }
     ensures met { HasCleanDisk (state S.Store conn.new) → IfErr result (IsMet (state S.Store conn.old) (state S.Store conn.new)) }

@@ -45,7 +45,7 @@ fn is_newer_row(rows: &[Row]) -> bool
 pub fn is_newer<S: Alter>(conn: &mut Connection<S>) -> Result<bool, Error>
     ensures newer { HasCleanDisk (state S.Store conn.new)
         → IfOk result (λ newer. IsTrue newer → ShowsFormats (state S.Store conn.old) (state S.Store conn.new) IsNewer) }
-    ensures known { HasCleanDisk (state S.Store conn.new)
+    ensures shows { HasCleanDisk (state S.Store conn.new)
         → IfOk result (λ newer. newer ≡ false → ShowsFormats (state S.Store conn.old) (state S.Store conn.new) (λ rows. ¬ IsNewer rows)) }
     ensures desk { ForHeld (state S.Store conn.old) (state S.Store conn.new) (λ T. IfOk result (λ newer. newer ≡ false)) }
     ensures first { ForFirst (state S.Store conn.old) (state S.Store conn.new) (λ T. IfOk result (λ newer. newer ≡ false)) }

@@ -1,5 +1,6 @@
 //! The rows of a desk, read from the tables of its database: looked up by queries, or checked one after the other.
-//! `desk_store` answers look-ups and opens a file by it, and `sql_upgrade` reads a file of format 1.
+//! A reading fails by the engine's fault, and by `NotARow` where a row is not one of a desk; it changes nothing. Of a desk's tables
+//! it fails for memory or the disk alone. `desk_store` answers look-ups and opens a file by it, and `sql_upgrade` reads a file of format 1.
 #![tactic(auto)]
 
 mod accounts;

@@ -46,8 +46,7 @@ fn query_of<'a>(which: NoncesWhere) -> Query<'a>
 ///
 /// # Errors
 ///
-/// The engine's, and `NotARow` where a row is not one of a desk; nothing is changed. Of a desk's tables it fails for memory or the
-/// disk alone.
+/// As of each reading (`lib.rt`).
 pub fn find_nonces<S: Alter>(
     alloc: Global,
     conn: &mut Connection<S>,
@@ -62,8 +61,7 @@ pub fn find_nonces<S: Alter>(
 ///
 /// # Errors
 ///
-/// The engine's, and `NotARow` where a row is not one of a desk; nothing is changed. Of a desk's tables it fails for memory or the
-/// disk alone.
+/// As of each reading (`lib.rt`).
 pub fn earliest_issue<S: Alter>(conn: &mut Connection<S>) -> Result<Option<u64>, ReadFault>
     ensures { TellsEarliest S.Store conn.old conn.new issues result }
 {

@@ -93,8 +93,7 @@ fn query_of<'a>(which: OrdersWhere) -> Query<'a>
 ///
 /// # Errors
 ///
-/// The engine's, and `NotARow` where a row is not one of a desk; nothing is changed. Of a desk's tables it fails for memory or the
-/// disk alone.
+/// As of each reading (`lib.rt`).
 pub fn find_orders<S: Alter>(
     alloc: Global,
     conn: &mut Connection<S>,
@@ -109,8 +108,7 @@ pub fn find_orders<S: Alter>(
 ///
 /// # Errors
 ///
-/// The engine's, and `NotARow` where a row is not one of a desk; nothing is changed. Of a desk's tables it fails for memory or the
-/// disk alone.
+/// As of each reading (`lib.rt`).
 pub fn bare_orders_of<S: Alter>(
     alloc: Global,
     conn: &mut Connection<S>,
@@ -125,8 +123,7 @@ pub fn bare_orders_of<S: Alter>(
 ///
 /// # Errors
 ///
-/// The engine's, and `NotARow` where a row is not one of a desk; nothing is changed. Of a desk's tables it fails for memory or the
-/// disk alone.
+/// As of each reading (`lib.rt`).
 pub fn orders_listing<S: Alter>(
     alloc: Global,
     conn: &mut Connection<S>,
@@ -143,8 +140,7 @@ pub fn orders_listing<S: Alter>(
 ///
 /// # Errors
 ///
-/// The engine's, and `NotARow` where a row is not one of a desk; nothing is changed. Of a desk's tables it fails for memory or the
-/// disk alone.
+/// As of each reading (`lib.rt`).
 pub fn order_above<S: Alter>(
     alloc: Global,
     conn: &mut Connection<S>,
@@ -159,8 +155,7 @@ pub fn order_above<S: Alter>(
 ///
 /// # Errors
 ///
-/// The engine's, and `NotARow` where a row is not one of a desk; nothing is changed. Of a desk's tables it fails for memory or the
-/// disk alone.
+/// As of each reading (`lib.rt`).
 pub fn earliest_order_end<S: Alter>(
     conn: &mut Connection<S>,
     status: OrderStatus,

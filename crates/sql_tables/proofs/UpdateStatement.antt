@@ -21,13 +21,13 @@ use Rattle.sql_tables.proofs.Keyed.{one_with, put_ascends}
 use Rattle.sql_tables.proofs.Upsert.{IsPut, edited_as}
 
 -- the text renews the row that the other text puts, and keeps some of its columns; its first parameter is the key
-pub record IsUpdate {X : Type 0} (L : Layout X) {params : X → Row} {upsert : List ℕ} (is : IsUpsert L params upsert) (moved kept : X → Row)
+pub record IsUpdate {X : Type 0} (L : Layout X) {params : X → Row} {upsert : List ℕ} (is : IsUpsert L params upsert) (updates kept : X → Row)
     (text : List ℕ) : Type 0 where
   -- the row that the update makes
   pub project : List Term
   pub means : Means text (Update is.place (record { lets = []; body = by_key L.table.tree 0 project }))
-  pub given : (x : X) → column (moved x) 0 ≡ Int (pos (L.key x))
-  pub sets : (x y : X) → L.key y ≡ L.key x → kept y ≡ kept x → eval_all project (moved x ∷ L.image y ∷ []) ≡ Int (pos (L.key y)) ∷ L.image x
+  pub given : (x : X) → column (updates x) 0 ≡ Int (pos (L.key x))
+  pub sets : (x y : X) → L.key y ≡ L.key x → kept y ≡ kept x → eval_all project (updates x ∷ L.image y ∷ []) ≡ Int (pos (L.key y)) ∷ L.image x
 
 -- a row that is there is taken out, and the new one is put
 updates_row : {X : Type 0} (key : X → ℕ) (row : X → Row) (first : (x : X) → rowid (row x) ≡ Int (pos (key x))) (task : Task) (calm : NoWorks task)
@@ -47,17 +47,17 @@ updates_row key row first task calm casts low at project db xs x y w has up ther
     (b.rows ∙ edited_as key row first task calm casts low at project db xs x (key y) on.0 same has up rows, b.others)
 
 -- so the text renews the row
-renews_by : {X : Type 0} (L : Layout X) (params : X → Row) {upsert : List ℕ} (is : IsUpsert L params upsert) (moved kept : X → Row) (text : List ℕ)
-    → IsUpdate L is moved kept text → (old new : State) (x : X) (count : ℕ) → Executes text (moved x) old new (Ok count)
+renews_by : {X : Type 0} (L : Layout X) (params : X → Row) {upsert : List ℕ} (is : IsUpsert L params upsert) (updates kept : X → Row) (text : List ℕ)
+    → IsUpdate L is updates kept text → (old new : State) (x : X) (count : ℕ) → Executes text (updates x) old new (Ok count)
     → Renews L kept x old.now new.now
-renews_by L params is moved kept text it old new x count h xs has y there same keeps =
-    let did = has_done text (moved x) _ old new count has.schema (ran text (moved x) _ old new count it.means has.schema h) in
+renews_by L params is updates kept text it old new x count h xs has y there same keeps =
+    let did = has_done text (updates x) _ old new count has.schema (ran text (updates x) _ old new count it.means has.schema h) in
     let done = went (rw (is.table.found) at did.did) in
-    becomes L old new (moved x) (put L.key x xs) done.0 did.tally did.sound done.2 (put_ascends L.key 0 x xs (omega arith) has.rising)
-    (updates_row L.key L.image is.table.first (task_of old L.table (moved x)) (no_works L.table.tree) is.casts is.table.low 0 it.project old.now.trees xs x y
+    becomes L old new (updates x) (put L.key x xs) done.0 did.tally did.sound done.2 (put_ascends L.key 0 x xs (omega arith) has.rising)
+    (updates_row L.key L.image is.table.first (task_of old L.table (updates x)) (no_works L.table.tree) is.casts is.table.low 0 it.project old.now.trees xs x y
     done.0 has.rows_are has.rising there same (it.given x) (it.sets x y same keeps) done.1)
 
 -- inside a transaction, too
-pub advances_renewed : {X : Type 0} (L : Layout X) (params : X → Row) {upsert : List ℕ} (is : IsUpsert L params upsert) (moved kept : X → Row)
-    (text : List ℕ) → IsUpdate L is moved kept text → Carries text moved (Renews L kept)
-advances_renewed L params is moved kept text it = carries text moved (Renews L kept) (renews_by L params is moved kept text it)
+pub advances_renewed : {X : Type 0} (L : Layout X) (params : X → Row) {upsert : List ℕ} (is : IsUpsert L params upsert) (updates kept : X → Row)
+    (text : List ℕ) → IsUpdate L is updates kept text → Carries text updates (Renews L kept)
+advances_renewed L params is updates kept text it = carries text updates (Renews L kept) (renews_by L params is updates kept text it)

@@ -17,9 +17,9 @@ use Rattle.sql_schema.specs.declared.meta.TheConstants as meta
 use Rattle.sql_schema.specs.declared.nonces.TheConstants as nonce
 use Rattle.sql_schema.specs.declared.orders.TheConstants as ord
 use Rattle.sql_tables.specs.Effects.{BecomesRows, Puts}
-use Rattle.sql_tables.specs.Images.{account_kept, account_moved, account_params, authorization_kept, authorization_moved, authorization_params}
-use Rattle.sql_tables.specs.Images.{challenge_kept, challenge_moved, challenge_params, formatted_columns, key_params, meta_kept, meta_moved}
-use Rattle.sql_tables.specs.Images.{meta_params, nonce_params, order_kept, order_moved, order_params}
+use Rattle.sql_tables.specs.Images.{account_kept, account_updates, account_params, authorization_kept, authorization_updates, authorization_params}
+use Rattle.sql_tables.specs.Images.{challenge_kept, challenge_updates, challenge_params, formatted_columns, key_params, meta_kept, meta_updates}
+use Rattle.sql_tables.specs.Images.{meta_params, nonce_params, order_kept, order_updates, order_params}
 use Rattle.sql_tables.specs.Layouts.{HasRows, account_layout, authorization_layout, challenge_layout, formatted_layout, key_layout, meta_layout}
 use Rattle.sql_tables.specs.Layouts.{nonce_layout, order_layout}
 use Rattle.sql_tables.proofs.Casts.{cast_int, cast_int_or_null, cast_null, cast_text_or_null, row_kept}
@@ -70,7 +70,7 @@ meta_upsert =
     (clash_by_key formatted_layout (λ _. refl)) (λ _. refl) (sets_key formatted_layout) (λ _. refl)
 
 -- that renews one, in the columns that calls move
-pub meta_update : IsUpdate formatted_layout meta_upsert (λ row. meta_moved (formatted_columns row)) (λ row. meta_kept (formatted_columns row))
+pub meta_update : IsUpdate formatted_layout meta_upsert (λ row. meta_updates (formatted_columns row)) (λ row. meta_kept (formatted_columns row))
     meta.WRITING.2.now
 unfolding understood everything meta_upsert upsert_as
 meta_update = record {
@@ -78,7 +78,7 @@ meta_update = record {
   means = record { is = refl; plain = (refl, refl) };
   given = λ _. refl;
   sets = λ x y same keeps i.
-      Int (pos (formatted_layout.key y)) ∷ Int (pos (same i)) ∷ Null ∷ (keeps i ++ drop 1 (meta_moved (formatted_columns x)));
+      Int (pos (formatted_layout.key y)) ∷ Int (pos (same i)) ∷ Null ∷ (keeps i ++ drop 1 (meta_updates (formatted_columns x)));
 }
 
 -- a row in the format of a desk, in the place of such a row
@@ -120,7 +120,7 @@ account_upsert =
     (clash_by_key account_layout (λ _. refl)) (λ _. refl) (sets_key account_layout) (λ _. refl)
 
 -- that renews one, in the columns that calls move
-pub account_update : IsUpdate account_layout account_upsert (λ row. account_moved (account_columns row))
+pub account_update : IsUpdate account_layout account_upsert (λ row. account_updates (account_columns row))
     (λ row. account_kept (account_columns row)) account.WRITING.2.now
 unfolding understood everything account_upsert upsert_as
 account_update = record {
@@ -128,8 +128,8 @@ account_update = record {
   means = record { is = refl; plain = (refl, refl) };
   given = λ _. refl;
   sets = λ x y same keeps i.
-      Int (pos (account_layout.key y)) ∷ Int (pos (same i)) ∷ Null ∷ (take 2 (drop 1 (account_moved (account_columns x)))
-      ++ (keeps i ++ drop 3 (account_moved (account_columns x))));
+      Int (pos (account_layout.key y)) ∷ Int (pos (same i)) ∷ Null ∷ (take 2 (drop 1 (account_updates (account_columns x)))
+      ++ (keeps i ++ drop 3 (account_updates (account_columns x))));
 }
 
 -- that inserts one
@@ -175,14 +175,14 @@ order_upsert =
     (clash_by_key order_layout (λ _. refl)) (λ _. refl) (sets_key order_layout) (λ _. refl)
 
 -- that renews one, in the columns that calls move
-pub order_update : IsUpdate order_layout order_upsert (λ row. order_moved (order_columns row)) (λ row. order_kept (order_columns row)) ord.WRITING.2.now
+pub order_update : IsUpdate order_layout order_upsert (λ row. order_updates (order_columns row)) (λ row. order_kept (order_columns row)) ord.WRITING.2.now
 unfolding understood everything order_upsert upsert_as
 order_update = record {
   project = col 1 0 ∷ col 1 0 ∷ lit Null ∷ col 1 2 ∷ col 1 3 ∷ col 1 4 ∷ col 0 1 ∷ col 0 2 ∷ col 0 3 ∷ col 0 4 ∷ col 0 5 ∷ col 0 6 ∷ col 0 7 ∷ [];
   means = record { is = refl; plain = (refl, refl) };
   given = λ _. refl;
   sets = λ x y same keeps i.
-      Int (pos (order_layout.key y)) ∷ Int (pos (same i)) ∷ Null ∷ (keeps i ++ drop 1 (order_moved (order_columns x)));
+      Int (pos (order_layout.key y)) ∷ Int (pos (same i)) ∷ Null ∷ (keeps i ++ drop 1 (order_updates (order_columns x)));
 }
 
 -- that inserts one
@@ -202,7 +202,7 @@ authorization_upsert =
     (clash_by_key authorization_layout (λ _. refl)) (λ _. refl) (sets_key authorization_layout) (λ _. refl)
 
 -- that renews one, in the columns that calls move
-pub authorization_update : IsUpdate authorization_layout authorization_upsert (λ row. authorization_moved (authorization_columns row))
+pub authorization_update : IsUpdate authorization_layout authorization_upsert (λ row. authorization_updates (authorization_columns row))
     (λ row. authorization_kept (authorization_columns row)) authz.WRITING.2.now
 unfolding understood everything authorization_upsert upsert_as
 authorization_update = record {
@@ -210,7 +210,7 @@ authorization_update = record {
   means = record { is = refl; plain = (refl, refl) };
   given = λ _. refl;
   sets = λ x y same keeps i.
-      Int (pos (authorization_layout.key y)) ∷ Int (pos (same i)) ∷ Null ∷ (keeps i ++ drop 1 (authorization_moved (authorization_columns x)));
+      Int (pos (authorization_layout.key y)) ∷ Int (pos (same i)) ∷ Null ∷ (keeps i ++ drop 1 (authorization_updates (authorization_columns x)));
 }
 
 -- that inserts one
@@ -229,7 +229,7 @@ challenge_upsert =
     (clash_by_key challenge_layout (λ _. refl)) (λ _. refl) (sets_key challenge_layout) (λ _. refl)
 
 -- that renews one, in the columns that calls move
-pub challenge_update : IsUpdate challenge_layout challenge_upsert (λ row. challenge_moved (challenge_columns (bare_row row)))
+pub challenge_update : IsUpdate challenge_layout challenge_upsert (λ row. challenge_updates (challenge_columns (bare_row row)))
     (λ row. challenge_kept (challenge_columns (bare_row row))) chall.WRITING.2.now
 unfolding understood everything challenge_upsert upsert_as
 challenge_update = record {
@@ -237,7 +237,7 @@ challenge_update = record {
   means = record { is = refl; plain = (refl, refl) };
   given = λ _. refl;
   sets = λ x y same keeps i.
-      Int (pos (challenge_layout.key y)) ∷ Int (pos (same i)) ∷ Null ∷ (keeps i ++ drop 1 (challenge_moved (challenge_columns (bare_row x))));
+      Int (pos (challenge_layout.key y)) ∷ Int (pos (same i)) ∷ Null ∷ (keeps i ++ drop 1 (challenge_updates (challenge_columns (bare_row x))));
 }
 
 -- that inserts one

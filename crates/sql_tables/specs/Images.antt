@@ -39,11 +39,11 @@ abbrev pub meta_kept : MetaColumns → Row
 meta_kept c = Int c.format ∷ Text c.base ∷ Int c.nonce_life ∷ Int c.order_life ∷ Int c.authz_life ∷ []
 
 -- the key, and those that calls move
-abbrev pub meta_moved : MetaColumns → Row
-meta_moved c = Int c.id ∷ Int c.clock ∷ Int c.nonces ∷ Int c.accounts ∷ Int c.orders ∷ Int c.authzs ∷ Int c.challs ∷ []
+abbrev pub meta_updates : MetaColumns → Row
+meta_updates c = Int c.id ∷ Int c.clock ∷ Int c.nonces ∷ Int c.accounts ∷ Int c.orders ∷ Int c.authzs ∷ Int c.challs ∷ []
 
 abbrev pub meta_params : MetaColumns → Row
-meta_params c = Int c.id ∷ (meta_kept c ++ drop 1 (meta_moved c))
+meta_params c = Int c.id ∷ (meta_kept c ++ drop 1 (meta_updates c))
 
 abbrev pub meta_image : Meta → Row
 meta_image row = keyed (meta_params (meta_columns row))
@@ -75,8 +75,8 @@ abbrev pub account_kept : AccountColumns → Row
 account_kept c = Int c.opened ∷ []
 
 -- the key, and those that calls move
-abbrev pub account_moved : AccountColumns → Row
-account_moved c = Int c.num ∷ Text c.jwk ∷ Text c.contacts ∷ int_or_null c.ended ∷ text_or_null c.end_kind ∷ Text c.status ∷ []
+abbrev pub account_updates : AccountColumns → Row
+account_updates c = Int c.num ∷ Text c.jwk ∷ Text c.contacts ∷ int_or_null c.ended ∷ text_or_null c.end_kind ∷ Text c.status ∷ []
 
 abbrev pub account_image : AccountRow → Row
 account_image row = keyed (account_params (account_columns row))
@@ -88,8 +88,8 @@ abbrev pub order_kept : OrderColumns → Row
 order_kept c = Int c.account ∷ Int c.made ∷ Int c.expires ∷ []
 
 -- the key, and those that calls move
-abbrev pub order_moved : OrderColumns → Row
-order_moved c =
+abbrev pub order_updates : OrderColumns → Row
+order_updates c =
     Int c.num
     ∷ int_or_null c.finalized
     ∷ blob_or_null c.csr
@@ -101,7 +101,7 @@ order_moved c =
     ∷ []
 
 abbrev pub order_params : OrderColumns → Row
-order_params c = Int c.num ∷ (order_kept c ++ drop 1 (order_moved c))
+order_params c = Int c.num ∷ (order_kept c ++ drop 1 (order_updates c))
 
 abbrev pub order_image : OrderRow → Row
 order_image row = keyed (order_params (order_columns row))
@@ -113,11 +113,11 @@ abbrev pub authorization_kept : AuthzColumns → Row
 authorization_kept c = Int c.account ∷ Text c.name ∷ Int c.wildcard ∷ Int c.made ∷ Int c.expires ∷ []
 
 -- the key, and those that calls move
-abbrev pub authorization_moved : AuthzColumns → Row
-authorization_moved c = Int c.num ∷ int_or_null c.ended ∷ text_or_null c.end_kind ∷ Text c.status ∷ []
+abbrev pub authorization_updates : AuthzColumns → Row
+authorization_updates c = Int c.num ∷ int_or_null c.ended ∷ text_or_null c.end_kind ∷ Text c.status ∷ []
 
 abbrev pub authorization_params : AuthzColumns → Row
-authorization_params c = Int c.num ∷ (authorization_kept c ++ drop 1 (authorization_moved c))
+authorization_params c = Int c.num ∷ (authorization_kept c ++ drop 1 (authorization_updates c))
 
 abbrev pub authorization_image : AuthorizationRow → Row
 authorization_image row = keyed (authorization_params (authorization_columns row))
@@ -138,11 +138,11 @@ abbrev pub challenge_kept : ChallColumns → Row
 challenge_kept c = Int c.authz ∷ Text c.kind ∷ Blob c.token ∷ []
 
 -- the key, and those that calls move
-abbrev pub challenge_moved : ChallColumns → Row
-challenge_moved c = Int c.num ∷ int_or_null c.answered ∷ int_or_null c.reported ∷ text_or_null c.outcome ∷ Text c.status ∷ []
+abbrev pub challenge_updates : ChallColumns → Row
+challenge_updates c = Int c.num ∷ int_or_null c.answered ∷ int_or_null c.reported ∷ text_or_null c.outcome ∷ Text c.status ∷ []
 
 abbrev pub challenge_params : ChallColumns → Row
-challenge_params c = Int c.num ∷ (challenge_kept c ++ drop 1 (challenge_moved c))
+challenge_params c = Int c.num ∷ (challenge_kept c ++ drop 1 (challenge_updates c))
 
 abbrev pub challenge_image : Owned ChallengeRow → Row
 challenge_image row = keyed (challenge_params (challenge_columns (bare_row row)))

@@ -71,11 +71,11 @@ pub fn read_additions<S: Alter>(
     alloc: Global,
     conn: &mut Connection<S>,
 ) -> Result<Option<Additions>, Error>
-    ensures book { HasCleanDisk (state S.Store conn.new) → IfOk result (λ known. IsSome known
+    ensures book { HasCleanDisk (state S.Store conn.new) → IfOk result (λ answer. IsSome answer
         → (stored : StoredRows) × AreFirstShown S.Store conn.old stored × (T : Tables) × IsBookOfStored stored T) }
     ensures added { HasCleanDisk (state S.Store conn.new)
-        → IfOk result (λ known. IfSome known (AreOfDesks (state S.Store conn.old).now)) }
-    ensures none { HasCleanDisk (state S.Store conn.new) → IfOk result (λ known. known ≡ None → HasNoFirstBook S.Store conn.old) }
+        → IfOk result (λ answer. IfSome answer (AreOfDesks (state S.Store conn.old).now)) }
+    ensures none { HasCleanDisk (state S.Store conn.new) → IfOk result (λ answer. answer ≡ None → HasNoFirstBook S.Store conn.old) }
     ensures found { ForFirst (state S.Store conn.old) (state S.Store conn.new) (λ T. IsStoredBook T → IfOk result IsSome) }
     ensures fails { ForFirst (state S.Store conn.old) (state S.Store conn.new) (λ T. MayRead (state S.Store conn.old) → HasTexts T → IfErr result IsFailure) }
     ensures refused { HasCleanDisk (state S.Store conn.new) → IfErr result (λ e. IsOutOfMemory e ⊎ FailsAtFirst S.Store conn.old e) }

@@ -143,5 +143,5 @@ are_fit (c ∷ cs) T up kept h =
     (record { children = kept.0; rising = rising }, are_fit cs (applied_one c T) rising kept.1 h)
 
 -- so what makes each in turn saves them
-pub saves_by : (known : Tables) (changes : List Change) (old new : Database) → MakesAll known changes old new → Saves known changes old new
-saves_by known changes old new makes T has stands fits = makes T has stands (are_fit changes T has.rising fits.kept fits.in_order)
+pub saves_by : (part : Tables) (changes : List Change) (old new : Database) → MakesAll part changes old new → Saves part changes old new
+saves_by part changes old new makes T has is_part fits = makes T has is_part (are_fit changes T has.rising fits.kept fits.in_order)

@@ -17,9 +17,9 @@ use Rattle.sql_write.specs.Differences.{account_difference, authorization_differ
 use Rattle.sql_write.specs.Differences.{is_same_authorization, is_same_challenge, is_same_date, is_same_dated, is_same_end, is_same_fact, is_same_report}
 use Rattle.sql_write.specs.Differences.{keeps_authorization, keeps_challenge, keeps_order, keeps_policy, order_difference}
 use Rattle.sql_write.specs.Write.{difference, write}
-use Rattle.sql_write.specs.declared.standing.{Write.Write, Difference.Difference}
-use Rattle.sql_write.specs.declared.standing.Write.TheVariants.{Upsert, Insert, Update}
-use Rattle.sql_write.specs.declared.standing.Difference.TheVariants.{Same, Moved, Other}
+use Rattle.sql_write.specs.declared.stored.{Write.Write, Difference.Difference}
+use Rattle.sql_write.specs.declared.stored.Write.TheVariants.{Upsert, Insert, Update}
+use Rattle.sql_write.specs.declared.stored.Difference.TheVariants.{Same, Moved, Other}
 use Rattle.sql_tables.specs.Images.{account_kept, authorization_image, authorization_kept, challenge_image, challenge_kept, formatted_columns}
 use Rattle.sql_tables.specs.Images.{int_or_null, key_image, meta_kept, order_kept, text_or_null}
 use Rattle.sql_tables.specs.Layouts.{account_layout, authorization_layout, challenge_layout, formatted_layout, key_layout}
@@ -171,7 +171,7 @@ same_key old row number is =
 -- ---- the row of `meta`
 
 -- one that is known, in its format
-policy_kept_as : (known : Option Meta) (x : ℤ × Meta) (row : Meta) → option_map (λ m. (known_format, m)) known ≡ Some x → keeps_policy x.1 row ≡ true
+policy_kept_as : (stored : Option Meta) (x : ℤ × Meta) (row : Meta) → option_map (λ m. (known_format, m)) stored ≡ Some x → keeps_policy x.1 row ≡ true
     → meta_kept (formatted_columns x) ≡ meta_kept (formatted_columns (known_format, row))
 policy_kept_as None x row stands is = absurd (cc stands)
 policy_kept_as (Some m) x row stands is =
@@ -194,9 +194,9 @@ always_written false is = absurd (cc is)
 -- ---- orders
 
 -- one that is renewed is known, and keeps what it was made with
-pub order_keeps : (known : Option OrderRow) (new : Bool) (row : OrderRow) (m : Write)
-    → write (option_map (λ old. order_difference old row) known) new ≡ Some m
-    → m ≡ Update → (there : OrderRow) × (known ≡ Some there) × (order_kept (order_columns there) ≡ order_kept (order_columns row))
+pub order_keeps : (stored : Option OrderRow) (new : Bool) (row : OrderRow) (m : Write)
+    → write (option_map (λ old. order_difference old row) stored) new ≡ Some m
+    → m ≡ Update → (there : OrderRow) × (stored ≡ Some there) × (order_kept (order_columns there) ≡ order_kept (order_columns row))
 order_keeps None true row m is renewed = absurd (let same : Some Insert ≡ Some Update = is ∙ ap (λ x. Some x) renewed in cc)
 order_keeps None false row m is renewed = absurd (let same : Some Upsert ≡ Some Update = is ∙ ap (λ x. Some x) renewed in cc)
 order_keeps (Some old) new row m is renewed = by (keeps_order old row) refl is
@@ -209,53 +209,53 @@ order_keeps (Some old) new row m is renewed = by (keeps_order old row) refl is
 -- ---- what is told of a row by how it differs
 
 -- the row of `meta`
-pub meta_differs : (row : Meta) (known : Option Meta)
+pub meta_differs : (row : Meta) (stored : Option Meta)
     → Differs formatted_layout (λ x. meta_kept (formatted_columns x)) (λ x. meta_difference x.1 row) (known_format, row)
-    (option_map (λ m. (known_format, m)) known)
-meta_differs row known = record {
-  moved = λ x stands is. policy_kept_as known x row stands (moved_keeps (keeps_policy x.1 row) false is);
+    (option_map (λ m. (known_format, m)) stored)
+meta_differs row stored = record {
+  updates = λ x stands is. policy_kept_as stored x row stands (moved_keeps (keeps_policy x.1 row) false is);
   same = λ x stands number is. absurd (never_same (keeps_policy x.1 row) is);
 }
 
 -- an account
-pub account_differs : (row : AccountRow) (known : Option AccountRow)
-    → Differs account_layout (λ x. account_kept (account_columns x)) (λ old. account_difference old row) row known
-account_differs row known = record {
-  moved = λ old stands is. opened_kept old row (moved_keeps (old.opened == row.opened) false is);
+pub account_differs : (row : AccountRow) (stored : Option AccountRow)
+    → Differs account_layout (λ x. account_kept (account_columns x)) (λ old. account_difference old row) row stored
+account_differs row stored = record {
+  updates = λ old stands is. opened_kept old row (moved_keeps (old.opened == row.opened) false is);
   same = λ old stands number is. absurd (never_same (old.opened == row.opened) is);
 }
 
 -- an authorization
-pub authorization_differs : (row : AuthorizationRow) (known : Option AuthorizationRow)
-    → Differs authorization_layout (λ x. authorization_kept (authorization_columns x)) (λ old. authorization_difference old row) row known
-authorization_differs row known = record {
-  moved = λ old stands is. authorization_is_kept old row (moved_keeps (keeps_authorization old row) (is_same_authorization old row) is);
+pub authorization_differs : (row : AuthorizationRow) (stored : Option AuthorizationRow)
+    → Differs authorization_layout (λ x. authorization_kept (authorization_columns x)) (λ old. authorization_difference old row) row stored
+authorization_differs row stored = record {
+  updates = λ old stands is. authorization_is_kept old row (moved_keeps (keeps_authorization old row) (is_same_authorization old row) is);
   same = λ old stands number is. let all = same_is (keeps_authorization old row) (is_same_authorization old row) is in
       same_authorization old row number all.0 all.1;
 }
 
 -- a challenge of this authorization
-pub challenge_differs : (n : ℕ) (row : ChallengeRow) (known : Option ChallengeRow)
+pub challenge_differs : (n : ℕ) (row : ChallengeRow) (stored : Option ChallengeRow)
     → Differs challenge_layout (λ c. challenge_kept (challenge_columns (bare_row c))) (λ (c : Owned ChallengeRow). challenge_difference c.row row)
-    (record { owner = n; row = row }) (option_map (λ c. record { owner = n; row = c }) known)
-challenge_differs n row known = record {
-  moved = λ old stands is.
-      ap (λ k. challenge_kept (challenge_columns (bare_row (record { owner = k; row = old.row })))) (owner_is n known old stands)
+    (record { owner = n; row = row }) (option_map (λ c. record { owner = n; row = c }) stored)
+challenge_differs n row stored = record {
+  updates = λ old stands is.
+      ap (λ k. challenge_kept (challenge_columns (bare_row (record { owner = k; row = old.row })))) (owner_is n stored old stands)
       ∙ challenge_is_kept n old.row row (moved_keeps (keeps_challenge old.row row) (is_same_challenge old.row row) is);
   same = λ old stands number is. let all = same_is (keeps_challenge old.row row) (is_same_challenge old.row row) is in
-      ap (λ k. challenge_image (record { owner = k; row = old.row })) (owner_is n known old stands) ∙ same_challenge n old.row row number all.0 all.1;
+      ap (λ k. challenge_image (record { owner = k; row = old.row })) (owner_is n stored old stands) ∙ same_challenge n old.row row number all.0 all.1;
 }
 
 -- the key of an answer
-pub key_differs : (row : AnswerKey) (known : Option AnswerKey) → Differs key_layout (λ _. []) (λ old. key_difference old row) row known
-key_differs row known = record {
-  moved = λ old stands is. refl;
+pub key_differs : (row : AnswerKey) (stored : Option AnswerKey) → Differs key_layout (λ _. []) (λ old. key_difference old row) row stored
+key_differs row stored = record {
+  updates = λ old stands is. refl;
   same = λ old stands number is. same_key old row number (same_is (bytes_eq old.thumb row.thumb) true is).0;
 }
 
 -- ---- an order is always written
 
-pub order_written : (known : Option OrderRow) (new : Bool) (row : OrderRow) → write (option_map (λ old. order_difference old row) known) new ≡ None → ⊥
+pub order_written : (stored : Option OrderRow) (new : Bool) (row : OrderRow) → write (option_map (λ old. order_difference old row) stored) new ≡ None → ⊥
 order_written None new row is = always_written new is
 order_written (Some old) new row is = by (keeps_order old row) is
   where

@@ -5,7 +5,7 @@ use Rattle.sqlite.specs.Effect.{Database}
 use Rattle.sqlite.specs.State.{State, Survives}
 use Rattle.sql_schema.proofs.AdvanceLemmas.{advances_then}
 use Rattle.sql_schema.specs.Advances.{Advances, KeepsLast}
-use Rattle.sql_write.specs.declared.standing.Write.{Write}
+use Rattle.sql_write.specs.declared.stored.Write.{Write}
 
 -- the last commit is as it was before a call that advanced the transaction
 pub kept_behind : (a b c : State) (Does : Database → Database → Type 0) → Advances a b Does → Survives b c (λ _. ⊥) → KeepsLast b c → KeepsLast a c

@@ -1,5 +1,5 @@
 pub mod ChallengeNumbers
-pub mod ChildrenStanding
+pub mod StoredChildren
 pub mod InPlace
 pub mod Differing
 pub mod Numbered
@@ -14,7 +14,7 @@ pub mod BackFits
 pub mod OrderedFit
 pub mod Leaving
 pub mod Exits
-pub mod KnownRows
+pub mod StoredRows
 pub mod Told
 pub mod Written
 mod Upgraded

@@ -92,9 +92,9 @@ added x (p ∷ ps) none = elim (ranked p.number x.number) [
   | inl less ↦
       let own = owned_by p.number p.listed in
       let later = sym (find_later number_of x.number p ps (λ e. omega (arith, e, less.low))) ∙ none in
-      let moved = IsPermutation-append_right own (listed_rows ps ++ owned_by x.number x.listed) (listed_rows (put number_of x ps)) (added x ps later) in
+      let updates = IsPermutation-append_right own (listed_rows ps ++ owned_by x.number x.listed) (listed_rows (put number_of x ps)) (added x ps later) in
       let whole : IsPermutation ((own ++ listed_rows ps) ++ owned_by x.number x.listed) (own ++ listed_rows (put number_of x ps)) =
-      subst (λ ls. IsPermutation ls (own ++ listed_rows (put number_of x ps))) (sym (append_assoc own (listed_rows ps) (owned_by x.number x.listed))) moved in
+      subst (λ ls. IsPermutation ls (own ++ listed_rows (put number_of x ps))) (sym (append_assoc own (listed_rows ps) (owned_by x.number x.listed))) updates in
       subst (λ rows. IsPermutation (listed_rows (p ∷ ps) ++ owned_by x.number x.listed) (listed_rows rows)) (sym (put_past number_of x p ps less.low)) whole
   | inr (inl tied) ↦ let some : Some p ≡ None = sym (find_here number_of x.number p ps tied.same) ∙ none in absurd (cc some)
   | inr (inr more) ↦

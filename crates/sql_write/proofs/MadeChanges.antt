@@ -16,18 +16,18 @@ use Rattle.desk_model.specs.Tables.{Tables}
 use Rattle.desk_model.specs.declared.{objects.Nonce.Nonce, rows.AccountRow.AccountRow, rows.AuthorizationRow.AuthorizationRow, rows.Meta.Meta}
 use Rattle.desk_model.specs.declared.{rows.OrderRow.OrderRow, rows.Change.Change, rows.Counters.Counters}
 use Rattle.desk_model.specs.declared.rows.Change.TheVariants.{PutMeta, PutNonce, RemoveNonce, PutAccount, PutAuthorization, PutOrder}
-use Rattle.sql_write.specs.Makes.{AppendsAll, Makes, PlacesAll, PutsOver, SetsAuthorization, SetsMeta, SetsOrder, WritesOrder, appended}
+use Rattle.sql_write.specs.Makes.{AppendsAll, Makes, PlacesAll, PutsOver, SavesAuthorization, SavesMeta, SavesOrder, WritesOrder, appended}
 use Rattle.sql_write.specs.{Refusals.HasWritten, Statements.statements_of}
-use Rattle.sql_write.specs.Standing.{HasSome, IsWithout}
-use Rattle.sql_write.specs.declared.{fault.SaveFault.SaveFault, standing.Write.Write}
-use Rattle.sql_write.specs.declared.standing.Write.TheVariants.{Upsert, Insert, Update}
+use Rattle.sql_write.specs.Stored.{HasSome, IsWithout}
+use Rattle.sql_write.specs.declared.{fault.SaveFault.SaveFault, stored.Write.Write}
+use Rattle.sql_write.specs.declared.stored.Write.TheVariants.{Upsert, Insert, Update}
 use Rattle.sql_write.proofs.{ChallengeNumbers.keys_owned, InPlace.put_alike, Over.has_own, PlacedRows.appended_rows, Written.written_as}
-use Rattle.sql_write.proofs.ChildrenStanding.{IsThere, challenges_stand, keys_stand}
+use Rattle.sql_write.proofs.StoredChildren.{IsThere, challenges_stand, keys_stand}
 use Rattle.sql_write.proofs.KeyRows.{keys_flat, keys_within}
 use Rattle.sql_write.proofs.ListedAfter.{added as added_listed, found_in, listed_after}
 use Rattle.sql_write.proofs.NestedRows.{children_put, own_apart}
 use Rattle.sql_write.proofs.Numbered.{AreWithin, within_same}
-use Rattle.sql_write.proofs.KnownRows.{account_stands, found_has}
+use Rattle.sql_write.proofs.StoredRows.{account_found, found_has}
 use Rattle.sql_tables.specs.Effects.{Adds, BecomesRows, Puts, Removes, Renews}
 use Rattle.sql_tables.specs.Holds.{AreRising, Holds}
 use Rattle.sql_tables.specs.Images.{challenge_image, key_image, order_kept}
@@ -42,11 +42,11 @@ use Rattle.sql_tables.proofs.Sorting.{put_over, sorted_rises}
 -- ---- one row
 
 -- the row of `meta`
-pub makes_meta : (known : Tables) (x : Meta) (old new : Database) → SetsMeta (Some known.meta) x old new → Makes known (PutMeta x) old new
-makes_meta known x old new sets T has stands fits =
+pub makes_meta : (part : Tables) (x : Meta) (old new : Database) → SavesMeta (Some part.meta) x old new → Makes part (PutMeta x) old new
+makes_meta part x old new sets T has is_part fits =
     let first = meta_held old T has in
     let p = sets has.sound rows (record { schema = first.schema; rows_are = first.rows_are; rising = (omega arith, tt) })
-    (inl (ap (λ m. (known_format, m)) stands.meta), refl) in
+    (inl (ap (λ m. (known_format, m)) is_part.meta), refl) in
     holds_on (0 ∷ []) old new (kept_at 0 old new p.others) T (applied_one (PutMeta x) T) has p.sound p.has.schema fits.rising
     p.has.rows_are refl refl refl refl refl refl refl
   where
@@ -61,18 +61,18 @@ nonces_become old new T nonces has p rising =
     refl p.has.rows_are refl refl refl refl refl refl
 
 -- a nonce
-pub makes_nonce : (known : Tables) (x : Nonce) (old new : Database) → Puts nonce_layout x old new → Makes known (PutNonce x) old new
-makes_nonce known x old new puts T has stands fits = nonces_become old new T _ has (puts T.nonces (nonces_held old T has)) fits.rising
+pub makes_nonce : (part : Tables) (x : Nonce) (old new : Database) → Puts nonce_layout x old new → Makes part (PutNonce x) old new
+makes_nonce part x old new puts T has is_part fits = nonces_become old new T _ has (puts T.nonces (nonces_held old T has)) fits.rising
 
 -- the removal of a nonce
-pub makes_removal : (known : Tables) (n : ℕ) (old new : Database) → Removes nonce_layout n old new → Makes known (RemoveNonce n) old new
-makes_removal known n old new removes T has stands fits = nonces_become old new T _ has (removes T.nonces (nonces_held old T has)) fits.rising
+pub makes_removal : (part : Tables) (n : ℕ) (old new : Database) → Removes nonce_layout n old new → Makes part (RemoveNonce n) old new
+makes_removal part n old new removes T has is_part fits = nonces_become old new T _ has (removes T.nonces (nonces_held old T has)) fits.rising
 
 -- an account
-pub makes_account : (known : Tables) (x : AccountRow) (old new : Database) → PutsOver account_layout (account_on known x.number) x old new
-    → Makes known (PutAccount x) old new
-makes_account known x old new puts T has stands fits =
-    let p = puts has.sound T.accounts (accounts_held old T has) (account_stands known x.number T stands) in
+pub makes_account : (part : Tables) (x : AccountRow) (old new : Database) → PutsOver account_layout (account_on part x.number) x old new
+    → Makes part (PutAccount x) old new
+makes_account part x old new puts T has is_part fits =
+    let p = puts has.sound T.accounts (accounts_held old T has) (account_found part x.number T is_part) in
     holds_on (2 ∷ []) old new (kept_at 2 old new p.others) T (applied_one (PutAccount x) T) has p.sound p.has.schema fits.rising
     refl refl p.has.rows_are refl refl refl refl refl
 
@@ -138,12 +138,12 @@ there_with rows n (Some a) (b, found, some) =
     let it = found_has (λ (r : AuthorizationRow). r.number) n rows b found in (b, it.0, it.1, some.challenges)
 
 -- an authorization, then its challenges and the keys of their answers, over those that are known
-pub makes_authorization : (known : Tables) (x : AuthorizationRow) (old new : Database)
-    → SetsAuthorization (authorization_on known x.number) x old new
-    → Makes known (PutAuthorization x) old new
-makes_authorization known x old new sets T has stands fits =
-    let stood = authorization_on known x.number in
-    let some = stands.authorizations x.number in
+pub makes_authorization : (part : Tables) (x : AuthorizationRow) (old new : Database)
+    → SavesAuthorization (authorization_on part x.number) x old new
+    → Makes part (PutAuthorization x) old new
+makes_authorization part x old new sets T has is_part fits =
+    let stood = authorization_on part x.number in
+    let some = is_part.authorizations x.number in
     let there = there_with T.authorizations x.number stood some in
     let held = held_with old T.authorizations (authorizations_held old T has) x stood some in
     let rows = challenge_rows T.authorizations in
@@ -171,9 +171,9 @@ makes_authorization known x old new sets T has stands fits =
     (r.has.rows_are ∙ ap (map key_image) (keys_put T x fits.children fits.rising.challenges))
 
 -- an order, then what it lists
-makes_order : (known : Tables) (x : OrderRow) (old mid new : Database) → Puts order_layout x old mid → PlacesAll (owned_by x.number x.listed) mid new
-    → Makes known (PutOrder x) old new
-makes_order known x old mid new first last T has stands fits =
+makes_order : (part : Tables) (x : OrderRow) (old mid new : Database) → Puts order_layout x old mid → PlacesAll (owned_by x.number x.listed) mid new
+    → Makes part (PutOrder x) old new
+makes_order part x old mid new first last T has is_part fits =
     let p = first T.orders (orders_held old T has) in
     let kept = kept_at 4 old mid p.others in
     let between : HasRows listed_layout mid has.listed.numbered =
@@ -191,10 +191,10 @@ makes_order known x old mid new first last T has stands fits =
     }) refl refl
 
 -- a new order, then what it lists
-makes_new_order : (known : Tables) (x : OrderRow) (old mid new : Database) → Adds order_layout x old mid → AppendsAll (owned_by x.number x.listed)
+makes_new_order : (part : Tables) (x : OrderRow) (old mid new : Database) → Adds order_layout x old mid → AppendsAll (owned_by x.number x.listed)
     mid new
-    → Makes known (PutOrder x) old new
-makes_new_order known x old mid new first last T has stands fits =
+    → Makes part (PutOrder x) old new
+makes_new_order part x old mid new first last T has is_part fits =
     let added = first T.orders (orders_held old T has) in
     let p = added.1 in
     let ls = owned_by x.number x.listed in
@@ -214,12 +214,12 @@ makes_new_order known x old mid new first last T has stands fits =
     }) refl refl
 
 -- an order that is known to be there, which keeps what it lists
-makes_renewed_order : (known : Tables) (x there : OrderRow) → order_on known x.number ≡ Some there
+makes_renewed_order : (part : Tables) (x there : OrderRow) → order_on part x.number ≡ Some there
     → order_kept (order_columns there) ≡ order_kept (order_columns x) → (old new : Database)
-    → Renews order_layout (λ o. order_kept (order_columns o)) x old new → Makes known (PutOrder x) old new
-makes_renewed_order known x there is keeps old new renews T has stands fits =
+    → Renews order_layout (λ o. order_kept (order_columns o)) x old new → Makes part (PutOrder x) old new
+makes_renewed_order part x there is keeps old new renews T has is_part fits =
     let it = subst (λ o. IfSome o (λ (o : OrderRow). (p : OrderRow) × (find (λ (r : OrderRow). r.number == x.number) T.orders ≡ Some p) × IsWithout o p)) is
-    (stands.orders x.number) in
+    (is_part.orders x.number) in
     let whole = it.0 in
     let found = it.1 in
     let columns = sym (ap (λ (o : OrderRow). order_kept (order_columns o)) it.2) ∙ keeps in
@@ -230,25 +230,25 @@ makes_renewed_order known x there is keeps old new renews T has stands fits =
     refl refl refl p.has.rows_are refl (sym (found_in 0 x T.orders whole has.rising.orders found kept).0) refl refl
 
 -- an order, by how it was written
-pub makes_set_order : (known : Tables) (x : OrderRow) (old new : Database) → SetsOrder (order_on known x.number) x old new
-    → Makes known (PutOrder x) old new
-makes_set_order known x old new (write, writes, keeps) = go write writes keeps
+pub makes_set_order : (part : Tables) (x : OrderRow) (old new : Database) → SavesOrder (order_on part x.number) x old new
+    → Makes part (PutOrder x) old new
+makes_set_order part x old new (write, writes, keeps) = go write writes keeps
   where
     go : (m : Write) → WritesOrder m x old new
-        → (m ≡ Update → (there : OrderRow) × (order_on known x.number ≡ Some there) × (order_kept (order_columns there) ≡ order_kept (order_columns x)))
-        → Makes known (PutOrder x) old new
-    go Upsert w keeps = makes_order known x old w.0 new w.1 w.2
-    go Insert w keeps = makes_new_order known x old w.0 new w.1 w.2
+        → (m ≡ Update → (there : OrderRow) × (order_on part x.number ≡ Some there) × (order_kept (order_columns there) ≡ order_kept (order_columns x)))
+        → Makes part (PutOrder x) old new
+    go Upsert w keeps = makes_order part x old w.0 new w.1 w.2
+    go Insert w keeps = makes_new_order part x old w.0 new w.1 w.2
     go Update w keeps =
         let it = keeps refl in
-        subst (λ db. Makes known (PutOrder x) old db) (sym w.2) (makes_renewed_order known x it.0 it.1 it.2 old w.0 w.1)
+        subst (λ db. Makes part (PutOrder x) old db) (sym w.2) (makes_renewed_order part x it.0 it.1 it.2 old w.0 w.1)
 
 -- ---- what a call wrote of a change
 
 -- what it wrote of the change that this is
-pub writes_change : {S R : Type 0} (g : Ghosts S) (known : Tables) (last : Counters) (change put : Change) → change ≡ put
+pub writes_change : {S R : Type 0} (g : Ghosts S) (part : Tables) (last : Counters) (change put : Change) → change ≡ put
     → (A : Database → Database → Type 0) (a b : Held S) (r : Result R SaveFault)
-    → (A (state g a).now (state g b).now → Makes known put (state g a).now (state g b).now) → HasWritten g (statements_of known last put) A a b r
-    → HasWritten g (statements_of known last change) (Makes known change) a b r
-writes_change g known last change put is A a b r makes it =
-    subst (λ change. HasWritten g (statements_of known last change) (Makes known change) a b r) (sym is) (written_as g _ A _ a b r makes it)
+    → (A (state g a).now (state g b).now → Makes part put (state g a).now (state g b).now) → HasWritten g (statements_of part last put) A a b r
+    → HasWritten g (statements_of part last change) (Makes part change) a b r
+writes_change g part last change put is A a b r makes it =
+    subst (λ change. HasWritten g (statements_of part last change) (Makes part change) a b r) (sym is) (written_as g _ A _ a b r makes it)

@@ -11,11 +11,11 @@ use Rattle.model_laws.specs.{Distinct.Distinct, Placing.puts}
 use Rattle.desk_model.specs.{Change.put, Kept.EachOf}
 use Rattle.sqlite.specs.Held.{Held, state}
 use Rattle.sql_write.proofs.Written.{nothing_written, written_as, written_with}
-use Rattle.sql_write.specs.Makes.{PutsAllOver, PutsOver, Sets, StandUnder, Writes}
+use Rattle.sql_write.specs.Makes.{PutsAllOver, PutsOver, Sets, AreFoundUnder, Writes}
 use Rattle.sql_write.specs.{Write.write, Refusals.HasWritten}
 use Rattle.sql_write.specs.Statements.{Sql, of_some}
-use Rattle.sql_write.specs.declared.{fault.SaveFault.SaveFault, standing.Write.Write, standing.Difference.Difference}
-use Rattle.sql_write.specs.declared.standing.Difference.TheVariants.{Same, Moved, Other}
+use Rattle.sql_write.specs.declared.{fault.SaveFault.SaveFault, stored.Write.Write, stored.Difference.Difference}
+use Rattle.sql_write.specs.declared.stored.Difference.TheVariants.{Same, Moved, Other}
 use Rattle.sql_tables.specs.{Effects.BecomesRows, Sorted.sorted_by}
 use Rattle.sql_tables.specs.Layouts.{HasRows, Layout}
 use Rattle.sql_tables.proofs.Keyed.{put_ascends, ranked}
@@ -70,17 +70,17 @@ module _ {X : Type 0} (key : X → ℕ) where
 -- ---- one row
 
 -- of a row that differs so from the one that is known, the one keeps what the other has: these columns where it moved, all where it is the same
-pub record Differs {X : Type 0} (L : Layout X) (kept : X → Row) (diff : X → Difference) (row : X) (known : Option X) : Type 0 where
-  pub moved : (old : X) → known ≡ Some old → diff old ≡ Moved → kept old ≡ kept row
-  pub same : (old : X) → known ≡ Some old → L.key old ≡ L.key row → diff old ≡ Same → L.image old ≡ L.image row
+pub record Differs {X : Type 0} (L : Layout X) (kept : X → Row) (diff : X → Difference) (row : X) (stored : Option X) : Type 0 where
+  pub updates : (old : X) → stored ≡ Some old → diff old ≡ Moved → kept old ≡ kept row
+  pub same : (old : X) → stored ≡ Some old → L.key old ≡ L.key row → diff old ≡ Same → L.image old ≡ L.image row
 
 -- what was written by how it differs puts it over that
-over_known : {X : Type 0} (L : Layout X) (kept : X → Row) (diff : X → Difference) (row : X) (new : Bool) (known : Option X)
-    → Differs L kept diff row known
-    → (a b : Database) → Sets L kept (write (option_map diff known) new) row a b → PutsOver L known row a b
-over_known L kept diff row true None differs a b adds = λ sound rows has stands. (adds rows has).1
-over_known L kept diff row false None differs a b put_it = λ sound rows has stands. put_it rows has
-over_known L kept diff row new (Some old) differs a b sets = go (diff old) refl sets
+over_stored : {X : Type 0} (L : Layout X) (kept : X → Row) (diff : X → Difference) (row : X) (new : Bool) (stored : Option X)
+    → Differs L kept diff row stored
+    → (a b : Database) → Sets L kept (write (option_map diff stored) new) row a b → PutsOver L stored row a b
+over_stored L kept diff row true None differs a b adds = λ sound rows has stands. (adds rows has).1
+over_stored L kept diff row false None differs a b put_it = λ sound rows has stands. put_it rows has
+over_stored L kept diff row new (Some old) differs a b sets = go (diff old) refl sets
   where
     go : (d : Difference) → diff old ≡ d → Sets L kept (write (Some d) new) row a b → PutsOver L (Some old) row a b
     go Same is unmoved = λ sound rows has stands.
@@ -93,38 +93,38 @@ over_known L kept diff row new (Some old) differs a b sets = go (diff old) refl 
           };
           others = λ t other none. refl;
         })
-    go Moved is renews = λ sound rows has stands. renews rows has old stands.0 stands.1 (differs.moved old refl is)
+    go Moved is renews = λ sound rows has stands. renews rows has old stands.0 stands.1 (differs.updates old refl is)
     go Other is put_it = λ sound rows has stands. put_it rows has
 
 -- ---- several rows
 
-module _ {X : Type 0} (L : Layout X) (known : X → Option X) where
+module _ {X : Type 0} (L : Layout X) (stored : X → Option X) where
   -- what stands under rows still does behind others
-  stands_behind : (xs ys : List X) (rows : List X) → EachOf (λ x. EachOf (λ y. L.key x ≢ L.key y) ys) xs → StandUnder L known rows ys
-      → StandUnder L known (puts L.key xs rows) ys
-  stands_behind xs [] rows differ h = tt
-  stands_behind xs (y ∷ ys) rows differ h =
-      (here (known y) h.0, stands_behind xs ys rows (each _ _ xs (λ x p. p.1) differ) h.1)
+  found_behind : (xs ys : List X) (rows : List X) → EachOf (λ x. EachOf (λ y. L.key x ≢ L.key y) ys) xs → AreFoundUnder L stored rows ys
+      → AreFoundUnder L stored (puts L.key xs rows) ys
+  found_behind xs [] rows differ h = tt
+  found_behind xs (y ∷ ys) rows differ h =
+      (here (stored y) h.0, found_behind xs ys rows (each _ _ xs (λ x p. p.1) differ) h.1)
     where
       here : (o : Option X) → IfSome o (λ z. Has rows z × (L.key z ≡ L.key y)) → IfSome o (λ z. Has (puts L.key xs rows) z × (L.key z ≡ L.key y))
       here None it = tt
       here (Some z) it = (has_others L.key xs z rows (each _ _ xs (λ x p same. p.0 (sym same ∙ it.1)) differ) it.0, it.1)
 
   -- none
-  pub over_none : (a : Database) → PutsAllOver L known [] a a
+  pub over_none : (a : Database) → PutsAllOver L stored [] a a
   over_none a sound rows has stands differ = record { sound = sound; has = has; others = λ t other none. refl }
 
   -- one
-  pub over_one : (x : X) (a b : Database) → PutsOver L (known x) x a b → PutsAllOver L known (x ∷ []) a b
+  pub over_one : (x : X) (a b : Database) → PutsOver L (stored x) x a b → PutsAllOver L stored (x ∷ []) a b
   over_one x a b it sound rows has stands differ = it sound rows has stands.0
 
   -- some, and then others
-  pub over_both : (xs ys : List X) (a b c : Database) → PutsAllOver L known xs a b → PutsAllOver L known ys b c → PutsAllOver L known (xs ++ ys) a c
+  pub over_both : (xs ys : List X) (a b c : Database) → PutsAllOver L stored xs a b → PutsAllOver L stored ys b c → PutsAllOver L stored (xs ++ ys) a c
   over_both xs ys a b c first last sound rows has stands differ =
       let stand = each_parts _ xs ys stands in
       let parts = distinct_parts L.key xs ys differ in
       let one = first sound rows has stand.0 parts.0 in
-      let two = last one.sound (puts L.key xs rows) one.has (stands_behind xs ys rows parts.1 stand.1) parts.2 in
+      let two = last one.sound (puts L.key xs rows) one.has (found_behind xs ys rows parts.1 stand.1) parts.2 in
       record {
         sound = two.sound;
         has = subst (HasRows L c) (sym (puts_append L.key xs ys rows)) two.has;
@@ -134,26 +134,26 @@ module _ {X : Type 0} (L : Layout X) (known : X → Option X) where
 -- ---- what a call wrote of one row
 
 -- the call was told how to write it, by how it differs
-module _ {S : Type 0} (g : Ghosts S) {X : Type 0} {L : Layout X} {kept : X → Row} {diff : X → Difference} {row : X} {known : Option X}
-    (differs : Differs L kept diff row known) (new : Bool) (of : Write → List Sql) {told : Option Write} {found wanted : Option Difference}
-    (like : option_map diff known ≡ wanted) (by : told ≡ write found new) (are : found ≡ wanted) where
+module _ {S : Type 0} (g : Ghosts S) {X : Type 0} {L : Layout X} {kept : X → Row} {diff : X → Difference} {row : X} {stored : Option X}
+    (differs : Differs L kept diff row stored) (new : Bool) (of : Write → List Sql) {told : Option Write} {found wanted : Option Difference}
+    (like : option_map diff stored ≡ wanted) (by : told ≡ write found new) (are : found ≡ wanted) where
   -- it is what is done of the row
   set_as : {R : Type 0} (a b : Held S) (r : Result R SaveFault) (m : Option Write) → told ≡ m
-      → HasWritten g (of_some of m) (Sets L kept m row) a b r → HasWritten g (of_some of (write wanted new)) (PutsOver L known row) a b r
+      → HasWritten g (of_some of m) (Sets L kept m row) a b r → HasWritten g (of_some of (write wanted new)) (PutsOver L stored row) a b r
   set_as a b r m is it =
-      let same : m ≡ write (option_map diff known) new = sym is ∙ by ∙ ap (λ d. write d new) (are ∙ sym like) in
-      written_with g _ _ (PutsOver L known row) a b r (ap (of_some of) (same ∙ ap (λ d. write d new) like))
-      (written_as g (of_some of m) (Sets L kept m row) (PutsOver L known row) a b r
-      (λ did. over_known L kept diff row new known differs (state g a).now (state g b).now
+      let same : m ≡ write (option_map diff stored) new = sym is ∙ by ∙ ap (λ d. write d new) (are ∙ sym like) in
+      written_with g _ _ (PutsOver L stored row) a b r (ap (of_some of) (same ∙ ap (λ d. write d new) like))
+      (written_as g (of_some of m) (Sets L kept m row) (PutsOver L stored row) a b r
+      (λ did. over_stored L kept diff row new stored differs (state g a).now (state g b).now
       (subst (λ o. Sets L kept o row (state g a).now (state g b).now) same did)) it)
 
   -- a row that is written in this write
   pub set_some : {R : Type 0} (a b : Held S) (r : Result R SaveFault) (m : Write) → told ≡ Some m → HasWritten g (of m) (Writes L kept m row) a b r
-      → HasWritten g (of_some of (write wanted new)) (PutsOver L known row) a b r
+      → HasWritten g (of_some of (write wanted new)) (PutsOver L stored row) a b r
   set_some a b r m = set_as a b r (Some m)
 
   -- and one that is not
-  pub set_none : {R : Type 0} (a : Held S) (u : R) → told ≡ None → HasWritten g (of_some of (write wanted new)) (PutsOver L known row) a a (Ok u)
+  pub set_none : {R : Type 0} (a : Held S) (u : R) → told ≡ None → HasWritten g (of_some of (write wanted new)) (PutsOver L stored row) a a (Ok u)
   set_none a u is = set_as a a (Ok u) None is (nothing_written g (Sets L kept None row) a u refl)
 
 -- ---- what is known, under an owner

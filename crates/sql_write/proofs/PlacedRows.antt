@@ -45,8 +45,8 @@ each_at P (y ∷ ys) x all (inr there) = each_at P ys x all.1 there
 
 -- the same items in another order
 pub has_through : {X : Type 0} (xs ys : List X) (x : X) → IsPermutation xs ys → Has ys x → Has xs x
-has_through xs ys x moved h =
-    all_at (Has xs) ys x (recursion_from_All (Has xs) ys (All-permutation (Has xs) xs ys moved (All-from_recursion (Has xs) xs (has_all xs)))) h
+has_through xs ys x updates h =
+    all_at (Has xs) ys x (recursion_from_All (Has xs) ys (All-permutation (Has xs) xs ys updates (All-from_recursion (Has xs) xs (has_all xs)))) h
 
 -- in the first of two lists
 pub has_left : {X : Type 0} (xs ys : List X) (x : X) → Has xs x → Has (xs ++ ys) x

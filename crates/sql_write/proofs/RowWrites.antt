@@ -10,8 +10,8 @@ use Rattle.sql_write.specs.Statements.{RowWriting, account_writing, authorizatio
 use Rattle.sql_write.specs.Statements.{nonce_writing, order_writing, sql_by, writes}
 use Rattle.sql_write.specs.declared.fault.SaveFault.{SaveFault}
 use Rattle.sql_write.specs.declared.fault.SaveFault.TheVariants as save
-use Rattle.sql_write.specs.declared.{fault.WriteFault.WriteFault, standing.Write.Write}
-use Rattle.sql_write.specs.declared.standing.Write.TheVariants.{Upsert, Insert, Update}
+use Rattle.sql_write.specs.declared.{fault.WriteFault.WriteFault, stored.Write.Write}
+use Rattle.sql_write.specs.declared.stored.Write.TheVariants.{Upsert, Insert, Update}
 use Rattle.sql_write.proofs.Written.{none_written, run_written}
 use Rattle.sql_tables.specs.Images.{account_kept, authorization_kept}
 use Rattle.sql_tables.specs.Images.{challenge_kept, formatted_columns, meta_kept}
@@ -30,7 +30,7 @@ use Rattle.sql_tables.proofs.Upserts.{nonce_insert, nonce_upsert, order_insert, 
 pub record AreTexts {X : Type 0} (rows : RowWriting X) (Does : Write → X → Database → Database → Type 0) : Type 1 where
   pub puts : Carries rows.texts.1.now rows.all (Does Upsert)
   pub adds : Carries rows.texts.0.now rows.all (Does Insert)
-  pub renews : Carries rows.texts.2.now rows.moved (Does Update)
+  pub renews : Carries rows.texts.2.now rows.updates (Does Update)
 
 module _ {S : Type 0} (g : Ghosts S) {X : Type 0} {rows : RowWriting X} {Does : Write → X → Database → Database → Type 0}
     (texts : AreTexts rows Does) (x : X) where
@@ -39,22 +39,22 @@ module _ {S : Type 0} (g : Ghosts S) {X : Type 0} {rows : RowWriting X} {Does : 
   row_unwritten m a why = none_written g (writes rows m x) (Does m x) a why
 
   -- the statement for this write was run with these values
-  pub row_written : (a b : Held S) (q : Result (Unit {0}) SaveFault) (m : Write) (all moved : Row) → all ≡ rows.all x → moved ≡ rows.moved x
-      → IsRun g (sql_by rows.texts.0.now rows.texts.1.now rows.texts.2.now m all moved) a b q → HasWritten g (writes rows m x) (Does m x) a b q
-  row_written a b q Upsert all moved are renew it = run_written g rows.texts.1.now all (rows.all x) (Does Upsert x) a b q are it (texts.puts x _ _ all are)
-  row_written a b q Insert all moved are renew it = run_written g rows.texts.0.now all (rows.all x) (Does Insert x) a b q are it (texts.adds x _ _ all are)
-  row_written a b q Update all moved are renew it =
-      run_written g rows.texts.2.now moved (rows.moved x) (Does Update x) a b q renew it (texts.renews x _ _ moved renew)
+  pub row_written : (a b : Held S) (q : Result (Unit {0}) SaveFault) (m : Write) (all updates : Row) → all ≡ rows.all x → updates ≡ rows.updates x
+      → IsRun g (sql_by rows.texts.0.now rows.texts.1.now rows.texts.2.now m all updates) a b q → HasWritten g (writes rows m x) (Does m x) a b q
+  row_written a b q Upsert all updates are renew it = run_written g rows.texts.1.now all (rows.all x) (Does Upsert x) a b q are it (texts.puts x _ _ all are)
+  row_written a b q Insert all updates are renew it = run_written g rows.texts.0.now all (rows.all x) (Does Insert x) a b q are it (texts.adds x _ _ all are)
+  row_written a b q Update all updates are renew it =
+      run_written g rows.texts.2.now updates (rows.updates x) (Does Update x) a b q renew it (texts.renews x _ _ updates renew)
 
 -- ---- each table
 
 -- one that has all three texts, by what they mean
 texts_by : {X : Type 0} (L : Layout X) (rows : RowWriting X) (kept : X → Row) (puts : IsUpsert L rows.all rows.texts.1.now)
-    → IsInsert L puts rows.texts.0.now → IsUpdate L puts rows.moved kept rows.texts.2.now → AreTexts rows (Writes L kept)
+    → IsInsert L puts rows.texts.0.now → IsUpdate L puts rows.updates kept rows.texts.2.now → AreTexts rows (Writes L kept)
 texts_by L rows kept puts adds renews = record {
   puts = advances_by L rows.all _ puts;
   adds = advances_inserted L rows.all puts _ adds;
-  renews = advances_renewed L rows.all puts rows.moved kept _ renews;
+  renews = advances_renewed L rows.all puts rows.updates kept _ renews;
 }
 
 pub meta_texts : AreTexts meta_writing (RenewsOrPuts formatted_layout (λ x. meta_kept (formatted_columns x)))

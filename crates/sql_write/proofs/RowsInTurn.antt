@@ -16,12 +16,12 @@ use Rattle.model_laws.specs.Placing.{puts}
 use Rattle.sql_write.specs.Makes.{AddsOrPuts, AppendsAll, AppendsOrPlaces, ArePlaced, Makes, MakesAll, PlacesAll, PutsAll, PutsAllOver, PutsOver}
 use Rattle.sql_write.specs.Makes.{RenewsOrPuts, Writes, WritesListed, appended}
 use Rattle.sql_write.specs.Statements.{save_statements, statements_from, statements_of}
-use Rattle.sql_write.specs.declared.standing.Write.{Write}
-use Rattle.sql_write.specs.declared.standing.Write.TheVariants.{Upsert, Insert, Update}
+use Rattle.sql_write.specs.declared.stored.Write.{Write}
+use Rattle.sql_write.specs.declared.stored.Write.TheVariants.{Upsert, Insert, Update}
 use Rattle.model_laws.proofs.{RowLists.puts_append, Recorded.applied-append}
 use Rattle.sql_write.proofs.Over.{over_both, over_none, over_one}
 use Rattle.sql_write.proofs.Written.{Turns}
-use Rattle.sql_write.proofs.KnownRows.{stands_after}
+use Rattle.sql_write.proofs.StoredRows.{part_after}
 use Rattle.sql_tables.specs.Effects.{Appends, Places, Puts, is_same_place}
 use Rattle.sql_tables.specs.Hidden.{IsPlaced, next, number}
 use Rattle.sql_tables.specs.Holds.{Holds}
@@ -77,13 +77,13 @@ put_turns L = record {
 }
 
 -- rows of an owner, over those that are known
-pub over_turns : {T : Type 0} (L : Layout (Owned T)) (known : Owned T → Option (Owned T)) (n : ℕ) → Turns (λ xs. PutsAllOver L known (owned_by n xs))
-    (λ x. PutsOver L (known (record { owner = n; row = x })) (record { owner = n; row = x }))
-over_turns {T} L known n = record {
-  none = over_none L known;
+pub over_turns : {T : Type 0} (L : Layout (Owned T)) (stored : Owned T → Option (Owned T)) (n : ℕ) → Turns (λ xs. PutsAllOver L stored (owned_by n xs))
+    (λ x. PutsOver L (stored (record { owner = n; row = x })) (record { owner = n; row = x }))
+over_turns {T} L stored n = record {
+  none = over_none L stored;
   more = λ xs x a b c before last. let row : Owned T = record { owner = n; row = x } in
-      subst (λ ys. PutsAllOver L known ys a c) (sym (map-append _ xs (x ∷ [])))
-      (over_both L known (owned_by n xs) (row ∷ []) a b c before (over_one L known row b c last));
+      subst (λ ys. PutsAllOver L stored ys a c) (sym (map-append _ xs (x ∷ [])))
+      (over_both L stored (owned_by n xs) (row ∷ []) a b c before (over_one L stored row b c last));
 }
 
 -- the keys of one more
@@ -100,12 +100,12 @@ keys_snoc n xs x =
     alone (Some k) = refl
 
 -- the keys of the answers of challenges, over those that are known
-pub keys_turns : (known : AnswerKey → Option AnswerKey) (n : ℕ) → Turns (λ xs. PutsAllOver key_layout known (key_rows (owned_by n xs)))
-    (λ x. PutsAllOver key_layout known (option_to_list (answer_key x)))
-keys_turns known n = record {
-  none = over_none key_layout known;
-  more = λ xs x a b c before last. subst (λ ys. PutsAllOver key_layout known ys a c) (sym (keys_snoc n xs x))
-      (over_both key_layout known (key_rows (owned_by n xs)) (option_to_list (answer_key x)) a b c before last);
+pub keys_turns : (stored : AnswerKey → Option AnswerKey) (n : ℕ) → Turns (λ xs. PutsAllOver key_layout stored (key_rows (owned_by n xs)))
+    (λ x. PutsAllOver key_layout stored (option_to_list (answer_key x)))
+keys_turns stored n = record {
+  none = over_none key_layout stored;
+  more = λ xs x a b c before last. subst (λ ys. PutsAllOver key_layout stored ys a c) (sym (keys_snoc n xs x))
+      (over_both key_layout stored (key_rows (owned_by n xs)) (option_to_list (answer_key x)) a b c before last);
 }
 
 -- what holds of all rows holds of the one at a place
@@ -177,49 +177,49 @@ fit_snoc [] c T h = (tt, h.0)
 fit_snoc (d ∷ ds) c T h = let rest = fit_snoc ds c (applied_one d T) h.1 in ((h.0, rest.0), rest.1)
 
 -- one more
-one_more_made : (known : Tables) (cs : List Change) (c : Change) (a b d : Database) → MakesAll known cs a b → Makes (applied cs known) c b d
-    → MakesAll known (cs ++ c ∷ []) a d
-one_more_made known cs c a b d before last T has stands fits =
+one_more_made : (part : Tables) (cs : List Change) (c : Change) (a b d : Database) → MakesAll part cs a b → Makes (applied cs part) c b d
+    → MakesAll part (cs ++ c ∷ []) a d
+one_more_made part cs c a b d before last T has stands fits =
     let parts = fit_snoc cs c T fits in
-    subst (Holds d) (sym (applied-append cs (c ∷ []) T)) (last (applied cs T) (before T has stands parts.0) (stands_after cs known T stands) parts.1)
+    subst (Holds d) (sym (applied-append cs (c ∷ []) T)) (last (applied cs T) (before T has stands parts.0) (part_after cs part T stands) parts.1)
 
 -- one more change
-pub made_more : (known : Tables) (cs : List Change) (i : ℕ) (d : Change) (a b c : Database) → i < length cs → MakesAll known (take i cs) a b
-    → Makes (applied (take i cs) known) (get_or cs i d) b c → MakesAll known (take (i + 1) cs) a c
-made_more known cs i d a b c low before last =
-    subst (λ all. MakesAll known all a c) (sym (ap (λ k. take k cs) (add-one i) ∙ take-suc cs i d low))
-    (one_more_made known (take i cs) (get_or cs i d) a b c before last)
+pub made_more : (part : Tables) (cs : List Change) (i : ℕ) (d : Change) (a b c : Database) → i < length cs → MakesAll part (take i cs) a b
+    → Makes (applied (take i cs) part) (get_or cs i d) b c → MakesAll part (take (i + 1) cs) a c
+made_more part cs i d a b c low before last =
+    subst (λ all. MakesAll part all a c) (sym (ap (λ k. take k cs) (add-one i) ∙ take-suc cs i d low))
+    (one_more_made part (take i cs) (get_or cs i d) a b c before last)
 
 -- ---- the statements of changes
 
 -- of some, and then of others
-from_append : (last : Counters) (xs ys : List Change) (known : Tables)
-    → statements_from last known (xs ++ ys) ≡ statements_from last known xs ++ statements_from last (applied xs known) ys
-from_append last [] ys known = refl
-from_append last (x ∷ xs) ys known =
-    ap (λ all. statements_of known last x ++ all) (from_append last xs ys (applied_one x known))
-    ∙ sym (append_assoc (statements_of known last x) (statements_from last (applied_one x known) xs) (statements_from last (applied (x ∷ xs) known) ys))
+from_append : (last : Counters) (xs ys : List Change) (part : Tables)
+    → statements_from last part (xs ++ ys) ≡ statements_from last part xs ++ statements_from last (applied xs part) ys
+from_append last [] ys part = refl
+from_append last (x ∷ xs) ys part =
+    ap (λ all. statements_of part last x ++ all) (from_append last xs ys (applied_one x part))
+    ∙ sym (append_assoc (statements_of part last x) (statements_from last (applied_one x part) xs) (statements_from last (applied (x ∷ xs) part) ys))
 
 -- of one more
-pub from_more : (last : Counters) (cs : List Change) (i : ℕ) (d : Change) (known : Tables) → i < length cs
-    → statements_from last known (take (i + 1) cs)
-    ≡ statements_from last known (take i cs) ++ statements_of (applied (take i cs) known) last (get_or cs i d)
-from_more last cs i d known low =
+pub from_more : (last : Counters) (cs : List Change) (i : ℕ) (d : Change) (part : Tables) → i < length cs
+    → statements_from last part (take (i + 1) cs)
+    ≡ statements_from last part (take i cs) ++ statements_of (applied (take i cs) part) last (get_or cs i d)
+from_more last cs i d part low =
     let c = get_or cs i d in
-    ap (statements_from last known) (ap (λ k. take k cs) (add-one i) ∙ take-suc cs i d low)
-    ∙ from_append last (take i cs) (c ∷ []) known
-    ∙ ap (λ all. statements_from last known (take i cs) ++ all) (append-nil (statements_of (applied (take i cs) known) last c))
+    ap (statements_from last part) (ap (λ k. take k cs) (add-one i) ∙ take-suc cs i d low)
+    ∙ from_append last (take i cs) (c ∷ []) part
+    ∙ ap (λ all. statements_from last part (take i cs) ++ all) (append-nil (statements_of (applied (take i cs) part) last c))
 
 -- those of some, and of the next, begin those of all
-pub from_begins : (last : Counters) (cs : List Change) (i : ℕ) (d : Change) (known : Tables) → i < length cs
-    → (statements_from last known (take i cs) ++ statements_of (applied (take i cs) known) last (get_or cs i d))
-    ++ statements_from last (applied (take (i + 1) cs) known) (drop (i + 1) cs) ≡ statements_from last known cs
-from_begins last cs i d known low =
-    ap (λ all. all ++ statements_from last (applied (take (i + 1) cs) known) (drop (i + 1) cs)) (sym (from_more last cs i d known low))
-    ∙ sym (from_append last (take (i + 1) cs) (drop (i + 1) cs) known)
-    ∙ ap (statements_from last known) (take-append-drop (i + 1) cs)
+pub from_begins : (last : Counters) (cs : List Change) (i : ℕ) (d : Change) (part : Tables) → i < length cs
+    → (statements_from last part (take i cs) ++ statements_of (applied (take i cs) part) last (get_or cs i d))
+    ++ statements_from last (applied (take (i + 1) cs) part) (drop (i + 1) cs) ≡ statements_from last part cs
+from_begins last cs i d part low =
+    ap (λ all. all ++ statements_from last (applied (take (i + 1) cs) part) (drop (i + 1) cs)) (sym (from_more last cs i d part low))
+    ∙ sym (from_append last (take (i + 1) cs) (drop (i + 1) cs) part)
+    ∙ ap (statements_from last part) (take-append-drop (i + 1) cs)
 
 -- by the last numbers that are known they are those of a save
-pub of_save : (known : Tables) (changes : List Change) → statements_from known.meta.counters known changes ≡ save_statements known changes
+pub of_save : (part : Tables) (changes : List Change) → statements_from part.meta.counters part changes ≡ save_statements part changes
 unfolding save_statements
-of_save known changes = refl
+of_save part changes = refl

@@ -7,7 +7,7 @@ use Rattle.desk_model.specs.Name.{same_name}
 use Rattle.desk_model.specs.declared.{objects.Answer.Answer, objects.AuthorizationEnd.AuthorizationEnd, objects.Report.Report, rows.AccountRow.AccountRow}
 use Rattle.desk_model.specs.declared.{rows.AuthorizationRow.AuthorizationRow, rows.ChallengeRow.ChallengeRow, rows.Meta.Meta, rows.OrderRow.OrderRow}
 use Rattle.sql_write.specs.Write.{difference}
-use Rattle.sql_write.specs.declared.standing.Difference.{Difference}
+use Rattle.sql_write.specs.declared.stored.Difference.{Difference}
 
 -- ---- what a row was made with
 

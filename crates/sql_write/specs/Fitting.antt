@@ -8,7 +8,7 @@ use Rattle.model_laws.specs.News.{AreKept, KeepsChildren}
 use Rattle.desk_model.specs.Change.{applied, applied_one}
 use Rattle.desk_model.specs.{Kept.EachOf, Tables.Tables}
 use Rattle.desk_model.specs.declared.rows.Change.{Change}
-use Rattle.sql_write.specs.Standing.{StandsIn}
+use Rattle.sql_write.specs.Stored.{IsPartOf}
 use Rattle.sql_tables.specs.Holds.{AreApart, AreRising, Holds}
 use Rattle.sql_tables.specs.Layouts.{challenge_layout}
 
@@ -24,17 +24,17 @@ pub record FitAfter (T : Tables) (changes : List Change) : Type 0 where
 
 -- whatever tables the database holds, in which what is known stands, where the changes fit them it then holds them with the changes
 abbrev pub Saves : Tables → List Change → Database → Database → Type 0
-Saves known changes old new = (T : Tables) → Holds old T → StandsIn known T → FitAfter T changes → Holds new (applied changes T)
+Saves part changes old new = (T : Tables) → Holds old T → IsPartOf part T → FitAfter T changes → Holds new (applied changes T)
 
 -- orders stand by number, what each lists by place, and no number of a challenge stands twice
-pub record StandByNumber (T : Tables) : Type 0 where
+pub record AreByNumber (T : Tables) : Type 0 where
   pub orders : Ascends (λ o. o.number) 1 T.orders
   pub places : EachOf (λ o. Ascends (λ l. l.place) 1 o.listed) T.orders
   pub challenges : Distinct (λ c. c.number) (flat_map (λ a. a.challenges) T.authorizations)
 
 -- changes that keep children fit, where the tables with all of them stand so
 abbrev pub OrderedChangesFit : Type 0
-OrderedChangesFit = (T : Tables) (changes : List Change) → AreKept T changes → StandByNumber (applied changes T) → FitAfter T changes
+OrderedChangesFit = (T : Tables) (changes : List Change) → AreKept T changes → AreByNumber (applied changes T) → FitAfter T changes
 
 -- ---- one change after the other
 

@@ -3,7 +3,7 @@ use Rattle.std.specs.Prelude.{◌≡◌, ◌<◌, ℕ, List, Option}
 use Rattle.desk_model.specs.{Change.applied_one, Kept.EachOf, Tables.Tables}
 use Rattle.desk_model.specs.Questions.{account_on, authorization_on, order_on}
 use Rattle.desk_model.specs.declared.rows.Change.{Change}
-use Rattle.sql_write.specs.declared.standing.Highest.{Highest}
+use Rattle.sql_write.specs.declared.stored.Highest.{Highest}
 
 -- whatever the tables, above this number the change leaves what is found in them
 abbrev pub PutsNone : {X : Type 0} → (Tables → ℕ → Option X) → ℕ → Change → Type 0

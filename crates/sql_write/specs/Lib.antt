@@ -9,6 +9,6 @@ pub mod Making
 pub mod Write
 pub mod Numbers
 pub mod Refusals
-pub mod Standing
+pub mod Stored
 pub mod Statements
 pub mod Upgrading

@@ -12,9 +12,9 @@ use Rattle.desk_model.specs.{Kept.EachOf, Tables.Tables}
 use Rattle.desk_model.specs.declared.rows.{AuthorizationRow.AuthorizationRow, ChallengeRow.ChallengeRow, Change.Change, Listed.Listed, Meta.Meta}
 use Rattle.desk_model.specs.declared.rows.{OrderRow.OrderRow}
 use Rattle.sql_write.specs.Fitting.{AreFit, IsFit}
-use Rattle.sql_write.specs.Standing.{StandsIn, known_challenge, known_key}
-use Rattle.sql_write.specs.declared.standing.Write.{Write}
-use Rattle.sql_write.specs.declared.standing.Write.TheVariants.{Upsert, Insert, Update}
+use Rattle.sql_write.specs.Stored.{IsPartOf, stored_challenge, stored_key}
+use Rattle.sql_write.specs.declared.stored.Write.{Write}
+use Rattle.sql_write.specs.declared.stored.Write.TheVariants.{Upsert, Insert, Update}
 use Rattle.sql_tables.specs.Effects.{Adds, Appends, Becomes, BecomesRows, Places, Puts, Renews, is_same_place}
 use Rattle.sql_tables.specs.Hidden.{IsPlaced, next, number}
 use Rattle.sql_tables.specs.{Holds.Holds, Images.order_kept}
@@ -27,32 +27,32 @@ abbrev pub PutsAll : {X : Type 0} → Layout X → List X → Database → Datab
 PutsAll L xs old new = IsDatabase old → Becomes L (puts L.key xs) old new
 
 -- what is known to stand in the places of these does
-abbrev pub StandUnder : {X : Type 0} → Layout X → (X → Option X) → List X → List X → Type 0
-StandUnder L known rows xs = EachOf (λ x. IfSome (known x) (λ y. Has rows y × (L.key y ≡ L.key x))) xs
+abbrev pub AreFoundUnder : {X : Type 0} → Layout X → (X → Option X) → List X → List X → Type 0
+AreFoundUnder L stored rows xs = EachOf (λ x. IfSome (stored x) (λ y. Has rows y × (L.key y ≡ L.key x))) xs
 
 -- each of the rows, no two with one key, stands in the place of the one with its key, where what is known stands there
 abbrev pub PutsAllOver : {X : Type 0} → Layout X → (X → Option X) → List X → Database → Database → Type 0
-PutsAllOver {X} L known xs old new =
-    IsDatabase old → (rows : List X) → HasRows L old rows → StandUnder L known rows xs → Distinct L.key xs → BecomesRows L (puts L.key xs rows) old new
+PutsAllOver {X} L stored xs old new =
+    IsDatabase old → (rows : List X) → HasRows L old rows → AreFoundUnder L stored rows xs → Distinct L.key xs → BecomesRows L (puts L.key xs rows) old new
 
 -- and one row
 abbrev pub PutsOver : {X : Type 0} → Layout X → Option X → X → Database → Database → Type 0
-PutsOver {X} L known row old new =
-    IsDatabase old → (rows : List X) → HasRows L old rows → IfSome known (λ y. Has rows y × (L.key y ≡ L.key row)) → BecomesRows L (put L.key row rows) old new
+PutsOver {X} L stored row old new =
+    IsDatabase old → (rows : List X) → HasRows L old rows → IfSome stored (λ y. Has rows y × (L.key y ≡ L.key row)) → BecomesRows L (put L.key row rows) old new
 
 -- the challenge that is known, under its authorization
 abbrev pub challenge_under : Option AuthorizationRow → Owned ChallengeRow → Option (Owned ChallengeRow)
-challenge_under known c = option_map (λ row. record { owner = c.owner; row = row }) (known_challenge known c.row.number)
+challenge_under stored c = option_map (λ row. record { owner = c.owner; row = row }) (stored_challenge stored c.row.number)
 
 -- the key that is known
 abbrev pub key_under : Option AuthorizationRow → AnswerKey → Option AnswerKey
-key_under known k = known_key known k.challenge
+key_under stored k = stored_key stored k.challenge
 
 -- the challenges of the authorization of this number, then the keys of their answers, over those that are known
 abbrev pub PutsChallenges : Option AuthorizationRow → ℕ → List ChallengeRow → Database → Database → Type 0
-PutsChallenges known n cs old new =
-    (mid : Database) × PutsAllOver challenge_layout (challenge_under known) (owned_by n cs) old mid
-    × PutsAllOver key_layout (key_under known) (key_rows (owned_by n cs)) mid new
+PutsChallenges stored n cs old new =
+    (mid : Database) × PutsAllOver challenge_layout (challenge_under stored) (owned_by n cs) old mid
+    × PutsAllOver key_layout (key_under stored) (key_rows (owned_by n cs)) mid new
 
 -- rows placed one after the other
 abbrev pub ArePlaced : List (Owned Listed) → List (ℕ × Owned Listed) → List (ℕ × Owned Listed) → Type 0
@@ -125,26 +125,26 @@ WritesOrder write row old new =
     (mid : Database) × Writes order_layout (λ x. order_kept (order_columns x)) write row old mid × Lists write row mid new
 
 -- the row of `meta`, over the one that is known
-abbrev pub SetsMeta : Option Meta → Meta → Database → Database → Type 0
-SetsMeta known row = PutsOver formatted_layout (option_map (λ old. (known_format, old)) known) (known_format, row)
+abbrev pub SavesMeta : Option Meta → Meta → Database → Database → Type 0
+SavesMeta stored row = PutsOver formatted_layout (option_map (λ old. (known_format, old)) stored) (known_format, row)
 
 -- an authorization over the one that is known, then its challenges over those of that
-abbrev pub SetsAuthorization : Option AuthorizationRow → AuthorizationRow → Database → Database → Type 0
-SetsAuthorization known row old new =
-    (mid : Database) × PutsOver authorization_layout known row old mid × PutsChallenges known row.number row.challenges mid new
+abbrev pub SavesAuthorization : Option AuthorizationRow → AuthorizationRow → Database → Database → Type 0
+SavesAuthorization stored row old new =
+    (mid : Database) × PutsOver authorization_layout stored row old mid × PutsChallenges stored row.number row.challenges mid new
 
 -- an order, by how it differs from the one that is known
-abbrev pub SetsOrder : Option OrderRow → OrderRow → Database → Database → Type 0
-SetsOrder known row old new =
+abbrev pub SavesOrder : Option OrderRow → OrderRow → Database → Database → Type 0
+SavesOrder stored row old new =
     (write : Write) × WritesOrder write row old new
-    × (write ≡ Update → (there : OrderRow) × (known ≡ Some there) × (order_kept (order_columns there) ≡ order_kept (order_columns row)))
+    × (write ≡ Update → (there : OrderRow) × (stored ≡ Some there) × (order_kept (order_columns there) ≡ order_kept (order_columns row)))
 
 -- ---- changes
 
 -- whatever tables the database holds, in which what is known stands, where the change fits them it then holds them with the change
 abbrev pub Makes : Tables → Change → Database → Database → Type 0
-Makes known change old new = (T : Tables) → Holds old T → StandsIn known T → IsFit T change → Holds new (applied_one change T)
+Makes part change old new = (T : Tables) → Holds old T → IsPartOf part T → IsFit T change → Holds new (applied_one change T)
 
 -- and of changes one after the other
 abbrev pub MakesAll : Tables → List Change → Database → Database → Type 0
-MakesAll known changes old new = (T : Tables) → Holds old T → StandsIn known T → AreFit T changes → Holds new (applied changes T)
+MakesAll part changes old new = (T : Tables) → Holds old T → IsPartOf part T → AreFit T changes → Holds new (applied changes T)

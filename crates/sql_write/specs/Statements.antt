@@ -13,10 +13,10 @@ use Rattle.desk_model.specs.declared.rows.Change.TheVariants.{PutMeta, PutNonce,
 use Rattle.desk_model.specs.{Change.applied_one, Tables.Tables}
 use Rattle.sql_write.specs.Differences.{account_difference, authorization_difference, challenge_difference, key_difference, meta_difference, order_difference}
 use Rattle.sql_write.specs.Write.{write}
-use Rattle.sql_write.specs.Standing.{known_challenge, known_key}
+use Rattle.sql_write.specs.Stored.{stored_challenge, stored_key}
 use Rattle.desk_model.specs.Questions.{account_on, authorization_on, order_on}
-use Rattle.sql_write.specs.declared.standing.Write.{Write}
-use Rattle.sql_write.specs.declared.standing.Write.TheVariants.{Upsert, Insert, Update}
+use Rattle.sql_write.specs.declared.stored.Write.{Write}
+use Rattle.sql_write.specs.declared.stored.Write.TheVariants.{Upsert, Insert, Update}
 use Rattle.sql_schema.specs.declared.accounts.TheConstants as account
 use Rattle.sql_schema.specs.declared.authorizations.TheConstants as authz
 use Rattle.sql_schema.specs.declared.challenges.TheConstants as chall
@@ -26,8 +26,8 @@ use Rattle.sql_schema.specs.declared.nonces.TheConstants as nonce
 use Rattle.sql_schema.specs.declared.orders.TheConstants as ord
 use Rattle.sql_schema.specs.declared.listed.TheConstants as ord_authz
 use Rattle.sql_schema.specs.Definitions.{definition_at}
-use Rattle.sql_tables.specs.Images.{account_moved, account_params, authorization_moved, authorization_params, challenge_moved, challenge_params}
-use Rattle.sql_tables.specs.Images.{formatted_columns, key_params, listed_params, meta_moved, meta_params, nonce_params, order_moved, order_params}
+use Rattle.sql_tables.specs.Images.{account_updates, account_params, authorization_updates, authorization_params, challenge_updates, challenge_params}
+use Rattle.sql_tables.specs.Images.{formatted_columns, key_params, listed_params, meta_updates, meta_params, nonce_params, order_updates, order_params}
 
 -- a statement, with its parameters
 pub record Sql : Type 0 where
@@ -44,40 +44,40 @@ Texts = (record { now : List ℕ }) × (record { now : List ℕ }) × (record { 
 pub record RowWriting (X : Type 0) : Type 0 where
   pub texts : Texts
   pub all : X → Row
-  pub moved : X → Row
+  pub updates : X → Row
 
 -- of these three texts the one for this write, with all the parameters or those that renew
 abbrev pub sql_by : List ℕ → List ℕ → List ℕ → Write → Row → Row → Sql
-sql_by insert upsert update Insert all moved = record { text = insert; params = all }
-sql_by insert upsert update Upsert all moved = record { text = upsert; params = all }
-sql_by insert upsert update Update all moved = record { text = update; params = moved }
+sql_by insert upsert update Insert all updates = record { text = insert; params = all }
+sql_by insert upsert update Upsert all updates = record { text = upsert; params = all }
+sql_by insert upsert update Update all updates = record { text = update; params = updates }
 
 abbrev pub writes : {X : Type 0} → RowWriting X → Write → X → List Sql
-writes rows write row = sql_by rows.texts.0.now rows.texts.1.now rows.texts.2.now write (rows.all row) (rows.moved row) ∷ []
+writes rows write row = sql_by rows.texts.0.now rows.texts.1.now rows.texts.2.now write (rows.all row) (rows.updates row) ∷ []
 
 -- of a table of which no call moves a part
 abbrev unmoved : {X : Type 0} → Texts → (X → Row) → RowWriting X
-unmoved texts all = record { texts = texts; all = all; moved = all }
+unmoved texts all = record { texts = texts; all = all; updates = all }
 
 -- ---- each table
 
 abbrev pub meta_writing : RowWriting (ℤ × Meta)
-meta_writing = record { texts = meta.WRITING; all = λ row. meta_params (formatted_columns row); moved = λ row. meta_moved (formatted_columns row) }
+meta_writing = record { texts = meta.WRITING; all = λ row. meta_params (formatted_columns row); updates = λ row. meta_updates (formatted_columns row) }
 
 abbrev pub nonce_writing : RowWriting Nonce
 nonce_writing = unmoved nonce.WRITING (λ row. nonce_params (nonce_columns row))
 
 abbrev pub account_writing : RowWriting AccountRow
-account_writing = record { texts = account.WRITING; all = λ row. account_params (account_columns row); moved = λ row. account_moved (account_columns row) }
+account_writing = record { texts = account.WRITING; all = λ row. account_params (account_columns row); updates = λ row. account_updates (account_columns row) }
 
 abbrev pub order_writing : RowWriting OrderRow
-order_writing = record { texts = ord.WRITING; all = λ row. order_params (order_columns row); moved = λ row. order_moved (order_columns row) }
+order_writing = record { texts = ord.WRITING; all = λ row. order_params (order_columns row); updates = λ row. order_updates (order_columns row) }
 
 abbrev pub authorization_writing : RowWriting AuthorizationRow
 authorization_writing = record {
   texts = authz.WRITING;
   all = λ row. authorization_params (authorization_columns row);
-  moved = λ row. authorization_moved (authorization_columns row);
+  updates = λ row. authorization_updates (authorization_columns row);
 }
 
 abbrev pub listed_writing : RowWriting (Owned Listed)
@@ -91,7 +91,7 @@ abbrev pub challenge_writing : RowWriting (Owned ChallengeRow)
 challenge_writing = record {
   texts = chall.WRITING;
   all = λ row. challenge_params (challenge_columns (bare_row row));
-  moved = λ row. challenge_moved (challenge_columns (bare_row row));
+  updates = λ row. challenge_updates (challenge_columns (bare_row row));
 }
 
 abbrev pub key_writing : RowWriting AnswerKey
@@ -107,20 +107,20 @@ abbrev pub of_some : {X : Type 0} → (X → List Sql) → Option X → List Sql
 of_some of None = []
 of_some of (Some x) = of x
 
-abbrev pub sets_meta : Option Meta → Meta → List Sql
-sets_meta known row = of_some (λ m. writes meta_writing m (known_format, row)) (write (option_map (λ old. meta_difference old row) known) false)
+abbrev pub saves_meta : Option Meta → Meta → List Sql
+saves_meta stored row = of_some (λ m. writes meta_writing m (known_format, row)) (write (option_map (λ old. meta_difference old row) stored) false)
 
 -- one whose serial is above the last that was given is new
-abbrev pub sets_nonce : ℕ → Nonce → List Sql
-sets_nonce last row = of_some (λ m. writes nonce_writing m row) (write None (nat_lt last row.serial))
+abbrev pub saves_nonce : ℕ → Nonce → List Sql
+saves_nonce last row = of_some (λ m. writes nonce_writing m row) (write None (nat_lt last row.serial))
 
-abbrev pub sets_account : Option AccountRow → ℕ → AccountRow → List Sql
-sets_account known last row =
-    of_some (λ m. writes account_writing m row) (write (option_map (λ old. account_difference old row) known) (nat_lt last row.number))
+abbrev pub saves_account : Option AccountRow → ℕ → AccountRow → List Sql
+saves_account stored last row =
+    of_some (λ m. writes account_writing m row) (write (option_map (λ old. account_difference old row) stored) (nat_lt last row.number))
 
 -- how an order is written
 abbrev pub order_manner : Option OrderRow → ℕ → OrderRow → Option Write
-order_manner known last row = write (option_map (λ old. order_difference old row) known) (nat_lt last row.number)
+order_manner stored last row = write (option_map (λ old. order_difference old row) stored) (nat_lt last row.number)
 
 -- what it lists is not written where it is renewed, as it keeps that
 abbrev pub lists : Write → OrderRow → List Sql
@@ -128,63 +128,63 @@ lists Update row = []
 lists Upsert row = flat_map (writes_listed Upsert row.number) row.listed
 lists Insert row = flat_map (writes_listed Insert row.number) row.listed
 
-abbrev pub sets_order : Option OrderRow → ℕ → OrderRow → List Sql
-sets_order known last row = of_some (λ m. writes order_writing m row ++ lists m row) (order_manner known last row)
+abbrev pub saves_order : Option OrderRow → ℕ → OrderRow → List Sql
+saves_order stored last row = of_some (λ m. writes order_writing m row ++ lists m row) (order_manner stored last row)
 
-abbrev pub sets_challenge : Option AuthorizationRow → ℕ → ℕ → ChallengeRow → List Sql
-sets_challenge known last authorization row =
+abbrev pub saves_challenge : Option AuthorizationRow → ℕ → ℕ → ChallengeRow → List Sql
+saves_challenge stored last authorization row =
     of_some (λ m. writes challenge_writing m (record { owner = authorization; row = row }))
-    (write (option_map (λ old. challenge_difference old row) (known_challenge known row.number)) (nat_lt last row.number))
+    (write (option_map (λ old. challenge_difference old row) (stored_challenge stored row.number)) (nat_lt last row.number))
 
 -- whether no key stands in the place of that of this challenge: it is known, and has none, or it is new
 abbrev pub lacks_key : Option ChallengeRow → ℕ → ℕ → Bool
-lacks_key known last number = is_some known || nat_lt last number
+lacks_key stored last number = is_some stored || nat_lt last number
 
 -- the key of an answer
-abbrev pub sets_key : Option AuthorizationRow → ℕ → AnswerKey → List Sql
-sets_key known last key =
+abbrev pub saves_key : Option AuthorizationRow → ℕ → AnswerKey → List Sql
+saves_key stored last key =
     of_some (λ m. writes key_writing m key)
-    (write (option_map (λ old. key_difference old key) (known_key known key.challenge))
-    (lacks_key (known_challenge known key.challenge) last key.challenge))
+    (write (option_map (λ old. key_difference old key) (stored_key stored key.challenge))
+    (lacks_key (stored_challenge stored key.challenge) last key.challenge))
 
 -- that of a challenge's answer, if there is one
-abbrev pub sets_answer : Option AuthorizationRow → ℕ → ChallengeRow → List Sql
-sets_answer known last row = of_some (sets_key known last) (answer_key row)
+abbrev pub saves_answer : Option AuthorizationRow → ℕ → ChallengeRow → List Sql
+saves_answer stored last row = of_some (saves_key stored last) (answer_key row)
 
 -- the challenges of an authorization, then the keys of their answers
-abbrev pub sets_challenges : Option AuthorizationRow → ℕ → ℕ → List ChallengeRow → List Sql
-sets_challenges known last authorization rows = flat_map (sets_challenge known last authorization) rows ++ flat_map (sets_answer known last) rows
+abbrev pub saves_challenges : Option AuthorizationRow → ℕ → ℕ → List ChallengeRow → List Sql
+saves_challenges stored last authorization rows = flat_map (saves_challenge stored last authorization) rows ++ flat_map (saves_answer stored last) rows
 
 -- an authorization, without its challenges
-abbrev pub sets_bare_authorization : Option AuthorizationRow → ℕ → AuthorizationRow → List Sql
-sets_bare_authorization known last row =
+abbrev pub saves_bare_authorization : Option AuthorizationRow → ℕ → AuthorizationRow → List Sql
+saves_bare_authorization stored last row =
     of_some (λ m. writes authorization_writing m row)
-    (write (option_map (λ old. authorization_difference old row) known) (nat_lt last row.number))
+    (write (option_map (λ old. authorization_difference old row) stored) (nat_lt last row.number))
 
 -- and then its challenges
-abbrev pub sets_authorization : Option AuthorizationRow → Counters → AuthorizationRow → List Sql
-sets_authorization known last row =
-    sets_bare_authorization known last.authorizations row ++ sets_challenges known last.challenges row.number row.challenges
+abbrev pub saves_authorization : Option AuthorizationRow → Counters → AuthorizationRow → List Sql
+saves_authorization stored last row =
+    saves_bare_authorization stored last.authorizations row ++ saves_challenges stored last.challenges row.number row.challenges
 
 -- ---- of all
 
 -- a change behind others, by rows that were known before all of them, and the last number of each kind then
 abbrev pub statements_of : Tables → Counters → Change → List Sql
-statements_of known last (PutMeta row) = sets_meta (Some known.meta) row
-statements_of known last (PutNonce row) = sets_nonce last.nonces row
-statements_of known last (RemoveNonce serial) = removes_nonce serial
-statements_of known last (PutAccount row) = sets_account (account_on known row.number) last.accounts row
-statements_of known last (PutAuthorization row) = sets_authorization (authorization_on known row.number) last row
-statements_of known last (PutOrder row) = sets_order (order_on known row.number) last.orders row
+statements_of part last (PutMeta row) = saves_meta (Some part.meta) row
+statements_of part last (PutNonce row) = saves_nonce last.nonces row
+statements_of part last (RemoveNonce serial) = removes_nonce serial
+statements_of part last (PutAccount row) = saves_account (account_on part row.number) last.accounts row
+statements_of part last (PutAuthorization row) = saves_authorization (authorization_on part row.number) last row
+statements_of part last (PutOrder row) = saves_order (order_on part row.number) last.orders row
 
 -- changes, in their order: what is known changes with each
 abbrev pub statements_from : Counters → Tables → List Change → List Sql
-statements_from last known [] = []
-statements_from last known (c ∷ cs) = statements_of known last c ++ statements_from last (applied_one c known) cs
+statements_from last part [] = []
+statements_from last part (c ∷ cs) = statements_of part last c ++ statements_from last (applied_one c part) cs
 
 -- by what is known before all of them
 unfoldable pub save_statements : Tables → List Change → List Sql
-save_statements known changes = statements_from known.meta.counters known changes
+save_statements part changes = statements_from part.meta.counters part changes
 
 -- the table or the index that this step defines
 abbrev pub defines : ℕ → List Sql

@@ -7,12 +7,12 @@ ghost use Rattle.store_columns.specs.Spelling.{contacts_text};
 ghost use Rattle.sql_write.specs.{Bound.account_numbers, Fits.FitsAccount, Makes.Writes, Numbers.IsNotTooLarge, Refusals.HasWritten};
 ghost use Rattle.sql_write.specs.Statements.{account_writing, writes};
 ghost use Rattle.sql_write.specs.declared.fault.WriteFault.TheVariants.{Memory};
-ghost use Rattle.sql_tables.specs.Images.{account_kept, account_moved, account_params, text_or_null};
+ghost use Rattle.sql_tables.specs.Images.{account_kept, account_updates, account_params, text_or_null};
 ghost use Rattle.sql_tables.specs.Layouts.{account_layout};
 
 use crate::fault::{SaveFault, WriteFault};
-use crate::standing::Write;
 use crate::statements::{date_column, int_or_null, number_column, text, write_row};
+use crate::stored::Write;
 use desk_model::{AccountEnd, AccountRow, Text};
 use json_texts::written_list;
 use sql_schema::accounts;
@@ -67,7 +67,7 @@ fn account_values<'a>(
     requires numbers { numbers.now ≡ account_numbers (account_columns row.now) }
     requires contacts { contacts.now ≡ contacts_text row.now.contacts }
     ensures all { bound result.0 ≡ account_params (account_columns row.now) }
-    ensures moved { bound result.1 ≡ account_moved (account_columns row.now) }
+    ensures updates { bound result.1 ≡ account_updates (account_columns row.now) }
 {
     let all = [
         ValueRef::Int(numbers.number),
@@ -78,8 +78,8 @@ fn account_values<'a>(
         account_end(row.ended),
         text(row.status.as_str()),
     ];
-    let moved = [all[0], all[1], all[2], all[4], all[5], all[6]];
-    (all, moved)
+    let updates = [all[0], all[1], all[2], all[4], all[5], all[6]];
+    (all, updates)
 }
 
 /// Writes an account.
@@ -96,8 +96,8 @@ pub(crate) fn write_account<S: Alter>(
 {
     let contacts = contacts_column(alloc, row.contacts.as_slice())?;
     let numbers = account_numbers(row)?;
-    let (all, moved) = account_values(row, &numbers, &contacts);
-    let written = write_row(tx, write, accounts::WRITING, &all, &moved);
+    let (all, updates) = account_values(row, &numbers, &contacts);
+    let written = write_row(tx, write, accounts::WRITING, &all, &updates);
     drop(contacts);
     written
 }

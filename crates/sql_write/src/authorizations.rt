@@ -8,16 +8,16 @@ ghost use Rattle.sql_write.specs.Fits.{FitsAuthorization, FitsChallenge, FitsKey
 ghost use Rattle.sql_write.specs.Makes.{Writes, AddsOrPuts};
 ghost use Rattle.sql_write.specs.{Numbers.IsNotTooLarge, Refusals.HasWritten};
 ghost use Rattle.sql_write.specs.Statements.{authorization_writing, writes, challenge_writing, key_writing};
-ghost use Rattle.sql_tables.specs.Images.{authorization_kept, authorization_moved, authorization_params, text_or_null, challenge_kept, challenge_moved};
+ghost use Rattle.sql_tables.specs.Images.{authorization_kept, authorization_updates, authorization_params, text_or_null, challenge_kept, challenge_updates};
 ghost use Rattle.sql_tables.specs.Images.{challenge_params};
 ghost use Rattle.sql_tables.specs.Layouts.{authorization_layout, challenge_layout, key_layout};
 ghost use Rattle.store_columns.specs.Flat.{bare_row};
 
 use crate::fault::{SaveFault, WriteFault};
-use crate::standing::Write;
 use crate::statements::{
     date_column, int_or_null, number_column, number_columns, text, wildcard_column, write_row,
 };
+use crate::stored::Write;
 use desk_model::{AuthorizationEnd, AuthorizationRow, ChallengeRow, Report};
 use sql_schema::{authorizations, challenges, keys};
 use sqlite::types::ValueRef;
@@ -73,7 +73,7 @@ fn authorization_values<'a>(
 ) -> ([ValueRef<'a>; 9], [ValueRef<'a>; 4])
     requires { numbers.now ≡ authorization_numbers (authorization_columns row.now) }
     ensures all { bound result.0 ≡ authorization_params (authorization_columns row.now) }
-    ensures moved { bound result.1 ≡ authorization_moved (authorization_columns row.now) }
+    ensures updates { bound result.1 ≡ authorization_updates (authorization_columns row.now) }
 {
     let all = [
         ValueRef::Int(numbers.number),
@@ -86,12 +86,12 @@ fn authorization_values<'a>(
         authorization_end(row.ended),
         text(row.status.as_str()),
     ];
-    let moved = [all[0], all[6], all[7], all[8]];
-    (all, moved)
+    let updates = [all[0], all[6], all[7], all[8]];
+    (all, updates)
 }
 
 /// Writes an authorization, without its challenges.
-pub(crate) fn write_authorization<S: Alter>(
+pub(crate) fn write_bare_authorization<S: Alter>(
     tx: &mut Transaction<'_, S>,
     write: Write,
     row: &AuthorizationRow,
@@ -102,8 +102,8 @@ pub(crate) fn write_authorization<S: Alter>(
     ensures fits { FitsAuthorization row.now → IfErr result IsNotTooLarge }
 {
     let numbers = authorization_numbers(row)?;
-    let (all, moved) = authorization_values(row, &numbers);
-    write_row(tx, write, authorizations::WRITING, &all, &moved)
+    let (all, updates) = authorization_values(row, &numbers);
+    write_row(tx, write, authorizations::WRITING, &all, &updates)
 }
 
 // ---- challenges
@@ -147,8 +147,8 @@ fn challenge_values<'a>(
 ) -> ([ValueRef<'a>; 8], [ValueRef<'a>; 5])
     ensures all { (authorization : ℕ) → numbers.now ≡ challenge_numbers (challenge_columns (bare_row (record { owner = authorization; row = row.now })))
         → bound result.0 ≡ challenge_params (challenge_columns (bare_row (record { owner = authorization; row = row.now }))) }
-    ensures moved { (authorization : ℕ) → numbers.now ≡ challenge_numbers (challenge_columns (bare_row (record { owner = authorization; row = row.now })))
-        → bound result.1 ≡ challenge_moved (challenge_columns (bare_row (record { owner = authorization; row = row.now }))) }
+    ensures updates { (authorization : ℕ) → numbers.now ≡ challenge_numbers (challenge_columns (bare_row (record { owner = authorization; row = row.now })))
+        → bound result.1 ≡ challenge_updates (challenge_columns (bare_row (record { owner = authorization; row = row.now }))) }
 {
     let all = [
         ValueRef::Int(numbers.number),
@@ -160,8 +160,8 @@ fn challenge_values<'a>(
         outcome(row.reported),
         text(row.status.as_str()),
     ];
-    let moved = [all[0], all[4], all[5], all[6], all[7]];
-    (all, moved)
+    let updates = [all[0], all[4], all[5], all[6], all[7]];
+    (all, updates)
 }
 
 /// Writes a challenge of an authorization.
@@ -178,8 +178,8 @@ pub(crate) fn write_challenge<S: Alter>(
     ensures fits { FitsChallenge (record { owner = authorization; row = row.now }) → IfErr result IsNotTooLarge }
 {
     let numbers = challenge_numbers(authorization, row)?;
-    let (all, moved) = challenge_values(row, &numbers);
-    write_row(tx, write, challenges::WRITING, &all, &moved)
+    let (all, updates) = challenge_values(row, &numbers);
+    write_row(tx, write, challenges::WRITING, &all, &updates)
 }
 
 // ---- the keys of answers

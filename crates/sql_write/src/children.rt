@@ -4,58 +4,58 @@ ghost use Rattle.std.specs.List.{flat_map};
 ghost use Rattle.store_columns.specs.Flat.{answer_key, key_rows, owned_by};
 ghost use Rattle.desk_model.specs.Kept.{EachOf};
 ghost use Rattle.sql_write.specs.Makes.{PutsAll, PutsAllOver, PutsChallenges, PutsOver, WritesListed, challenge_under, key_under};
-ghost use Rattle.sql_write.specs.{Numbers.IsNotTooLarge, Refusals.HasWritten, Standing.known_key};
-ghost use Rattle.sql_write.specs.Statements.{key_writing, lacks_key, sets_answer, sets_challenge, sets_challenges, sets_key, writes, writes_listed};
-ghost use Rattle.sql_write.specs.declared.standing.Write.TheVariants.{Upsert};
+ghost use Rattle.sql_write.specs.{Numbers.IsNotTooLarge, Refusals.HasWritten, Stored.stored_key};
+ghost use Rattle.sql_write.specs.Statements.{key_writing, lacks_key, saves_answer, saves_challenge, saves_challenges, saves_key, writes, writes_listed};
+ghost use Rattle.sql_write.specs.declared.stored.Write.TheVariants.{Upsert};
 ghost use Rattle.sql_tables.specs.Layouts.{challenge_layout, key_layout};
 ghost use Rattle.sql_write.specs.Fits.{FitsChallenge, FitsKey, FitsListed};
 
 use crate::authorizations::{write_challenge, write_key};
 use crate::fault::SaveFault;
 use crate::orders::write_listed;
-use crate::standing::{Write, challenge_difference, key_difference, known_challenge};
+use crate::stored::{Write, challenge_difference, key_difference, stored_challenge};
 use desk_model::{AuthorizationRow, ChallengeRow, Listed};
 use sqlite::{Alter, Transaction};
 use store_columns::AnswerKey;
 
 // ---- challenges
 
-// Sets a challenge of an authorization, without the key of its answer.
-fn set_challenge<S: Alter>(
+// Saves a challenge of an authorization, without the key of its answer.
+fn save_challenge<S: Alter>(
     tx: &mut Transaction<'_, S>,
-    known: Option<&AuthorizationRow>,
+    stored: Option<&AuthorizationRow>,
     last: u64,
     authorization: u64,
     row: &ChallengeRow,
 ) -> Result<(), SaveFault>
     ensures same_reference { tx.new.conn.ghost_name ≡ tx.old.conn.ghost_name }
-    ensures writes { HasWritten S.Store (sets_challenge (option_copied known.entry) last authorization row.now)
-        (PutsOver challenge_layout (challenge_under (option_copied known.entry) (record { owner = authorization; row = row.now }))
+    ensures writes { HasWritten S.Store (saves_challenge (option_copied stored.entry) last authorization row.now)
+        (PutsOver challenge_layout (challenge_under (option_copied stored.entry) (record { owner = authorization; row = row.now }))
         (record { owner = authorization; row = row.now })) tx.old.conn.now tx.new.conn.now result }
     ensures fits { FitsChallenge (record { owner = authorization; row = row.now }) → IfErr result IsNotTooLarge }
 {
-    let difference = challenge_difference(known_challenge(known, row.number), row);
+    let difference = challenge_difference(stored_challenge(stored, row.number), row);
     match Write::of(difference, row.number > last) {
         Some(write) => write_challenge(tx, write, authorization, row),
         None => Ok(()),
     }
 }
 
-// Sets the challenges of an authorization, without the keys of their answers.
-fn set_bare_challenges<S: Alter>(
+// Saves the challenges of an authorization, without the keys of their answers.
+fn save_bare_challenges<S: Alter>(
     tx: &mut Transaction<'_, S>,
-    known: Option<&AuthorizationRow>,
+    stored: Option<&AuthorizationRow>,
     last: u64,
     authorization: u64,
     rows: &[ChallengeRow],
 ) -> Result<(), SaveFault>
     ensures same_reference { tx.new.conn.ghost_name ≡ tx.old.conn.ghost_name }
-    ensures writes { HasWritten S.Store (flat_map (sets_challenge (option_copied known.entry) last authorization) rows.now)
-        (PutsAllOver challenge_layout (challenge_under (option_copied known.entry)) (owned_by authorization rows.now)) tx.old.conn.now tx.new.conn.now result }
+    ensures writes { HasWritten S.Store (flat_map (saves_challenge (option_copied stored.entry) last authorization) rows.now)
+        (PutsAllOver challenge_layout (challenge_under (option_copied stored.entry)) (owned_by authorization rows.now)) tx.old.conn.now tx.new.conn.now result }
     ensures fits { EachOf FitsChallenge (owned_by authorization rows.now) → IfErr result IsNotTooLarge }
 {
     for row in rows {
-        set_challenge(tx, known, last, authorization, row)?;
+        save_challenge(tx, stored, last, authorization, row)?;
     }
     Ok(())
 }
@@ -75,92 +75,92 @@ fn answer_key(row: &ChallengeRow) -> Option<AnswerKey>
 }
 
 // The key of the answer of a challenge that is known.
-fn known_key(known: Option<&AuthorizationRow>, number: u64) -> Option<AnswerKey>
-    ensures { result ≡ known_key (option_copied known.entry) number }
+fn stored_key(stored: Option<&AuthorizationRow>, number: u64) -> Option<AnswerKey>
+    ensures { result ≡ stored_key (option_copied stored.entry) number }
 {
-    answer_key(known_challenge(known, number)?)
+    answer_key(stored_challenge(stored, number)?)
 }
 
 // Whether no key stands in the place of that of a challenge, where none is known: the challenge is known, or it is new.
-fn lacks_key(known: Option<&ChallengeRow>, last: u64, number: u64) -> bool
-    ensures { result ≡ lacks_key (option_copied known.entry) last number }
+fn lacks_key(stored: Option<&ChallengeRow>, last: u64, number: u64) -> bool
+    ensures { result ≡ lacks_key (option_copied stored.entry) last number }
 {
-    known.is_some() || number > last
+    stored.is_some() || number > last
 }
 
-// Sets the key of an answer, over the one that is known.
-fn set_key<S: Alter>(
+// Saves the key of an answer, over the one that is known.
+fn save_key<S: Alter>(
     tx: &mut Transaction<'_, S>,
-    known: Option<&AuthorizationRow>,
+    stored: Option<&AuthorizationRow>,
     last: u64,
     key: &AnswerKey,
 ) -> Result<(), SaveFault>
     ensures same_reference { tx.new.conn.ghost_name ≡ tx.old.conn.ghost_name }
-    ensures writes { HasWritten S.Store (sets_key (option_copied known.entry) last key.now)
-        (PutsOver key_layout (key_under (option_copied known.entry) key.now) key.now)
+    ensures writes { HasWritten S.Store (saves_key (option_copied stored.entry) last key.now)
+        (PutsOver key_layout (key_under (option_copied stored.entry) key.now) key.now)
         tx.old.conn.now tx.new.conn.now result }
     ensures fits { FitsKey key.now → IfErr result IsNotTooLarge }
 {
-    let difference = key_difference(known_key(known, key.challenge), key);
-    let is_new = lacks_key(known_challenge(known, key.challenge), last, key.challenge);
+    let difference = key_difference(stored_key(stored, key.challenge), key);
+    let is_new = lacks_key(stored_challenge(stored, key.challenge), last, key.challenge);
     match Write::of(difference, is_new) {
         Some(write) => write_key(tx, write, key),
         None => Ok(()),
     }
 }
 
-// Sets the key of a challenge's answer, if it has one.
-fn set_answer<S: Alter>(
+// Saves the key of a challenge's answer, if it has one.
+fn save_answer<S: Alter>(
     tx: &mut Transaction<'_, S>,
-    known: Option<&AuthorizationRow>,
+    stored: Option<&AuthorizationRow>,
     last: u64,
     row: &ChallengeRow,
 ) -> Result<(), SaveFault>
     ensures same_reference { tx.new.conn.ghost_name ≡ tx.old.conn.ghost_name }
-    ensures writes { HasWritten S.Store (sets_answer (option_copied known.entry) last row.now)
-        (PutsAllOver key_layout (key_under (option_copied known.entry)) (option_to_list (answer_key row.now))) tx.old.conn.now tx.new.conn.now result }
+    ensures writes { HasWritten S.Store (saves_answer (option_copied stored.entry) last row.now)
+        (PutsAllOver key_layout (key_under (option_copied stored.entry)) (option_to_list (answer_key row.now))) tx.old.conn.now tx.new.conn.now result }
     ensures fits { (owner : ℕ) → FitsChallenge (record { owner = owner; row = row.now }) → IfErr result IsNotTooLarge }
 {
     match answer_key(row) {
-        Some(key) => set_key(tx, known, last, &key),
+        Some(key) => save_key(tx, stored, last, &key),
         None => Ok(()),
     }
 }
 
-// Sets the keys of the answers of challenges.
-fn set_answers<S: Alter>(
+// Saves the keys of the answers of challenges.
+fn save_answers<S: Alter>(
     tx: &mut Transaction<'_, S>,
-    known: Option<&AuthorizationRow>,
+    stored: Option<&AuthorizationRow>,
     last: u64,
     authorization: u64,
     rows: &[ChallengeRow],
 ) -> Result<(), SaveFault>
     ensures same_reference { tx.new.conn.ghost_name ≡ tx.old.conn.ghost_name }
-    ensures writes { HasWritten S.Store (flat_map (sets_answer (option_copied known.entry) last) rows.now)
-        (PutsAllOver key_layout (key_under (option_copied known.entry)) (key_rows (owned_by authorization rows.now))) tx.old.conn.now tx.new.conn.now result }
+    ensures writes { HasWritten S.Store (flat_map (saves_answer (option_copied stored.entry) last) rows.now)
+        (PutsAllOver key_layout (key_under (option_copied stored.entry)) (key_rows (owned_by authorization rows.now))) tx.old.conn.now tx.new.conn.now result }
     ensures fits { EachOf FitsChallenge (owned_by authorization rows.now) → IfErr result IsNotTooLarge }
 {
     for row in rows {
-        set_answer(tx, known, last, row)?;
+        save_answer(tx, stored, last, row)?;
     }
     Ok(())
 }
 
-/// Sets the challenges of an authorization, of which this row is known, and the keys of their answers.
-pub(crate) fn set_challenges<S: Alter>(
+/// Saves the challenges of an authorization, of which this row is stored, and the keys of their answers.
+pub(crate) fn save_challenges<S: Alter>(
     tx: &mut Transaction<'_, S>,
-    known: Option<&AuthorizationRow>,
+    stored: Option<&AuthorizationRow>,
     last: u64,
     authorization: u64,
     rows: &[ChallengeRow],
 ) -> Result<(), SaveFault>
     ensures same_reference { tx.new.conn.ghost_name ≡ tx.old.conn.ghost_name }
-    ensures writes { HasWritten S.Store (sets_challenges (option_copied known.entry) last authorization rows.now)
-        (PutsChallenges (option_copied known.entry) authorization rows.now) tx.old.conn.now tx.new.conn.now result }
+    ensures writes { HasWritten S.Store (saves_challenges (option_copied stored.entry) last authorization rows.now)
+        (PutsChallenges (option_copied stored.entry) authorization rows.now) tx.old.conn.now tx.new.conn.now result }
     ensures fits { EachOf FitsChallenge (owned_by authorization rows.now) → IfErr result IsNotTooLarge }
 {
-    set_bare_challenges(tx, known, last, authorization, rows)?;
-    set_answers(tx, known, last, authorization, rows)
+    save_bare_challenges(tx, stored, last, authorization, rows)?;
+    save_answers(tx, stored, last, authorization, rows)
 }
 
 /// Puts the keys of answers.

@@ -7,7 +7,7 @@ ghost use Rattle.sql_write.specs.{Numbers.IsNotTooLarge, Refusals.HasWritten, Re
 ghost use Rattle.sql_write.specs.Statements.{defines, defines_before};
 
 use crate::fault::SaveFault;
-use crate::statements::{perform, run};
+use crate::statements::{execute, execute_or_fault};
 use sql_schema::DEFINITIONS;
 use sqlite::{Alter, Transaction};
 
@@ -41,7 +41,7 @@ pub(crate) fn define_all<S: Alter>(tx: &mut Transaction<'_, S>) -> Result<(), Sa
     ensures told { Ran S.Store (defines_before 16) tx.old.conn.now tx.new.conn.now result }
 {
     for step in 0..DEFINITIONS.len() {
-        perform(tx, definition(step), &[])?;
+        execute(tx, definition(step), &[])?;
     }
     Ok(())
 }
@@ -56,5 +56,5 @@ pub(crate) fn define_key_table<S: Alter>(tx: &mut Transaction<'_, S>) -> Result<
     ensures writes { HasWritten S.Store (defines 15) AddsKeyTable tx.old.conn.now tx.new.conn.now result }
     ensures fits { IfErr result IsNotTooLarge }
 {
-    run(tx, definition(DEFINITIONS.len() - 1), &[])
+    execute_or_fault(tx, definition(DEFINITIONS.len() - 1), &[])
 }

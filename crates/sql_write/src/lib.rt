@@ -13,8 +13,8 @@ mod meta;
 mod nonces;
 mod orders;
 mod saving;
-mod standing;
 mod statements;
+mod stored;
 mod upgrading;
 
 pub use fault::{SaveFault, WriteFault};

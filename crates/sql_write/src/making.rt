@@ -9,8 +9,8 @@ ghost use Rattle.sql_write.specs.Refusals.{HasWritten, IsCause};
 use crate::definitions::define_all;
 use crate::fault::SaveFault;
 use crate::meta::write_meta;
-use crate::standing::Write;
 use crate::statements::end;
+use crate::stored::Write;
 use desk_model::Meta;
 use sqlite::{Alter, Connection, Transaction};
 

@@ -4,12 +4,12 @@ ghost use Rattle.sqlite.specs.Values.{bound};
 ghost use Rattle.store_columns.specs.Columns.{known_format, meta_columns};
 ghost use Rattle.sql_write.specs.{Bound.meta_numbers, Fits.FitsMeta, Makes.RenewsOrPuts, Numbers.IsNotTooLarge, Refusals.HasWritten};
 ghost use Rattle.sql_write.specs.Statements.{meta_writing, writes};
-ghost use Rattle.sql_tables.specs.Images.{formatted_columns, meta_kept, meta_moved, meta_params};
+ghost use Rattle.sql_tables.specs.Images.{formatted_columns, meta_kept, meta_updates, meta_params};
 ghost use Rattle.sql_tables.specs.Layouts.{formatted_layout};
 
 use crate::fault::{SaveFault, WriteFault};
-use crate::standing::Write;
 use crate::statements::{number_columns, text, write_row};
+use crate::stored::Write;
 use desk_model::Meta;
 use sql_schema::meta;
 use sqlite::types::ValueRef;
@@ -67,7 +67,7 @@ fn meta_numbers(row: &Meta) -> Result<MetaNumbers, WriteFault>
 fn meta_values<'a>(row: &'a Meta, numbers: &MetaNumbers) -> ([ValueRef<'a>; 12], [ValueRef<'a>; 7])
     requires { numbers.now ≡ meta_numbers (meta_columns row.now) }
     ensures all { bound result.0 ≡ meta_params (meta_columns row.now) }
-    ensures moved { bound result.1 ≡ meta_moved (meta_columns row.now) }
+    ensures updates { bound result.1 ≡ meta_updates (meta_columns row.now) }
 {
     let all = [
         ValueRef::Int(1),
@@ -83,8 +83,8 @@ fn meta_values<'a>(row: &'a Meta, numbers: &MetaNumbers) -> ([ValueRef<'a>; 12],
         ValueRef::Int(numbers.authzs),
         ValueRef::Int(numbers.challs),
     ];
-    let moved = [all[0], all[6], all[7], all[8], all[9], all[10], all[11]];
-    (all, moved)
+    let updates = [all[0], all[6], all[7], all[8], all[9], all[10], all[11]];
+    (all, updates)
 }
 
 /// Writes the row of `meta`, in the place of one in whatever format unless it is renewed.
@@ -99,6 +99,6 @@ pub(crate) fn write_meta<S: Alter>(
     ensures fits { FitsMeta row.now → IfErr result IsNotTooLarge }
 {
     let numbers = meta_numbers(row)?;
-    let (all, moved) = meta_values(row, &numbers);
-    write_row(tx, write, meta::WRITING, &all, &moved)
+    let (all, updates) = meta_values(row, &numbers);
+    write_row(tx, write, meta::WRITING, &all, &updates)
 }

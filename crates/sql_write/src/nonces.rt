@@ -8,8 +8,8 @@ ghost use Rattle.sql_tables.specs.{Effects.Removes, Images.nonce_params, Layouts
 ghost use Rattle.sql_write.specs.Fits.{Fits, FitsNonce};
 
 use crate::fault::SaveFault;
-use crate::standing::Write;
-use crate::statements::{number_column, number_columns, run, write_row};
+use crate::statements::{execute_or_fault, number_column, number_columns, write_row};
+use crate::stored::Write;
 use desk_model::Nonce;
 use sql_schema::nonces;
 use sqlite::types::ValueRef;
@@ -53,5 +53,5 @@ pub(crate) fn remove_nonce<S: Alter>(
     ensures fits { Fits serial → IfErr result IsNotTooLarge }
 {
     let column = number_column(serial)?;
-    run(tx, nonces::DELETE, &[ValueRef::Int(column)])
+    execute_or_fault(tx, nonces::DELETE, &[ValueRef::Int(column)])
 }

@@ -7,12 +7,12 @@ ghost use Rattle.sql_write.specs.{Bound.order_numbers, Numbers.IsNotTooLarge, Re
 ghost use Rattle.sql_write.specs.Fits.{FitsOrder, FitsListed};
 ghost use Rattle.sql_write.specs.Makes.{Writes, AppendsOrPlaces};
 ghost use Rattle.sql_write.specs.Statements.{order_writing, writes, writes_listed};
-ghost use Rattle.sql_tables.specs.Images.{blob_or_null, order_kept, order_moved, order_params};
+ghost use Rattle.sql_tables.specs.Images.{blob_or_null, order_kept, order_updates, order_params};
 ghost use Rattle.sql_tables.specs.Layouts.{order_layout};
 
 use crate::fault::{SaveFault, WriteFault};
-use crate::standing::Write;
 use crate::statements::{date_column, int_or_null, number_columns, text, text_or_null, write_row};
+use crate::stored::Write;
 use desk_model::{DatedBytes, DatedProblem, Listed, OrderRow, Text};
 use sql_schema::{listed, orders};
 use sqlite::types::ValueRef;
@@ -87,7 +87,7 @@ fn order_values<'a>(
     requires numbers { numbers.now ≡ order_numbers (order_columns row.now) }
     requires problem { problem.now ≡ (order_columns row.now).problem }
     ensures all { bound result.0 ≡ order_params (order_columns row.now) }
-    ensures moved { bound result.1 ≡ order_moved (order_columns row.now) }
+    ensures updates { bound result.1 ≡ order_updates (order_columns row.now) }
 {
     let all = [
         ValueRef::Int(numbers.number),
@@ -102,14 +102,14 @@ fn order_values<'a>(
         text_or_null(problem),
         text(row.status.as_str()),
     ];
-    let moved = [
+    let updates = [
         all[0], all[4], all[5], all[6], all[7], all[8], all[9], all[10],
     ];
-    (all, moved)
+    (all, updates)
 }
 
 /// Writes an order, without what it lists.
-pub(crate) fn write_order<S: Alter>(
+pub(crate) fn write_bare_order<S: Alter>(
     alloc: Global,
     tx: &mut Transaction<'_, S>,
     write: Write,
@@ -122,8 +122,8 @@ pub(crate) fn write_order<S: Alter>(
 {
     let problem = failure_text(alloc, &row.failed)?;
     let numbers = order_numbers(row)?;
-    let (all, moved) = order_values(row, &numbers, &problem);
-    let written = write_row(tx, write, orders::WRITING, &all, &moved);
+    let (all, updates) = order_values(row, &numbers, &problem);
+    let written = write_row(tx, write, orders::WRITING, &all, &updates);
     drop(problem);
     written
 }

@@ -6,27 +6,27 @@ ghost use Rattle.desk_model.specs.{Change.applied, Kept.EachOf};
 ghost use Rattle.sql_write.specs.Committing.{GoesBack, HasCommitted, IsBeforeCommit, IsLeft};
 ghost use Rattle.sql_write.specs.{Fitting.Saves, Highest.IsAbove};
 ghost use Rattle.sql_write.specs.Refusals.{IsCause, HasWritten};
-ghost use Rattle.sql_write.specs.Statements.{save_statements, lists, sets_account, sets_authorization, sets_bare_authorization, sets_meta, sets_nonce};
-ghost use Rattle.sql_write.specs.Statements.{sets_order, order_writing, statements_from, statements_of, writes};
+ghost use Rattle.sql_write.specs.Statements.{save_statements, lists, saves_account, saves_authorization, saves_bare_authorization, saves_meta, saves_nonce};
+ghost use Rattle.sql_write.specs.Statements.{saves_order, order_writing, statements_from, statements_of, writes};
 ghost use Rattle.sql_write.specs.Numbers.{FitsColumns, IsNotTooLarge};
 ghost use Rattle.desk_model.specs.declared.rows.Change.TheVariants.{PutAuthorization, PutOrder};
-ghost use Rattle.sql_write.specs.Makes.{Makes, MakesAll, PutsOver, SetsAuthorization, SetsMeta, SetsOrder, WritesOrder};
+ghost use Rattle.sql_write.specs.Makes.{Makes, MakesAll, PutsOver, SavesAuthorization, SavesMeta, SavesOrder, WritesOrder};
 ghost use Rattle.sql_tables.specs.Effects.{Puts};
 ghost use Rattle.sql_tables.specs.Layouts.{account_layout, authorization_layout, nonce_layout};
 ghost use Rattle.sql_write.specs.Fits.{FitsAccount, FitsAuthorization, FitsMeta, FitsNonce};
 
 use crate::accounts::write_account;
-use crate::authorizations::write_authorization;
-use crate::children::{set_challenges, write_all_listed};
+use crate::authorizations::write_bare_authorization;
+use crate::children::{save_challenges, write_all_listed};
 use crate::fault::SaveFault;
 use crate::meta::write_meta;
 use crate::nonces::{remove_nonce, write_nonce};
-use crate::orders::write_order;
-use crate::standing::{
-    Highest, Write, account_difference, authorization_difference, known_row, meta_difference,
-    order_difference,
-};
+use crate::orders::write_bare_order;
 use crate::statements::end;
+use crate::stored::{
+    Highest, Write, account_difference, authorization_difference, meta_difference,
+    order_difference, stored_row,
+};
 use desk_book::Book;
 use desk_model::{AccountRow, AuthorizationRow, Change, Counters, Meta, Nonce, OrderRow};
 use sqlite::{Alter, Connection, Transaction};
@@ -43,49 +43,53 @@ use std::alloc::Global;
 pub fn save_all<S: Alter>(
     alloc: Global,
     conn: &mut Connection<S>,
-    known: &Book,
+    part: &Book,
     changes: &[Change],
 ) -> Result<(), SaveFault>
     requires idle { conn.old.in_transaction ≡ false }
     ensures idle { conn.new.in_transaction ≡ false }
     ensures ok { HasCleanDisk (state S.Store conn.new)
-        → OnOk result (HasCommitted (state S.Store conn.old) (state S.Store conn.new) (Saves known.now changes.now)) }
+        → OnOk result (HasCommitted (state S.Store conn.old) (state S.Store conn.new) (Saves part.now changes.now)) }
     ensures err { HasCleanDisk (state S.Store conn.new) → OnErr result (GoesBack (state S.Store conn.old) (state S.Store conn.new)) }
     ensures before { IfErr result (λ why. IsBeforeCommit why → Survives (state S.Store conn.old) (state S.Store conn.new) (λ _. ⊥)) }
     ensures left { Survives (state S.Store conn.old) (state S.Store conn.new)
-        (IsLeft (Saves known.now changes.now (state S.Store conn.old).now)) }
+        (IsLeft (Saves part.now changes.now (state S.Store conn.old).now)) }
     ensures fits { EachOf FitsColumns changes.now → IfErr result IsNotTooLarge }
-    ensures cause { IfErr result (IsCause S.Store (EachOf FitsColumns changes.now) (save_statements known.now changes.now) conn.old conn.new) }
+    ensures cause { IfErr result (IsCause S.Store (EachOf FitsColumns changes.now) (save_statements part.now changes.now) conn.old conn.new) }
 {
     let mut tx = conn.transaction();
-    let last = known.meta().counters;
-    let made = make_changes(alloc, &mut tx, known, &last, changes);
+    let last = part.meta().counters;
+    let made = make_changes(alloc, &mut tx, part, &last, changes);
     end(tx, made)
 }
 
 // ---- the changes, one after the other
 
-// Sets the row of `meta`, of which this is known.
-fn set_meta<S: Alter>(
+// Saves the row of `meta`, of which this is stored.
+fn save_meta<S: Alter>(
     tx: &mut Transaction<'_, S>,
-    known: Option<&Meta>,
+    stored: Option<&Meta>,
     row: &Meta,
 ) -> Result<(), SaveFault>
     ensures same_reference { tx.new.conn.ghost_name ≡ tx.old.conn.ghost_name }
-    ensures writes { HasWritten S.Store (sets_meta (option_copied known.entry) row.now) (SetsMeta (option_copied known.entry) row.now)
+    ensures writes { HasWritten S.Store (saves_meta (option_copied stored.entry) row.now) (SavesMeta (option_copied stored.entry) row.now)
         tx.old.conn.now tx.new.conn.now result }
     ensures fits { FitsMeta row.now → IfErr result IsNotTooLarge }
 {
-    match Write::of(meta_difference(known, row), false) {
+    match Write::of(meta_difference(stored, row), false) {
         Some(write) => write_meta(tx, write, row),
         None => Ok(()),
     }
 }
 
-// Sets a nonce; one whose serial is above the last that was given is new.
-fn set_nonce<S: Alter>(tx: &mut Transaction<'_, S>, last: u64, row: &Nonce) -> Result<(), SaveFault>
+// Saves a nonce; one whose serial is above the last that was given is new.
+fn save_nonce<S: Alter>(
+    tx: &mut Transaction<'_, S>,
+    last: u64,
+    row: &Nonce,
+) -> Result<(), SaveFault>
     ensures same_reference { tx.new.conn.ghost_name ≡ tx.old.conn.ghost_name }
-    ensures writes { HasWritten S.Store (sets_nonce last row.now) (Puts nonce_layout row.now) tx.old.conn.now tx.new.conn.now result }
+    ensures writes { HasWritten S.Store (saves_nonce last row.now) (Puts nonce_layout row.now) tx.old.conn.now tx.new.conn.now result }
     ensures fits { FitsNonce row.now → IfErr result IsNotTooLarge }
 {
     match Write::of(None, row.serial > last) {
@@ -94,60 +98,60 @@ fn set_nonce<S: Alter>(tx: &mut Transaction<'_, S>, last: u64, row: &Nonce) -> R
     }
 }
 
-// Sets an account, of which this row is known.
-fn set_account<S: Alter>(
+// Saves an account, of which this row is stored.
+fn save_account<S: Alter>(
     alloc: Global,
     tx: &mut Transaction<'_, S>,
-    known: Option<&AccountRow>,
+    stored: Option<&AccountRow>,
     last: u64,
     row: &AccountRow,
 ) -> Result<(), SaveFault>
     ensures same_reference { tx.new.conn.ghost_name ≡ tx.old.conn.ghost_name }
-    ensures writes { HasWritten S.Store (sets_account (option_copied known.entry) last row.now) (PutsOver account_layout (option_copied known.entry) row.now)
+    ensures writes { HasWritten S.Store (saves_account (option_copied stored.entry) last row.now) (PutsOver account_layout (option_copied stored.entry) row.now)
         tx.old.conn.now tx.new.conn.now result }
     ensures fits { FitsAccount row.now → IfErr result IsNotTooLarge }
 {
-    match Write::of(account_difference(known, row), row.number > last) {
+    match Write::of(account_difference(stored, row), row.number > last) {
         Some(write) => write_account(alloc, tx, write, row),
         None => Ok(()),
     }
 }
 
-// Sets an authorization without its challenges, of which this row is known.
-fn set_bare_authorization<S: Alter>(
+// Saves an authorization without its challenges, of which this row is stored.
+fn save_bare_authorization<S: Alter>(
     tx: &mut Transaction<'_, S>,
-    known: Option<&AuthorizationRow>,
+    stored: Option<&AuthorizationRow>,
     last: u64,
     row: &AuthorizationRow,
 ) -> Result<(), SaveFault>
     ensures same_reference { tx.new.conn.ghost_name ≡ tx.old.conn.ghost_name }
-    ensures writes { HasWritten S.Store (sets_bare_authorization (option_copied known.entry) last row.now)
-        (PutsOver authorization_layout (option_copied known.entry) row.now) tx.old.conn.now tx.new.conn.now result }
+    ensures writes { HasWritten S.Store (saves_bare_authorization (option_copied stored.entry) last row.now)
+        (PutsOver authorization_layout (option_copied stored.entry) row.now) tx.old.conn.now tx.new.conn.now result }
     ensures fits { FitsAuthorization row.now → IfErr result IsNotTooLarge }
 {
-    match Write::of(authorization_difference(known, row), row.number > last) {
-        Some(write) => write_authorization(tx, write, row),
+    match Write::of(authorization_difference(stored, row), row.number > last) {
+        Some(write) => write_bare_authorization(tx, write, row),
         None => Ok(()),
     }
 }
 
-// Sets an authorization, of which this row is known, with its challenges.
-fn set_authorization<S: Alter>(
+// Saves an authorization, of which this row is stored, with its challenges.
+fn save_authorization<S: Alter>(
     tx: &mut Transaction<'_, S>,
-    known: Option<&AuthorizationRow>,
+    stored: Option<&AuthorizationRow>,
     last: &Counters,
     row: &AuthorizationRow,
 ) -> Result<(), SaveFault>
     ensures same_reference { tx.new.conn.ghost_name ≡ tx.old.conn.ghost_name }
-    ensures writes { HasWritten S.Store (sets_authorization (option_copied known.entry) last.now row.now)
-        (SetsAuthorization (option_copied known.entry) row.now)
+    ensures writes { HasWritten S.Store (saves_authorization (option_copied stored.entry) last.now row.now)
+        (SavesAuthorization (option_copied stored.entry) row.now)
         tx.old.conn.now tx.new.conn.now result }
     ensures fits { FitsColumns (PutAuthorization row.now) → IfErr result IsNotTooLarge }
 {
-    set_bare_authorization(tx, known, last.authorizations, row)?;
-    set_challenges(
+    save_bare_authorization(tx, stored, last.authorizations, row)?;
+    save_challenges(
         tx,
-        known,
+        stored,
         last.challenges,
         row.number,
         row.challenges.as_slice(),
@@ -155,7 +159,7 @@ fn set_authorization<S: Alter>(
 }
 
 // Writes an order with what it lists; one that is renewed keeps that.
-fn write_with_listed<S: Alter>(
+fn write_order<S: Alter>(
     alloc: Global,
     tx: &mut Transaction<'_, S>,
     write: Write,
@@ -166,7 +170,7 @@ fn write_with_listed<S: Alter>(
         tx.old.conn.now tx.new.conn.now result }
     ensures fits { FitsColumns (PutOrder row.now) → IfErr result IsNotTooLarge }
 {
-    write_order(alloc, tx, write, row)?;
+    write_bare_order(alloc, tx, write, row)?;
     match write {
         Write::Upsert | Write::Insert => {
             write_all_listed(tx, write, row.number, row.listed.as_slice())
@@ -175,21 +179,21 @@ fn write_with_listed<S: Alter>(
     }
 }
 
-// Sets an order, of which this row is known.
-fn set_order<S: Alter>(
+// Saves an order, of which this row is stored.
+fn save_order<S: Alter>(
     alloc: Global,
     tx: &mut Transaction<'_, S>,
-    known: Option<&OrderRow>,
+    stored: Option<&OrderRow>,
     last: u64,
     row: &OrderRow,
 ) -> Result<(), SaveFault>
     ensures same_reference { tx.new.conn.ghost_name ≡ tx.old.conn.ghost_name }
-    ensures writes { HasWritten S.Store (sets_order (option_copied known.entry) last row.now) (SetsOrder (option_copied known.entry) row.now)
+    ensures writes { HasWritten S.Store (saves_order (option_copied stored.entry) last row.now) (SavesOrder (option_copied stored.entry) row.now)
         tx.old.conn.now tx.new.conn.now result }
     ensures fits { FitsColumns (PutOrder row.now) → IfErr result IsNotTooLarge }
 {
-    match Write::of(order_difference(known, row), row.number > last) {
-        Some(write) => write_with_listed(alloc, tx, write, row),
+    match Write::of(order_difference(stored, row), row.number > last) {
+        Some(write) => write_order(alloc, tx, write, row),
         None => Ok(()),
     }
 }
@@ -199,7 +203,7 @@ fn set_order<S: Alter>(
 fn make_change<S: Alter>(
     alloc: Global,
     tx: &mut Transaction<'_, S>,
-    known: &Book,
+    part: &Book,
     before: &[Change],
     highest: &Highest,
     last: &Counters,
@@ -207,25 +211,25 @@ fn make_change<S: Alter>(
 ) -> Result<(), SaveFault>
     requires above { IsAbove highest.now before.now }
     ensures same_reference { tx.new.conn.ghost_name ≡ tx.old.conn.ghost_name }
-    ensures writes { HasWritten S.Store (statements_of (applied before.now known.now) last.now change.now)
-        (Makes (applied before.now known.now) change.now) tx.old.conn.now tx.new.conn.now result }
+    ensures writes { HasWritten S.Store (statements_of (applied before.now part.now) last.now change.now)
+        (Makes (applied before.now part.now) change.now) tx.old.conn.now tx.new.conn.now result }
     ensures fits { FitsColumns change.now → IfErr result IsNotTooLarge }
 {
     match change {
-        Change::PutMeta(row) => set_meta(tx, known_row(known, before, 1, 1), row),
-        Change::PutNonce(row) => set_nonce(tx, last.nonces, row),
+        Change::PutMeta(row) => save_meta(tx, stored_row(part, before, 1, 1), row),
+        Change::PutNonce(row) => save_nonce(tx, last.nonces, row),
         Change::RemoveNonce(serial) => remove_nonce(tx, *serial),
         Change::PutAccount(row) => {
-            let known = known_row(known, before, highest.accounts, row.number);
-            set_account(alloc, tx, known, last.accounts, row)
+            let stored = stored_row(part, before, highest.accounts, row.number);
+            save_account(alloc, tx, stored, last.accounts, row)
         }
         Change::PutAuthorization(row) => {
-            let known = known_row(known, before, highest.authorizations, row.number);
-            set_authorization(tx, known, last, row)
+            let stored = stored_row(part, before, highest.authorizations, row.number);
+            save_authorization(tx, stored, last, row)
         }
         Change::PutOrder(row) => {
-            let known = known_row(known, before, highest.orders, row.number);
-            set_order(alloc, tx, known, last.orders, row)
+            let stored = stored_row(part, before, highest.orders, row.number);
+            save_order(alloc, tx, stored, last.orders, row)
         }
     }
 }
@@ -234,19 +238,19 @@ fn make_change<S: Alter>(
 fn make_changes<S: Alter>(
     alloc: Global,
     tx: &mut Transaction<'_, S>,
-    known: &Book,
+    part: &Book,
     last: &Counters,
     changes: &[Change],
 ) -> Result<(), SaveFault>
     ensures same_reference { tx.new.conn.ghost_name ≡ tx.old.conn.ghost_name }
-    ensures writes { HasWritten S.Store (statements_from last.now known.now changes.now) (MakesAll known.now changes.now)
+    ensures writes { HasWritten S.Store (statements_from last.now part.now changes.now) (MakesAll part.now changes.now)
         tx.old.conn.now tx.new.conn.now result }
     ensures fits { EachOf FitsColumns changes.now → IfErr result IsNotTooLarge }
 {
     let mut highest = Highest::none();
     for place in 0..changes.len() {
         let change = &changes[place];
-        make_change(alloc, tx, known, &changes[..place], &highest, last, change)?;
+        make_change(alloc, tx, part, &changes[..place], &highest, last, change)?;
         highest = highest.with(change);
     }
     Ok(())

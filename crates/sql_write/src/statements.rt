@@ -13,7 +13,7 @@ ghost use Rattle.desk_model.specs.Kept.{EachOf};
 ghost use Rattle.store_columns.specs.{Columns.wildcard_column, Limits.IfRecorded};
 
 use crate::fault::{SaveFault, WriteFault};
-use crate::standing::Write;
+use crate::stored::Write;
 use desk_model::Text;
 use sql_schema::Writing;
 use sqlite::types::ValueRef;
@@ -25,7 +25,7 @@ use sqlite::{Alter, Error, Transaction};
 ///
 /// As `Transaction::execute`: where the statement is refused, the transaction goes on as it was; where memory or the disk
 /// fails, it is over.
-pub(crate) fn perform<S: Alter>(
+pub(crate) fn execute<S: Alter>(
     tx: &mut Transaction<'_, S>,
     text: &str,
     params: &[ValueRef<'_>],
@@ -44,8 +44,8 @@ pub(crate) fn perform<S: Alter>(
 ///
 /// # Errors
 ///
-/// `Statement`, as `perform`.
-pub(crate) fn run<S: Alter>(
+/// `Statement`, as `execute`.
+pub(crate) fn execute_or_fault<S: Alter>(
     tx: &mut Transaction<'_, S>,
     text: &str,
     params: &[ValueRef<'_>],
@@ -54,7 +54,7 @@ pub(crate) fn run<S: Alter>(
     ensures ran { IsRun S.Store (record { text = text.now; params = bound params.now }) tx.old.conn.now tx.new.conn.now result }
     ensures fits { IfErr result IsNotTooLarge }
 {
-    match perform(tx, text, params) {
+    match execute(tx, text, params) {
         Ok(_) => Ok(()),
         Err(error) => Err(SaveFault::Statement(error)),
     }
@@ -66,18 +66,18 @@ pub(crate) fn write_row<S: Alter>(
     write: Write,
     texts: Writing,
     all: &[ValueRef<'_>],
-    moved: &[ValueRef<'_>],
+    updates: &[ValueRef<'_>],
 ) -> Result<(), SaveFault>
     ensures same_reference { tx.new.conn.ghost_name ≡ tx.old.conn.ghost_name }
-    ensures ran { IsRun S.Store (sql_by texts.entry.0.now texts.entry.1.now texts.entry.2.now write (bound all.now) (bound moved.now))
+    ensures ran { IsRun S.Store (sql_by texts.entry.0.now texts.entry.1.now texts.entry.2.now write (bound all.now) (bound updates.now))
         tx.old.conn.now tx.new.conn.now result }
     ensures fits { IfErr result IsNotTooLarge }
 {
     let (insert, upsert, update) = texts;
     match write {
-        Write::Upsert => run(tx, upsert, all),
-        Write::Insert => run(tx, insert, all),
-        Write::Update => run(tx, update, moved),
+        Write::Upsert => execute_or_fault(tx, upsert, all),
+        Write::Insert => execute_or_fault(tx, insert, all),
+        Write::Update => execute_or_fault(tx, update, updates),
     }
 }
 

@@ -5,7 +5,7 @@ use Rattle.std.proofs.lemmas.Result.{on_ok_weaker}
 use Rattle.model_laws.specs.Placing.{puts}
 use Rattle.store_api.specs.Finding.{Finds, LacksMemory}
 use Rattle.store_api.proofs.Gathered.{into_if_found}
-use Rattle.store_api.proofs.Readings.{reads_failing, reads_found, reads_then, stands_read}
+use Rattle.store_api.proofs.Readings.{reads_failing, reads_found, reads_then, unchanged_read}
 use Rattle.desk_model.specs.Tables.{Tables}
 use Rattle.store_api.specs.Sight.{Gives, Sight}
 use Rattle.store_api.specs.declared.fault.StorageFault.{StorageFault}
@@ -21,7 +21,7 @@ module _ {S C : Type 0} {v : Sight S C} where
       Finds v old mid (Ok a) P → Finds v mid new r Q → ((T : Tables) → P T → Q T → R T) →
       Finds v old new r R
   finds_then r first second both = record {
-    reads = reads_then r (stands_read first.reads) second.reads;
+    reads = reads_then r (unchanged_read first.reads) second.reads;
     found = λ honest T held.
         let so_far = second.reads.honest honest in
         on_ok_weaker r (both T (first.found so_far T held)) (second.found honest T (first.reads.tables so_far T held));

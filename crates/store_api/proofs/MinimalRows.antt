@@ -17,7 +17,7 @@ use Rattle.model_lives.specs.MinimalPart.{needs_holders}
 use Rattle.model_lives.specs.MinimalPartLoaded.{minimal_accounts, holders_of, moved_authorizations, opened_orders, restated_authorizations}
 use Rattle.model_lives.specs.Loaded.{accounts_once, authorizations_once, listing_orders, named_accounts, past_authorizations, past_orders}
 use Rattle.model_lives.specs.LookUps.{authorizations_numbered, authorizations_of, orders_numbered, owners_of}
-use Rattle.store_api.specs.Needing.{NeedsFor, moved_by, opened_with, restated_by}
+use Rattle.store_api.specs.Needing.{NeedsFor, movable_by, opened_with, restated_by}
 use Rattle.store_api.specs.declared.enough.RowsNeeded.{RowsNeeded}
 
 -- rows that lead to themselves alone
@@ -75,15 +75,15 @@ holders_missing T a h =
     named = found_table of_account (is_named_account a) 1 T.accounts (named_accounts T a) h.accounts.0 (accounts_named T a h)
 
 module _ (T : Tables) (m : ℕ) (a : Ask) (needs : RowsNeeded) (is : NeedsFor a m needs) where
-  pub moved_are : (accounts : List AccountRow) → accounts ≡ accounts_once (named_accounts T a) → moved_by T needs accounts ≡ moved_authorizations T a
-  moved_are accounts same = λ i.
+  pub movable_are : (accounts : List AccountRow) → accounts ≡ accounts_once (named_accounts T a) → movable_by T needs accounts ≡ moved_authorizations T a
+  movable_are accounts same = λ i.
       (flat_map (authorizations_numbered T) (is.named.authorization i)
       ++ flat_map (λ c. flat_map (authorizations_numbered T) (owners_of T c)) (is.named.challenge i))
       ++ (if is.restated i && is.named.authorizations_asked i then flat_map (λ (x : AccountRow). authorizations_of T x.number) (same i) else [])
 
-  pub restated_are : (moved : List AuthorizationRow) → moved ≡ authorizations_once (moved_authorizations T a) →
-      restated_by T needs moved ≡ restated_authorizations T m a
-  restated_are moved same = λ i. past_authorizations T (is.moment i) ++ (if is.restated i then same i else [])
+  pub restated_are : (movable : List AuthorizationRow) → movable ≡ authorizations_once (moved_authorizations T a) →
+      restated_by T needs movable ≡ restated_authorizations T m a
+  restated_are movable same = λ i. past_authorizations T (is.moment i) ++ (if is.restated i then same i else [])
 
   pub opened_are : (rows : List AuthorizationRow) → rows ≡ authorizations_once (restated_authorizations T m a) →
       opened_with T needs rows ≡ opened_orders T m a

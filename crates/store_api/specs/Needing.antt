@@ -45,19 +45,19 @@ abbrev pub with_named : Tables → Ask → List AccountRow → List AccountRow
 with_named T a table = missings (λ x. x.number) (accounts_numbered T) (account_numbers a) (puts (λ x. x.number) (keyed_accounts T a) table)
 
 -- the authorizations that are named, and those of these accounts, where an account ends
-abbrev pub moved_by : Tables → RowsNeeded → List AccountRow → List AuthorizationRow
-moved_by T needs accounts =
+abbrev pub movable_by : Tables → RowsNeeded → List AccountRow → List AuthorizationRow
+movable_by T needs accounts =
     (flat_map (authorizations_numbered T) (option_to_list needs.named.authorization)
     ++ flat_map (λ c. flat_map (authorizations_numbered T) (owners_of T c)) (option_to_list needs.named.challenge))
     ++ (if needs.changes_statuses && needs.named.asks_authorizations then flat_map (λ x. authorizations_of T x.number) accounts else [])
 
 -- the numbers of their accounts, where these are needed
 abbrev pub holders_by : RowsNeeded → List AuthorizationRow → List ℕ
-holders_by needs moved = if needs.needs_holders then map (λ r. r.account) moved else []
+holders_by needs movable = if needs.needs_holders then map (λ r. r.account) movable else []
 
 -- those past their moment, and these, where their statuses may change
 abbrev pub restated_by : Tables → RowsNeeded → List AuthorizationRow → List AuthorizationRow
-restated_by T needs moved = past_authorizations T needs.moment ++ (if needs.changes_statuses then moved else [])
+restated_by T needs movable = past_authorizations T needs.moment ++ (if needs.changes_statuses then movable else [])
 
 -- the orders that are named, with or without what they list
 abbrev pub orders_by : Tables → RowsNeeded → List OrderRow

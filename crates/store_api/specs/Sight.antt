@@ -32,7 +32,7 @@ module _ {S C : Type 0} (v : Sight S C) where
   ForTables old new P = v.is_honest new → (T : Tables) → v.holds old T → P T
 
   -- nothing changed: the store has what it had, and a stop leaves no more than it did
-  pub record Stands (old new : S) : Type 0 where
+  pub record Unchanged (old new : S) : Type 0 where
     pub honest : v.is_honest new → v.is_honest old
     pub left : v.is_honest new → (c : C) → v.leaves new c → v.leaves old c
     pub tables : HasStill old new
@@ -40,11 +40,11 @@ module _ {S C : Type 0} (v : Sight S C) where
   -- up to a look-up that failed by this fault nothing changed
   pub record FailsBy (old new : S) (why : StorageFault) : Type 0 where
     pub from : S
-    pub stands : Stands old from
+    pub unchanged : Unchanged old from
     pub fails : v.fails from new why
 
   -- a call changed nothing, whatever came of it; after a fault other than memory's the tables may be out of reach
-  pub record LeavesStanding {R : Type 0} (old new : S) (result : Result R StorageFault) : Type 0 where
+  pub record LeavesUnchanged {R : Type 0} (old new : S) (result : Result R StorageFault) : Type 0 where
     pub honest : v.is_honest new → v.is_honest old
     pub left : v.is_honest new → (c : C) → v.leaves new c → v.leaves old c
     pub tables : OnOk result (HasStill old new)

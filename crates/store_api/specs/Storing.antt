@@ -7,7 +7,7 @@ use Rattle.model_laws.specs.News.{AreKept}
 use Rattle.model_lives.specs.IsEnough.{IsEnoughFor}
 use Rattle.model_lives.specs.Thinned.{Thinning, thinned}
 use Rattle.store_book.specs.IsBook.{IsStoredBook}
-use Rattle.store_api.specs.Sight.{Sight, Keeps, Reads, Stands}
+use Rattle.store_api.specs.Sight.{Sight, Keeps, Reads, Unchanged}
 use Rattle.store_api.specs.declared.fault.StorageFault.{StorageFault}
 use Rattle.store_api.specs.declared.fault.StorageFault.TheVariants as fault
 
@@ -57,7 +57,7 @@ module _ {S C : Type 0} (v : Sight S C) where
     pub honest : v.is_honest new → v.is_honest old
     pub left : v.is_honest new → (c : C) → v.leaves new c → v.leaves old c ⊎ HasChanges Of changes old c
     pub saved : v.is_honest new → OnOk result (HasSaved Of changes old new)
-    pub without_memory : IfErr result (λ why. why ≡ fault.Memory → Stands v old new)
+    pub without_memory : IfErr result (λ why. why ≡ fault.Memory → Unchanged v old new)
 
   -- the same of those that the part was cut from
   abbrev pub SavesFrom : {R : Type 0} → Tables → List Change → S → S → Result R StorageFault → Type 0

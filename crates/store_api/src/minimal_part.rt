@@ -2,7 +2,7 @@
 ghost use Rattle.std.specs.Prelude.{◌≡◌, ◌++◌, [], IfOk, if◌then◌else◌, map, max, option_map, option_to_list};
 ghost use Rattle.model_laws.specs.{Ordered.IsOrdered, Placing.puts};
 ghost use Rattle.store_api.specs.Finding.{AreNone, AreRowsOf, Finds};
-ghost use Rattle.store_api.specs.Needing.{NeedsFor, holders_by, lacking, listed_with, missings, moved_by, named_alone, opened_with};
+ghost use Rattle.store_api.specs.Needing.{NeedsFor, holders_by, lacking, listed_with, missings, movable_by, named_alone, opened_with};
 ghost use Rattle.store_api.specs.Needing.{orders_by, restated_by, with_named};
 ghost use Rattle.model_lives.specs.{MinimalPart.needed_rows, Loaded.authorizations_asked_of};
 ghost use Rattle.model_lives.specs.LookUps.{accounts_numbered, bare_authorizations, bare_orders_of};
@@ -57,18 +57,18 @@ fn add_named_accounts<S: LookUps>(
 }
 
 // Puts the authorizations that are named into a table, and those of these accounts, where an account ends.
-fn add_moved<S: LookUps>(
+fn add_movable<S: LookUps>(
     alloc: Global,
     source: &mut S,
-    moved: &mut Table<AuthorizationRow>,
+    movable: &mut Table<AuthorizationRow>,
     needs: &RowsNeeded,
     accounts: &Table<AccountRow>,
 ) -> Result<(), StorageFault>
-    ensures { Finds S.sight source.old source.new result (λ T. moved.new ≡ puts (λ r. r.number) (moved_by T needs.now accounts.now) moved.old) }
+    ensures { Finds S.sight source.old source.new result (λ T. movable.new ≡ puts (λ r. r.number) (movable_by T needs.now accounts.now) movable.old) }
 {
-    add_each(alloc, source, moved, needs.named.authorization.as_slice())?;
-    add_owner(alloc, source, moved, needs.named.challenge)?;
-    add_asked(alloc, source, moved, accounts, needs.ends_account())
+    add_each(alloc, source, movable, needs.named.authorization.as_slice())?;
+    add_owner(alloc, source, movable, needs.named.challenge)?;
+    add_asked(alloc, source, movable, accounts, needs.ends_account())
 }
 
 // Puts the accounts of authorizations into a table, those alone that it lacks.
@@ -111,19 +111,19 @@ fn add_holders<S: LookUps>(
     alloc: Global,
     source: &mut S,
     accounts: &mut Table<AccountRow>,
-    moved: &mut Table<AuthorizationRow>,
+    movable: &mut Table<AuthorizationRow>,
     ask: &ParsedAsk,
     needs: &RowsNeeded,
 ) -> Result<(), StorageFault>
     requires { NeedsFor (ask_of ask.now) needs.now.moment needs.now }
     ensures { Finds S.sight source.old source.new result (λ T.
-        (moved.new ≡ puts (λ r. r.number) (moved_by T needs.now (with_named T (ask_of ask.now) accounts.old)) moved.old)
-        × (accounts.new ≡ missings (λ x. x.number) (accounts_numbered T) (holders_by needs.now moved.new)
+        (movable.new ≡ puts (λ r. r.number) (movable_by T needs.now (with_named T (ask_of ask.now) accounts.old)) movable.old)
+        × (accounts.new ≡ missings (λ x. x.number) (accounts_numbered T) (holders_by needs.now movable.new)
         (with_named T (ask_of ask.now) accounts.old))) }
 {
     add_named_accounts(alloc, source, accounts, ask, needs)?;
-    add_moved(alloc, source, moved, needs, accounts)?;
-    add_needed_holders(alloc, source, accounts, moved, needs.needs_holders)
+    add_movable(alloc, source, movable, needs, accounts)?;
+    add_needed_holders(alloc, source, accounts, movable, needs.needs_holders)
 }
 
 // ---- what decides statuses
@@ -134,18 +134,24 @@ fn add_restated<S: LookUps>(
     alloc: Global,
     source: &mut S,
     authorizations: &mut Table<AuthorizationRow>,
-    moved: &Table<AuthorizationRow>,
+    movable: &Table<AuthorizationRow>,
     needs: &RowsNeeded,
 ) -> Result<(), StorageFault>
     ensures { Finds S.sight source.old source.new result (λ T.
-        authorizations.new ≡ puts (λ r. r.number) (restated_by T needs.now moved.now) authorizations.old) }
+        authorizations.new ≡ puts (λ r. r.number) (restated_by T needs.now movable.now) authorizations.old) }
 {
     let past = [
         (AuthzStatus::Pending, needs.moment),
         (AuthzStatus::Valid, needs.moment),
     ];
     add_each(alloc, source, authorizations, &past)?;
-    add_asked(alloc, source, authorizations, moved, needs.changes_statuses)
+    add_asked(
+        alloc,
+        source,
+        authorizations,
+        movable,
+        needs.changes_statuses,
+    )
 }
 
 // Puts the order that is named into a table, where it is asked for.
@@ -193,14 +199,14 @@ fn add_statuses<S: LookUps>(
     source: &mut S,
     authorizations: &mut Table<AuthorizationRow>,
     orders: &mut Table<OrderRow>,
-    moved: &Table<AuthorizationRow>,
+    movable: &Table<AuthorizationRow>,
     needs: &RowsNeeded,
 ) -> Result<(), StorageFault>
     ensures { Finds S.sight source.old source.new result (λ T.
-        (authorizations.new ≡ puts (λ r. r.number) (restated_by T needs.now moved.now) authorizations.old)
+        (authorizations.new ≡ puts (λ r. r.number) (restated_by T needs.now movable.now) authorizations.old)
         × (orders.new ≡ puts (λ o. o.number) (opened_with T needs.now authorizations.new) orders.old)) }
 {
-    add_restated(alloc, source, authorizations, moved, needs)?;
+    add_restated(alloc, source, authorizations, movable, needs)?;
     add_opened(alloc, source, orders, authorizations, needs)
 }
 
@@ -211,14 +217,14 @@ fn add_wanted<S: LookUps>(
     alloc: Global,
     source: &mut S,
     authorizations: &mut Table<AuthorizationRow>,
-    moved: &Table<AuthorizationRow>,
+    movable: &Table<AuthorizationRow>,
     needs: &RowsNeeded,
     accounts: &Table<AccountRow>,
 ) -> Result<(), StorageFault>
     ensures { Finds S.sight source.old source.new result (λ T. authorizations.new ≡ puts (λ r. r.number)
-        (moved.now ++ authorizations_asked_of T (option_map (λ v. v.now) needs.now.names) accounts.now) authorizations.old) }
+        (movable.now ++ authorizations_asked_of T (option_map (λ v. v.now) needs.now.names) accounts.now) authorizations.old) }
 {
-    add_linked(alloc, source, authorizations, moved)?;
+    add_linked(alloc, source, authorizations, movable)?;
     add_asked_names(alloc, source, authorizations, needs.names, accounts)
 }
 
@@ -229,16 +235,16 @@ fn add_others<S: LookUps>(
     source: &mut S,
     authorizations: &mut Table<AuthorizationRow>,
     orders: &Table<OrderRow>,
-    moved: &Table<AuthorizationRow>,
+    movable: &Table<AuthorizationRow>,
     needs: &RowsNeeded,
     accounts: &Table<AccountRow>,
 ) -> Result<(), StorageFault>
     ensures { Finds S.sight source.old source.new result (λ T.
         authorizations.new ≡ missings (λ r. r.number) (bare_authorizations T) (flat_map (λ o. numbers_of o.listed) orders.now)
-        (puts (λ r. r.number) (moved.now ++ authorizations_asked_of T (option_map (λ v. v.now) needs.now.names) accounts.now)
+        (puts (λ r. r.number) (movable.now ++ authorizations_asked_of T (option_map (λ v. v.now) needs.now.names) accounts.now)
         authorizations.old)) }
 {
-    add_wanted(alloc, source, authorizations, moved, needs, accounts)?;
+    add_wanted(alloc, source, authorizations, movable, needs, accounts)?;
     add_bare_listed(alloc, source, authorizations, orders)
 }
 
@@ -299,23 +305,23 @@ fn add_minimal<S: LookUps>(
     alloc: Global,
     source: &mut S,
     rows: &mut Rows,
-    moved: &mut Table<AuthorizationRow>,
+    movable: &mut Table<AuthorizationRow>,
     policy: &Policy,
     ask: &ParsedAsk,
     needs: &RowsNeeded,
 ) -> Result<(), StorageFault>
     requires { NeedsFor (ask_of ask.now) needs.now.moment needs.now }
-    ensures { Finds S.sight source.old source.new result (λ T. IsOrdered T → policy.now ≡ T.meta.policy → AreNone rows.old → moved.old ≡ []
+    ensures { Finds S.sight source.old source.new result (λ T. IsOrdered T → policy.now ≡ T.meta.policy → AreNone rows.old → movable.old ≡ []
         → AreRowsOf (needed_rows T needs.now.moment (ask_of ask.now)) rows.new) }
 {
     add_nonces(alloc, source, &mut rows.nonces, policy, needs.moment, ask)?;
-    add_holders(alloc, source, &mut rows.accounts, moved, ask, needs)?;
+    add_holders(alloc, source, &mut rows.accounts, movable, ask, needs)?;
     add_statuses(
         alloc,
         source,
         &mut rows.authorizations,
         &mut rows.orders,
-        moved,
+        movable,
         needs,
     )?;
     add_others(
@@ -323,7 +329,7 @@ fn add_minimal<S: LookUps>(
         source,
         &mut rows.authorizations,
         &rows.orders,
-        moved,
+        movable,
         needs,
         &rows.accounts,
     )?;
@@ -344,7 +350,7 @@ pub(crate) fn minimal_book<S: LookUps>(
     let counters = meta.counters;
     let moment = counters.clock.moment_of(call.call().at);
     let needs = rows_needed(call, moment);
-    let mut moved = Table::new(alloc);
+    let mut movable = Table::new(alloc);
     let mut rows = Rows {
         nonces: Table::new(alloc),
         accounts: Table::new(alloc),
@@ -355,7 +361,7 @@ pub(crate) fn minimal_book<S: LookUps>(
         alloc,
         source,
         &mut rows,
-        &mut moved,
+        &mut movable,
         &meta.policy,
         call.ask(),
         &needs,

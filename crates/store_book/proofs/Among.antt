@@ -44,16 +44,16 @@ none_falls m (x ∷ xs) up (suc i) zero le within = absurd (omega (arith, le))
 none_falls m (x ∷ xs) up (suc i) (suc j) le within = none_falls (x + 1) xs up.1 i j (omega (arith, le)) (omega (arith, within))
 
 -- a number among others stands at a place
-pub record Stands (xs : List ℕ) (n : ℕ) : Type 0 where
+pub record HasPlace (xs : List ℕ) (n : ℕ) : Type 0 where
   pub place : ℕ
   pub within : place < length xs
   pub is : get_or xs place 0 ≡ n
 
-stands : (xs : List ℕ) (n : ℕ) → IsAmong xs n → Stands xs n
-stands [] n among = absurd (cc among)
-stands (x ∷ xs) n among = by (x == n) refl (stands xs n) among
+has_place : (xs : List ℕ) (n : ℕ) → IsAmong xs n → HasPlace xs n
+has_place [] n among = absurd (cc among)
+has_place (x ∷ xs) n among = by (x == n) refl (has_place xs n) among
   where
-    by : (b : Bool) → (x == n) ≡ b → (IsAmong xs n → Stands xs n) → IsSome (cond b (Some x) (find (λ m. m == n) xs)) → Stands (x ∷ xs) n
+    by : (b : Bool) → (x == n) ≡ b → (IsAmong xs n → HasPlace xs n) → IsSome (cond b (Some x) (find (λ m. m == n) xs)) → HasPlace (x ∷ xs) n
     by true e rest h = record { place = 0; within = omega arith; is = eqb-true x n e }
     by false e rest h = let later = rest h in let within = later.within in record { place = suc later.place; within = omega (arith, within); is = later.is }
 
@@ -68,7 +68,7 @@ sides (suc a) (suc b) = elim (sides a b) [ inl less ↦ inl (omega (arith, less)
 pub search_finds : (xs : List ℕ) (n : ℕ) (r : Result ℕ ℕ) → IsBinarySearchResult (λ y. nat_cmp y n) xs r → Rise xs → IsAmong xs n → is_ok r ≡ true
 search_finds xs n (Ok i) found up among = refl
 search_finds xs n (Err i) found up among =
-    let it = stands xs n among in
+    let it = has_place xs n among in
     let apart = searched xs n (Err i) found (none_falls 1 xs up) in
     let is = it.is in
     elim (sides it.place i) [

@@ -45,13 +45,13 @@ not_rising c o (x ∷ xs) h up =
 -- sorted keys tell whether one stands twice
 pub distinct-answer : {X : Type 0} (c : X → X → Ordering) → IsTotalOrder c → (xs ys : List X) → IsPermutation xs ys → IsSorted c ys → (r : Bool) →
     IsAllAdjacentAnswer (λ x y b. b ≡ is_lt (c x y)) ys r → IsTrue r ↔ IsDistinct (eq_by_cmp c) xs
-distinct-answer c o xs ys moved up true h = (
-  λ _. IsDistinct-IsPermutation (eq_by_cmp c) (equal_flips c o) ys xs (IsPermutation-sym xs ys moved) (IsDistinct-from_sorted c ys (rising c o ys h)),
+distinct-answer c o xs ys permuted up true h = (
+  λ _. IsDistinct-IsPermutation (eq_by_cmp c) (equal_flips c o) ys xs (IsPermutation-sym xs ys permuted) (IsDistinct-from_sorted c ys (rising c o ys h)),
   λ _. refl,
 )
-distinct-answer c o xs ys moved up false h = (
+distinct-answer c o xs ys permuted up false h = (
   λ e. absurd (let clash : false ≡ true = e in cc),
-  λ apart. absurd (not_rising c o ys h (strictly-from_distinct c o ys up (IsDistinct-IsPermutation (eq_by_cmp c) (equal_flips c o) xs ys moved apart))),
+  λ apart. absurd (not_rising c o ys h (strictly-from_distinct c o ys up (IsDistinct-IsPermutation (eq_by_cmp c) (equal_flips c o) xs ys permuted apart))),
 )
 
 -- ---- from keys to the rows that have them

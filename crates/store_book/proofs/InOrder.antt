@@ -58,10 +58,10 @@ unmapped_up f key n (x ∷ xs) up = (up.0, unmapped_up f key (key (f x) + 1) xs 
 
 -- they differ in any other
 distinct_moved : {X : Type 0} (number : X → ℕ) (xs ys : List X) → IsPermutation xs ys → Distinct number xs → Distinct number ys
-distinct_moved number xs ys moved apart =
+distinct_moved number xs ys permuted apart =
     let before = values-distinct (eq_by_cmp nat_cmp) (λ n. n) (λ m n e. equal-numbers m n e) (map number xs) (distinct-map (λ n. n) number xs apart) in
     let after = IsDistinct-IsPermutation (eq_by_cmp nat_cmp) (equal_flips nat_cmp nat_cmp_total) (map number xs) (map number ys)
-    (IsPermutation-map number xs ys moved) before in
+    (IsPermutation-map number xs ys permuted) before in
     (distinct-rows nat_cmp (λ n. n) number (λ m n e. numbers-equal m n e) (λ m n e. equal-numbers m n e) (map number ys) ys (map-id (map number ys)) true
     (λ _. after, λ _. refl)).0 refl
 

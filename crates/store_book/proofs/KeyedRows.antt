@@ -34,7 +34,7 @@ all_of P (x ∷ xs) h = All-cons P x xs h.0 (all_of P xs h.1)
 
 -- holds of them in any other
 pub each_moved : {X : Type 0} (P : X → Type 0) (xs ys : List X) → IsPermutation xs ys → EachOf P xs → EachOf P ys
-each_moved P xs ys moved h = each_of P ys (All-permutation P xs ys moved (all_of P xs h))
+each_moved P xs ys permuted h = each_of P ys (All-permutation P xs ys permuted (all_of P xs h))
 
 -- ---- numbers
 

@@ -20,12 +20,12 @@ pub sorted-flat : {P T : Type 0} (number : P → ℕ) (children : P → List T) 
     IsNesting number children with_children → (parents : List P) (rows cs : List (Owned T)) (ps : List P) → Ascends number 1 parents →
     IsPermutation rows cs → IsSorted (by_owner child_number) cs → IsNestOf number children with_children child_number parents rows ps →
     nested number with_children parents cs ≡ ps
-sorted-flat number children with_children child_number laws parents rows cs ps up moved rising nest =
+sorted-flat number children with_children child_number laws parents rows cs ps up permuted rising nest =
     let same_parents = same_ascending number 1 1 parents (map (λ p. with_children p []) ps) up
     (parents-ascend number children with_children laws ps nest.ascends) nest.parents_are in
     let same_children = same_sorted (by_owner child_number) (by_owner-total child_number) cs (child_rows number children ps) rising
     (strictly-children number children child_number 1 ps nest.ascends nest.children_ascend)
-    (IsPermutation-trans cs rows (child_rows number children ps) (IsPermutation-sym rows cs moved) nest.rows_are) in
+    (IsPermutation-trans cs rows (child_rows number children ps) (IsPermutation-sym rows cs permuted) nest.rows_are) in
     (λ i. nested number with_children (same_parents i) (same_children i)) ∙ nested-flat number children with_children laws 1 ps nest.ascends
 
 -- there is but one such list

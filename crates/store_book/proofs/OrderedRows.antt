@@ -99,5 +99,5 @@ strictly-children number children child_number n (p ∷ ps) h own =
 
 -- rows by number with the same elements are equal
 pub same_ascending : {X : Type 0} (number : X → ℕ) (m n : ℕ) (xs ys : List X) → Ascends number m xs → Ascends number n ys → IsPermutation xs ys → xs ≡ ys
-same_ascending number m n xs ys up down moved =
-    same_strictly (by_number number) (by_number-total number) xs ys (strictly-from_ascends number m xs up) (strictly-from_ascends number n ys down) moved
+same_ascending number m n xs ys up down permuted =
+    same_strictly (by_number number) (by_number-total number) xs ys (strictly-from_ascends number m xs up) (strictly-from_ascends number n ys down) permuted

@@ -44,9 +44,9 @@ strictly-from_distinct c o (x ∷ xs) up apart =
 -- a sorted order of what can rise strictly does so
 pub strictly-from_other : {X : Type 0} (c : X → X → Ordering) → IsTotalOrder c → (xs ys : List X) → IsSorted c xs → IsStrictlySortedBy c ys →
     IsPermutation xs ys → IsStrictlySortedBy c xs
-strictly-from_other c o xs ys up rises moved =
+strictly-from_other c o xs ys up rises permuted =
     strictly-from_distinct c o xs up
-    (IsDistinct-IsPermutation (eq_by_cmp c) (equal_flips c o) ys xs (IsPermutation-sym xs ys moved) (IsDistinct-from_sorted c ys rises))
+    (IsDistinct-IsPermutation (eq_by_cmp c) (equal_flips c o) ys xs (IsPermutation-sym xs ys permuted) (IsDistinct-from_sorted c ys rises))
 
 -- each of these elements is this one or above
 first_or_above : {X : Type 0} (c : X → X → Ordering) (x : X) (xs : List X) → AllByRecursion (λ y. c x y ≡ Ordering.Less) xs →
@@ -98,25 +98,25 @@ same_from_elements {X} c o (x ∷ xs) (y ∷ ys) up down to from =
 -- a sorted list is the one order of its elements that rises strictly
 pub same_sorted : {X : Type 0} (c : X → X → Ordering) → IsTotalOrder c → (xs ys : List X) → IsSorted c xs → IsStrictlySortedBy c ys
     → IsPermutation xs ys → xs ≡ ys
-same_sorted c o xs ys up rises moved =
-    same_from_elements c o xs ys (strictly-from_other c o xs ys up rises moved) rises
-    (λ P h. recursion_from_All P ys (All-permutation P xs ys moved (All-from_recursion P xs h)))
-    (λ P h. recursion_from_All P xs (All-permutation P ys xs (IsPermutation-sym xs ys moved) (All-from_recursion P ys h)))
+same_sorted c o xs ys up rises permuted =
+    same_from_elements c o xs ys (strictly-from_other c o xs ys up rises permuted) rises
+    (λ P h. recursion_from_All P ys (All-permutation P xs ys permuted (All-from_recursion P xs h)))
+    (λ P h. recursion_from_All P xs (All-permutation P ys xs (IsPermutation-sym xs ys permuted) (All-from_recursion P ys h)))
 
 -- what rises strictly is the one order of its elements that does
 pub same_strictly : {X : Type 0} (c : X → X → Ordering) → IsTotalOrder c → (xs ys : List X) → IsStrictlySortedBy c xs
     → IsStrictlySortedBy c ys → IsPermutation xs ys → xs ≡ ys
-same_strictly c o xs ys up down moved =
+same_strictly c o xs ys up down permuted =
     same_from_elements c o xs ys up down
-    (λ P h. recursion_from_All P ys (All-permutation P xs ys moved (All-from_recursion P xs h)))
-    (λ P h. recursion_from_All P xs (All-permutation P ys xs (IsPermutation-sym xs ys moved) (All-from_recursion P ys h)))
+    (λ P h. recursion_from_All P ys (All-permutation P xs ys permuted (All-from_recursion P xs h)))
+    (λ P h. recursion_from_All P xs (All-permutation P ys xs (IsPermutation-sym xs ys permuted) (All-from_recursion P ys h)))
 
 -- a list with one element is the one order of it
 pub same_single : {X : Type 0} (xs : List X) (y : X) → IsPermutation xs (y ∷ []) → xs ≡ y ∷ []
-same_single xs y moved =
-    one xs (length_permutation xs (y ∷ []) moved)
+same_single xs y permuted =
+    one xs (length_permutation xs (y ∷ []) permuted)
     (recursion_from_All
-    (λ z. z ≡ y) xs (All-permutation (λ z. z ≡ y) (y ∷ []) xs (IsPermutation-sym xs (y ∷ []) moved)
+    (λ z. z ≡ y) xs (All-permutation (λ z. z ≡ y) (y ∷ []) xs (IsPermutation-sym xs (y ∷ []) permuted)
     (All-from_recursion (λ z. z ≡ y) (y ∷ []) (refl, tt))))
   where
     one : {X : Type 0} {y : X} (xs : List X) → length (y ∷ []) ≡ length xs → AllByRecursion (λ z. z ≡ y) xs → xs ≡ y ∷ []

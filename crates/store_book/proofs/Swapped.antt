@@ -96,15 +96,15 @@ picked_flat h (x ∷ xs) = by (h x) (picked_flat h xs)
 
 -- moves with it
 pub picked-permutation : {X Y : Type 0} (h : X → Option Y) (xs ys : List X) → IsPermutation xs ys → IsPermutation (filter_map h xs) (filter_map h ys)
-picked-permutation h xs ys moved = rw (sym (picked_flat h xs), sym (picked_flat h ys)) (flat-permutation (λ x. cons_option (h x) []) xs ys moved)
+picked-permutation h xs ys permuted = rw (sym (picked_flat h xs), sym (picked_flat h ys)) (flat-permutation (λ x. cons_option (h x) []) xs ys permuted)
 
 -- a list whose image is another list in another order stands in that order
 pub lifted : {X Y : Type 0} (f : X → Y) (xs : List X) (ys : List Y) → IsPermutation (map f xs) ys → (zs : List X) × IsPermutation xs zs × (map f zs ≡ ys)
-lifted {X} f xs ys moved =
+lifted {X} f xs ys permuted =
     IsPermutation-keeps (map f xs) (λ l. (zs : List X) × IsPermutation xs zs × (map f zs ≡ l)) (xs, IsPermutation-refl xs, refl)
     (λ l i j low lower h.
     let long : length l ≡ length h.0 = sym (ap length h.2) ∙ length-map h.0 f in (
       swap h.0 i j,
       IsPermutation-trans xs h.0 (swap h.0 i j) h.1 (IsPermutation-swap h.0 (swap h.0 i j) i j (omega (arith, low, long)) (omega (arith, lower, long)) refl),
       map-swap f h.0 i j ∙ ap (λ m. swap m i j) h.2,
-    )) ys moved
+    )) ys permuted

@@ -1,6 +1,6 @@
 -- What a step of a pass read, behind what it read before.
 use Rattle.std.proofs.Common.{◌≡◌, List, Result, Ok, Err, IfErr, IfOk, IsErrAnd}
-use Rattle.store_api.specs.Sight.{Reads, Sight, Stands}
+use Rattle.store_api.specs.Sight.{Reads, Sight, Unchanged}
 use Rattle.store_api.specs.declared.fault.StorageFault.{StorageFault}
 use Rattle.store_api.specs.Finding.{LacksMemory}
 use Rattle.store_api.proofs.Readings.{reads_failing, reads_then}
@@ -8,9 +8,9 @@ use Rattle.store_api.proofs.Readings.{reads_failing, reads_then}
 module _ {S C : Type 0} {v : Sight S C} where
   -- the fault of a look-up behind others is passed on
   pub fails_then : {A B : Type 0} {old mid new : S} {why : StorageFault} (r : Result A StorageFault) →
-      Stands v old mid → Reads v {R = B} mid new (Err why) → IsErrAnd r (λ e. e ≡ why) →
+      Unchanged v old mid → Reads v {R = B} mid new (Err why) → IsErrAnd r (λ e. e ≡ why) →
       Reads v old new r
-  fails_then r stands read failed = reads_then r stands (reads_failing r read failed)
+  fails_then r unchanged read failed = reads_then r unchanged (reads_failing r read failed)
 
 -- what is never refused of rows above a number is not refused of these
 pub not_refused : {A B X Y : Type 0} (items : A → List Y) (firsts : List X → List Y) (xs : List X) (found : Result A StorageFault) (r : Result B StorageFault)

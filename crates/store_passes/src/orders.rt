@@ -1,7 +1,7 @@
 //! The orders of a desk, one after the other.
 ghost use Rattle.std.specs.Prelude.{◌≡◌, ◌<◌, ◌^◌, IfOk, IfErr, OnSome, None, Some};
 ghost use Rattle.model_lives.specs.Above.{orders_above};
-ghost use Rattle.store_api.specs.Sight.{ForTables, IsCaused, LeavesStanding, Reads};
+ghost use Rattle.store_api.specs.Sight.{ForTables, IsCaused, LeavesUnchanged, Reads};
 ghost use Rattle.store_api.specs.declared.fault.StorageFault.{StorageFault as Fault};
 ghost use Rattle.desk_model.specs.Tables.{Tables};
 ghost use Rattle.store_passes.specs.{InOrder.IsInOrder, Left.IsNext};
@@ -43,7 +43,7 @@ impl<'a, S: RowsAbove> Orders<'a, S> {
     /// As a look-up of the source; of tables by no other fault. `Reopen` also where rows do not stand by number, which no tables have.
     pub fn next(&mut self, alloc: Global) -> Result<Option<OrderRow>, StorageFault>
         ensures same_source { self.new.source.ghost_name ≡ self.old.source.ghost_name }
-        ensures reads { LeavesStanding S.sight self.old.source.now self.new.source.now result }
+        ensures reads { LeavesUnchanged S.sight self.old.source.now self.new.source.now result }
         ensures caused { self.old.fault ≡ None → IsCaused S.sight self.old.source.now self.new.source.now result }
         ensures next { ForTables S.sight self.old.source.now self.new.source.now (λ T.
             IfOk result (λ order. IsNext order (orders_above T self.old.above) (orders_above T self.new.above))) }

@@ -1,7 +1,7 @@
 //! The status faults of a desk, one after the other.
 ghost use Rattle.std.specs.Prelude.{◌≡◌, ◌<◌, ◌^◌, IfOk, IfErr, IfSome, OnOk, OnSome, None, Some};
 ghost use Rattle.desk_model.specs.Tables.{Tables};
-ghost use Rattle.store_api.specs.Sight.{ForTables, IsCaused, LeavesStanding, Reads};
+ghost use Rattle.store_api.specs.Sight.{ForTables, IsCaused, LeavesUnchanged, Reads};
 ghost use Rattle.store_api.specs.declared.fault.StorageFault.{StorageFault as Fault};
 ghost use Rattle.store_passes.specs.{InOrder.IsInOrder, Stepping.Steps};
 ghost use Rattle.store_passes.specs.Left.{IsNext, faults_above, faults_of};
@@ -63,7 +63,7 @@ impl<'a, S: RowsAbove> StatusFaults<'a, S> {
     /// As a look-up of the source; of tables by no other fault. `Reopen` also where rows do not stand by number, which no tables have.
     pub fn next(&mut self, alloc: Global) -> Result<Option<StatusFault>, StorageFault>
         ensures same_source { self.new.source.ghost_name ≡ self.old.source.ghost_name }
-        ensures reads { LeavesStanding S.sight self.old.source.now self.new.source.now result }
+        ensures reads { LeavesUnchanged S.sight self.old.source.now self.new.source.now result }
         ensures caused { self.old.fault ≡ None → IsCaused S.sight self.old.source.now self.new.source.now result }
         ensures next { ForTables S.sight self.old.source.now self.new.source.now (λ T.
             IfOk result (λ found. IsNext found (faults_above T self.old.kind self.old.moment self.old.above)

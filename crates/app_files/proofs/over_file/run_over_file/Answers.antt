@@ -10,7 +10,7 @@ returns-in-Ok g c =
       opened = c.in-Ok.store;
       ended = c.run_over-store.result.0;
       opens = c.in-Ok.ensures.opened;
-      known = c.in-Ok.ensures.known;
+      shows = c.in-Ok.ensures.shows;
       did = c.run_over-store.ensures;
     })
     c.close-closed.result.0 c.close-closed.ensures (record { closed = ends.closed; unclosed = ends.unclosed; otherwise = ends.otherwise })

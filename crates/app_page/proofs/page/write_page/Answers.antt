@@ -5,8 +5,8 @@ use Rattle.app_reports.specs.About.{statuses_said}
 use Rattle.app_page.specs.Page.{head_html, tables_html}
 use Rattle.app_page.specs.declared.texts.TheConstants as page
 use Rattle.app_reports.proofs.Printing.{on_ok}
-use Rattle.app_reports.proofs.Reporting.{report_failed, reports_then, stands_reported}
-use Rattle.store_api.proofs.Readings.{stands_both}
+use Rattle.app_reports.proofs.Reporting.{report_failed, reports_then, unchanged_reported}
+use Rattle.store_api.proofs.Readings.{unchanged_both}
 use Rattle.app_page.proofs.page.write_page.Goals as goal
 
 -- the beginning, the counts, and the tables by the counters that stand in the desk's own row
@@ -33,11 +33,11 @@ returns-clause-printed g c honest T holds =
 
 pub returns-in_err-write_statuses-clause-reads : goal.returns-in_err-write_statuses-clause-reads
 returns-in_err-write_statuses-clause-reads g c =
-    report_failed c.from_residual-in_err-write_statuses.result (stands_reported c.in_ok-counters.ensures.reads)
+    report_failed c.from_residual-in_err-write_statuses.result (unchanged_reported c.in_ok-counters.ensures.reads)
     c.in_err-write_statuses.ensures.reads c.from_residual-in_err-write_statuses.ensures.1
 
 pub returns-clause-reads : goal.returns-clause-reads
 returns-clause-reads g c =
     reports_then c.write_tables.result
-    (stands_both (stands_reported c.in_ok-counters.ensures.reads) (stands_reported c.in_ok-write_statuses.ensures.reads))
+    (unchanged_both (unchanged_reported c.in_ok-counters.ensures.reads) (unchanged_reported c.in_ok-write_statuses.ensures.reads))
     c.write_tables.ensures.reads

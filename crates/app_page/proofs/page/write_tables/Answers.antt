@@ -3,8 +3,8 @@ use Rattle.std.proofs.KnownBytes.{Appends-trans}
 use Rattle.std.specs.Io.KnownBytes.{Appends}
 use Rattle.app_page.specs.Page.{ending_html, last_html, soon_after, waiting_html}
 use Rattle.app_page.specs.declared.texts.TheConstants as page
-use Rattle.app_reports.proofs.Reporting.{report_failed, stands_reported}
-use Rattle.store_api.proofs.Readings.{stands_both}
+use Rattle.app_reports.proofs.Reporting.{report_failed, unchanged_reported}
+use Rattle.store_api.proofs.Readings.{unchanged_both}
 use Rattle.app_page.proofs.page.write_tables.Goals as goal
 
 -- the tables, one after the other
@@ -30,5 +30,5 @@ returns-clause-printed g c honest T holds =
 pub returns-in_err-write_last-clause-reads : goal.returns-in_err-write_last-clause-reads
 returns-in_err-write_last-clause-reads g c =
     report_failed c.from_residual-in_err-write_last.result
-    (stands_both (stands_reported c.in_ok-write_waiting.ensures.reads) (stands_reported c.in_ok-write_ending.ensures.reads))
+    (unchanged_both (unchanged_reported c.in_ok-write_waiting.ensures.reads) (unchanged_reported c.in_ok-write_ending.ensures.reads))
     c.in_err-write_last.ensures.reads c.from_residual-in_err-write_last.ensures.1

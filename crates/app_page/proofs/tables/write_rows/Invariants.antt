@@ -1,12 +1,12 @@
 use Rattle.std.proofs.Common.{◌-◌, ◌^◌}
 use Rattle.model_lives.specs.Above.{above}
-use Rattle.store_api.specs.Sight.{ForTables, Stands}
+use Rattle.store_api.specs.Sight.{ForTables, Unchanged}
 use Rattle.app_page.proofs.Showing.{ShowsSoFar}
 use Rattle.app_page.proofs.tables.write_rows.Given as goal
 
 abbrev pub invariant-loop-row : goal.invariant-loop-row
 invariant-loop-row g l = record {
-  stands : Stands g.K.LookUps.sight l.fn.source l.source;
+  unchanged : Unchanged g.K.LookUps.sight l.fn.source l.source;
   printed : ForTables g.K.LookUps.sight l.fn.source l.source (λ T.
       ShowsSoFar (g.Q.Query.wanted l.fn.which) (g.R.PageRow.html T) (g.W.Write.contents l.fn.out) (g.W.Write.contents l.out)
       (above g.R.Row.number l.fn.above (g.R.PassedRow.rows T)) (above g.R.Row.number l.above (g.R.PassedRow.rows T)) l.count);

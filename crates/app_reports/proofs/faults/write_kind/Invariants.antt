@@ -1,5 +1,5 @@
 use Rattle.std.proofs.Common.{◌≡◌, ◌-◌, ◌^◌, None}
-use Rattle.store_api.specs.Sight.{ForTables, Stands}
+use Rattle.store_api.specs.Sight.{ForTables, Unchanged}
 use Rattle.store_passes.specs.Left.{faults_above, faults_of}
 use Rattle.app_reports.proofs.{Printing.Writes, Searching.Searches}
 use Rattle.app_reports.proofs.faults.write_kind.Given as goal
@@ -8,7 +8,7 @@ abbrev pub invariant-loop-fault : goal.invariant-loop-fault
 invariant-loop-fault g l = record {
   name : l.faults.source.ghost_name ≡ l.initial.faults.source.ghost_name;
   unfailed : l.faults.fault ≡ None;
-  stands : Stands g.K.LookUps.sight l.fn.source l.faults.source.now;
+  unchanged : Unchanged g.K.LookUps.sight l.fn.source l.faults.source.now;
   found : ForTables g.K.LookUps.sight l.fn.source l.faults.source.now (λ T. l.moment ≡ T.meta.counters.clock
       → Searches l.found (faults_of T l.fn.kind) (faults_above T l.faults.kind l.faults.moment l.faults.above));
   printed : ForTables g.K.LookUps.sight l.fn.source l.faults.source.now (λ T. l.moment ≡ T.meta.counters.clock

@@ -17,10 +17,10 @@ kinds = Account ∷ Order ∷ Authorization ∷ Challenge ∷ []
 -- the next kind
 pub loop-kind-preserved : goal.loop-kind-preserved
 loop-kind-preserved g c = record {
-  stands = search rules;
+  unchanged = search rules;
   found = λ honest T holds now.
       let before = c.in_ok-write_kind.ensures.reads.honest honest in
-      let here = c.in_ok-write_kind.ensures.found honest T (c.loop-kind.invariant.stands.tables before T holds) now in
+      let here = c.in_ok-write_kind.ensures.found honest T (c.loop-kind.invariant.unchanged.tables before T holds) now in
       let so_far = c.loop-kind.invariant.found before T holds now in
       elim c.if-branch.branch [
         | then-branch w ↦ subst (λ f. Searches f (flat_map (faults_of T) kinds) (flat_map (faults_of T) (drop (c.loop-kind.kind-index + 1) kinds)))
@@ -32,7 +32,7 @@ loop-kind-preserved g c = record {
       ];
   printed = λ honest T holds now.
       let before = c.in_ok-write_kind.ensures.reads.honest honest in
-      let here = c.in_ok-write_kind.ensures.printed honest T (c.loop-kind.invariant.stands.tables before T holds) now in
+      let here = c.in_ok-write_kind.ensures.printed honest T (c.loop-kind.invariant.unchanged.tables before T holds) now in
       writes_part c.args.form _ _ _ (flat_map (faults_of T) kinds) (flat_map (faults_of T) (drop c.loop-kind.kind-index kinds))
       (faults_of T (get_or kinds c.loop-kind.kind-index Account)) (flat_map (faults_of T) (drop (c.loop-kind.kind-index + 1) kinds))
       (c.loop-kind.invariant.printed before T holds now) (at_drop_more (flat_map (faults_of T)) kinds c.loop-kind.kind-index Account c.loop-kind-test.true)

@@ -1,13 +1,13 @@
 use Rattle.std.proofs.Common.{◌≡◌, drop}
 use Rattle.std.specs.List.{flat_map}
-use Rattle.store_api.specs.Sight.{ForTables, Stands}
+use Rattle.store_api.specs.Sight.{ForTables, Unchanged}
 use Rattle.store_passes.specs.Left.{faults_of}
 use Rattle.app_reports.proofs.{Printing.Writes, Searching.Searches}
 use Rattle.app_reports.proofs.faults.write_kinds.Given as goal
 
 abbrev pub invariant-loop-kind : goal.invariant-loop-kind
 invariant-loop-kind g l = record {
-  stands : Stands g.K.LookUps.sight l.fn.source l.source;
+  unchanged : Unchanged g.K.LookUps.sight l.fn.source l.source;
   found : ForTables g.K.LookUps.sight l.fn.source l.source (λ T. l.moment ≡ T.meta.counters.clock
       → Searches l.found (flat_map (faults_of T) l.kind-items) (flat_map (faults_of T) (drop l.kind-index l.kind-items)));
   printed : ForTables g.K.LookUps.sight l.fn.source l.source (λ T. l.moment ≡ T.meta.counters.clock

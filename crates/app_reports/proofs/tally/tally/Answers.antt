@@ -9,7 +9,7 @@ use Rattle.app_reports.proofs.tally.tally.Goals as goal
 -- all rows are above 0
 pub loop-row-init : goal.loop-row-init
 loop-row-init g c = record {
-  stands = search rules;
+  unchanged = search rules;
   counted = λ honest T holds.
       let ascends = g.met.R.PassedRow.ascends T (books_in_order T (g.met.K.RowsAbove.books c.args.source.now T holds)) in
       let rows = g.R.PassedRow.rows T in
@@ -19,10 +19,10 @@ loop-row-init g c = record {
 -- the next row is counted
 pub loop-row-preserved : goal.loop-row-preserved
 loop-row-preserved g c = record {
-  stands = search rules;
+  unchanged = search rules;
   counted = λ honest T holds.
       let row_honest = c.in_ok-row.ensures.reads.honest honest in
-      let had = c.loop-row.invariant.stands.tables row_honest T holds in
+      let had = c.loop-row.invariant.unchanged.tables row_honest T holds in
       let rows = g.R.PassedRow.rows T in
       let next = subst (IsRowAfter g.R.Row.number rows c.loop-row.above) c.in-Some.is (c.in_ok-row.ensures.next honest T had) in
       counts_more g.R.Stated.place rows (above g.R.Row.number c.loop-row.above rows) (above g.R.Row.number c.number-above.result rows) c.in-Some.row

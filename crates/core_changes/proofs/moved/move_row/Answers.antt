@@ -7,25 +7,25 @@ returns-then-not-is_touched-clause-changes g c =
     sym (append-nil c.args.changes.now.items)
     ∙ ap (λ l. c.args.changes.now.items ++ map g.R.Movable.puts l)
     (sym (moved_one-untouched (g.R.Movable.touched c.args.step.now) g.R.Movable.differs (g.R.Movable.stated c.args.step.now)
-    (g.R.Movable.standing c.args.step.now c.args.row.now) (sym c.is_touched.ensures ∙ c.if-not-is_touched.true)))
+    (g.R.Movable.swept c.args.step.now c.args.row.now) (sym c.is_touched.ensures ∙ c.if-not-is_touched.true)))
 
 pub returns-then-not-is_touched-clause-row : goal.returns-then-not-is_touched-clause-row
 returns-then-not-is_touched-clause-row g c =
     sym (touched_one-is (g.R.Movable.touched c.args.step.now) (g.R.Movable.stated c.args.step.now)
-    (g.R.Movable.standing c.args.step.now c.args.row.now) _ (sym c.is_touched.ensures ∙ c.if-not-is_touched.true))
+    (g.R.Movable.swept c.args.step.now c.args.row.now) _ (sym c.is_touched.ensures ∙ c.if-not-is_touched.true))
 
 pub returns-clause-changes : goal.returns-clause-changes
 returns-clause-changes g c =
     c.in_ok-next.ensures.changes
     ∙ ap (λ l. c.args.changes.now.items ++ map g.R.Movable.puts l)
     (moved_one-is (g.R.Movable.touched c.args.step.now) g.R.Movable.differs (g.R.Movable.stated c.args.step.now)
-    (g.R.Movable.standing c.args.step.now c.args.row.now) _ _ (sym c.is_touched.ensures ∙ c.if-not-is_touched.false)
-    (c.stand.ensures ∙ ap (g.R.Movable.standing c.args.step.now) (g.met.R.Row.clones _ _ c.in_ok-standing.ensures.cases)) refl)
+    (g.R.Movable.swept c.args.step.now c.args.row.now) _ _ (sym c.is_touched.ensures ∙ c.if-not-is_touched.false)
+    (c.sweep.ensures ∙ ap (g.R.Movable.swept c.args.step.now) (g.met.R.Row.clones _ _ c.in_ok-swept.ensures.cases)) refl)
 
 pub returns-clause-row : goal.returns-clause-row
 returns-clause-row g c =
     ap Some (c.in_ok-next.ensures.row
     ∙ ap (g.R.Movable.stated c.args.step.now)
-    (c.stand.ensures ∙ ap (g.R.Movable.standing c.args.step.now) (g.met.R.Row.clones _ _ c.in_ok-standing.ensures.cases)))
+    (c.sweep.ensures ∙ ap (g.R.Movable.swept c.args.step.now) (g.met.R.Row.clones _ _ c.in_ok-swept.ensures.cases)))
     ∙ sym (touched_one-is (g.R.Movable.touched c.args.step.now) (g.R.Movable.stated c.args.step.now)
-    (g.R.Movable.standing c.args.step.now c.args.row.now) _ (sym c.is_touched.ensures ∙ c.if-not-is_touched.false))
+    (g.R.Movable.swept c.args.step.now c.args.row.now) _ (sym c.is_touched.ensures ∙ c.if-not-is_touched.false))

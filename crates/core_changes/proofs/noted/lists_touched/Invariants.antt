@@ -5,5 +5,5 @@ use Rattle.core_changes.proofs.noted.lists_touched.Given as goal
 
 abbrev pub invariant-loop-place : goal.invariant-loop-place
 invariant-loop-place l =
-    lists_one (touches_authorization (entry_of l.moved)) l.book.authorizations (numbers_of (drop l.place-index l.listed))
-    ≡ lists_one (touches_authorization (entry_of l.moved)) l.book.authorizations (numbers_of l.listed)
+    lists_one (touches_authorization (entry_of l.motion)) l.book.authorizations (numbers_of (drop l.place-index l.listed))
+    ≡ lists_one (touches_authorization (entry_of l.motion)) l.book.authorizations (numbers_of l.listed)

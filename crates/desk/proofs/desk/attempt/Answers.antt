@@ -1,5 +1,5 @@
 use Rattle.std.proofs.Common.{None}
-use Rattle.store_api.proofs.Readings.{stands_here, stands_read}
+use Rattle.store_api.proofs.Readings.{unchanged_here, unchanged_read}
 use Rattle.desk.proofs.Exiting.{storage_result_caused, storage_result_in_time}
 use Rattle.desk.proofs.desk.attempt.Goals as goal
 
@@ -9,11 +9,11 @@ returns-in_err-part-clause-in_time g c = storage_result_in_time c.in_err-part.fi
 pub returns-in_err-part-clause-caused : goal.returns-in_err-part-clause-caused
 returns-in_err-part-clause-caused g c =
     storage_result_caused g.K.Storage.sight g.K.Storage.causes c.args.store.now c.args.store.now c.load_part.new.self None c.in_err-part.field-0.0 _
-    stands_here c.in_err-part.ensures.caused c.from_residual.ensures.1
+    unchanged_here c.in_err-part.ensures.caused c.from_residual.ensures.1
 
 pub returns-clause-caused : goal.returns-clause-caused
 returns-clause-caused g c =
-    c.attempt_by-attempted.ensures.caused c.args.store.now (stands_read c.in_ok-part.ensures.loads.reads)
+    c.attempt_by-attempted.ensures.caused c.args.store.now (unchanged_read c.in_ok-part.ensures.loads.reads)
 
 pub returns-clause-exit : goal.returns-clause-exit
 returns-clause-exit g c =

@@ -5,7 +5,7 @@ use Rattle.desk.proofs.Exiting.{answered_alone, core_caused, core_result_in_time
 use Rattle.desk.proofs.desk.attempt_by.Goals as goal
 
 pub returns-in_err-decision-clause-caused : goal.returns-in_err-decision-clause-caused
-returns-in_err-decision-clause-caused g c was stood =
+returns-in_err-decision-clause-caused g c was unchanged =
     result_caused g.K.Storage.sight g.K.Storage.causes was c.args.store.now (core_fault c.in_err-decision.field-0.0) _
     (core_caused g.K.Storage.sight g.K.Storage.causes was c.args.store.now c.in_err-decision.field-0.0) c.from_residual.ensures.1
 
@@ -29,9 +29,9 @@ pub returns-in_err-save-clause-in_time : goal.returns-in_err-save-clause-in_time
 returns-in_err-save-clause-in_time g c = storage_result_in_time c.in_err-save.field-0.0 _ c.from_residual-in_err-save.ensures.1
 
 pub returns-in_err-save-clause-caused : goal.returns-in_err-save-clause-caused
-returns-in_err-save-clause-caused g c was stood =
+returns-in_err-save-clause-caused g c was unchanged =
     storage_result_caused g.K.Storage.sight g.K.Storage.causes was c.args.store.now c.save.new.self
-    (Some (record { part = c.args.part.now; changes = c.in_ok-decision.decision.changes.items })) c.in_err-save.field-0.0 _ stood
+    (Some (record { part = c.args.part.now; changes = c.in_ok-decision.decision.changes.items })) c.in_err-save.field-0.0 _ unchanged
     c.in_err-save.ensures.caused c.from_residual-in_err-save.ensures.1
 
 pub returns-in_err-save-clause-exit : goal.returns-in_err-save-clause-exit

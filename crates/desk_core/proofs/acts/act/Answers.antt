@@ -91,4 +91,4 @@ returns-in-Moves-clause-reply c =
     let book = c.args.book.now in
     let counters = c.args.recording.now.counters in
     subst (λ v. IfOk c.act_on_rows.result (Replies book counters v)) (sym c.in-Moves.is)
-    (ok_so c.act_on_rows.result (λ r. replies_move book counters c.in-Moves.moved r) c.act_on_rows.ensures.reply)
+    (ok_so c.act_on_rows.result (λ r. replies_move book counters c.in-Moves.motion r) c.act_on_rows.ensures.reply)

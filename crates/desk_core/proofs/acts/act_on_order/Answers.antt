@@ -6,7 +6,7 @@ use Rattle.desk_model.specs.Shown.{located_order, shown}
 use Rattle.desk_model.specs.declared.{entry.Entry.TheVariants.Ordered as ordered, rows.Meta.Meta, rows.OrderRow.OrderRow}
 use Rattle.desk_model.specs.declared.rows.Change.TheVariants.{PutAuthorization}
 use Rattle.core_changes.specs.Made.{next_order, next_rows}
-use Rattle.core_changes.proofs.MadeRows.{wanted_standing}
+use Rattle.core_changes.proofs.MadeRows.{wanted_reusable}
 use Rattle.core_changes.proofs.Recordings.{clock_is, last_order-pushed}
 use Rattle.desk_core.proofs.Acting.{clock_at, where_answered}
 use Rattle.desk_core.proofs.ActingRows.{may_be_wanted, ordered_found, ordered_names, ordered_text}
@@ -17,7 +17,7 @@ pub returns-clause-recorded : goal.returns-clause-recorded
 returns-clause-recorded c =
     where_answered c.made_order_reply.result
     (λ m es is untouched h. c.in_ok-order.ensures.recorded m c.args.book.now es (ap (λ (x : Meta). x.policy) (sym c.meta.ensures)) is untouched
-    (wanted_standing (swept m c.args.book.now) c.args.account c.args.wanted.now
+    (wanted_reusable (swept m c.args.book.now) c.args.account c.args.wanted.now
     (may_be_wanted m _ c.args.book.now c.args.account c.args.wanted.now
     (clock_is m c.args.book.now es c.args.recording.now.changes.items c.args.recording.now.counters h) is c.requires.there)) h)
 
@@ -36,12 +36,12 @@ returns-clause-reply c =
     ap (λ o. unwrap_or o c.unwrap-row.result.now) found in
     let may = may_be_wanted m _ c.args.book.now c.args.account c.args.wanted.now (clock_at m c.args.book.now c.args.recording.now.counters at) is
     c.requires.there in
-    let standing = wanted_standing (swept m c.args.book.now) c.args.account c.args.wanted.now may in
+    let reusable = wanted_reusable (swept m c.args.book.now) c.args.account c.args.wanted.now may in
     said T policy
     (ap (λ r. map (λ a. a.name) (listed_rows T r)) row
     ∙ ordered_names m c.args.book.now c.args.recording.now.counters c.args.account c.args.wanted.now at is may)
     (subst (λ (r : OrderRow). r.expires ≤ last_end) (sym row)
-    (ordered_text m c.args.book.now c.args.recording.now.counters c.args.account c.args.wanted.now at is standing texts))
+    (ordered_text m c.args.book.now c.args.recording.now.counters c.args.account c.args.wanted.now at is reusable texts))
     ∙ ap (shown (located_order 201 T)) (found
-    ∙ sym (ordered_found m c.args.book.now c.args.recording.now.counters c.args.account c.args.wanted.now at is standing)))
+    ∙ sym (ordered_found m c.args.book.now c.args.recording.now.counters c.args.account c.args.wanted.now at is reusable)))
     c.made_order_reply.ensures

@@ -91,13 +91,13 @@ returns-in-Err-begin-clause-failed g c none =
       no_later = failed.no_later none;
     }
 
-pub returns-in-Ok-begin-clause-known : goal.returns-in-Ok-begin-clause-known
-returns-in-Ok-begin-clause-known g c none =
+pub returns-in-Ok-begin-clause-shows : goal.returns-in-Ok-begin-clause-shows
+returns-in-Ok-begin-clause-shows g c none =
     let conn = c.in-Ok.ensures in
     record {
       from = c.in-Ok.conn;
       connects = record { fresh = conn.fresh; opened = conn.opened; found = conn.found };
-      known = c.in-Ok-begin.ensures.known none;
+      shows = c.in-Ok-begin.ensures.shows none;
     }
 
 pub returns-in-Err-begin-clause-making : goal.returns-in-Err-begin-clause-making

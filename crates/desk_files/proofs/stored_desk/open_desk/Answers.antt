@@ -34,11 +34,11 @@ pub returns-in-Ok-clause-first : goal.returns-in-Ok-clause-first
 returns-in-Ok-clause-first g c =
     IfErr-weaker c.adopt.result _ _ (λ un failed clean T has. of_storage g.S.Store c.in-Ok.store.conn un.conn un.fault failed) c.adopt.ensures.failed
 
-pub returns-in-Ok-clause-known : goal.returns-in-Ok-clause-known
-returns-in-Ok-clause-known g c =
+pub returns-in-Ok-clause-shows : goal.returns-in-Ok-clause-shows
+returns-in-Ok-clause-shows g c =
     let opened = state g.S.Store c.in-Ok.store.conn in
     MatchResult-weaker c.adopt.result c.adopt.ensures.asks
-    (λ desk asked clean. c.in-Ok.ensures.known (clean_before opened (state g.S.Store desk.store.conn) asked clean)) (λ un asked. tt)
+    (λ desk asked clean. c.in-Ok.ensures.shows (clean_before opened (state g.S.Store desk.store.conn) asked clean)) (λ un asked. tt)
 
 pub returns-in-Ok-clause-whole : goal.returns-in-Ok-clause-whole
 returns-in-Ok-clause-whole g c =

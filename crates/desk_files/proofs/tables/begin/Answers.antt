@@ -15,5 +15,5 @@ returns-in-Some-clause-making g c = rw c.in-Some.is c.make_tables.ensures.failed
 pub returns-in-None-clause-no_later : goal.returns-in-None-clause-no_later
 returns-in-None-clause-no_later g c none = c.open_tables.ensures.no_later
 
-pub returns-in-None-clause-known : goal.returns-in-None-clause-known
-returns-in-None-clause-known g c none = c.open_tables.ensures.known
+pub returns-in-None-clause-shows : goal.returns-in-None-clause-shows
+returns-in-None-clause-shows g c none = c.open_tables.ensures.shows

@@ -43,5 +43,5 @@ returns-in-Err-clause-newer g c = c.in-Err.ensures.newer
 pub returns-in-Err-clause-no_later : goal.returns-in-Err-clause-no_later
 returns-in-Err-clause-no_later g c = c.in-Err.ensures.no_later
 
-pub returns-in-Ok-clause-known : goal.returns-in-Ok-clause-known
-returns-in-Ok-clause-known g c = c.in-Ok.ensures.known
+pub returns-in-Ok-clause-shows : goal.returns-in-Ok-clause-shows
+returns-in-Ok-clause-shows g c = c.in-Ok.ensures.shows

@@ -7,7 +7,7 @@ use Rattle.sql_write.specs.{Making.MakesDesk, Refusals.IsCause, Statements.make_
 use Rattle.desk_model.specs.Tables.{Tables}
 use Rattle.desk_store.specs.Making.{new_meta}
 use Rattle.desk_store.proofs.NewDesks.{desk_left, desk_made}
-use Rattle.desk_store.proofs.Standing.{back_then, same_fault}
+use Rattle.desk_store.proofs.NothingWritten.{back_then, same_fault}
 use Rattle.desk_store.proofs.Failing.{failed_to_save}
 use Rattle.desk_store.proofs.making.make_desk.Goals as goal
 

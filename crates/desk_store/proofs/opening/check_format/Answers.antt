@@ -1,7 +1,7 @@
 use Rattle.std.proofs.Common.{arith, inr}
 use Rattle.sqlite.specs.{Held.state, State.HasCleanDisk}
 use Rattle.sql_schema.proofs.StaysLemmas.{asks_then}
-use Rattle.desk_store.proofs.{Books.may_read, FirstBooks.first_may_read, Standing.same_fault}
+use Rattle.desk_store.proofs.{Books.may_read, FirstBooks.first_may_read, NothingWritten.same_fault}
 use Rattle.desk_store.proofs.OpeningFaults.{failure_is_storage, no_desk_is_other, opening_met, reading_is_known}
 use Rattle.desk_store.specs.Causes.{cause_of}
 use Rattle.desk_store.proofs.opening.check_format.Goals as goal
@@ -16,7 +16,7 @@ returns-in-Err g c =
     let fault = c.opening_fault.ensures in
     let there : HasCleanDisk new → HasCleanDisk mid = λ clean. let le = fault.asks.survives.clean in omega (arith, clean, le) in
     record {
-      known = λ clean. tt;
+      shows = λ clean. tt;
       newer = λ clean newer. absurd (reading_is_known (cause_of error) why fault.fault (same_fault _ _ newer));
       refused = λ clean none. record {
         after = c.is_newer.new.conn;

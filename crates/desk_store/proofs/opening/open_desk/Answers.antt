@@ -21,8 +21,8 @@ returns-in-Ok g c =
           opened.idle opened.opens;
       refused = refused_so c.open_known.result (λ no_desk. asks_then old mid new asked (opened.refused no_desk)) opened.no_newer;
       newer = λ clean newer. absurd (opened.no_newer newer);
-      known = λ clean. always_ok c.open_known.result (c.check_format.new.conn, format.known (there clean));
-      no_later = λ clean none. inl (c.check_format.new.conn, format.known (there clean));
+      shows = λ clean. always_ok c.open_known.result (c.check_format.new.conn, format.shows (there clean));
+      no_later = λ clean none. inl (c.check_format.new.conn, format.shows (there clean));
       no_desk = λ clean none. inr (no_desk_still g.S.Store c.args.conn.now c.check_format.new.conn (format.unchanged (there clean)).0.now_is
           (opened.no_desk clean none));
       later = λ clean later. absurd (format.later (there clean) later);

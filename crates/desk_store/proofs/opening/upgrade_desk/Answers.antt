@@ -2,7 +2,7 @@ use Rattle.std.proofs.Common.{ap, arith, inr}
 use Rattle.sqlite.proofs.StateLemmas.{survives_then}
 use Rattle.sqlite.specs.{Held.state, State.HasCleanDisk}
 use Rattle.desk_store.proofs.OpeningFaults.{same_storage}
-use Rattle.desk_store.proofs.Standing.{failed, same_fault}
+use Rattle.desk_store.proofs.NothingWritten.{failed, same_fault}
 use Rattle.desk_store.proofs.Upgrading.{first_unchanged, upgrade_left}
 use Rattle.desk_store.proofs.Failing.{leaves_nothing, opened_nothing}
 use Rattle.desk_store.proofs.opening.upgrade_desk.Goals as goal

@@ -16,10 +16,10 @@ loop-filled-preserved g c = (
 
 pub returns-in_err-count-clause-failed : goal.returns-in_err-count-clause-failed
 returns-in_err-count-clause-failed g c =
-    let known = g.R.Read.remaining c.args.reader.now in
+    let remaining = g.R.Read.remaining c.args.reader.now in
     let left = g.R.Read.remaining c.fill.new.reader in
     let most = length c.args.buffer.now - c.args.start in
-    let taken : TakesAtMost known left most =
-    takes_added known (g.R.Read.remaining c.loop-filled.reader) left (take c.args.start c.args.buffer.now) c.loop-filled.buffer c.loop-filled.filled most
+    let taken : TakesAtMost remaining left most =
+    takes_added remaining (g.R.Read.remaining c.loop-filled.reader) left (take c.args.start c.args.buffer.now) c.loop-filled.buffer c.loop-filled.filled most
     (omega (arith, length-take c.args.start c.args.buffer.now)) c.loop-filled.invariant.2 c.in_err-count.ensures.kept in
-    where_failed c.from_residual.result (TakesAtMost known left most) taken
+    where_failed c.from_residual.result (TakesAtMost remaining left most) taken

@@ -28,11 +28,11 @@ returns-in-Complete-clause-parsed g c =
 
 pub returns-in-Complete-clause-taken : goal.returns-in-Complete-clause-taken
 returns-in-Complete-clause-taken g c =
-    let known = g.R.Read.remaining c.args.reader.now in
+    let remaining = g.R.Read.remaining c.args.reader.now in
     let behind_head = g.R.Read.remaining c.read_head.new.reader in
     let bytes = take c.in_ok-head.filled c.read_head.new.buffer in
     let le : length bytes ≤ longest_head = omega (arith, length-take c.in_ok-head.filled c.read_head.new.buffer) in
-    takes_then known behind_head (g.R.Read.remaining c.read_headed.new.reader) longest_head longest_body (bytes, c.in_ok-head.ensures.bytes, le)
+    takes_then remaining behind_head (g.R.Read.remaining c.read_headed.new.reader) longest_head longest_body (bytes, c.in_ok-head.ensures.bytes, le)
     c.read_headed.ensures.taken
 
 pub returns-in-Malformed-clause-taken : goal.returns-in-Malformed-clause-taken

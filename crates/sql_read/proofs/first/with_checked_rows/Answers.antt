@@ -10,7 +10,7 @@ returns-in-Err g c =
 pub returns-in-Ok-true : goal.returns-in-Ok-true
 returns-in-Ok-true g c =
     let checks = rw c.in-Ok-true.field-0-test at c.in-Ok-true.ensures in
-    reads_ok g.S.Store (λ clean. record { same = refl; shows = checks.known clean refl }) checks.unchanged checks.asks
+    reads_ok g.S.Store (λ clean. record { same = refl; shows = checks.answer clean refl }) checks.unchanged checks.asks
 
 pub returns-in-Ok-false : goal.returns-in-Ok-false
 returns-in-Ok-false g c =

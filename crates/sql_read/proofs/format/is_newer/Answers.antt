@@ -22,8 +22,8 @@ returns-clause-desk g c clean T has =
     ((rows_as (λ rows. rows.items) c.all.ensures c.in_ok-rows.ensures).shown clean)
     (rw (c.deref.ensures.value) at (c.is_newer_row.ensures.0 told)))
 
-pub returns-clause-known : goal.returns-clause-known
-returns-clause-known g c clean not_told = (
+pub returns-clause-shows : goal.returns-clause-shows
+returns-clause-shows g c clean not_told = (
   _,
   (rows_as (λ rows. rows.items) c.all.ensures c.in_ok-rows.ensures).shown clean,
   λ newer.

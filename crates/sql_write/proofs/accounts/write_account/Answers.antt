@@ -5,7 +5,7 @@ use Rattle.sql_write.proofs.accounts.write_account.Goals as goal
 pub returns-clause-writes : goal.returns-clause-writes
 returns-clause-writes g c =
     row_written g.S.Store account_texts c.args.row.now _ _ c.write_row-written.result c.args.write _ _
-    c.account_values.ensures.all c.account_values.ensures.moved c.write_row-written.ensures.ran
+    c.account_values.ensures.all c.account_values.ensures.updates c.write_row-written.ensures.ran
 
 pub returns-in_err-contacts-clause-writes : goal.returns-in_err-contacts-clause-writes
 returns-in_err-contacts-clause-writes g c =

@@ -1,5 +1,5 @@
 use Rattle.std.proofs.Common.{◌∙◌, arith, refl, rules}
-use Rattle.sql_write.specs.{Fits.FitsKey, declared.standing.Write.TheVariants.Upsert}
+use Rattle.sql_write.specs.{Fits.FitsKey, declared.stored.Write.TheVariants.Upsert}
 use Rattle.sql_write.specs.Statements.{key_writing, writes}
 use Rattle.sql_write.proofs.RowsInTurn.{each_at, put_turns}
 use Rattle.sql_tables.specs.Layouts.{key_layout}

@@ -1,6 +1,6 @@
 use Rattle.std.proofs.Common.{◌≡◌}
 use Rattle.sql_write.specs.Statements.{key_writing, writes}
-use Rattle.sql_write.specs.declared.standing.Write.TheVariants.{Upsert}
+use Rattle.sql_write.specs.declared.stored.Write.TheVariants.{Upsert}
 use Rattle.sql_write.proofs.RowsInTurn.{put_turns}
 use Rattle.sql_tables.specs.Layouts.{key_layout}
 use Rattle.sql_write.proofs.Written.{HasWrittenFirst}

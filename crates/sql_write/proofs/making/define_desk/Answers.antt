@@ -5,7 +5,7 @@ use Rattle.sql_schema.specs.Defined.{Defines}
 use Rattle.sql_tables.specs.{Effects.Puts, Layouts.formatted_layout}
 use Rattle.sql_tables.proofs.{Holding.holds_first, Upserts.puts_known}
 use Rattle.sql_write.proofs.Written.{written_first, written_then}
-use Rattle.sql_write.specs.{Making.MakesDesk, declared.standing.Write.TheVariants.Upsert}
+use Rattle.sql_write.specs.{Making.MakesDesk, declared.stored.Write.TheVariants.Upsert}
 use Rattle.sql_write.specs.Statements.{defines_before, make_statements, meta_writing, writes}
 use Rattle.sql_write.proofs.making.define_desk.Goals as goal
 

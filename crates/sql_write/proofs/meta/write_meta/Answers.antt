@@ -6,7 +6,7 @@ use Rattle.sql_write.proofs.meta.write_meta.Goals as goal
 pub returns-clause-writes : goal.returns-clause-writes
 returns-clause-writes g c =
     row_written g.S.Store meta_texts (known_format, c.args.row.now) _ _ c.write_row.result c.args.write _ _
-    c.meta_values.ensures.all c.meta_values.ensures.moved c.write_row.ensures.ran
+    c.meta_values.ensures.all c.meta_values.ensures.updates c.write_row.ensures.ran
 
 pub returns-in_err-numbers-clause-writes : goal.returns-in_err-numbers-clause-writes
 returns-in_err-numbers-clause-writes g c =

@@ -7,7 +7,7 @@ use Rattle.sql_tables.proofs.Removal.{advances_removal}
 
 pub returns-clause-writes : goal.returns-clause-writes
 returns-clause-writes g c =
-    run_written g.S.Store _ _ _ (Removes nonce_layout c.args.serial) _ _ c.run.result (search rules) c.run.ensures.ran
+    run_written g.S.Store _ _ _ (Removes nonce_layout c.args.serial) _ _ c.execute_or_fault.result (search rules) c.execute_or_fault.ensures.ran
     (advances_removal c.args.serial _ _ _ (search rules))
 
 pub returns-in_err-column-clause-writes : goal.returns-in_err-column-clause-writes

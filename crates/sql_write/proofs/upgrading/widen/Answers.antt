@@ -8,7 +8,7 @@ use Rattle.sql_write.proofs.{Upgraded.upgrades, Written.written_first, Written.w
 use Rattle.sql_write.specs.Makes.{PutsAll}
 use Rattle.sql_write.specs.Statements.{defines, key_writing, meta_writing, upgrade_statements, writes}
 use Rattle.sql_write.specs.Upgrading.{Fills, Upgrades}
-use Rattle.sql_write.specs.declared.standing.Write.TheVariants.{Upsert}
+use Rattle.sql_write.specs.declared.stored.Write.TheVariants.{Upsert}
 use Rattle.sql_write.proofs.upgrading.widen.Goals as goal
 
 pub returns-clause-writes : goal.returns-clause-writes

@@ -1,16 +1,16 @@
 use Rattle.std.proofs.Common.{◌∙◌}
 use Rattle.std.proofs.lemmas.Result.{IfOk-from_err}
 use Rattle.store_api.proofs.Tabled.{book_are}
-use Rattle.store_api.proofs.Readings.{reads_failing, reads_standing, reads_then, stands_both, stands_read}
+use Rattle.store_api.proofs.Readings.{reads_failing, reads_unchanged, reads_then, unchanged_both, unchanged_read}
 use Rattle.store_api.proofs.all_rows.whole_book.Goals as goal
 
 pub returns-clause-reads : goal.returns-clause-reads
 returns-clause-reads g c =
-    reads_standing _ tt (stands_both (stands_read c.in_ok-meta.ensures.reads) (stands_read c.in_ok-add_all_rows.ensures.reads))
+    reads_unchanged _ tt (unchanged_both (unchanged_read c.in_ok-meta.ensures.reads) (unchanged_read c.in_ok-add_all_rows.ensures.reads))
 
 pub returns-in_err-add_all_rows-clause-reads : goal.returns-in_err-add_all_rows-clause-reads
 returns-in_err-add_all_rows-clause-reads g c =
-    reads_then _ (stands_read c.in_ok-meta.ensures.reads)
+    reads_then _ (unchanged_read c.in_ok-meta.ensures.reads)
     (reads_failing _ c.in_err-add_all_rows.ensures.reads c.from_residual-in_err-add_all_rows.ensures.1)
 
 pub returns-in_err-add_all_rows-clause-whole : goal.returns-in_err-add_all_rows-clause-whole

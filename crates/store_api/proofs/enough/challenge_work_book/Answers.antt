@@ -1,9 +1,9 @@
 use Rattle.std.proofs.Common.{◌∙◌}
-use Rattle.store_api.proofs.Readings.{reads_failing, reads_standing, reads_then, stands_both, stands_read}
+use Rattle.store_api.proofs.Readings.{reads_failing, reads_unchanged, reads_then, unchanged_both, unchanged_read}
 use Rattle.store_api.proofs.enough.challenge_work_book.Goals as goal
 
 pub returns-clause-reads : goal.returns-clause-reads
-returns-clause-reads g c = reads_standing _ tt (stands_both (stands_read c.in_ok-meta.ensures.reads) (stands_read c.in_ok-add_working.ensures.reads))
+returns-clause-reads g c = reads_unchanged _ tt (unchanged_both (unchanged_read c.in_ok-meta.ensures.reads) (unchanged_read c.in_ok-add_working.ensures.reads))
 
 pub returns-clause-found : goal.returns-clause-found
 returns-clause-found g c = λ honest T held ordered.
@@ -19,5 +19,5 @@ returns-clause-found g c = λ honest T held ordered.
 
 pub returns-in_err-add_working-clause-reads : goal.returns-in_err-add_working-clause-reads
 returns-in_err-add_working-clause-reads g c =
-    reads_then _ (stands_read c.in_ok-meta.ensures.reads)
+    reads_then _ (unchanged_read c.in_ok-meta.ensures.reads)
     (reads_failing _ c.in_err-add_working.ensures.reads c.from_residual-in_err-add_working.ensures.1)

@@ -1,7 +1,7 @@
 use Rattle.std.proofs.Common.{ap, map, ◌∙◌, ◌++◌, []}
 use Rattle.model_laws.specs.Placing.{puts}
 use Rattle.identifiers.specs.Parsed.{ask_of}
-use Rattle.store_api.proofs.MinimalRows.{moved_are, opened_are, restated_are, holders_missing, named_missing}
+use Rattle.store_api.proofs.MinimalRows.{movable_are, opened_are, restated_are, holders_missing, named_missing}
 use Rattle.store_api.proofs.Found.{fails_behind, finds_both, finds_failing, finds_fourth}
 use Rattle.store_api.proofs.Gathered.{put_into_none}
 use Rattle.std.specs.List.{flat_map}
@@ -30,16 +30,16 @@ returns g c =
     let authorization = λ (r : AuthorizationRow). r.number in
     let order = λ (o : OrderRow). o.number in
     let named = ap (with_named T ask) none.accounts ∙ named_missing T ask ordered in
-    let moved =
+    let movable =
     put_into_none authorization (moved_authorizations T ask) _ _
-    (first.1.0 ∙ ap (λ l. puts authorization l c.args.moved.now) (moved_are T m ask needs is _ named)) no_moved in
+    (first.1.0 ∙ ap (λ l. puts authorization l c.args.movable.now) (movable_are T m ask needs is _ named)) no_moved in
     let accounts =
     first.1.1
-    ∙ (λ i. missings account (accounts_numbered T) (if is.holders i then map (λ (r : AuthorizationRow). r.account) (moved i) else []) (named i))
+    ∙ (λ i. missings account (accounts_numbered T) (if is.holders i then map (λ (r : AuthorizationRow). r.account) (movable i) else []) (named i))
     ∙ holders_missing T ask ordered in
     let restated =
     statuses.0
-    ∙ ap (λ rows. puts authorization rows c.args.rows.now.authorizations) (restated_are T m ask needs is _ moved)
+    ∙ ap (λ rows. puts authorization rows c.args.rows.now.authorizations) (restated_are T m ask needs is _ movable)
     ∙ ap (puts authorization (restated_authorizations T m ask)) none.authorizations in
     let opens =
     put_into_none order (opened_orders T m ask) _ _
@@ -51,7 +51,7 @@ returns g c =
       authorizations =
           others
           ∙ (λ i. missings authorization (bare_authorizations T) (flat_map (λ (o : OrderRow). numbers_of o.listed) (opens i))
-          (puts authorization (moved i ++ authorizations_asked_of T (is.names i) (accounts i)) (restated i)))
+          (puts authorization (movable i ++ authorizations_asked_of T (is.names i) (accounts i)) (restated i)))
           ∙ needed_authorizations T m ask ordered;
       orders =
           alone

@@ -14,9 +14,9 @@ returns g c =
     let number = λ (a : AuthorizationRow). a.number in
     let needs = c.args.needs.now in
     finds_then c.add_asked.result c.in_ok-add_each.ensures c.add_asked.ensures (λ T past asked.
-    put_then number (past_authorizations T needs.moment) (if needs.changes_statuses then c.args.moved.now else []) _ _ _
+    put_then number (past_authorizations T needs.moment) (if needs.changes_statuses then c.args.movable.now else []) _ _ _
     (past ∙ ap (λ l. puts number l c.args.authorizations.now) (of_two (λ s. authorizations_past T s needs.moment) authz.Pending authz.Valid))
-    (asked ∙ ap (λ l. puts number (if needs.changes_statuses then l else []) c.add_each.new.table) (themselves c.args.moved.now)))
+    (asked ∙ ap (λ l. puts number (if needs.changes_statuses then l else []) c.add_each.new.table) (themselves c.args.movable.now)))
 
 pub returns-in_err-add_each : goal.returns-in_err-add_each
 returns-in_err-add_each g c = finds_failing _ c.in_err-add_each.ensures c.from_residual.ensures.1

@@ -4,7 +4,7 @@ use Rattle.desk_model.specs.declared.{call.Call.Call, rows.Meta.Meta}
 use Rattle.identifiers.specs.Parsed.{ask_of}
 use Rattle.model_lives.specs.MinimalPart.{needed_rows}
 use Rattle.store_api.proofs.Tabled.{book_are}
-use Rattle.store_api.proofs.Readings.{reads_failing, reads_standing, reads_then, stands_both, stands_read}
+use Rattle.store_api.proofs.Readings.{reads_failing, reads_unchanged, reads_then, unchanged_both, unchanged_read}
 use Rattle.store_api.specs.Needing.{NeedsFor}
 use Rattle.store_api.proofs.minimal_part.minimal_book.Goals as goal
 
@@ -15,11 +15,11 @@ add_minimal-requires g c =
 
 pub returns-clause-reads : goal.returns-clause-reads
 returns-clause-reads g c =
-    reads_standing _ tt (stands_both (stands_read c.in_ok-meta.ensures.reads) (stands_read c.in_ok-add_minimal.ensures.reads))
+    reads_unchanged _ tt (unchanged_both (unchanged_read c.in_ok-meta.ensures.reads) (unchanged_read c.in_ok-add_minimal.ensures.reads))
 
 pub returns-in_err-add_minimal-clause-reads : goal.returns-in_err-add_minimal-clause-reads
 returns-in_err-add_minimal-clause-reads g c =
-    reads_then _ (stands_read c.in_ok-meta.ensures.reads)
+    reads_then _ (unchanged_read c.in_ok-meta.ensures.reads)
     (reads_failing _ c.in_err-add_minimal.ensures.reads c.from_residual-in_err-add_minimal.ensures.1)
 
 pub returns-in_err-add_minimal-clause-found : goal.returns-in_err-add_minimal-clause-found
@@ -32,7 +32,7 @@ returns-clause-found g c = λ honest T held ordered.
     let same = c.in_ok-meta.ensures.found so_far T held in
     let put_now = c.in_ok-add_minimal.ensures.found honest T (c.in_ok-meta.ensures.reads.tables so_far T held) in
     let are = put_now ordered (λ i. (same i).policy)
-    (record { nonces = c.new.ensures; accounts = c.new-2.ensures; authorizations = c.new-3.ensures; orders = c.new-4.ensures }) c.new-moved.ensures in
+    (record { nonces = c.new.ensures; accounts = c.new-2.ensures; authorizations = c.new-3.ensures; orders = c.new-4.ensures }) c.new-movable.ensures in
     c.of_tables.ensures
     ∙ book_are c.in_ok-meta.meta _ (needed_rows T c.rows_needed-needs.result.moment (ask_of c.ask.result.now)) same are
     ∙ ap (needed_rows T c.rows_needed-needs.result.moment) c.ask.ensures

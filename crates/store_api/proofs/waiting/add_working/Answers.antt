@@ -5,7 +5,7 @@ use Rattle.desk_model.specs.declared.rows.{AuthorizationRow.AuthorizationRow, Ch
 use Rattle.model_laws.specs.Ordered.{Ascends}
 use Rattle.model_lives.specs.LookUps.{bare_authorizations}
 use Rattle.store_api.proofs.{Bare.bare_working, Found.finds_third}
-use Rattle.store_api.proofs.Readings.{reads_standing, stands_here}
+use Rattle.store_api.proofs.Readings.{reads_unchanged, unchanged_here}
 use Rattle.store_api.proofs.WaitingRows.{nested_working, numbered, working_ascend}
 use Rattle.store_api.proofs.waiting.add_working.Goals as goal
 use Rattle.store_api.specs.{Needing.missings, Nesting.nested}
@@ -20,7 +20,7 @@ returns g c =
     finds_third c.nest_each.result
     (record { reads = c.in_ok-waiting.ensures.reads; found = c.in_ok-waiting.ensures.found })
     c.in_ok-add_bare_owners.ensures
-    (record { reads = reads_standing c.nest_each.result c.nest_each.ensures.lacks stands_here; found = λ honest T held. c.nest_each.ensures.nested })
+    (record { reads = reads_unchanged c.nest_each.result c.nest_each.ensures.lacks unchanged_here; found = λ honest T held. c.nest_each.ensures.nested })
     (λ T are put_now nested_now ordered none.
     let own = are ordered in
     let bare =

@@ -3,7 +3,7 @@ use Rattle.std.proofs.lemmas.Result.{IfOk-from_err}
 use Rattle.desk_model.specs.Derived.{numbers_of, order_faults, stored_statuses}
 use Rattle.desk_model.specs.declared.rows.OrderRow.{OrderRow}
 use Rattle.model_lives.specs.Above.{orders_above}
-use Rattle.store_api.proofs.Readings.{reads_failing, reads_standing, stands_read, stands_then}
+use Rattle.store_api.proofs.Readings.{reads_failing, reads_unchanged, unchanged_read, unchanged_then}
 use Rattle.store_book.specs.RowFaults.{listed_fault}
 use Rattle.store_passes.specs.Stepping.{IsFirst}
 use Rattle.store_passes.proofs.Passing.{fails_then}
@@ -11,7 +11,7 @@ use Rattle.store_passes.proofs.Rows.{first_after, found_step, nothing_left}
 use Rattle.store_passes.proofs.checked.check_order.Goals as goal
 
 pub returns-clause-reads : goal.returns-clause-reads
-returns-clause-reads g c = reads_standing _ tt (stands_then (stands_read c.in_ok-row.ensures.reads) c.in_ok-statuses.ensures.reads)
+returns-clause-reads g c = reads_unchanged _ tt (unchanged_then (unchanged_read c.in_ok-row.ensures.reads) c.in_ok-statuses.ensures.reads)
 
 pub returns-clause-steps : goal.returns-clause-steps
 returns-clause-steps g c honest T holds h =
@@ -29,7 +29,7 @@ pub returns-clause-onward : goal.returns-clause-onward
 returns-clause-onward g c = rw c.in-Some.is at c.in_ok-row.ensures.onward
 
 pub returns-in_default-clause-reads : goal.returns-in_default-clause-reads
-returns-in_default-clause-reads g c = reads_standing _ tt (stands_read c.in_ok-row.ensures.reads)
+returns-in_default-clause-reads g c = reads_unchanged _ tt (unchanged_read c.in_ok-row.ensures.reads)
 
 pub returns-in_default-clause-steps : goal.returns-in_default-clause-steps
 returns-in_default-clause-steps g c honest T holds h =
@@ -48,7 +48,7 @@ returns-in_err-row-clause-onward g c = IfOk-from_err c.from_residual.result _ c.
 
 pub returns-in_err-statuses-clause-reads : goal.returns-in_err-statuses-clause-reads
 returns-in_err-statuses-clause-reads g c =
-    fails_then _ (stands_read c.in_ok-row.ensures.reads) c.in_err-statuses.ensures.reads c.from_residual-in_err-statuses.ensures.1
+    fails_then _ (unchanged_read c.in_ok-row.ensures.reads) c.in_err-statuses.ensures.reads c.from_residual-in_err-statuses.ensures.1
 
 pub returns-in_err-statuses-clause-steps : goal.returns-in_err-statuses-clause-steps
 returns-in_err-statuses-clause-steps g c honest T holds h =

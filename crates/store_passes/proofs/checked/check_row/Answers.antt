@@ -2,14 +2,14 @@ use Rattle.std.proofs.Common.{◌++◌, ap, subst, sym, ◌∙◌}
 use Rattle.std.specs.List.{flat_map}
 use Rattle.std.proofs.lemmas.Result.{IfOk-from_err}
 use Rattle.model_lives.specs.Above.{above}
-use Rattle.store_api.proofs.Readings.{reads_failing, reads_standing, stands_read}
+use Rattle.store_api.proofs.Readings.{reads_failing, reads_unchanged, unchanged_read}
 use Rattle.store_book.specs.RowFaults.{listed_fault}
 use Rattle.store_passes.specs.Stepping.{IsFirst}
 use Rattle.store_passes.proofs.Rows.{first_after, found_step, nothing_left}
 use Rattle.store_passes.proofs.checked.check_row.Goals as goal
 
 pub returns-clause-reads : goal.returns-clause-reads
-returns-clause-reads g c = reads_standing _ tt (stands_read c.in_ok-row.ensures.reads)
+returns-clause-reads g c = reads_unchanged _ tt (unchanged_read c.in_ok-row.ensures.reads)
 
 pub returns-clause-steps : goal.returns-clause-steps
 returns-clause-steps g c honest T holds h =
@@ -21,7 +21,7 @@ returns-clause-steps g c honest T holds h =
     ∙ ap (λ n. listed_fault c.fault_at.result ++ flat_map (g.R.Faulty.faults c.args.moment) (above g.R.Row.number n all)) (sym c.number.ensures)
 
 pub returns-in_default-clause-reads : goal.returns-in_default-clause-reads
-returns-in_default-clause-reads g c = reads_standing _ tt (stands_read c.in_ok-row.ensures.reads)
+returns-in_default-clause-reads g c = reads_unchanged _ tt (unchanged_read c.in_ok-row.ensures.reads)
 
 pub returns-in_default-clause-steps : goal.returns-in_default-clause-steps
 returns-in_default-clause-steps g c honest T holds h =

@@ -4,4 +4,4 @@ use Rattle.model_laws.proofs.SweptParts.{touches_swept}
 use Rattle.core_changes.proofs.moved.AuthorizationRowMovable.is_touched.Goals as goal
 
 pub returns : goal.returns
-returns c = c.touches_authorization.ensures ∙ sym (touches_swept (entry_of c.args.step.now.moved.now) c.args.step.now.moment c.args.self.now)
+returns c = c.touches_authorization.ensures ∙ sym (touches_swept (entry_of c.args.step.now.motion.now) c.args.step.now.moment c.args.self.now)

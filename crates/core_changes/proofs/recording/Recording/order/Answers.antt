@@ -30,6 +30,6 @@ returns-clause-counters c = search rules
 pub returns-clause-recorded : goal.returns-clause-recorded
 returns-clause-recorded c =
     both_ok c.push.result (returns-clause-changes c) (returns-clause-counters c)
-    (λ made same m B es policy is untouched standing h. recorded_as m B (es ++ ordered c.args.account c.args.wanted.now ∷ []) _ _ _ _ made same
-    (and_ordered m B es c.args.policy.now c.args.account c.args.wanted.now c.args.self.now.changes.items c.args.self.now.counters policy is untouched standing
+    (λ made same m B es policy is untouched reusable h. recorded_as m B (es ++ ordered c.args.account c.args.wanted.now ∷ []) _ _ _ _ made same
+    (and_ordered m B es c.args.policy.now c.args.account c.args.wanted.now c.args.self.now.changes.items c.args.self.now.counters policy is untouched reusable
     h))

@@ -1,5 +1,5 @@
 use Rattle.std.proofs.Common.{refl}
-use Rattle.desk_store.proofs.Standing.{handed, handed_on}
+use Rattle.desk_store.proofs.NothingWritten.{handed, handed_on}
 use Rattle.desk_store.proofs.look_ups.StoreLookUps.find_authorizations.Goals as goal
 
 pub returns : goal.returns

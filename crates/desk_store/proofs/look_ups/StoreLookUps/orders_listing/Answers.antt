@@ -1,5 +1,5 @@
 use Rattle.std.proofs.Common.{refl}
-use Rattle.desk_store.proofs.Standing.{handed}
+use Rattle.desk_store.proofs.NothingWritten.{handed}
 use Rattle.desk_store.proofs.look_ups.StoreLookUps.orders_listing.Goals as goal
 
 pub returns : goal.returns

@@ -1,5 +1,5 @@
 use Rattle.std.proofs.Common.{refl}
-use Rattle.desk_store.proofs.Standing.{hands_on}
+use Rattle.desk_store.proofs.NothingWritten.{hands_on}
 use Rattle.desk_store.proofs.look_ups.StoreLookUps.waiting_challenges.Goals as goal
 use Rattle.sql_read.proofs.Results.{read_then}
 

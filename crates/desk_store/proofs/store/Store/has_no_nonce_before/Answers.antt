@@ -1,8 +1,8 @@
 use Rattle.std.proofs.Common.{refl, subst, sym}
 use Rattle.sql_read.specs.Earliest.{IsEarliest, issues}
 use Rattle.desk_store.specs.Known.{IsKnownOf}
-use Rattle.desk_store.proofs.Knowing.{issue_noted, no_nonces_before, not_late}
-use Rattle.desk_store.proofs.Standing.{notes_on, reads_knowing}
+use Rattle.desk_store.proofs.Knowing.{issue_learned, no_nonces_before, not_late}
+use Rattle.desk_store.proofs.NothingWritten.{learns_on, reads_knowing}
 use Rattle.store_api.proofs.Readings.{reads_failed_as}
 use Rattle.desk_store.proofs.store.Store.has_no_nonce_before.Goals as goal
 
@@ -15,10 +15,10 @@ returns-in-Ok g c =
     let old = c.args.self.now in
     let read = c.earliest_issue-read.ensures in
     let mid = c.or_fault.new.self in
-    let known = c.note_issue.new.self in
-    let knows = notes_on g.S.Store (λ T. IsEarliest (issues T)) old c.earliest_issue-read.new.conn mid known _ c.in-Ok.earliest
+    let known = c.learn_issue.new.self in
+    let knows = learns_on g.S.Store (λ T. IsEarliest (issues T)) old c.earliest_issue-read.new.conn mid known _ c.in-Ok.earliest
     (λ clean T held book. read.found clean T held) c.in-Ok.ensures.found c.or_fault.ensures.honest
-    (issue_noted mid.known known c.in-Ok.earliest c.note_issue.ensures) in
+    (issue_learned mid.known known c.in-Ok.earliest c.learn_issue.ensures) in
     record {
       reads = reads_knowing g.S.Store old mid (record { conn = mid.conn; known = known }) c.in-Ok.earliest _ refl
           (c.in-Ok.ensures.reads old refl read.asks read.unchanged read.caused) knows;

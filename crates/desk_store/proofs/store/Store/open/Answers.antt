@@ -3,7 +3,7 @@ use Rattle.sqlite.specs.{Effect.Database, Held.state}
 use Rattle.desk_store.specs.{Desks.IsDesk, Known.IsKnownOf}
 use Rattle.desk_store.proofs.EitherFormat.{keeps_second, uses_keys}
 use Rattle.desk_store.proofs.Knowing.{nothing_known}
-use Rattle.desk_store.proofs.Standing.{desk_unchanged, failed}
+use Rattle.desk_store.proofs.NothingWritten.{desk_unchanged, failed}
 use Rattle.desk_store.proofs.store.Store.open.Goals as goal
 
 pub returns-in-Ok-clause-asks : goal.returns-in-Ok-clause-asks
@@ -59,7 +59,7 @@ returns-in-Err g c =
       left = c.open_desk.ensures.opens.left;
       spared = λ memory. unopened.opens.spared (ap (failed (Unit {0})) memory);
       newer = λ clean newer. unopened.newer clean (ap (failed (Unit {0})) newer);
-      known = tt;
+      shows = tt;
       no_later = λ clean none. unopened.no_later clean (ap (failed (Unit {0})) none);
       no_desk = λ clean none. unopened.no_desk clean (ap (failed (Unit {0})) none);
       whole = tt;

@@ -4,7 +4,7 @@ use Rattle.sqlite.specs.Held.{state}
 use Rattle.sqlite.specs.State.{HasCleanDisk, IsUnchanged}
 use Rattle.sql_read.specs.LookUpFaults.{IsOfMemoryOrDisk}
 use Rattle.desk_store.proofs.{Books.may_read, OpeningFaults.device_met}
-use Rattle.desk_store.proofs.Standing.{reads_err, reads_ok}
+use Rattle.desk_store.proofs.NothingWritten.{reads_err, reads_ok}
 use Rattle.desk_store.proofs.store.Store.or_fault.Goals as goal
 
 pub returns-in-Ok-clause-reads : goal.returns-in-Ok-clause-reads

@@ -2,15 +2,15 @@ use Rattle.std.proofs.Common.{◌≡◌, ap, refl, Ok}
 use Rattle.sqlite.specs.Held.{state}
 use Rattle.desk_model.specs.declared.rows.Meta.{Meta}
 use Rattle.sql_schema.proofs.StaysLemmas.{asks_then}
-use Rattle.store_api.proofs.Readings.{reads_failed_as, reads_standing, stands_read}
+use Rattle.store_api.proofs.Readings.{reads_failed_as, reads_unchanged, unchanged_read}
 use Rattle.desk_store.proofs.Failing.{read_failed}
-use Rattle.desk_store.proofs.Standing.{failed, hands_on}
+use Rattle.desk_store.proofs.NothingWritten.{failed, hands_on}
 use Rattle.desk_store.proofs.store.Store.policy.Goals as goal
 
 pub returns-in-Ok-clause-reads : goal.returns-in-Ok-clause-reads
 returns-in-Ok-clause-reads g c =
     let read = c.meta_row-read.ensures in
-    reads_standing _ tt (stands_read (c.in-Ok.ensures.reads c.args.self.now refl read.asks read.unchanged read.caused))
+    reads_unchanged _ tt (unchanged_read (c.in-Ok.ensures.reads c.args.self.now refl read.asks read.unchanged read.caused))
 
 pub returns-in-Ok-clause-found : goal.returns-in-Ok-clause-found
 returns-in-Ok-clause-found g c clean T has =

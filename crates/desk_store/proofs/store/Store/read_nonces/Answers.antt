@@ -1,6 +1,6 @@
 use Rattle.std.proofs.Common.{refl}
-use Rattle.store_api.proofs.Readings.{reads_then, stands_read}
-use Rattle.desk_store.proofs.Standing.{hands_on}
+use Rattle.store_api.proofs.Readings.{reads_then, unchanged_read}
+use Rattle.desk_store.proofs.NothingWritten.{hands_on}
 use Rattle.desk_store.proofs.store.Store.read_nonces.Goals as goal
 
 pub returns : goal.returns
@@ -10,7 +10,7 @@ returns g c =
     let read = c.find_nonces-read.ensures in
     let reads = c.or_fault.ensures.reads mid refl read.asks read.unchanged read.caused in
     record {
-      reads = reads_then c.or_fault.result (stands_read known) reads;
+      reads = reads_then c.or_fault.result (unchanged_read known) reads;
       found = λ clean T has.
           hands_on g.S.Store _ mid c.find_nonces-read.new.conn c.or_fault.new.self _ c.or_fault.result read.found c.or_fault.ensures.found
           c.or_fault.ensures.honest clean T (known.tables (reads.honest clean) T has);

@@ -7,12 +7,12 @@ use Rattle.desk_store.proofs.store.Store.save.Goals as goal
 
 pub returns-in-Ok-clause-saves : goal.returns-in-Ok-clause-saves
 returns-in-Ok-clause-saves g c =
-    saves_ok g.S.Store c.args.known.now c.args.changes.now c.args.self.now (record { conn = c.save_all.new.conn; known = c.follow.new.self })
+    saves_ok g.S.Store c.args.part.now c.args.changes.now c.args.self.now (record { conn = c.save_all.new.conn; known = c.follow.new.self })
     c.follow.ensures c.save_all.ensures.idle c.save_all.ensures.left c.in-Ok.ensures.ok
 
 pub returns-in-Err-clause-saves : goal.returns-in-Err-clause-saves
 returns-in-Err-clause-saves g c =
-    saves_err g.S.Store c.args.known.now c.args.changes.now c.args.self.now (record { conn = c.saving_fault.new.conn; known = c.nothing.result })
+    saves_err g.S.Store c.args.part.now c.args.changes.now c.args.self.now (record { conn = c.saving_fault.new.conn; known = c.nothing.result })
     (state g.S.Store c.save_all.new.conn)
     c.saving_fault.result c.in-Err.fault
     (λ T. subst (λ k. IsKnownOf k T) (sym c.nothing.ensures) (nothing_known T))

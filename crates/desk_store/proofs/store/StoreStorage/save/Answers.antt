@@ -1,10 +1,10 @@
 use Rattle.std.proofs.Common.{List, subst}
 use Rattle.std.specs.Prelude.{IfErr, false, ◌≡◌}
 use Rattle.desk_model.specs.declared.rows.Change.{Change}
-use Rattle.sql_write.specs.Standing.{StandsIn}
+use Rattle.sql_write.specs.Stored.{IsPartOf}
 use Rattle.store_api.specs.Storing.{IsCutFrom, SavesOf}
 use Rattle.desk_store.specs.{Causes.FailedToChange, Desks.store_sight}
-use Rattle.desk_store.proofs.SavedDesks.{part_stands, saves_of}
+use Rattle.desk_store.proofs.SavedDesks.{part_found, saves_of}
 use Rattle.desk_store.proofs.store.StoreStorage.save.Goals as goal
 
 pub returns-clause-saves : goal.returns-clause-saves
@@ -14,8 +14,8 @@ returns-clause-saves g c =
     let new = c.save.new.self in
     let r = c.save.result in
     subst (λ (cs : List Change). SavesOf (store_sight g.S.Store) (IsCutFrom part) cs old new r) c.as_slice.ensures.value
-    (saves_of (store_sight g.S.Store) (StandsIn part) (IsCutFrom part) c.as_slice.result.now old new r
-    (λ T cut has. part_stands part T cut has.desk.desk.holds.rising) c.save.ensures.saves)
+    (saves_of (store_sight g.S.Store) (IsPartOf part) (IsCutFrom part) c.as_slice.result.now old new r
+    (λ T cut has. part_found part T cut has.desk.desk.holds.rising) c.save.ensures.saves)
 
 pub returns-clause-caused : goal.returns-clause-caused
 returns-clause-caused g c =

@@ -1,5 +1,5 @@
 use Rattle.std.proofs.Common.{◌≡◌, ◌≤◌, ◌-◌, ◌^◌}
-use Rattle.store_api.specs.Sight.{ForTables, Stands}
+use Rattle.store_api.specs.Sight.{ForTables, Unchanged}
 use Rattle.store_passes.specs.{InOrder.IsInOrder, Left.faults_above}
 use Rattle.store_passes.proofs.status_faults.StatusFaults.advance.Given as goal
 
@@ -10,7 +10,7 @@ invariant-loop-checked g l = record {
   moment : l.self.moment ≡ l.fn.self.moment;
   unfailed : l.self.fault ≡ l.fn.self.fault;
   onward : l.fn.self.above ≤ l.self.above;
-  stands : Stands g.S.LookUps.sight l.fn.self.source.now l.self.source.now;
+  unchanged : Unchanged g.S.LookUps.sight l.fn.self.source.now l.self.source.now;
   found : ForTables g.S.LookUps.sight l.fn.self.source.now l.self.source.now (λ T. IsInOrder T
       → faults_above T l.fn.self.kind l.fn.self.moment l.fn.self.above ≡ faults_above T l.fn.self.kind l.fn.self.moment l.self.above);
 }

@@ -1,0 +1,17 @@
+use Rattle.std.proofs.Common.{◌∙◌, ap, None, sym}
+use Rattle.desk_http.proofs.Refusing.{late_changes_nothing, refused_late}
+use Rattle.desk_http.specs.InTurn.{parsed}
+use Rattle.desk_http.specs.Logged.{object_asked}
+use Rattle.desk_http.proofs.connections.respond_in_place.Goals as goal
+
+pub returns-in-Ok-clause-served : goal.returns-in-Ok-clause-served
+returns-in-Ok-clause-served g c remaining is =
+    let s = c.in-Ok.ensures.served remaining is in
+    parsed s.0 (s.1 ∙ c.moment_for-acting.ensures.moment) (c.call_summary-call.ensures.object ∙ ap (λ h. object_asked h.request) (sym s.2))
+    c.moment_for-acting.ensures.followed
+
+pub returns-in-Ok-clause-refused : goal.returns-in-Ok-clause-refused
+returns-in-Ok-clause-refused g c is =
+    let s = c.in-Ok.ensures.served None tt in
+    late_changes_nothing g.K.Storage.sight g.K.Storage.causes c.args.desk.now c.respond_with_random.new.desk _ None _ _ c.in-Ok.served
+    (refused_late c.args.watch.now.bound c.args.at is) (s.0, s.1 ∙ c.moment_for-acting.ensures.moment)

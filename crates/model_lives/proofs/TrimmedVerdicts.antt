@@ -1,0 +1,510 @@
+-- Of what a call neither names nor moves authorizations need no challenges: the verdict, what it records and what it shows stay the same.
+use Rattle.std.proofs.Common.{◌≡◌, ℕ, List, [], ◌∷◌, map, find, Option, Some, None, refl, sym, ap, subst, ◌∙◌, true, false, Bool, not, Result, Ok, Err, cond}
+use Rattle.std.proofs.Common.{filter}
+use Rattle.std.specs.Prelude.{◌==◌, ◌&&◌, bytes_eq, codes, nat_le, length, option_map}
+use Rattle.std.proofs.lemmas.Bool.{eqb-true, or_left}
+use Rattle.serde_json.specs.Data.{Data, string}
+use Rattle.desk_model.specs.{Account.is_valid as is_valid_account, Contact.contacts_fault, Entry.entry_of, Kept.EachOf, Lookup.holds, Name.Name, Tables.Tables}
+use Rattle.desk_model.specs.{Touched.is_named_account, Derived.numbers_of}
+use Rattle.desk_model.specs.Asked.{asks_authorizations, names_authorization, names_owner}
+use Rattle.desk_model.specs.Authorization.{is_live, is_pending}
+use Rattle.desk_model.specs.Decide.{entries_of, verdict_reply}
+use Rattle.desk_model.specs.Document.{account_url, expected, is_listed, order_document, order_url, order_with_names}
+use Rattle.desk_model.specs.Effect.{effect, effects, has_row, is_overdue, swept, swept_authorization, touches_authorization}
+use Rattle.desk_model.specs.Json.{document, list}
+use Rattle.desk_model.specs.Legal.{has_length, is_pending_challenge, is_problem, is_processing_challenge}
+use Rattle.desk_model.specs.Limits.{longest_certificate, most_names}
+use Rattle.desk_model.specs.Order.{is_processing, is_ready}
+use Rattle.desk_model.specs.Payload.{account_change, authorization_change, challenge_change, finalize, key_change, new_account, new_order}
+use Rattle.desk_model.specs.Questions.{account_on, account_with_key, authorization_on, challenge_of, order_end, order_on, owner_on, serves, serving_on}
+use Rattle.desk_model.specs.Rules.{account_verdict, authorization_verdict, certify_verdict, challenge_verdict, csr_in, fail_verdict}
+use Rattle.desk_model.specs.Rules.{finding_verdict, has_this_key, is_revoked, is_revoked_status, kept, key_verdict, left_by, names_in}
+use Rattle.desk_model.specs.Rules.{new_order_verdict, nothing, office_verdict, open_nonce, order_of, outcome_of, own, rekey_verdict, report_verdict}
+use Rattle.desk_model.specs.Rules.{revoke_account, revoke_authorization, same_outcome, same_problem, signed_verdict, stands_open, subproblems, target_verdict}
+use Rattle.desk_model.specs.Rules.{wanted, wanted_by}
+use Rattle.desk_model.specs.Shown.{at, authorization_reply, certificate_reply, challenge_in, client_challenge_in, moved_reply, ok, reply_of, shown}
+use Rattle.desk_model.specs.Verdict.{check, given}
+use Rattle.desk_model.specs.declared.{call.Ask.Ask, call.BadKey.BadKey, call.Finding.Finding, call.OrderProblem.OrderProblem, call.OfficeAsk.OfficeAsk}
+use Rattle.desk_model.specs.declared.{call.Signed.Signed, call.Target.Target, entry.Entry.Entry, entry.Move.Move, payload.AccountChange.AccountChange}
+use Rattle.desk_model.specs.declared.{payload.AuthorizationChange.AuthorizationChange, payload.ChallengeChange.ChallengeChange, payload.Identifier.Identifier}
+use Rattle.desk_model.specs.declared.{reply.Reply.Reply, reply.Subproblem.Subproblem, rows.AccountRow.AccountRow, rows.AuthorizationRow.AuthorizationRow}
+use Rattle.desk_model.specs.declared.{rows.OrderRow.OrderRow, verdict.Shows.Shows, verdict.Verdict.Verdict}
+use Rattle.desk_model.specs.declared.call.Ask.TheVariants as ask
+use Rattle.desk_model.specs.declared.call.OfficeAsk.TheVariants as office
+use Rattle.desk_model.specs.declared.call.Target.TheVariants as to
+use Rattle.desk_model.specs.declared.entry.Entry.TheVariants.{Answered as answered, Issued as issued, Ordered as ordered, Spent as spent}
+use Rattle.desk_model.specs.declared.entry.Move.TheVariants as move
+use Rattle.desk_model.specs.declared.payload.AccountChange.TheVariants as change
+use Rattle.desk_model.specs.declared.payload.AuthorizationChange.TheVariants as authz_change
+use Rattle.desk_model.specs.declared.payload.ChallengeChange.TheVariants as chall_change
+use Rattle.desk_model.specs.declared.refusal.Refusal.TheVariants as refusal
+use Rattle.desk_model.specs.declared.verdict.Listing.TheVariants as listing
+use Rattle.desk_model.specs.declared.verdict.Shows.TheVariants as show
+use Rattle.desk_model.specs.declared.verdict.Verdict.TheVariants.{Answers as answers, Moves as moves, Opens as opens, Orders as orders}
+use Rattle.model_laws.proofs.Basics.{each, each_all, each-map, find-map}
+use Rattle.model_laws.proofs.{SweptParts.swept_account, Local.swept_number}
+use Rattle.model_laws.proofs.Finds.{each_found, found_passes}
+use Rattle.model_laws.proofs.Plain.{issued_effect, spent_effect}
+use Rattle.model_lives.specs.AnswersAs.{AnswersAs, CarriesOutAs, IssuesAs, PassesAs, SettlesAs}
+use Rattle.model_lives.specs.MinimalPart.{is_end, changes_statuses}
+use Rattle.model_lives.specs.Thinned.{all_listed, with_challenges}
+use Rattle.model_lives.proofs.{Replies.owner_then, Lists.same_number, Ready.swept_named}
+use Rattle.model_lives.proofs.Trimming.{AllWhole, AreWhole, NewWhole, trimmed, effects_trimmed, find_changed, recorded_trimmed, row_whole, swept_trimmed, those}
+use Rattle.model_lives.proofs.Trimming.{touches_trimmed}
+use Rattle.model_lives.proofs.Steps.{check_keeps, either_keeps, given_keeps, no_fault_keeps, own_same}
+use Rattle.model_lives.proofs.Thin.{carries_thin, found_thin, rows_thin, whole_orders}
+use Rattle.model_lives.proofs.Verdicts.{is_key, verdict_by}
+use Rattle.model_lives.proofs.Walks.{IsNoWork, sent}
+
+-- ---- what is asked of the rows
+
+-- what an ask names, and what an account has that may end, is in whole
+pub record KeepsWhole (w : ℕ → Bool) (S : Tables) (a : Ask) : Type 0 where
+  pub authorization : (n : ℕ) → names_authorization a n ≡ true → w n ≡ true
+  pub owner : AreWhole w (names_owner a) S.authorizations
+  pub own : EachOf (λ x. is_named_account a x ≡ true → changes_statuses a ≡ true → asks_authorizations a ≡ true →
+      AreWhole w (λ r. x.number == r.account) S.authorizations) S.accounts
+
+-- so is what is shown
+abbrev shows_whole : (ℕ → Bool) → Tables → Shows → Type 0
+shows_whole w S (show.Authorization n) = w n ≡ true
+shows_whole w S (show.Challenge n) = AreWhole w (has_row n) S.authorizations
+shows_whole w S (show.ClientChallenge n) = AreWhole w (has_row n) S.authorizations
+shows_whole w S (show.List listing.ChallengeWork) = ⊥
+shows_whole w S (show.List listing.OrderWork) = ⊥
+shows_whole w S _ = Unit {0}
+
+-- what a move touches and shows
+abbrev moves_whole : (ℕ → Bool) → Tables → Move → Type 0
+moves_whole w S (move.Answered n) = AreWhole w (has_row n) S.authorizations
+moves_whole w S (move.Reported n outcome) = AreWhole w (has_row n) S.authorizations
+moves_whole w S (move.AuthorizationEnded n ending) = w n ≡ true
+moves_whole w S (move.AccountEnded n ending) = AreWhole w (λ r. n == r.account) S.authorizations
+moves_whole w S _ = Unit {0}
+
+-- and what a verdict shows or moves
+abbrev pub ActsOnWhole : (ℕ → Bool) → Tables → Verdict → Type 0
+ActsOnWhole w S (answers what) = shows_whole w S what
+ActsOnWhole w S (moves m) = moves_whole w S m
+ActsOnWhole w S _ = Unit {0}
+
+-- ---- look-ups
+
+owner_trimmed : (w : ℕ → Bool) (S : Tables) (n : ℕ) → AreWhole w (has_row n) S.authorizations → owner_on (trimmed w S) n ≡ owner_on S n
+owner_trimmed w S n h =
+    find_changed (has_row n) (with_challenges (those w)) S.authorizations
+    (each _ _ S.authorizations (λ r k. (touches_trimmed w (answered n) r k, λ so. row_whole w r (k so))) h)
+
+-- an authorization that is found by its number, in whole or not
+found_trimmed : (w : ℕ → Bool) (S : Tables) (n : ℕ) → authorization_on (trimmed w S) n ≡ option_map (with_challenges (those w)) (authorization_on S n)
+found_trimmed w S n = found_thin (those w) n S.authorizations
+
+authorization_trimmed : (w : ℕ → Bool) (S : Tables) (n : ℕ) → w n ≡ true → authorization_on (trimmed w S) n ≡ authorization_on S n
+authorization_trimmed w S n h = found_trimmed w S n ∙ by (authorization_on S n) refl
+  where
+    by : (o : Option AuthorizationRow) → authorization_on S n ≡ o → option_map (with_challenges (those w)) o ≡ o
+    by None is = refl
+    by (Some r) is = ap Some (row_whole w r (ap w (eqb-true r.number n (found_passes (λ a. a.number == n) S.authorizations r is)) ∙ h))
+
+order_trimmed : (w : ℕ → Bool) (S : Tables) (n : ℕ) → order_on (trimmed w S) n ≡ order_on S n
+order_trimmed w S n = ap (find (λ o. o.number == n)) (whole_orders S.orders)
+
+serving_trimmed : (w : ℕ → Bool) (S : Tables) (n : ℕ) (name : Name) → serving_on (trimmed w S) n name ≡ option_map (with_challenges (those w)) (serving_on S n
+    name)
+serving_trimmed w S n name = find-map (serves n name (order_end S)) (with_challenges (those w)) S.authorizations
+
+-- ---- the verdict
+
+wanted_trimmed : (w : ℕ → Bool) (S : Tables) (n : ℕ) (names : List Name) (random : List ℕ) → wanted (trimmed w S) n names random ≡ wanted S n names random
+wanted_trimmed w S n [] random = refl
+wanted_trimmed w S n (name ∷ names) random =
+    ap (λ o. wanted_by o name random ∷ wanted (trimmed w S) n names (left_by o name random)) (serving_trimmed w S n name)
+    ∙ by (serving_on S n name) (wanted_trimmed w S n names)
+  where
+    by : (o : Option AuthorizationRow) → ((rest : List ℕ) → wanted (trimmed w S) n names rest ≡ wanted S n names rest) →
+        wanted_by (option_map (with_challenges (those w)) o) name random
+        ∷ wanted (trimmed w S) n names (left_by (option_map (with_challenges (those w)) o) name random)
+        ≡ wanted_by o name random ∷ wanted S n names (left_by o name random)
+    by None ih = ap (λ rest. wanted_by None name random ∷ rest) (ih _)
+    by (Some r) ih = ap (λ rest. wanted_by (Some r) name random ∷ rest) (ih _)
+
+new_order_trimmed : (w : ℕ → Bool) (S : Tables) (random : List ℕ) (n : ℕ) (ids : List Identifier) →
+    new_order_verdict (trimmed w S) random n ids ≡ new_order_verdict S random n ids
+new_order_trimmed w S random n ids = ap (check (has_length 1 most_names ids) refusal.Malformed) (by (subproblems ids))
+  where
+    by : (ss : List Subproblem) → order_of (trimmed w S) random n ids ss ≡ order_of S random n ids ss
+    by [] = ap (orders n) (wanted_trimmed w S n (kept (names_in ids)) random)
+    by (s ∷ ss) = refl
+
+-- an authorization is judged by its status
+judged_trimmed : (w : ℕ → Bool) (S : Tables) (n : ℕ) (p : List ℕ) (j : ℕ) →
+    given (own (λ (a : AuthorizationRow). a.account) n (authorization_on (trimmed w S) j)) refusal.NotFound
+    (λ a. given (authorization_change p) refusal.Malformed (authorization_verdict j a))
+    ≡ given (own (λ (a : AuthorizationRow). a.account) n (authorization_on S j)) refusal.NotFound
+    (λ a. given (authorization_change p) refusal.Malformed (authorization_verdict j a))
+unfolding given
+judged_trimmed w S n p j =
+    ap (λ o. given (own (λ (a : AuthorizationRow). a.account) n o) refusal.NotFound
+    (λ a. given (authorization_change p) refusal.Malformed (authorization_verdict j a))) (found_trimmed w S j)
+    ∙ by (authorization_on S j)
+  where
+    changed : (r : AuthorizationRow) (q : Option AuthorizationChange) →
+        given q refusal.Malformed (authorization_verdict j (with_challenges (those w) r)) ≡ given q refusal.Malformed (authorization_verdict j r)
+    changed r None = refl
+    changed r _ = refl
+
+    own_one : (r : AuthorizationRow) (b : Bool) →
+        given (cond b (Some (with_challenges (those w) r)) None) refusal.NotFound
+        (λ a. given (authorization_change p) refusal.Malformed (authorization_verdict j a))
+        ≡ given (cond b (Some r) None) refusal.NotFound (λ a. given (authorization_change p) refusal.Malformed (authorization_verdict j a))
+    own_one r true = changed r (authorization_change p)
+    own_one r false = refl
+
+    by : (o : Option AuthorizationRow) →
+        given (own (λ (a : AuthorizationRow). a.account) n (option_map (with_challenges (those w)) o)) refusal.NotFound
+        (λ a. given (authorization_change p) refusal.Malformed (authorization_verdict j a))
+        ≡ given (own (λ (a : AuthorizationRow). a.account) n o) refusal.NotFound
+        (λ a. given (authorization_change p) refusal.Malformed (authorization_verdict j a))
+    by None = refl
+    by (Some r) = own_one r (r.account == n)
+
+target_trimmed : (w : ℕ → Bool) (S : Tables) (r : List ℕ) (n : ℕ) (s : Signed) (t : Target) → KeepsWhole w S (sent s t) →
+    target_verdict (trimmed w S) r n s.payload t ≡ target_verdict S r n s.payload t
+target_trimmed w S r n s to.NewOrder h = λ i. given (new_order s.payload) refusal.Malformed (λ ids. new_order_trimmed w S r n ids i)
+target_trimmed w S r n s (to.Order j) h = own_same _ n _ _ _ (order_trimmed w S j)
+target_trimmed w S r n s (to.Finalize j) h = own_same _ n _ _ _ (order_trimmed w S j)
+target_trimmed w S r n s (to.Cert j) h = own_same _ n _ _ _ (order_trimmed w S j)
+target_trimmed w S r n s (to.Authz j) h = judged_trimmed w S n s.payload j
+target_trimmed w S r n s (to.Chall j) h = own_same _ n _ _ _ (owner_trimmed w S j h.owner)
+target_trimmed w S r n s _ h = refl
+
+key_trimmed : (w : ℕ → Bool) (S : Tables) (r key : List ℕ) (s : Signed) (t : Target) → KeepsWhole w S (sent s t) → (o : Option AccountRow) →
+    key_verdict (trimmed w S) r key s.payload t o ≡ key_verdict S r key s.payload t o
+key_trimmed w S r key s t h None = refl
+key_trimmed w S r key s t h (Some x) = ap (check (is_valid_account x.status) refusal.Unauthorized) (target_trimmed w S r x.number s t h)
+
+pub signed_trimmed : (w : ℕ → Bool) (S : Tables) (r : List ℕ) (s : Signed) → KeepsWhole w S (ask.Signed s) → signed_verdict (trimmed w S) r s
+    ≡ signed_verdict S r s
+signed_trimmed w S r s h = by s.key
+  where
+    by : (key : Result (List ℕ) BadKey) → verdict_by (trimmed w S) r s key ≡ verdict_by S r s key
+    by (Err why) = refl
+    by (Ok key) = key_trimmed w S r key s s.target h (account_with_key S key)
+
+revoked_trimmed : (w : ℕ → Bool) (S : Tables) (n : ℕ) →
+    given (authorization_on (trimmed w S) n) refusal.NotFound (revoke_authorization n) ≡ given (authorization_on S n) refusal.NotFound (revoke_authorization n)
+unfolding given
+revoked_trimmed w S n = ap (λ o. given o refusal.NotFound (revoke_authorization n)) (found_trimmed w S n) ∙ by (authorization_on S n)
+  where
+    by : (o : Option AuthorizationRow) → given (option_map (with_challenges (those w)) o) refusal.NotFound (revoke_authorization n)
+        ≡ given o refusal.NotFound (revoke_authorization n)
+    by None = refl
+    by (Some r) = refl
+
+pub office_trimmed : (w : ℕ → Bool) (S : Tables) (a : OfficeAsk) → KeepsWhole w S (ask.Office a) → office_verdict (trimmed w S) a ≡ office_verdict S a
+office_trimmed w S (office.Report n finding) h =
+    ap (λ x. given x refusal.NotFound (λ a. given (challenge_of n a) refusal.NotFound (finding_verdict n finding a))) (owner_trimmed w S n h.owner)
+office_trimmed w S (office.Certify n bytes) h = ap (λ x. given x refusal.NotFound (certify_verdict n bytes)) (order_trimmed w S n)
+office_trimmed w S (office.FailOrder n problem) h = ap (λ x. given x refusal.NotFound (fail_verdict n problem)) (order_trimmed w S n)
+office_trimmed w S (office.RevokeAuthz n) h = revoked_trimmed w S n
+office_trimmed w S _ h = refl
+
+-- ---- what is shown
+
+-- an order by any reply that takes its document, which shows names
+order_by_trimmed : (w : ℕ → Bool) (E : Tables) (n : ℕ) (f : OrderRow → Data → Reply) →
+    shown (λ o. f o (order_document (trimmed w E) o)) (order_on (trimmed w E) n) ≡ shown (λ o. f o (order_document E o)) (order_on E n)
+order_by_trimmed w E n f = λ i. shown (λ o. f o (same o i)) (order_trimmed w E n i)
+  where
+    same : (o : OrderRow) → order_document (trimmed w E) o ≡ order_document E o
+    same o =
+        ap (λ names. order_with_names E.meta.policy names o)
+        (rows_thin (λ (a : AuthorizationRow). a.name) (those w) (λ r. refl) E.authorizations (numbers_of o.listed))
+
+reply_trimmed : (w : ℕ → Bool) (E : Tables) (what : Shows) → shows_whole w E what → reply_of (trimmed w E) what ≡ reply_of E what
+reply_trimmed w E (show.List (listing.Orders n)) h =
+    ap (λ rows. ok 200 (document ((codes "orders", list (map (λ (o : OrderRow). string (order_url E.meta.policy o.number)) (filter (is_listed n) rows))) ∷ [])))
+    (whole_orders E.orders)
+reply_trimmed w E (show.List listing.ChallengeWork) h = absurd h
+reply_trimmed w E (show.List listing.OrderWork) h = absurd h
+reply_trimmed w E (show.Order n) h = order_by_trimmed w E n (λ o d. ok 200 d)
+reply_trimmed w E (show.Certificate n) h = ap (shown (λ (o : OrderRow). certificate_reply o.certified)) (order_trimmed w E n)
+reply_trimmed w E (show.Authorization n) h = ap (shown (authorization_reply E)) (authorization_trimmed w E n h)
+reply_trimmed w E (show.Challenge n) h = ap (shown (challenge_in E n)) (owner_trimmed w E n h)
+reply_trimmed w E (show.ClientChallenge n) h = ap (shown (client_challenge_in E n)) (owner_trimmed w E n h)
+reply_trimmed w E _ h = refl
+
+moved_reply_trimmed : (w : ℕ → Bool) (m : ℕ) (S : Tables) (v : Move) → NewWhole w S → moves_whole w S v →
+    moved_reply (trimmed w (effect m S (entry_of v))) v ≡ moved_reply (effect m S (entry_of v)) v
+moved_reply_trimmed w m S (move.Answered n) new h =
+    reply_trimmed w (effect m S (entry_of (move.Answered n))) (show.ClientChallenge n) (owner_then w S m (entry_of (move.Answered n)) n new h)
+moved_reply_trimmed w m S (move.Reported n outcome) new h =
+    reply_trimmed w (effect m S (entry_of (move.Reported n outcome))) (show.Challenge n) (owner_then w S m (entry_of (move.Reported n outcome)) n new h)
+moved_reply_trimmed w m S (move.AuthorizationEnded n ending) new h =
+    reply_trimmed w (effect m S (entry_of (move.AuthorizationEnded n ending))) (show.Authorization n) h
+moved_reply_trimmed w m S (move.Finalized n csr) new h =
+    order_by_trimmed w (effect m S (entry_of (move.Finalized n csr))) n (λ o d. at (order_url S.meta.policy o.number) (ok 200 d))
+moved_reply_trimmed w m S (move.Certified n certificate) new h = order_by_trimmed w (effect m S (entry_of (move.Certified n certificate))) n (λ o d. ok 200 d)
+moved_reply_trimmed w m S (move.Failed n problem) new h = order_by_trimmed w (effect m S (entry_of (move.Failed n problem))) n (λ o d. ok 200 d)
+moved_reply_trimmed w m S _ new h = refl
+
+-- by the tables after its entries
+verdict_reply_trimmed : (w : ℕ → Bool) (m : ℕ) (S : Tables) (v : Verdict) (index : Bool) → NewWhole w S → ActsOnWhole w S v →
+    verdict_reply index (trimmed w (effects m S (entries_of v))) v ≡ verdict_reply index (effects m S (entries_of v)) v
+verdict_reply_trimmed w m S (answers what) index new h = reply_trimmed w S what h
+verdict_reply_trimmed w m S (orders account ws) index new h =
+    let E : Tables = effect m S (ordered account ws) in
+    order_by_trimmed w E E.meta.counters.orders (λ o d. at (order_url E.meta.policy o.number) (ok 201 d))
+verdict_reply_trimmed w m S (moves v) index new h = moved_reply_trimmed w m S v new h
+verdict_reply_trimmed w m S _ index new h = refl
+
+-- ---- what is touched
+
+-- what a move touches
+move_touches : (w : ℕ → Bool) (S : Tables) (v : Move) → moves_whole w S v → AreWhole w (touches_authorization (entry_of v)) S.authorizations
+move_touches w S (move.AccountEnded n ending) h = h
+move_touches w S (move.Answered n) h = h
+move_touches w S (move.Reported n outcome) h = h
+move_touches w S (move.AuthorizationEnded n ending) h = each_all _ S.authorizations (λ r yes. subst (λ j. w j ≡ true) (eqb-true n r.number yes) h)
+move_touches w S _ h = each_all _ S.authorizations (λ r yes. cc)
+
+-- what a verdict's entries touch
+verdict_touches : (w : ℕ → Bool) (m : ℕ) (S : Tables) (v : Verdict) → ActsOnWhole w S v → AllWhole w m S (entries_of v)
+verdict_touches w m S (opens key contacts) h = (each_all _ S.authorizations (λ r yes. cc), tt)
+verdict_touches w m S (orders account ws) h = (each_all _ S.authorizations (λ r yes. cc), tt)
+verdict_touches w m S (moves v) h = (move_touches w S v h, tt)
+verdict_touches w m S _ h = tt
+
+-- nonces touch none of them
+nonces_touch : (w : ℕ → Bool) (m : ℕ) (S : Tables) (n : ℕ) (r : List ℕ) (es : List Entry) → AllWhole w m (effect m (effect m S (spent n)) (issued r)) es →
+    AllWhole w m S (spent n ∷ issued r ∷ es)
+nonces_touch w m S n r es h = (
+  each_all _ S.authorizations (λ r yes. cc),
+  (each_all _ (effect m S (spent n)).authorizations (λ r yes. cc), h),
+)
+
+-- also behind them
+later_touches : (w : ℕ → Bool) (m : ℕ) (S : Tables) (n : ℕ) (r : List ℕ) (v : Verdict) → ActsOnWhole w S v → AllWhole w m S (spent n ∷ issued r ∷ entries_of v)
+later_touches w m S n r v h = nonces_touch w m S n r (entries_of v) (by v h)
+  where
+    U : Tables
+    U = effect m (effect m S (spent n)) (issued r)
+
+    rows : U.authorizations ≡ S.authorizations
+    rows = ap (λ (E : Tables). E.authorizations) (issued_effect m (effect m S (spent n)) r) ∙ ap (λ (E : Tables). E.authorizations) (spent_effect m S n)
+
+    by : (v : Verdict) → ActsOnWhole w S v → AllWhole w m U (entries_of v)
+    by (opens key contacts) k = (each_all _ U.authorizations (λ r yes. cc), tt)
+    by (orders account ws) k = (each_all _ U.authorizations (λ r yes. cc), tt)
+    by (moves v) k = (subst (AreWhole w (touches_authorization (entry_of v))) (sym rows) (move_touches w S v k), tt)
+    by _ k = tt
+
+-- ---- the walk: each verdict shows and moves what is in whole
+
+report_on_whole : (w : ℕ → Bool) (S : Tables) (n : ℕ) (finding : Finding) → AreWhole w (has_row n) S.authorizations
+    → ActsOnWhole w S (report_verdict S n finding)
+report_on_whole w S n finding owner =
+    given_keeps (ActsOnWhole w S) (owner_on S n) refusal.NotFound _ tt (λ a found.
+    given_keeps (ActsOnWhole w S) (challenge_of n a) refusal.NotFound _ tt (λ c there.
+    given_keeps (ActsOnWhole w S) (outcome_of c.kind (expected c) finding) refusal.Malformed _ tt (λ o is.
+    either_keeps (ActsOnWhole w S) (holds (λ r. same_outcome r.outcome o) c.reported) _ _ owner
+    (check_keeps (ActsOnWhole w S) (is_pending a.status && is_processing_challenge c.status) refusal.Conflict _ tt (λ stands. owner)))))
+
+certify_on_whole : (w : ℕ → Bool) (S : Tables) (n : ℕ) (bytes : List ℕ) (o : OrderRow) → ActsOnWhole w S (certify_verdict n bytes o)
+certify_on_whole w S n bytes o =
+    check_keeps (ActsOnWhole w S) (nat_le 1 (length bytes)) refusal.Malformed _ tt (λ some.
+    check_keeps (ActsOnWhole w S) (nat_le (length bytes) longest_certificate) refusal.TooLarge _ tt (λ few.
+    either_keeps (ActsOnWhole w S) (holds (λ x. bytes_eq x.bytes bytes) o.certified) _ _ tt
+    (check_keeps (ActsOnWhole w S) (is_processing o.status) refusal.Conflict _ tt (λ stands. tt))))
+
+fail_on_whole : (w : ℕ → Bool) (S : Tables) (n : ℕ) (problem : OrderProblem) (o : OrderRow) → ActsOnWhole w S (fail_verdict n problem o)
+fail_on_whole w S n problem o =
+    check_keeps (ActsOnWhole w S) (is_problem problem) refusal.Malformed _ tt (λ formed.
+    either_keeps (ActsOnWhole w S) (holds (λ f. same_problem f.problem problem) o.failed) _ _ tt
+    (check_keeps (ActsOnWhole w S) (is_processing o.status) refusal.Conflict _ tt (λ stands. tt)))
+
+revoke_account_on_whole : (w : ℕ → Bool) (S : Tables) (n : ℕ) (x : AccountRow) → KeepsWhole w S (ask.Office (office.RevokeAccount n)) → account_on S n
+    ≡ Some x →
+    ActsOnWhole w S (revoke_account n x)
+revoke_account_on_whole w S n x h found =
+    let here : (x.number == n) ≡ true = found_passes (λ y. y.number == n) S.accounts x found in
+    either_keeps (ActsOnWhole w S) (holds (λ e. is_revoked e.ending) x.ended) _ _ tt
+    (check_keeps (ActsOnWhole w S) (is_valid_account x.status) refusal.Conflict _ tt (λ stands.
+    subst (λ j. AreWhole w (λ r. j == r.account) S.authorizations) (eqb-true x.number n here)
+    (each_found _ (λ y. y.number == n) S.accounts x h.own found here refl refl)))
+
+pub office_on_whole : (w : ℕ → Bool) (S : Tables) (a : OfficeAsk) → IsNoWork a → KeepsWhole w S (ask.Office a) → ActsOnWhole w S (office_verdict S a)
+office_on_whole w S office.Directory none h = tt
+office_on_whole w S (office.Report n finding) none h = report_on_whole w S n finding h.owner
+office_on_whole w S (office.Certify n bytes) none h = given_keeps (ActsOnWhole w S) (order_on S n) refusal.NotFound _ tt (λ o found. certify_on_whole w S n
+    bytes o)
+office_on_whole w S (office.FailOrder n problem) none h = given_keeps (ActsOnWhole w S) (order_on S n) refusal.NotFound _ tt (λ o found. fail_on_whole w S n
+    problem o)
+office_on_whole w S (office.RevokeAuthz n) none h =
+    let whole : w n ≡ true = h.authorization n (same_number n) in
+    given_keeps (ActsOnWhole w S) (authorization_on S n) refusal.NotFound _ tt (λ r found.
+    either_keeps (ActsOnWhole w S) (is_revoked_status r.status) _ _ whole
+    (check_keeps (ActsOnWhole w S) (is_live r.status) refusal.Conflict _ tt (λ stands. whole)))
+office_on_whole w S (office.RevokeAccount n) none h =
+    given_keeps (ActsOnWhole w S) (account_on S n) refusal.NotFound _ tt (λ x found. revoke_account_on_whole w S n x h found)
+office_on_whole w S office.ChallengeWork none h = absurd none
+office_on_whole w S office.OrderWork none h = absurd none
+office_on_whole w S (office.KeyOf n) none h = given_keeps (ActsOnWhole w S) (account_on S n) refusal.NotFound _ tt (λ x found. tt)
+
+-- an account that is the key's ends with its authorizations
+account_on_whole : (w : ℕ → Bool) (S : Tables) (s : Signed) (j : ℕ) (x : AccountRow) (p : AccountChange) → account_change s.payload ≡ Some p →
+    (changes_statuses (sent s (to.Account j)) ≡ true → AreWhole w (λ r. x.number == r.account) S.authorizations) → ActsOnWhole w S (account_verdict x.number p)
+account_on_whole w S s j x change.Read is own_whole = tt
+account_on_whole w S s j x change.Deactivate is own_whole = own_whole (ap (holds is_end) is)
+account_on_whole w S s j x (change.Update None) is own_whole = tt
+account_on_whole w S s j x (change.Update (Some contacts)) is own_whole = no_fault_keeps (ActsOnWhole w S) (contacts_fault contacts) _ (λ n. tt) tt
+
+authorization_on_whole : (w : ℕ → Bool) (S : Tables) (j : ℕ) (r : AuthorizationRow) (p : AuthorizationChange) → w j ≡ true →
+    ActsOnWhole w S (authorization_verdict j r p)
+authorization_on_whole w S j r authz_change.Read whole = whole
+authorization_on_whole w S j r authz_change.Deactivate whole = either_keeps (ActsOnWhole w S) (is_live r.status) _ _ whole whole
+
+challenge_on_whole : (w : ℕ → Bool) (S : Tables) (j : ℕ) (r : AuthorizationRow) (p : ChallengeChange) → AreWhole w (has_row j) S.authorizations →
+    ActsOnWhole w S (challenge_verdict j r p)
+challenge_on_whole w S j r chall_change.Read owner = owner
+challenge_on_whole w S j r chall_change.Answer owner = either_keeps (ActsOnWhole w S) (stands_open (λ c. is_pending_challenge c.status) r j) _ _ owner owner
+
+rekey_on_whole : (w : ℕ → Bool) (S : Tables) (n : ℕ) (key : List ℕ) (o : Option AccountRow) → ActsOnWhole w S (rekey_verdict n key o)
+rekey_on_whole w S n key None = tt
+rekey_on_whole w S n key (Some holder) = tt
+
+order_on_whole : (w : ℕ → Bool) (S : Tables) (r : List ℕ) (n : ℕ) (ids : List Identifier) (ss : List Subproblem) → ActsOnWhole w S (order_of S r n ids ss)
+order_on_whole w S r n ids [] = tt
+order_on_whole w S r n ids (s ∷ ss) = tt
+
+target_on_whole : (w : ℕ → Bool) (S : Tables) (r : List ℕ) (x : AccountRow) (s : Signed) (t : Target) → KeepsWhole w S (sent s t) →
+    (changes_statuses (sent s t) ≡ true → asks_authorizations (sent s t) ≡ true → AreWhole w (λ r. x.number == r.account) S.authorizations) →
+    ActsOnWhole w S (target_verdict S r x.number s.payload t)
+target_on_whole w S r x s to.NewAccount h own_whole = given_keeps (ActsOnWhole w S) (new_account s.payload) refusal.Malformed _ tt (λ q is. tt)
+target_on_whole w S r x s to.KeyChange h own_whole =
+    given_keeps (ActsOnWhole w S) (key_change s.payload) refusal.Malformed _ tt (λ c is.
+    check_keeps (ActsOnWhole w S) (bytes_eq c.account (account_url S.meta.policy x.number) && holds (has_this_key S x.number) c.old_key) refusal.Malformed _ tt
+    (λ mine. given_keeps (ActsOnWhole w S) c.new_key refusal.BadPublicKey _ tt (λ key there. rekey_on_whole w S x.number key (account_with_key S key))))
+target_on_whole w S r x s to.NewOrder h own_whole =
+    given_keeps (ActsOnWhole w S) (new_order s.payload) refusal.Malformed _ tt (λ ids is.
+    check_keeps (ActsOnWhole w S) (has_length 1 most_names ids) refusal.Malformed _ tt (λ few. order_on_whole w S r x.number ids (subproblems ids)))
+target_on_whole w S r x s (to.Account j) h own_whole =
+    check_keeps (ActsOnWhole w S) (j == x.number) refusal.NotFound _ tt (λ here.
+    given_keeps (ActsOnWhole w S) (account_change s.payload) refusal.Malformed _ tt
+    (λ q is. account_on_whole w S s j x q is (λ ends. own_whole ends refl)))
+target_on_whole w S r x s (to.Orders j) h own_whole =
+    check_keeps (ActsOnWhole w S) (j == x.number) refusal.NotFound _ tt (λ here.
+    check_keeps (ActsOnWhole w S) (nothing s.payload) refusal.Malformed _ tt (λ none. tt))
+target_on_whole w S r x s (to.Order j) h own_whole =
+    given_keeps (ActsOnWhole w S) (own (λ (y : OrderRow). y.account) x.number (order_on S j)) refusal.NotFound _ tt (λ o is.
+    check_keeps (ActsOnWhole w S) (nothing s.payload) refusal.Malformed _ tt (λ none. tt))
+target_on_whole w S r x s (to.Finalize j) h own_whole =
+    given_keeps (ActsOnWhole w S) (own (λ (y : OrderRow). y.account) x.number (order_on S j)) refusal.NotFound _ tt (λ o is.
+    given_keeps (ActsOnWhole w S) (finalize s.payload) refusal.Malformed _ tt (λ q says.
+    check_keeps (ActsOnWhole w S) (is_ready o.status) refusal.OrderNotReady _ tt (λ stands.
+    given_keeps (ActsOnWhole w S) (csr_in q) refusal.BadCsr _ tt (λ csr spells. tt))))
+target_on_whole w S r x s (to.Cert j) h own_whole =
+    given_keeps (ActsOnWhole w S) (own (λ (y : OrderRow). y.account) x.number (order_on S j)) refusal.NotFound _ tt (λ o is.
+    check_keeps (ActsOnWhole w S) (nothing s.payload) refusal.Malformed _ tt (λ none.
+    given_keeps (ActsOnWhole w S) o.certified refusal.NotFound _ tt (λ c there. tt)))
+target_on_whole w S r x s (to.Authz j) h own_whole =
+    given_keeps (ActsOnWhole w S) (own (λ (y : AuthorizationRow). y.account) x.number (authorization_on S j)) refusal.NotFound _ tt (λ a is.
+    given_keeps (ActsOnWhole w S) (authorization_change s.payload) refusal.Malformed _ tt
+    (λ q says. authorization_on_whole w S j a q (h.authorization j (same_number j))))
+target_on_whole w S r x s (to.Chall j) h own_whole =
+    given_keeps (ActsOnWhole w S) (own (λ (y : AuthorizationRow). y.account) x.number (owner_on S j)) refusal.NotFound _ tt (λ a is.
+    given_keeps (ActsOnWhole w S) (challenge_change s.payload) refusal.Malformed _ tt (λ q says. challenge_on_whole w S j a q h.owner))
+
+-- by the account that the key has
+key_on_whole : (w : ℕ → Bool) (S : Tables) (r key : List ℕ) (s : Signed) (t : Target) → KeepsWhole w S (sent s t) →
+    ((x : AccountRow) → bytes_eq x.key key ≡ true → is_named_account (sent s t) x ≡ true) → (o : Option AccountRow) → account_with_key S key ≡ o →
+    ActsOnWhole w S (key_verdict S r key s.payload t o)
+key_on_whole w S r key s to.NewAccount h mine None found =
+    given_keeps (ActsOnWhole w S) (new_account s.payload) refusal.Malformed _ tt (λ q is.
+    check_keeps (ActsOnWhole w S) (not q.only_existing) refusal.AccountDoesNotExist _ tt (λ new_too.
+    no_fault_keeps (ActsOnWhole w S) (contacts_fault q.contacts) _ (λ n. tt) tt))
+key_on_whole w S r key s _ h mine None found = tt
+key_on_whole w S r key s t h mine (Some x) found =
+    check_keeps (ActsOnWhole w S) (is_valid_account x.status) refusal.Unauthorized _ tt (λ valid.
+    target_on_whole w S r x s t h
+    (each_found _ (λ a. bytes_eq a.key key) S.accounts x h.own found (mine x (found_passes (λ a. bytes_eq a.key key) S.accounts x found))))
+
+pub signed_on_whole : (w : ℕ → Bool) (S : Tables) (r : List ℕ) (s : Signed) → KeepsWhole w S (ask.Signed s) → ActsOnWhole w S (signed_verdict S r s)
+signed_on_whole w S r s h = by s.key (λ x yes. or_left _ _ yes)
+  where
+    by : (key : Result (List ℕ) BadKey) → ((x : AccountRow) → is_key key x.key ≡ true → is_named_account (ask.Signed s) x ≡ true) →
+        ActsOnWhole w S (verdict_by S r s key)
+    by (Err why) mine = tt
+    by (Ok key) mine = key_on_whole w S r key s s.target h mine (account_with_key S key) refl
+
+-- ---- each ask
+
+-- the passing of time leaves what is in whole
+swept_on_whole : (w : ℕ → Bool) (S : Tables) (m : ℕ) (a : Ask) → KeepsWhole w S a → KeepsWhole w (swept m S) a
+swept_on_whole w S m a h =
+    record {
+      authorization = h.authorization;
+      owner = each-map _ (swept_authorization m) S.authorizations
+          (each _ _ S.authorizations (λ r f named. ap w (swept_number m r) ∙ f (sym (swept_named a m r) ∙ named)) h.owner);
+      own = each _ _ S.accounts (λ x f named ends asks. each-map _ (swept_authorization m) S.authorizations
+          (each _ _ S.authorizations (λ r g own_too. ap w (swept_number m r)
+          ∙ g (ap (λ n. x.number == n) (sym (swept_account m r)) ∙ own_too)) (f named ends asks))) h.own;
+    }
+
+module _ (T S : Tables) (m : ℕ) (w : ℕ → Bool) (new : NewWhole w S) (past : AreWhole w (is_overdue m) S.authorizations) where
+  carried_trimmed : (v : Verdict) → ActsOnWhole w (swept m S) v → CarriesOutAs m T S v → CarriesOutAs m T (trimmed w S) v
+  carried_trimmed v wholly h =
+      carries_thin T S m v (those w) all_listed
+      (ap (λ U. effects m U (entries_of v)) (swept_trimmed w m S)
+      ∙ effects_trimmed w m (swept m S) (entries_of v) new (verdict_touches w m (swept m S) v wholly))
+      (λ index. verdict_reply_trimmed w m (swept m S) v index new wholly) h
+
+  issues_trimmed : IssuesAs m T S → IssuesAs m T (trimmed w S)
+  issues_trimmed h =
+      record { records = λ r. recorded_trimmed w m S (issued r ∷ []) new past (each_all _ (swept m S).authorizations (λ r yes. cc), tt) ∙ h.records r }
+
+  passes_trimmed : (s : Signed) → KeepsWhole w S (ask.Signed s) → PassesAs m s T S → PassesAs m s T (trimmed w S)
+  passes_trimmed s kept h =
+      record {
+        nonce = ap (λ U. open_nonce U s.nonce) (swept_trimmed w m S) ∙ h.nonce;
+        issues = issues_trimmed h.issues;
+        judged = λ r. ap (λ U. signed_verdict U r s) (swept_trimmed w m S) ∙ signed_trimmed w (swept m S) r s whole ∙ h.judged r;
+        verdict = λ r. carried_trimmed (signed_verdict (swept m T) r s) (wholly r) (h.verdict r);
+        records = λ r n fresh.
+            recorded_trimmed w m S (spent n ∷ issued fresh ∷ entries_of (signed_verdict (swept m T) r s)) new past
+            (later_touches w m (swept m S) n fresh (signed_verdict (swept m T) r s) (wholly r))
+            ∙ h.records r n fresh;
+      }
+    where
+      whole : KeepsWhole w (swept m S) (ask.Signed s)
+      whole = swept_on_whole w S m (ask.Signed s) kept
+
+      wholly : (r : List ℕ) → ActsOnWhole w (swept m S) (signed_verdict (swept m T) r s)
+      wholly r = subst (ActsOnWhole w (swept m S)) (h.judged r) (signed_on_whole w (swept m S) r s whole)
+
+  settles_trimmed : (a : OfficeAsk) → IsNoWork a → KeepsWhole w S (ask.Office a) → SettlesAs m a T S → SettlesAs m a T (trimmed w S)
+  settles_trimmed a none kept h =
+      record {
+        judged = ap (λ U. office_verdict U a) (swept_trimmed w m S) ∙ office_trimmed w (swept m S) a whole ∙ h.judged;
+        verdict = carried_trimmed (office_verdict (swept m T) a) wholly h.verdict;
+        records = recorded_trimmed w m S (entries_of (office_verdict (swept m T) a)) new past
+            (verdict_touches w m (swept m S) (office_verdict (swept m T) a) wholly) ∙ h.records;
+      }
+    where
+      whole : KeepsWhole w (swept m S) (ask.Office a)
+      whole = swept_on_whole w S m (ask.Office a) kept
+
+      wholly : ActsOnWhole w (swept m S) (office_verdict (swept m T) a)
+      wholly = subst (ActsOnWhole w (swept m S)) h.judged (office_on_whole w (swept m S) a none whole)
+
+-- the lists of work apart
+abbrev pub IsNoList : Ask → Type 0
+IsNoList (ask.Office a) = IsNoWork a
+IsNoList _ = Unit {0}
+
+-- rows that answer an ask answer it without challenges, but for those of what it names or may move
+pub answers_trimmed : (T S : Tables) (m : ℕ) (w : ℕ → Bool) (a : Ask) → IsNoList a → NewWhole w S → AreWhole w (is_overdue m) S.authorizations →
+    KeepsWhole w S a → AnswersAs m a T S → AnswersAs m a T (trimmed w S)
+answers_trimmed T S m w (ask.NewNonce head) none new past kept h = issues_trimmed T S m w new past h
+answers_trimmed T S m w (ask.Signed s) none new past kept h = passes_trimmed T S m w new past s kept h
+answers_trimmed T S m w (ask.Office a) none new past kept h = settles_trimmed T S m w new past a none kept h
