@@ -158,10 +158,15 @@ def see_state(machine, name, wanted):
     see(f"the state of {name}", found, wanted)
 
 
+def status_of(machine, *words, user=None):
+    """The status of what curl asks for by these words, once who is asked listens."""
+    patient = ["--retry", str(PATIENCE), "--retry-delay", "1", "--retry-all-errors"]
+    return well(machine, "curl", "-s", "-o", "/dev/null", "-w", "%{http_code}", *patient, *words, user=user)
+
+
 def asked(machine, role, method, path, user=None):
-    """The status of what a role asks of the desk by its socket, once the desk listens."""
-    words = ["curl", "-s", "-o", "/dev/null", "-w", "%{http_code}", "--retry", str(PATIENCE), "--retry-delay", "1", "--retry-all-errors"]
-    return well(machine, *words, "-X", method, "--unix-socket", f"/run/desk/{role}", f"http://desk/{path}", user=user)
+    """The status of what a role asks of the desk by its socket."""
+    return status_of(machine, "-X", method, "--unix-socket", f"/run/desk/{role}", f"http://desk/{path}", user=user)
 
 
 def prepare(machine):
@@ -173,6 +178,7 @@ def prepare(machine):
     well(machine, "bash", "-e", "-c", "\n".join(lines))
     for name in ("desk", "desk-office", "desk-validator", "desk-front", "desk-filter"):
         see_state(machine, name, "active")
+    see("the directory by the front", status_of(machine, "--cacert", "/var/lib/desk-office/root.pem", "https://localhost/directory"), "200")
     print(f"units: {len(lines)} lines of docs/HOUSE.md typed, from none to units that sign by `openssl ca`")
 
 
@@ -330,6 +336,9 @@ def main():
         sys.path.insert(0, f"{ROOT}/bench")
         import bench
 
+        # a unit serves no desk whose clock is ahead of the machine's
+        bench.NOW = int(time.time())
+        bench.OPENED = bench.NOW - 86400
         bench.make_file(f"{tree}{TRIAL}/list.db", ORDERS, each=ORDERS)
         on_machine(tree, "units: verified; they were not run", run)
     return finish("units")
