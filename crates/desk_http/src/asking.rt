@@ -3,17 +3,17 @@ ghost use Rattle.std.specs.Prelude.{◌≤◌, ◌<◌, IfOk, length, take};
 ghost use Rattle.std.specs.Io.KnownBytes.{Appends, Consumes, IsAtEnd};
 
 use crate::clients::{Patient, end};
+use crate::connection::Connection;
 use crate::serving::{IoFault, send};
 use http_wire::fill_from;
 use std::io::{Read, Write};
-use std::net::{Ipv4Addr, Net, SocketAddr, TcpListener, TcpStream};
 use std::time::Clock;
 use thiserror::Error;
 
 // How long a desk that is served may take to reply, in seconds: it may have other clients before.
 const PATIENCE: u64 = 60;
 
-/// Why nobody knows what came of a request to a desk that is served; its text is said of the port.
+/// Why nobody knows what came of a request to a desk that is served; its text is said of the port or the socket.
 #[derive(Clone, Copy, Debug, Error)]
 pub enum Unheard {
     /// It was not sent.
@@ -27,28 +27,24 @@ pub enum Unheard {
     Unanswered,
 }
 
-/// Sends the bytes of a request to the desk that is served at a port of 127.0.0.1, reads its reply up to its end, or until the buffer
-/// is full, and tells how many bytes that were.
+/// Sends the bytes of a request to the desk that is served at the other end of a connection, reads its reply up to its end, or until the
+/// buffer is full, and tells how many bytes that were.
 ///
 /// # Errors
 ///
-/// `Unreached` where nobody took the connection, `Unsent` where the desk took no request, `Unanswered` where its reply did not end
-/// within a minute.
-pub fn ask_at<M: Clock + Net<Stream = TcpStream, Listener = TcpListener>>(
+/// `Unsent` where the desk took no request, `Unanswered` where its reply did not end within a minute.
+pub fn ask_by<M: Clock>(
     machine: &M,
-    port: u16,
+    connection: &Connection,
     request: &[u8],
     reply: &mut [u8],
 ) -> Result<usize, Unheard>
     ensures within { IfOk result (λ count. count ≤ length reply.new) }
 {
-    let Ok(stream) = machine.connect(SocketAddr::from((Ipv4Addr::LOCALHOST, port))) else {
-        return Err(Unheard::Unreached);
-    };
-    let mut reader = Patient::new(&stream, machine, PATIENCE);
-    let mut writer = Patient::new(&stream, machine, PATIENCE);
+    let mut reader = Patient::new(connection, machine, PATIENCE);
+    let mut writer = Patient::new(connection, machine, PATIENCE);
     let outcome = ask(&mut reader, &mut writer, request, reply);
-    end(&stream, machine);
+    end(connection, machine);
     match outcome {
         Ok(count) => Ok(count),
         Err(IoFault::Write) => Err(Unheard::Unsent),

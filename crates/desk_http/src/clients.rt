@@ -1,7 +1,7 @@
-//! The stream of one client, which is not waited for without end.
+//! The connection of one client, which is not waited for without end.
+use crate::connection::Connection;
 use desk_model::LONGEST_BODY;
 use std::io::{self, ErrorKind, Read, Write};
-use std::net::{Shutdown, TcpStream};
 use std::time::{Clock, Duration, Instant};
 
 /// How long a client may take to send its request, in seconds; as long again to take the reply, and for what it sends
@@ -14,20 +14,20 @@ const READ_AWAY: usize = 2 * LONGEST_BODY;
 // How many bytes are read away at once.
 const PIECE: usize = 4096;
 
-/// A client's stream, whose reads and writes have their time in all, from the first of them on.
+/// A client's connection, whose reads and writes have their time in all, from the first of them on.
 #[derive(Drop)]
 pub(crate) struct Patient<'a, C: Clock> {
-    stream: &'a TcpStream,
+    connection: &'a Connection,
     clock: &'a C,
     seconds: u64,
     until: Option<Instant>,
 }
 
 impl<'a, C: Clock> Patient<'a, C> {
-    /// The stream, before its first read or write, with so many seconds for all of them.
-    pub(crate) fn new(stream: &'a TcpStream, clock: &'a C, seconds: u64) -> Patient<'a, C> {
+    /// The connection, before its first read or write, with so many seconds for all of them.
+    pub(crate) fn new(connection: &'a Connection, clock: &'a C, seconds: u64) -> Patient<'a, C> {
         Patient {
-            stream,
+            connection,
             clock,
             seconds,
             until: None,
@@ -51,33 +51,29 @@ impl<'a, C: Clock> Patient<'a, C> {
 impl<'a, C: Clock> Read for Patient<'a, C> {
     fn read(&mut self, buf: &mut [u8]) -> io::Result<usize> {
         let left = self.left()?;
-        self.stream.set_read_timeout(Some(left))?;
-        let mut stream = self.stream;
-        stream.read(buf)
+        self.connection.read_within(left, buf)
     }
 }
 
 impl<'a, C: Clock> Write for Patient<'a, C> {
     fn write(&mut self, buf: &[u8]) -> io::Result<usize> {
         let left = self.left()?;
-        self.stream.set_write_timeout(Some(left))?;
-        let mut stream = self.stream;
-        stream.write(buf)
+        self.connection.write_within(left, buf)
     }
 
+    // A socket keeps nothing back.
     fn flush(&mut self) -> io::Result<()> {
-        let mut stream = self.stream;
-        stream.flush()
+        Ok(())
     }
 }
 
 /// Ends the reply, and reads away what the client still sends, within limits: a connection that is closed over bytes
 /// that nobody read could take the reply with it (RFC 9112, 9.6). What fails here is not told: the reply was given.
-pub(crate) fn end<C: Clock>(stream: &TcpStream, clock: &C) {
-    if stream.shutdown(Shutdown::Write).is_err() {
+pub(crate) fn end<C: Clock>(connection: &Connection, clock: &C) {
+    if connection.end_writing().is_err() {
         return;
     }
-    let mut reader = Patient::new(stream, clock, PATIENCE);
+    let mut reader = Patient::new(connection, clock, PATIENCE);
     let mut piece = [0u8; PIECE];
     for _ in 0..READ_AWAY / PIECE {
         match reader.read(&mut piece) {

@@ -8,6 +8,8 @@ ghost use Rattle.desk_http.specs.Serving.{IsParsedOf};
 ghost use Rattle.desk.specs.SeenDesks.{IsSeenOn};
 
 use crate::clients::{PATIENCE, Patient, end};
+use crate::connection::Connection;
+use crate::listener::Listener;
 use crate::overseeing::{
     Entry, LineKeeper, Overseer, Watch, number_of_ask, outcome_number, outcome_status,
 };
@@ -20,7 +22,6 @@ use rand::TryRng;
 use rand::rngs::SysRng;
 use std::alloc::Global;
 use std::io::{Read, Write};
-use std::net::{Ipv4Addr, Net, SocketAddr, TcpListener, TcpStream};
 use std::random::RandomSource;
 use std::time::{Clock, Instant, SystemTime, UNIX_EPOCH};
 use store_api::Storage;
@@ -30,26 +31,6 @@ const NONCE_RANDOM: usize = 16;
 
 // Those of a call with the most names: a nonce's, and two tokens' for each name.
 const MOST_RANDOM: usize = NONCE_RANDOM * (1 + 2 * MOST_NAMES);
-
-/// Takes a port of 127.0.0.1, 0 for one that the machine chooses, and tells the address.
-///
-/// # Errors
-///
-/// `Bind` where the port could not be taken.
-pub fn bind<N: Net<Stream = TcpStream, Listener = TcpListener>>(
-    net: &N,
-    port: u16,
-) -> Result<(TcpListener, SocketAddr), ServeFault>
-    ensures failed { IfErr result (λ e. e ≡ fault.Bind) }
-{
-    let Ok(listener) = net.bind(SocketAddr::from((Ipv4Addr::LOCALHOST, port))) else {
-        return Err(ServeFault::Bind);
-    };
-    match listener.local_addr() {
-        Ok(bound) => Ok((listener, bound)),
-        Err(_) => Err(ServeFault::Bind),
-    }
-}
 
 /// Serves so many connections, or 2^64 - 1 without a count, one request of each (RFC 9112, 9.6). A connection that fails is
 /// told on `errors`, with its cause where that is asked for, and the next is taken. The overseer is asked before each call, and
@@ -62,7 +43,7 @@ pub fn bind<N: Net<Stream = TcpStream, Listener = TcpListener>>(
 pub fn serve_connections<M: Clock + RandomSource, K: Storage + Drop, O: Overseer, E: Write>(
     alloc: Global,
     machine: &M,
-    listener: &TcpListener,
+    listener: &mut Listener,
     desk: &mut Desk<K>,
     count: Option<u64>,
     watch: &mut Watch<O>,
@@ -78,14 +59,14 @@ pub fn serve_connections<M: Clock + RandomSource, K: Storage + Drop, O: Overseer
     let most = count.unwrap_or(u64::MAX);
     let mut routes = Routes::new();
     for served in 0..most {
-        let Ok((stream, _)) = listener.accept() else {
+        let Ok(connection) = listener.accept() else {
             return Err(ServeFault::Accept);
         };
         match serve_connection(
             alloc,
             machine,
             &mut routes,
-            &stream,
+            &connection,
             desk,
             watch,
             errors,
@@ -98,12 +79,12 @@ pub fn serve_connections<M: Clock + RandomSource, K: Storage + Drop, O: Overseer
     Ok(())
 }
 
-// Serves the client at the other end of a stream, and tells on `errors` where its connection failed.
+// Serves the client at the other end of a connection, and tells on `errors` where its connection failed.
 fn serve_connection<M: Clock + RandomSource, K: Storage + Drop, O: Overseer, E: Write>(
     alloc: Global,
     machine: &M,
     routes: &mut Routes,
-    stream: &TcpStream,
+    connection: &Connection,
     desk: &mut Desk<K>,
     watch: &mut Watch<O>,
     errors: &mut E,
@@ -114,8 +95,8 @@ fn serve_connection<M: Clock + RandomSource, K: Storage + Drop, O: Overseer, E: 
     ensures ends { desk.old.is_closed ≡ false → Ends result desk.new }
 {
     let at = moment(machine)?;
-    let mut reader = LineKeeper::new(Patient::new(stream, machine, PATIENCE));
-    let mut writer = Patient::new(stream, machine, PATIENCE);
+    let mut reader = LineKeeper::new(Patient::new(connection, machine, PATIENCE));
+    let mut writer = Patient::new(connection, machine, PATIENCE);
     let (served, call) = serve_client(
         alloc,
         machine,
@@ -130,7 +111,7 @@ fn serve_connection<M: Clock + RandomSource, K: Storage + Drop, O: Overseer, E: 
         .overseer
         .log_entry(entry_of(machine, &reader, call, served));
     match served {
-        Ok(_) => end(stream, machine),
+        Ok(_) => end(connection, machine),
         Err(_) => tell_broken(errors, served, is_verbose),
     }
     let closed_by = closing_fault(desk, served);

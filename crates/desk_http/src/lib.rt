@@ -4,17 +4,21 @@
 
 mod asking;
 mod clients;
+mod connection;
 mod connections;
+mod listener;
 mod moment_bound;
 mod overseeing;
 mod serve_fault;
 mod serving;
 
-pub use asking::{Unheard, ask, ask_at};
-pub use connections::{bind, moment, serve_connections};
+pub use asking::{Unheard, ask, ask_by};
+pub use connection::Connection;
+pub use connections::{moment, serve_connections};
 pub use http_routes::{Request, Routes};
 pub use http_wire::{ParsedRequest, ReadFailed, ReplyForm, read_call, read_call_by, reply_text};
 pub use json_texts::problem_document;
+pub use listener::{Both, Listener, bind};
 pub use moment_bound::{MomentBound, admits};
 pub use overseeing::{Entry, Overseer, ReplySummary, Watch};
 pub use serve_fault::ServeFault;
