@@ -36,7 +36,7 @@ WAIT = ("--wait <SECONDS>", "as serve does while it runs", "0 to 86400", *CAUSES
 SYNCS = ("--sync", "once, twice", "default: twice", "loss of power", "the old or the new one")
 HELP = {
     "make": ("FILE", *CAUSES, "mode 600", "--base", "8 to 256 bytes", "--nonce-life", "3600", "--order-life", "604800", "--authz-life", "2592000", LIFE),
-    "serve": ("FILE", *CAUSES, "no other word works on the file", "--port", "0 to 65535", "--count", "2^64 - 1", "--log", "text, json", "microseconds",
+    "serve": ("FILE", *CAUSES, "no other word works on the file", "--port", "0 to 65535", "--socket <PATH>", "--count", "2^64 - 1", "--log", "text, json", "microseconds",
               "--max-step <SECONDS>", "1 to 250000000000", "fault 24", "2592000 for 30 days", "once without --max-step",
               "--max-ahead <SECONDS>", "restore a backup", *SYNCS),
     "batch": ("--file", "in memory", *SYNCS, *WAIT),
@@ -47,8 +47,8 @@ HELP = {
     "authorizations": ("FILE", "--account", "1 to 2^62", "--name", "--json", *WAIT),
     "check": ("FILE", "--json", "status 3", *WAIT),
     "backup": ("FILE", "TO", "not copied", "remove the old FILE-wal", *WAIT),
-    "revoke-authz": ("FILE", "N", "1 to 2^62", "--port", "desk: connection", *WAIT),
-    "revoke-account": ("FILE", "N", "1 to 2^62", "--port", "desk: connection", *WAIT),
+    "revoke-authz": ("FILE", "N", "1 to 2^62", "--port", "--socket", "desk: connection", *WAIT),
+    "revoke-account": ("FILE", "N", "1 to 2^62", "--port", "--socket", "desk: connection", *WAIT),
 }
 # A contact of characters that a terminal obeys or turns round: a control of C0, DEL, one of C1, a bidirectional override; and one beyond U+FFFF.
 UNSEEN = 'mailto:"x\\y\n\u001b\u007f\u009b\u202e\U0001f511~"@c.example'

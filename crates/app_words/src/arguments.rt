@@ -33,6 +33,9 @@ pub(crate) const AUTHZ_LIFE: &str = "authz-life";
 /// The port of 127.0.0.1.
 pub(crate) const PORT: &str = "port";
 
+/// The path of the socket.
+pub(crate) const SOCKET: &str = "socket";
+
 /// How many connections to serve.
 pub(crate) const COUNT: &str = "count";
 

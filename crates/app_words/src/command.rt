@@ -26,7 +26,7 @@ pub enum Command<'a> {
         /// The file that holds the desk.
         file: SyncedFile<'a>,
         /// How they are served.
-        serving: Serving,
+        serving: Serving<'a>,
     },
     /// To tell about a desk.
     About {
@@ -82,8 +82,8 @@ pub enum Command<'a> {
     },
     /// To have a desk that is served revoke an authorization or an account.
     RevokeServed {
-        /// The port of 127.0.0.1 at which it is served.
-        port: u16,
+        /// Where it is served.
+        place: Place<'a>,
         /// What is revoked.
         target: Revocation,
     },
@@ -95,7 +95,7 @@ pub enum Command<'a> {
 }
 
 impl<'a> Command<'a> {
-    /// The path of the file that holds the desk, or that will; `None` for a desk in memory, or one that is asked by its port.
+    /// The path of the file that holds the desk, or that will; `None` for a desk in memory, or one that is asked where it is served.
     pub fn file(self) -> Option<&'a str> {
         match self {
             Command::Make { file, .. } => Some(file),
@@ -115,11 +115,34 @@ impl<'a> Command<'a> {
     }
 }
 
+/// Where a desk is served.
+#[derive(Clone, Copy)]
+pub enum Place<'a> {
+    /// At this port of 127.0.0.1.
+    Port(u16),
+    /// At the socket that is the file at this path.
+    Socket(&'a str),
+}
+
+/// Where connections are taken; port 0 stands for one that the machine chooses.
+#[derive(Clone, Copy)]
+pub enum Listening<'a> {
+    /// At one place.
+    At(Place<'a>),
+    /// At a port of 127.0.0.1, and at the socket that is the file at a path.
+    AtBoth {
+        /// The port.
+        port: u16,
+        /// The path.
+        socket: &'a str,
+    },
+}
+
 /// How connections are served.
 #[derive(Clone, Copy)]
-pub struct Serving {
-    /// The port of 127.0.0.1, 0 for one that the machine chooses.
-    pub port: u16,
+pub struct Serving<'a> {
+    /// Where they are taken.
+    pub listening: Listening<'a>,
     /// After how many connections to end, or `None` for 2^64 - 1.
     pub count: Option<u64>,
     /// By how many seconds a call's moment may be above the latest that is known, or `None` for any number.

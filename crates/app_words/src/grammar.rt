@@ -1,16 +1,15 @@
 //! The command that knows the words, made from their table.
-use crate::words::{Argument, LONGEST_WAIT, SYNC_TWICE, SYNCS, Word, desk_words, operator_words};
+use crate::words::{
+    Argument, LONGEST_WAIT, Need, SYNC_TWICE, SYNCS, Word, desk_words, operator_words,
+};
 use crate::{arguments, help};
 use clap::builder::ValueParser;
 use clap::{Arg, ArgAction, Command};
 use std::alloc::{AllocError, Global};
 
-// An argument that has to be there.
+// A value that is told by its place.
 fn positional<'a>(alloc: Global, id: &'a str, help: &'a str) -> Arg<'a> {
-    Arg::new(alloc, id)
-        .required(true)
-        .action(ArgAction::Set)
-        .help(help)
+    Arg::new(alloc, id).action(ArgAction::Set).help(help)
 }
 
 // An option that takes a value.
@@ -30,29 +29,36 @@ fn flag<'a>(alloc: Global, id: &'a str, help: &'a str) -> Arg<'a> {
         .help(help)
 }
 
+// An argument that has to be there so.
+fn needed<'a>(arg: Arg<'a>, need: Need) -> Result<Arg<'a>, AllocError> {
+    match need {
+        Need::Always => Ok(arg.required(true)),
+        Need::Unless(options) => arg.required_unless_present_any(options),
+        Need::Never => Ok(arg),
+    }
+}
+
 fn arg<'a>(alloc: Global, argument: Argument) -> Result<Arg<'a>, AllocError> {
     Ok(match argument {
-        Argument::Positional { id, value, help } => {
-            positional(alloc, id, help).value_parser(value.parser())
-        }
-        Argument::Unless {
+        Argument::Positional {
             id,
             value,
-            option,
+            need,
             help,
-        } => positional(alloc, id, help)
-            .required(false)
-            .value_parser(value.parser())
-            .required_unless_present(option)?,
+        } => needed(
+            positional(alloc, id, help).value_parser(value.parser()),
+            need,
+        )?,
         Argument::Option {
             id,
             value_name,
             value,
-            is_required,
+            need,
             help,
-        } => option(alloc, id, value_name, help)
-            .value_parser(value.parser())
-            .required(is_required),
+        } => needed(
+            option(alloc, id, value_name, help).value_parser(value.parser()),
+            need,
+        )?,
         Argument::Seconds { id, default, help } => option(alloc, id, "N", help)
             .value_parser(clap::value_parser!(u64))
             .default_value(default.text),

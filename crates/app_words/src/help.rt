@@ -111,8 +111,17 @@ pub(crate) const SERVE: &str = synced!(
     "Files:
   While it serves, no other word works on the file: each ends with fault 21, at once or after its
   --wait. Do not replace, cut or remove the file or its log meanwhile: serve ends with fault 21 then.",
+    "Sockets:
+  By --socket it listens on a Unix socket, whose mode and group come from the umask, the user and the
+  directory: who may write it asks the desk as who reaches its port does. A socket that stands there and
+  that nobody serves is replaced; of one that is served, and of any other file, a second line says so.
+  It stays behind where serve ends. With --port, too, connections at both are taken in turn.",
     Example: "desk serve /var/lib/desk/desk.db --port 8555"
 );
+
+/// How `serve` is used: at a port, at a socket, or at both.
+pub(crate) const SERVE_USAGE: &str =
+    "desk serve [OPTIONS] --port <N> <FILE>\n       desk serve [OPTIONS] --socket <PATH> <FILE>";
 
 /// Below the options of `batch`.
 pub(crate) const BATCH: &str = synced!("desk batch --file /var/lib/desk/desk.db < calls.jsonl");
@@ -158,9 +167,9 @@ macro_rules! revoked {
     ($example:literal) => {
         after!(
             "While it is served:
-  A desk that serve has is asked by --port, without its file. Where it does not say within a minute
-  that it is done, or why it is not, the word ends with desk: connection; the desk may then have
-  revoked or not, and asking again is safe.",
+  A desk that serve has is asked by --port or by --socket, without its file. Where it does not say
+  within a minute that it is done, or why it is not, the word ends with desk: connection; the desk may
+  then have revoked or not, and asking again is safe.",
             Example: $example
         )
     };
@@ -169,7 +178,7 @@ macro_rules! revoked {
 // How a revocation is used: on the desk in a file, or on one that is served.
 macro_rules! used {
     ($word:literal) => {
-        concat!("desk ", $word, " [OPTIONS] <FILE> <N>\n       desk ", $word, " [OPTIONS] <N> --port <P>")
+        concat!("desk ", $word, " [OPTIONS] <FILE> <N>\n       desk ", $word, " [OPTIONS] <N> --port <P>\n       desk ", $word, " [OPTIONS] <N> --socket <PATH>")
     };
 }
 

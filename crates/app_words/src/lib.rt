@@ -13,8 +13,8 @@ mod subcommand;
 mod words;
 
 pub use command::{
-    Asked, AuthorizationListing, Command, LogForm, OrderListing, Revocation, Serving, SyncedFile,
-    Syncs, Terms,
+    Asked, AuthorizationListing, Command, Listening, LogForm, OrderListing, Place, Revocation,
+    Serving, SyncedFile, Syncs, Terms,
 };
 pub use fault::WordsFault;
 pub use lives::{AUTHZ_LIFE, Life, NONCE_LIFE, ORDER_LIFE};

@@ -3,8 +3,8 @@ ghost use Rattle.std.specs.Prelude.{◌≡◌, if◌then◌else◌, true, false}
 
 use crate::arguments;
 use crate::command::{
-    Asked, AuthorizationListing, Command, LogForm, OrderListing, Revocation, Serving, SyncedFile,
-    Syncs, Terms,
+    Asked, AuthorizationListing, Command, Listening, LogForm, OrderListing, Place, Revocation,
+    Serving, SyncedFile, Syncs, Terms,
 };
 use crate::fault::WordsFault;
 use crate::grammar::desk;
@@ -23,9 +23,21 @@ const NOT_DECIMAL: &str =
 const FILE_BESIDE_PORT: &str =
     "with --port the desk that is served there is asked, and no FILE stands before N: desk WORD N --port P";
 
-// What is said of one that has neither a file nor a number.
-const NO_NUMBER: &str =
+// What is said of one whose words have both the socket of such a desk and a file.
+const FILE_BESIDE_SOCKET: &str =
+    "with --socket the desk that is served there is asked, and no FILE stands before N: desk WORD N --socket PATH";
+
+// What is said of one that has a port, and neither a file nor a number.
+const NO_NUMBER_AT_PORT: &str =
     "with --port N stands in the place of FILE: a number, 1 to 2^62, without a sign and without a zero in front";
+
+// What is said of one that has a socket, and neither a file nor a number.
+const NO_NUMBER_AT_SOCKET: &str =
+    "with --socket N stands in the place of FILE: a number, 1 to 2^62, without a sign and without a zero in front";
+
+// What is said of one that has both a port and a socket.
+const TWO_PLACES: &str =
+    "one desk is asked, by --port or by --socket: desk WORD N --port P, or desk WORD N --socket PATH";
 
 // What the matches ask for, and how.
 fn asked<'a>(matches: &ArgMatches<'a>, is_terminal: bool) -> Option<Asked<'a>> {
@@ -127,7 +139,7 @@ fn back_up<'a>(file: &'a str, given: &ArgMatches<'a>) -> Option<Command<'a>> {
 
 fn serve<'a>(path: &'a str, given: &ArgMatches<'a>, is_verbose: bool) -> Option<Command<'a>> {
     let serving = Serving {
-        port: given.get_one::<u16>(arguments::PORT)?,
+        listening: listening(given)?,
         count: given.get_one::<u64>(arguments::COUNT),
         max_step: given.get_one::<u64>(arguments::MAX_STEP),
         max_ahead: given.get_one::<u64>(arguments::MAX_AHEAD),
@@ -136,6 +148,25 @@ fn serve<'a>(path: &'a str, given: &ArgMatches<'a>, is_verbose: bool) -> Option<
     };
     let file = synced(path, given);
     Some(Command::Serve { file, serving })
+}
+
+// Where connections are taken.
+fn listening<'a>(given: &ArgMatches<'a>) -> Option<Listening<'a>> {
+    match (
+        given.get_one::<u16>(arguments::PORT),
+        given.get_str(arguments::SOCKET),
+    ) {
+        (Some(port), Some(socket)) => Some(Listening::AtBoth { port, socket }),
+        _ => Some(Listening::At(place(given)?)),
+    }
+}
+
+// The place where a desk is served, where one is given.
+fn place<'a>(given: &ArgMatches<'a>) -> Option<Place<'a>> {
+    match given.get_one::<u16>(arguments::PORT) {
+        Some(port) => Some(Place::Port(port)),
+        None => Some(Place::Socket(given.get_str(arguments::SOCKET)?)),
+    }
 }
 
 // How a line for each connection is written, where one is asked for.
@@ -155,10 +186,10 @@ fn batch<'a>(given: &ArgMatches<'a>) -> Command<'a> {
     Command::Batch { file }
 }
 
-// By the desk that is served at a port, where one is given, else in the file.
+// By the desk that is served at a place, where one is given, else in the file.
 fn revoke<'a>(file: &'a str, given: &ArgMatches<'a>, target: Revocation) -> Command<'a> {
-    match given.get_one::<u16>(arguments::PORT) {
-        Some(port) => Command::RevokeServed { port, target },
+    match place(given) {
+        Some(place) => Command::RevokeServed { place, target },
         None => Command::Revoke { file, target },
     }
 }
@@ -195,13 +226,32 @@ fn misplaced(matches: &ArgMatches<'_>) -> Option<&'static str> {
     if !Subcommand::named(name)?.is_revocation() {
         return None;
     }
-    given.get_str(arguments::PORT)?;
+    let place = place(given)?;
+    if given.get_str(arguments::PORT).is_some() && given.get_str(arguments::SOCKET).is_some() {
+        return Some(TWO_PLACES);
+    }
     if given.get_str(arguments::NUMBER).is_some() {
-        return Some(FILE_BESIDE_PORT);
+        return Some(file_beside(place));
     }
     match object_number(given.get_str(arguments::FILE)?) {
         Some(_) => None,
-        None => Some(NO_NUMBER),
+        None => Some(no_number_at(place)),
+    }
+}
+
+// What is said where a file stands beside a place.
+fn file_beside(place: Place<'_>) -> &'static str {
+    match place {
+        Place::Port(_) => FILE_BESIDE_PORT,
+        Place::Socket(_) => FILE_BESIDE_SOCKET,
+    }
+}
+
+// What is said where what stands in the place of the file is no number.
+fn no_number_at(place: Place<'_>) -> &'static str {
+    match place {
+        Place::Port(_) => NO_NUMBER_AT_PORT,
+        Place::Socket(_) => NO_NUMBER_AT_SOCKET,
     }
 }
 

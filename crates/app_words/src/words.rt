@@ -53,17 +53,11 @@ pub(crate) struct Word {
 /// An argument of a word.
 #[derive(Clone, Copy)]
 pub(crate) enum Argument {
-    /// A value that has to be there, told by its place.
+    /// A value that is told by its place.
     Positional {
         id: &'static str,
         value: Value,
-        help: &'static str,
-    },
-    /// A value that has to be there unless an option is, told by its place.
-    Unless {
-        id: &'static str,
-        value: Value,
-        option: &'static str,
+        need: Need,
         help: &'static str,
     },
     /// An option that takes a value.
@@ -71,7 +65,7 @@ pub(crate) enum Argument {
         id: &'static str,
         value_name: &'static str,
         value: Value,
-        is_required: bool,
+        need: Need,
         help: &'static str,
     },
     /// An option that is a number of seconds, with the life that stands where it is not given.
@@ -102,6 +96,17 @@ pub(crate) enum Argument {
     },
 }
 
+/// Whether an argument has to be there.
+#[derive(Clone, Copy)]
+pub(crate) enum Need {
+    /// It has to.
+    Always,
+    /// It has to where none of these options is.
+    Unless(&'static [&'static str]),
+    /// It may be left out.
+    Never,
+}
+
 /// What a value has to be.
 #[derive(Clone, Copy)]
 pub(crate) enum Value {
@@ -125,9 +130,7 @@ impl Argument {
     /// Its name, if its value is a number.
     pub(crate) fn number_id(self) -> Option<&'static str> {
         match self {
-            Argument::Positional { id, value, .. }
-            | Argument::Unless { id, value, .. }
-            | Argument::Option { id, value, .. }
+            Argument::Positional { id, value, .. } | Argument::Option { id, value, .. }
                 if value.is_number() => Some(id),
             Argument::Seconds { id, .. } => Some(id),
             Argument::Wait { .. } => Some(arguments::WAIT),
@@ -163,6 +166,7 @@ impl Value {
 const DESK_FILE: Argument = Argument::Positional {
     id: arguments::FILE,
     value: Value::Text,
+    need: Need::Always,
     help: "the file that holds the desk",
 };
 
@@ -185,7 +189,7 @@ macro_rules! option {
             id: $id,
             value_name: $name,
             value: Value::$value,
-            is_required: false,
+            need: Need::Never,
             help: $help,
         }
     };
@@ -216,13 +220,14 @@ const MAKE: &[Argument] = &[
     Argument::Positional {
         id: arguments::FILE,
         value: Value::Text,
+        need: Need::Always,
         help: "the new file that will hold the desk",
     },
     Argument::Option {
         id: arguments::BASE,
         value_name: "URL",
         value: Value::Text,
-        is_required: true,
+        need: Need::Always,
         help: "what each URL begins with, as https://ca.example: http:// or https://, 8 to 256 bytes, no / at its end",
     },
     life! { NONCE_LIFE, "seconds that a nonce is open, 1 to 315360000" },
@@ -236,8 +241,12 @@ const SERVE: &[Argument] = &[
         id: arguments::PORT,
         value_name: "N",
         value: Value::Port,
-        is_required: true,
+        need: Need::Unless(&[arguments::SOCKET]),
         help: "the port of 127.0.0.1, 0 to 65535; 0 for one that the machine chooses",
+    },
+    option! {
+        arguments::SOCKET, "PATH", Text,
+        "the path of a Unix socket, beside --port or in its place; one that nobody serves is replaced; see below"
     },
     option! { arguments::COUNT, "N", Count, "how many connections to serve, 0 to 2^64 - 1; without it 2^64 - 1" },
     option! {
@@ -296,6 +305,7 @@ const BACKUP: &[Argument] = on_desk! {
     Argument::Positional {
         id: arguments::TO,
         value: Value::Text,
+        need: Need::Always,
         help: "the new file that will hold the copy",
     },
 };
@@ -304,15 +314,17 @@ const REVOKE: &[Argument] = &[
     Argument::Positional {
         id: arguments::FILE,
         value: Value::Text,
-        help: "the file that holds the desk; with --port N stands in its place",
+        need: Need::Always,
+        help: "the file that holds the desk; with --port or --socket N stands in its place",
     },
-    Argument::Unless {
+    Argument::Positional {
         id: arguments::NUMBER,
         value: Value::Number,
-        option: arguments::PORT,
+        need: Need::Unless(&[arguments::PORT, arguments::SOCKET]),
         help: "its number, 1 to 2^62",
     },
     option! { arguments::PORT, "P", Port, "asks the desk that is served at this port of 127.0.0.1, 0 to 65535, in place of the file" },
+    option! { arguments::SOCKET, "PATH", Text, "asks the desk that is served at the Unix socket of this path, in place of the file" },
     DESK_WAIT,
 ];
 
@@ -336,7 +348,7 @@ macro_rules! word {
 
 const DESK_WORDS: &[Word] = &[
     word! { Make, "make", "Makes a desk in a new file", MAKE, MAKE },
-    word! { Serve, "serve", "Serves HTTP, one request a connection", SERVE, SERVE },
+    word! { Serve, "serve", "Serves HTTP, one request a connection", SERVE, SERVE, Some(help::SERVE_USAGE) },
     word! { Batch, "batch", "Answers the lines of standard input, a call each", BATCH, BATCH },
 ];
 
