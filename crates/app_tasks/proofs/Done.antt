@@ -2,12 +2,11 @@
 use Rattle.std.proofs.Common.{◌≡◌, ◌∙◌, ◌≤◌, ℕ, zero, suc, List, [], Option, Result, Ok, Err, IsErrAnd, arith, ap, inl, inr, refl, unwrap_or}
 use Rattle.app_batch.specs.InTurn.{AnswersFirst, StopsBehind}
 use Rattle.app_words.specs.declared.command.{Revocation.Revocation, Serving.Serving}
-use Rattle.app_tasks.specs.Deeds.{AnswersLines, Revokes, Serves, TakesAny, ask_of, served, unserved, watch_at}
+use Rattle.app_tasks.specs.Deeds.{AnswersLines, Revokes, Serves, TakesAny, ask_of, served, watch_at}
 use Rattle.app_tasks.specs.declared.fault.Fault.{Fault}
 use Rattle.app_tasks.specs.declared.fault.Fault.TheVariants as fault
 use Rattle.desk_http.specs.{InTurn.ServesConnections, declared.serve_fault.ServeFault.ServeFault}
 use Rattle.desk_http.specs.declared.moment_bound.MomentBound.{MomentBound}
-use Rattle.desk_http.specs.declared.serve_fault.ServeFault.TheVariants as servefault
 use Rattle.desk.specs.{Faults.closes, Office.AnswersOffice, SeenDesks.IsSeenOn, State.DeskState, declared.fault.DeskFault.DeskFault}
 use Rattle.store_api.specs.{Sight.Sight, Storing.Causes}
 
@@ -33,12 +32,6 @@ module _ {S C : Type 0} (v : Sight S C) where
       record { answer = Err cause; answers = answers; flag = flag; policy = policy; told = ap Err told }
 
   module _ (causes : Causes S) (s : Serving) (clock : ℕ) where
-    -- the port was not to be had
-    pub not_bound : (desk : DeskState S) (cause : ServeFault) (how : Result ℕ Fault) → cause ≡ servefault.Bind
-        → Fails how (fault.Serve cause) → Serves v causes s clock desk desk how
-    not_bound desk cause (Ok status) it told = absurd told
-    not_bound desk cause (Err f) it told = unserved refl (inl (ap Err (told ∙ ap fault.Serve it)))
-
     -- serving was ended by a fault
     pub served_until : (desk ended : DeskState S) (bound : MomentBound) (cause : ServeFault) (how : Result ℕ Fault) → IsSeenOn v desk ended
         → ServesConnections v causes TakesAny (unwrap_or s.count 18446744073709551615) desk (watch_at s.max_step clock) ended

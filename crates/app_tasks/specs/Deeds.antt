@@ -1,12 +1,15 @@
 -- What the words of the program do with the store of a desk, and how that ends.
-use Rattle.std.specs.Prelude.{if◌then◌else◌, ◌≡◌, ◌≢◌, ◌⊎◌, ◌↔◌, ℕ, List, [], Bool, true, false, Option, Some, None, Result, Ok, Err, IfOk, IsTrue, OnOk}
+use Rattle.std.specs.Prelude.{if◌then◌else◌, ◌≡◌, ◌≢◌, ◌⊎◌, ◌↔◌, ℕ, List, [], Bool, true, false, Option, Some, None, Result, Ok, Err, IfOk, IsErrAnd, IsTrue, OnOk}
 use Rattle.std.specs.Prelude.{nat_lt, unwrap_or}
 use Rattle.std.specs.Io.KnownBytes.{Appends}
 use Rattle.app_batch.specs.InTurn.{AnswersFirst, StopsBehind}
-use Rattle.app_words.specs.declared.command.{Revocation.Revocation, Serving.Serving}
+use Rattle.app_words.specs.declared.command.{Listening.Listening, Revocation.Revocation, Serving.Serving}
+use Rattle.app_words.specs.declared.command.Listening.TheVariants as listening
+use Rattle.app_words.specs.declared.command.Place.TheVariants as place
 use Rattle.app_words.specs.declared.command.Revocation.TheVariants as revocation
 use Rattle.app_tasks.specs.{Faults.report_fault, declared.fault.Fault.Fault}
 use Rattle.app_tasks.specs.declared.fault.Fault.TheVariants as fault
+use Rattle.app_tasks.specs.declared.sockets.SocketCause.{SocketCause}
 use Rattle.desk_http.specs.{InTurn.ServesConnections, Logged.LogEntry, declared.serve_fault.ServeFault.ServeFault}
 use Rattle.desk_http.specs.declared.{moment_bound.MomentBound.MomentBound, overseeing.Watch.Watch}
 use Rattle.desk_http.specs.declared.serve_fault.ServeFault.TheVariants as servefault
@@ -120,10 +123,23 @@ abbrev pub how_served : Result Unit ServeFault → Result ℕ Fault
 how_served (Ok done) = Ok 0
 how_served (Err why) = Err (fault.Serve why)
 
+-- the socket was not to be had, by some cause
+abbrev pub IsOfSocket : Fault → Type 0
+IsOfSocket e = (cause : SocketCause) × (e ≡ fault.Socket cause)
+
+-- a port and a socket were not to be had, or not to be waited for together
+abbrev pub IsOfBoth : Fault → Type 0
+IsOfBoth e = (e ≡ fault.Serve servefault.Bind) ⊎ (IsOfSocket e ⊎ (e ≡ fault.Serve servefault.Accept))
+
+-- where connections were to be taken was not to be had
+abbrev pub IsUntaken : Listening → Fault → Type 0
+IsUntaken (listening.At (place.Port port)) e = e ≡ fault.Serve servefault.Bind
+IsUntaken (listening.At (place.Socket path)) e = IsOfSocket e
+IsUntaken (listening.AtBoth port socket) e = IsOfBoth e
+
 -- why no connection could be taken
-abbrev pub IsUnserved : Result ℕ Fault → Type 0
-IsUnserved how =
-    (how ≡ Err (fault.Serve servefault.Bind)) ⊎ ((how ≡ Err fault.Output) ⊎ (how ≡ Err (fault.Serve servefault.Replaced)))
+abbrev pub IsUnserved : Listening → Result ℕ Fault → Type 0
+IsUnserved l how = IsErrAnd how (IsUntaken l) ⊎ ((how ≡ Err fault.Output) ⊎ (how ≡ Err (fault.Serve servefault.Replaced)))
 
 -- whatever is noted of a connection
 abbrev pub TakesAny : Unit {0} → LogEntry → Unit {0} → Type 0
@@ -134,11 +150,11 @@ abbrev pub watch_at : (step : Option ℕ) → (clock : ℕ) → Watch (Unit {0})
 watch_at step clock = record { overseer = tt; bound = record { step = step; latest = clock } }
 
 module _ {S C : Type 0} (v : Sight S C) (causes : Causes S) where
-  -- no connection could be taken: the file was gone, the port was not to be had, or the address not to be printed; or as many were served as
+  -- no connection could be taken: the file was gone, the port or the socket was not to be had, or these not to be printed; or as many were served as
   -- is asked for, or 2^64 - 1, or fewer, and then the machine, the log or the desk failed. No call has a moment that is further above the
   -- clock of the desk, and the moments before it, than is asked for
   pub data Serves (s : Serving) (clock : ℕ) (desk ended : DeskState S) (how : Result ℕ Fault) : Type 0 where
-    unserved : ended ≡ desk → IsUnserved how → Serves s clock desk ended how
+    unserved : ended ≡ desk → IsUnserved s.listening how → Serves s clock desk ended how
     served :
         (served : Result Unit ServeFault) (bound : MomentBound) → IsSeenOn v desk ended
         → ServesConnections v causes TakesAny (unwrap_or s.count 18446744073709551615) desk (watch_at s.max_step clock) ended

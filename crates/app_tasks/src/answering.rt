@@ -4,13 +4,14 @@ ghost use Rattle.app_tasks.specs.Deeds.{AnswersReader, Serves, ServesClients, Se
 use crate::ahead::{is_too_far, tell_ahead};
 use crate::desks::{adopt, clock_of};
 use crate::fault::Fault;
+use crate::listening::{take, tell_listening};
 use crate::overseeing::{FileOverseer, Files};
 use crate::tasks::Task;
 use app_batch::batch;
 use app_reports::seconds_ahead;
 use app_words::Serving;
 use desk::Desk;
-use desk_http::{MomentBound, ServeFault, Watch, bind, serve_connections};
+use desk_http::{MomentBound, ServeFault, Watch, serve_connections};
 use std::alloc::Global;
 use std::io::{Read, Write};
 use store_api::{RowsAbove, Storage};
@@ -45,15 +46,15 @@ impl<'r, 'e, R: Read, E: Write> Task for AnswerLines<'r, 'e, R, E> {
     }
 }
 
-/// Serves connections at a port.
+/// Serves connections at a port, at a socket, or at both.
 #[derive(Drop)]
 pub struct ServeConnections<'a, E: Write> {
     /// The machine.
     pub rt: &'a HostRuntime,
     /// The path of the desk's file.
     pub path: &'a str,
-    /// At which port, how many, how they are noted, and whether the cause is said where one fails.
-    pub serving: Serving,
+    /// Where, how many, how they are noted, and whether the cause is said where one fails.
+    pub serving: Serving<'a>,
     /// The machine's moment, in seconds since 1970-01-01T00:00:00Z, or `None` where its clock tells none.
     pub now: Option<u64>,
     /// Where it says that the desk's clock is ahead, and that a connection failed.
@@ -78,7 +79,7 @@ impl<'a, E: Write> ServeConnections<'a, E> {
         self.serve(desk, clock, out)
     }
 
-    // Takes the port, prints the address, and serves a desk whose clock stands so; gives the exit status.
+    // Takes where connections are to be taken, says so, and serves a desk whose clock stands so; gives the exit status.
     fn serve<K: Storage + Drop, W: Write>(
         &mut self,
         desk: &mut Desk<K>,
@@ -90,8 +91,11 @@ impl<'a, E: Write> ServeConnections<'a, E> {
         let Ok(files) = Files::at(self.rt, self.path) else {
             return Err(Fault::Serve(ServeFault::Replaced));
         };
-        let (listener, bound) = bind(self.rt, self.serving.port)?;
-        if writeln!(out, "listening on {bound}").is_err() || out.flush().is_err() {
+        let (mut listener, address) = match take(self.rt, self.serving.listening) {
+            Ok(taken) => taken,
+            Err(fault) => return Err(fault),
+        };
+        if tell_listening(out, self.serving.listening, address).is_err() {
             return Err(Fault::Output);
         }
         let mut watch = Watch {
@@ -106,7 +110,7 @@ impl<'a, E: Write> ServeConnections<'a, E> {
         serve_connections(
             self.rt.alloc(),
             self.rt,
-            &listener,
+            &mut listener,
             desk,
             self.serving.count,
             &mut watch,

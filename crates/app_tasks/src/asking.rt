@@ -5,17 +5,17 @@ ghost use Rattle.app_tasks.specs.Asked.{Hears, IsHeard, RevokesServed, TellsRepl
 use crate::fault::Fault;
 use crate::outcomes::outcome_of;
 use crate::revoking::tell_revoked;
-use app_words::Revocation;
+use app_words::{Place, Revocation};
 use desk::DeskFault;
-use desk_http::{Unheard, ask_at};
+use desk_http::{Connection, Unheard, ask_by};
 use desk_model::Refusal;
 use std::alloc::{AllocError, Global};
-use std::io::Write;
+use std::io::{self, Write};
 
 // The longest reply that is read: ten contacts take 20000 bytes at most.
 const LONGEST: usize = 32768;
 
-/// Has the desk that is served at a port of 127.0.0.1 revoke an authorization or an account, and says so; gives the exit status.
+/// Has the desk that is served at a place revoke an authorization or an account, and says so; gives the exit status.
 ///
 /// # Errors
 ///
@@ -23,7 +23,7 @@ const LONGEST: usize = 32768;
 /// failed, `Desk` where a growth was refused.
 pub fn revoke_served<W: Write>(
     rt: &HostRuntime,
-    port: u16,
+    place: Place<'_>,
     target: Revocation,
     out: &mut W,
 ) -> Result<u8, Fault>
@@ -32,7 +32,7 @@ pub fn revoke_served<W: Write>(
     let Ok(request) = request_of(rt.alloc(), target) else {
         return Err(Fault::Desk(DeskFault::Memory));
     };
-    let heard = ask(rt, port, request.as_bytes(), target);
+    let heard = ask(rt, place, request.as_bytes(), target);
     tell_reply(heard, target, out)
 }
 
@@ -66,19 +66,30 @@ fn request_of(alloc: Global, target: Revocation) -> Result<String, AllocError>
     }
 }
 
-// Sends a request to the desk, and gives its refusal, if it refuses.
+// Sends a request to the desk at a place, and gives its refusal, if it refuses.
 fn ask(
     rt: &HostRuntime,
-    port: u16,
+    place: Place<'_>,
     request: &[u8],
     target: Revocation,
 ) -> Result<Option<Refusal>, Fault>
     ensures { Hears target result }
 {
+    let Ok(connection) = connect(rt, place) else {
+        return Err(Fault::Connection(Unheard::Unreached));
+    };
     let mut buffer = [0u8; LONGEST];
-    match ask_at(rt, port, request, &mut buffer) {
+    match ask_by(rt, &connection, request, &mut buffer) {
         Ok(count) => hear(rt.alloc(), target, &buffer[..count]),
         Err(unheard) => Err(Fault::Connection(unheard)),
+    }
+}
+
+// A connection to who listens at a place.
+fn connect(rt: &HostRuntime, place: Place<'_>) -> io::Result<Connection> {
+    match place {
+        Place::Port(port) => Connection::to_port(rt, port),
+        Place::Socket(path) => Connection::to_socket(rt, path),
     }
 }
 

@@ -4,6 +4,7 @@ ghost use Rattle.app_tasks.specs.declared.fault.Fault.TheVariants.{Desk, Serve};
 ghost use Rattle.app_tasks.specs.Faults.{IsOfOpening, report_fault};
 
 use crate::copies::CopyFault;
+use crate::sockets::SocketCause;
 use app_reports::ReportFault;
 use desk::DeskFault;
 use desk_http::{ServeFault, Unheard};
@@ -30,6 +31,9 @@ pub enum Fault {
     /// The desk that is served could not be asked, or gave no reply.
     #[error("connection")]
     Connection(Unheard),
+    /// The socket could not be taken.
+    #[error("bind")]
+    Socket(SocketCause),
     /// The desk's clock is further ahead of the machine's than it may be.
     #[error("that is more than --max-ahead allows: set the machine's clock, or restore a backup from before the wrong reading")]
     Ahead,

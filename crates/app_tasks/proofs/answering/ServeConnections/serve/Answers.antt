@@ -1,14 +1,12 @@
-use Rattle.std.proofs.Common.{Err, Ok, refl, subst, unwrap_or}
-use Rattle.app_tasks.specs.Deeds.{TakesAny, served}
+use Rattle.std.proofs.Common.{Err, Ok, inl, refl, subst, unwrap_or}
+use Rattle.app_tasks.specs.Deeds.{TakesAny, served, unserved}
 use Rattle.desk_http.specs.{InTurn.ServesConnections, declared.moment_bound.MomentBound.MomentBound}
-use Rattle.app_tasks.proofs.Done.{not_bound, served_until}
+use Rattle.app_tasks.proofs.Done.{served_until}
 use Rattle.app_tasks.proofs.Watching.{over_all}
 use Rattle.app_tasks.proofs.answering.ServeConnections.serve.Goals as goal
 
-pub returns-in_err-listener : goal.returns-in_err-listener
-returns-in_err-listener g c =
-    not_bound g.K.Storage.sight g.K.Storage.causes c.args.self.now.serving c.args.clock c.args.desk.now
-    c.in_err-listener.field-0.0 c.from_residual.result c.in_err-listener.ensures.failed c.from_residual.ensures.1
+pub returns-in-Err : goal.returns-in-Err
+returns-in-Err g c = unserved refl (inl c.in-Err.ensures)
 
 pub returns-in_err-serve_connections : goal.returns-in_err-serve_connections
 returns-in_err-serve_connections g c =
