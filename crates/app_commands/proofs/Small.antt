@@ -10,7 +10,7 @@ use Rattle.app_words.specs.declared.fault.WordsFault.TheVariants as wordsfault
 use Rattle.app_tasks.specs.Asked.{IsSaid, RevokesServed, refused, revoked, unheard}
 use Rattle.app_tasks.specs.Deeds.{AnswersReader, ChecksStatuses, ListsRows, RevokesTarget, ServesClients, TellsAbout, TellsPage, AnswersLines, ByDesk, IsTold}
 use Rattle.app_tasks.specs.Deeds.{Revokes, Serves, ServesUnlessAhead, adopted, clocked, clockless, served, unadopted, unserved}
-use Rattle.app_tasks.specs.Deeds.{how_checked, how_listed, how_served}
+use Rattle.app_tasks.specs.Deeds.{IsUntaken, how_checked, how_listed, how_served}
 use Rattle.app_tasks.specs.{Faults.IsOfOpening, declared.fault.Fault.Fault}
 use Rattle.app_commands.specs.Statuses.{EndsBackUp, IsToldCopied, IsToldWords}
 use Rattle.app_commands.specs.Statuses.{Ends, EndsBy, EndsList, EndsMake, EndsOverFiles, IsToldMade, status_of, terms_in_memory}
@@ -45,6 +45,11 @@ AreSmall deed =
 -- an end by 0 to 3
 small_status : (n : ℕ) → n ≤ 3 → IsSmall (Ok n)
 small_status n most = most
+
+-- a fault
+small_fault : (how : Result ℕ Fault) (P : Fault → Type 0) → IsErrAnd how P → IsSmall how
+small_fault (Ok status) P it = absurd it
+small_fault (Err why) P it = omega arith
 
 -- lists of orders
 small_listed : (listed : Result Unit ReportFault) → IsSmall (how_listed listed)
@@ -121,7 +126,7 @@ small_answers bytes was is S C D v causes rows old new how it =
 
 small_client : {S C : Type 0} (v : Sight S C) (causes : Causes S) (s : Serving) (clock : ℕ) (desk ended : DeskState S) (how : Result ℕ Fault)
     → Serves v causes s clock desk ended how → IsSmall how
-small_client v causes s clock desk ended how (unserved same (inl it)) = small_as how _ it (omega arith)
+small_client v causes s clock desk ended how (unserved same (inl it)) = small_fault how (IsUntaken s.listening) it
 small_client v causes s clock desk ended how (unserved same (inr (inl it))) = small_as how _ it (omega arith)
 small_client v causes s clock desk ended how (unserved same (inr (inr it))) = small_as how _ it (omega arith)
 small_client v causes s clock desk ended how (served by bound seen all it) = small_as how _ it (small_served by)
@@ -135,11 +140,6 @@ small_serves : (s : Serving) (now : Option ℕ) → AreSmall (ServesClients s no
 small_serves s now was is S C D v causes rows old new how (clockless why fails same) = omega arith
 small_serves s now was is S C D v causes rows old new how (clocked end clock mid stands found it) =
     small_by v was is (ServesUnlessAhead v causes s now clock) (small_start v causes s now clock) mid new end it
-
--- a fault
-small_fault : (how : Result ℕ Fault) (P : Fault → Type 0) → IsErrAnd how P → IsSmall how
-small_fault (Ok status) P it = absurd it
-small_fault (Err why) P it = omega arith
 
 -- a task by how the closing of its files ended
 small_end : (outcome : Result ℕ Fault) (closing : Result Unit OpenFault) (how : Result ℕ Fault) → IsSmall outcome

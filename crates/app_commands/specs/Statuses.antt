@@ -144,7 +144,7 @@ module _ {D : Type 0} (g : disk.Ghosts D) (image : Image) where
   Ends bytes was is (command.Check file json) how left = EndsOverFiles (ChecksStatuses (form_of json)) was is how left
   Ends bytes was is (command.BackUp file to) how left = EndsBackUp was is how left
   Ends bytes was is (command.Revoke file target) how left = EndsRevoke target was is how left
-  Ends bytes was is (command.RevokeServed port target) how left = RevokesServed target was is how × (left ≡ rest.Untouched)
+  Ends bytes was is (command.RevokeServed place target) how left = RevokesServed target was is how × (left ≡ rest.Untouched)
   Ends bytes was is (command.Batch (Some file)) how left = EndsOverFiles (AnswersReader bytes) was is how left
   Ends bytes was is (command.Batch None) how left =
       EndsInMemory IsOfOpening terms_in_memory (AnswersReader bytes) was is how × (left ≡ rest.Untouched)

@@ -1,13 +1,14 @@
 //! What is said of a fault behind its line.
 
 use app_files::Left;
-use app_tasks::{CopyFault, Fault, FileCause, PortCause, Remains, broken_limit};
-use app_words::{Command, Revocation};
+use app_tasks::{
+    CopyFault, Fault, FileCause, PortCause, Remains, Shown, SocketCause, broken_limit,
+};
+use app_words::{Command, Listening, Place, Revocation};
 use desk::DeskFault;
-use desk_http::ServeFault;
+use desk_http::{ServeFault, Unheard};
 use desk_model::Refusal;
 use sqlite_disk::Disk;
-use std::fmt;
 use std::io::Write;
 use thiserror::Error;
 
@@ -34,11 +35,14 @@ pub(crate) fn explain<D: Disk, E: Write>(
             explain_copy(errors, fault, file, to)
         }
         (Err(Fault::Serve(fault)), Command::Serve { file, serving }) => {
-            explain_serving(rt, errors, fault, command, file.path, serving.port, left)
+            explain_serving(rt, errors, fault, command, file.path, serving.listening, left)
+        }
+        (Err(Fault::Socket(cause)), Command::Serve { serving, .. }) => {
+            explain_socket(errors, cause, serving.listening)
         }
         (Err(Fault::Desk(fault)), _) => explain_desk_fault(rt, errors, command, fault, left),
-        (Err(Fault::Connection(unheard)), Command::RevokeServed { port, .. }) => {
-            let _ = writeln!(errors, "desk: port {port}: {unheard}");
+        (Err(Fault::Connection(unheard)), Command::RevokeServed { place, .. }) => {
+            explain_unheard(errors, unheard, place)
         }
         (
             Err(Fault::Refused(refusal)),
@@ -64,30 +68,56 @@ fn explain_copy<E: Write>(errors: &mut E, fault: CopyFault, file: &str, to: &str
     };
 }
 
-// Says why the desk of a file is served no longer at a port, or was not; nothing where the fault's own line says it.
+// Says why the desk of a file is served no longer, or was not; nothing where the fault's own line says it.
 fn explain_serving<D: Disk, E: Write>(
     rt: &HostRuntime,
     errors: &mut E,
     fault: ServeFault,
     command: Command<'_>,
     file: &str,
-    port: u16,
+    listening: Listening<'_>,
     left: &Left<D>,
 ) {
     match fault {
-        ServeFault::Bind => {
-            let _ = writeln!(
-                errors,
-                "desk: port {port}: {}",
-                PortCause::untaken(rt, port)
-            );
-        }
+        ServeFault::Bind => explain_port(rt, errors, listening),
         ServeFault::Replaced => {
             let _ = writeln!(errors, "desk: {}: {}", Shown(file), FaultCause::Replaced);
         }
         ServeFault::Desk(fault) => explain_desk_fault(rt, errors, command, fault, left),
         ServeFault::Accept | ServeFault::Clock | ServeFault::Random | ServeFault::Output => {}
     }
+}
+
+// Says why the port at which connections were to be taken was not to be had.
+fn explain_port<E: Write>(rt: &HostRuntime, errors: &mut E, listening: Listening<'_>) {
+    match listening {
+        Listening::At(Place::Port(port)) | Listening::AtBoth { port, .. } => {
+            let _ = writeln!(
+                errors,
+                "desk: port {port}: {}",
+                PortCause::untaken(rt, port)
+            );
+        }
+        Listening::At(Place::Socket(_)) => {}
+    }
+}
+
+// Says why the socket at which they were to be taken was not.
+fn explain_socket<E: Write>(errors: &mut E, cause: SocketCause, listening: Listening<'_>) {
+    match listening {
+        Listening::At(Place::Socket(path)) | Listening::AtBoth { socket: path, .. } => {
+            let _ = writeln!(errors, "desk: {}: {cause}", Shown(path));
+        }
+        Listening::At(Place::Port(_)) => {}
+    }
+}
+
+// Says why nobody knows what came of a request to the desk that is served at a place.
+fn explain_unheard<E: Write>(errors: &mut E, unheard: Unheard, place: Place<'_>) {
+    let _ = match place {
+        Place::Port(port) => writeln!(errors, "desk: port {port}: {unheard}"),
+        Place::Socket(path) => writeln!(errors, "desk: {}: {unheard}", Shown(path)),
+    };
 }
 
 // Says in words why the desk refuses to revoke something.
@@ -155,23 +185,6 @@ fn deskless_cause(rt: &HostRuntime, file: &str, command: Command<'_>) -> FileCau
     match command {
         Command::Make { .. } => FileCause::taken(rt, file),
         _ => FileCause::deskless(rt, file),
-    }
-}
-
-// A path as it is shown, so that no line ends in it and no terminal obeys it: each control character is `?`.
-#[derive(Clone, Copy)]
-struct Shown<'a>(&'a str);
-
-impl fmt::Display for Shown<'_> {
-    fn fmt<W: fmt::Write>(&self, f: &mut fmt::Formatter<W>) -> fmt::Result {
-        for character in self.0.chars() {
-            f.write_char(if character.is_control() {
-                '?'
-            } else {
-                character
-            })?;
-        }
-        Ok(())
     }
 }
 

@@ -187,8 +187,8 @@ fn try_command<S: Start, R: Read + Drop, W: Write, E: Write>(
         Command::Check { file, json } => check_file(rt, file, json, start, out, errors),
         Command::BackUp { file, to } => back_up(rt, file, to, start, out, errors),
         Command::Revoke { file, target } => revoke_over(rt, file, target, start, out),
-        Command::RevokeServed { port, target } => {
-            (revoke_served(rt, port, target, out), Left::Untouched)
+        Command::RevokeServed { place, target } => {
+            (revoke_served(rt, place, target, out), Left::Untouched)
         }
         Command::Batch { file } => answer_lines(rt, file, start, reader, out, errors),
     }
@@ -232,12 +232,12 @@ fn tell_made<W: Write>(out: &mut W, made: Result<(), OpenFault>) -> Result<u8, F
 fn serve_file<S: Start, W: Write, E: Write>(
     rt: &HostRuntime,
     file: SyncedFile<'_>,
-    serving: Serving,
+    serving: Serving<'_>,
     start: S,
     out: &mut W,
     errors: &mut E,
 ) -> (Result<u8, Fault>, Left<FileFrom<S>>)
-    ensures { EndsServe ⟦<FileFrom<S> as Disk>⟧ (image_at S.Start) serving (W.contents out.old) (W.contents out.new) result.0 result.1 }
+    ensures { EndsServe ⟦<FileFrom<S> as Disk>⟧ (image_at S.Start) serving.entry (W.contents out.old) (W.contents out.new) result.0 result.1 }
 {
     let task = ServeConnections {
         rt,
