@@ -119,15 +119,14 @@ def replaced(program, folder):
     see("beside: the end", server.stop(), STOPPED)
 
 
-def revoked(program, folder):
-    """The two revocations, asked of a desk that serves: what the words say of a file, they say of it."""
-    server = Server(program, fresh(program, folder, "revoked"))
-    client, port = Client(server), ("--port", str(server.port))
+def revocations_asked(program, server, place):
+    """The two revocations, asked of a desk that serves at a place: what the words say of a file, they say of it."""
+    client = Client(server)
     client.open_account()
     client.order("a.example")
 
-    def words(word, number, *more):
-        return run(program, word, str(number), *(more or port))
+    def words(word, number):
+        return run(program, word, str(number), *place)
 
     see("an authorization", words("revoke-authz", 1), (0, b"authz 1 revoked\n", b""))
     see("an authorization again", words("revoke-authz", 1), (0, b"authz 1 revoked\n", b""))
@@ -141,17 +140,24 @@ def revoked(program, folder):
     other.open_account()
     other.post("/account/2", {"status": "deactivated"})
     see("an account that has ended otherwise", words("revoke-account", 2), (1, b"", b"desk: the report does not fit the records\n"))
+    see("without a place", run(program, "revoke-account", server.path, "1"), (1, b"", DEVICE))
+    see("a full standard output", run_on_full(program, "revoke-account", "1", *place)[::2], (1, b"desk: output\n"))
+
+
+def revoked(program, folder):
+    """The two revocations by a port; wrong words, nobody there, and strangers."""
+    server = Server(program, fresh(program, folder, "revoked"))
+    port = ("--port", str(server.port))
+    revocations_asked(program, server, port)
     for place in ((), ("--wait", "1"), ("--verbose",)):
         ended, said, errors = run(program, "revoke-account", server.path, "1", *port, *place)
         see("a file beside the port", (ended, said, BESIDE in errors), (2, b"", True))
     for number in ("0", str(2**62 + 1), "+1", "01", "one", ""):
         ended, said, errors = run(program, "revoke-account", number, *port)
         see(f"the number {number!r} by the port", (ended, said, PLACE in errors), (2, b"", True))
-    see("without a port", run(program, "revoke-account", server.path, "1"), (1, b"", DEVICE))
-    see("a full standard output", run_on_full(program, "revoke-account", "1", *port)[::2], (1, b"desk: output\n"))
     see("revoked: the end", server.stop(), STOPPED)
     gone = (1, b"", b"desk: connection\n")
-    see("nobody at the port", words("revoke-account", 1), gone)
+    see("nobody at the port", run(program, "revoke-account", "1", *port), gone)
     for said in (b"", b"HTTP/1.1 20", b"SSH-2.0-x\r\n", b"HTTP/1.1 405 Method Not Allowed\r\n\r\n", *strange()):
         see(f"what says {said[:200]}", ended_by(program, said), gone)
     for said in (b"{}", compact({"identifier": {"type": "dns", "value": "a.example"}, "status": "revoked"}), compact(account_document(7))):

@@ -2,8 +2,9 @@
 
 The worked replies and the refusals of docs/SPECIFICATION.md byte for byte, the batches of examples/ as HTTP requests
 (stories.py), requests that are none (bad_requests.py), connections that fail (broken_connections.py), the log, revocations by
-the port and a file that is taken away (operated.py), clients that are slow, silent, or gone, and what ends the program. The
-clients that wait for the desk's patience to end are tried beside the rest. With groups only these are tried.
+the port and a file that is taken away (operated.py), a Unix socket (sockets.py), clients that are slow, silent, or gone, and
+what ends the program. The clients that wait for the desk's patience to end are tried beside the rest. With groups only these are
+tried.
 """
 import os
 import signal
@@ -19,6 +20,7 @@ from scripts.serving.broken_connections import failing_reads, failing_writes
 from scripts.serving.operated import OPERATED
 from scripts.serving.served import (DIRECTORY, NEW_NONCE, STOPPED, Client, Reply, Server, compact, directory_reply, masked, nonce_reply, received,
                                     refusal, reply, request, serial_of, signed)
+from scripts.serving.sockets import AT_SOCKETS, silent_at_socket
 from scripts.serving.stories import max_ahead, max_step, set_machine, stories
 from scripts.specification import BODY, HEAD, ROUTES, WORKED
 from scripts.trying import (BASE, DEVICE, KEY, NOT_A_DESK, faults, finish, fresh, nonce_text, order_of, put, run, run_on_full, see, small_files,
@@ -364,9 +366,9 @@ def full_disk(program, folder):
     see("full disk: the end", again.ended(), (0, b"", b""))
 
 
-PATIENT = (silent, dripping, staying, flooding)
+PATIENT = (silent, silent_at_socket, dripping, staying, flooding)
 PROMPT = (worked, methods, key_changes, renewed, stories, set_machine, max_step, max_ahead, bad_requests, limits, slow, pipelined, gone, failing_reads,
-          failing_writes, waiting, counts, words, together, outputs, terminated, full_disk, *OPERATED)
+          failing_writes, waiting, counts, words, together, outputs, terminated, full_disk, *OPERATED, *AT_SOCKETS)
 
 
 def tried(group, program, folder):

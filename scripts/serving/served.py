@@ -129,27 +129,30 @@ STOPPED = (-signal.SIGTERM, b"", b"")
 
 
 class Server:
-    """A run of `serve` over a file, on a port that the machine chose."""
+    """A run of `serve` over a file, on a port that the machine chose; or at a Unix socket."""
 
-    def __init__(self, program, path, *words, **options):
-        self.path, self.errors = path, tempfile.TemporaryFile()
-        words = [program, "serve", path, "--port", "0", *words]
+    def __init__(self, program, path, *words, at=None, **options):
+        self.path, self.at, self.errors = path, at, tempfile.TemporaryFile()
+        words = [program, "serve", path, *(("--socket", at) if at else ("--port", "0")), *words]
         self.run = subprocess.Popen(words, stdin=subprocess.DEVNULL, stdout=subprocess.PIPE, stderr=self.errors, **options)
         # A script that breaks leaves no program behind.
         atexit.register(self.run.kill)
         said = self.run.stdout.readline()
-        found = re.fullmatch(rb"listening on 127\.0\.0\.1:([1-9][0-9]*)\n", said)
-        if not found:
+        found = re.fullmatch(rb"listening on (?:127\.0\.0\.1:([1-9][0-9]*)|.*)\n", said)
+        if not found or (found[1] is None) != bool(at) or at and said != f"listening on {at}\n".encode():
             raise RuntimeError(f"serve said {said!r}, and on standard error {self.said()!r}")
-        self.port = int(found[1])
+        self.port = None if at else int(found[1])
 
     def connect(self):
-        return socket.create_connection(("127.0.0.1", self.port), timeout=PATIENCE)
+        if self.at:
+            return reached(self.at)
+        client = socket.create_connection(("127.0.0.1", self.port), timeout=PATIENCE)
+        client.setsockopt(socket.IPPROTO_TCP, socket.TCP_NODELAY, 1)
+        return client
 
     def ask(self, data, end=False, piece=None):
         """What comes back for some bytes: `end` shuts the writing side after them, `piece` sends so many at a time."""
         with self.connect() as client:
-            client.setsockopt(socket.IPPROTO_TCP, socket.TCP_NODELAY, 1)
             for at in range(0, len(data), piece or len(data) or 1):
                 client.sendall(data[at:at + (piece or len(data))])
                 if piece:
@@ -181,6 +184,14 @@ class Server:
         if self.run.poll() is None:
             self.run.send_signal(signal.SIGTERM)
         return self.ended()
+
+
+def reached(place):
+    """A connection to who listens at a Unix socket."""
+    client = socket.socket(socket.AF_UNIX)
+    client.settimeout(PATIENCE)
+    client.connect(place)
+    return client
 
 
 def received(client):
