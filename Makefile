@@ -119,8 +119,8 @@ install: ## the program, its manual page, its completion for bash, its units and
 	install -D -m 644 examples/house/filter.py "$(PLACE)/share/desk/house/filter.py"
 	install -d "$(UNITS)"
 	install -m 644 bin/desk.service bin/desk-filter.service bin/desk-role@.socket "$(UNITS)"
-	@echo 'Whoever reaches the port of the desk is trusted. The units keep it behind sockets in /run/desk, one a role, each for a group of its own;'
-	@echo 'by `desk serve` without them it is open to every user of this machine, and while it is stopped any of them may take it.'
+	@echo 'Whoever reaches the desk is trusted. The units keep it behind sockets in /run/desk, one a role, each for a group of its own; a port of'
+	@echo '`desk serve --port` is open to every user of this machine, and while it is stopped any of them may take it.'
 
 # ---- The house around a desk (docs/HOUSE.md), over Debian's packages and their Python.
 HOUSE := /usr/bin/python3 -B -m scripts.house.house

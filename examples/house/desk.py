@@ -18,7 +18,8 @@ class Down(Exception):
 
 
 class Desk:
-    """The desk behind a socket of the file system; or, for trials, at a port of 127.0.0.1, which any user of the machine may take."""
+    """The desk at a socket of the file system, its own or that of a role; or, for trials, at a port of 127.0.0.1, which any user of the
+    machine may take."""
 
     def __init__(self, place, base):
         self.place, self.base, self.turn = place, base, threading.Lock()
@@ -45,14 +46,15 @@ class Desk:
             return Reply(reply.status, reply.getheaders(), reply.read())
 
     def _reached(self):
-        """A connection to the desk. Who listens at a socket is root, by systemd, or this user: anybody else has put his own there."""
+        """A connection to the desk. Who listens at a socket is root, by systemd, or this user, or whose its folder is: anybody else has put
+        his own there."""
         if self.place.isdigit():
             return socket.create_connection(("127.0.0.1", int(self.place)), TIMEOUT)
         channel = socket.socket(socket.AF_UNIX)
         channel.settimeout(TIMEOUT)
         channel.connect(self.place)
         _, user, _ = struct.unpack("3i", channel.getsockopt(socket.SOL_SOCKET, socket.SO_PEERCRED, 12))
-        if user not in (0, os.getuid()):
+        if user not in (0, os.getuid(), os.stat(os.path.dirname(self.place) or ".").st_uid):
             channel.close()
             raise PermissionError(f"{self.place} is served by user {user}, who is not the desk")
         return channel

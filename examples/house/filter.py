@@ -1,8 +1,8 @@
 #!/usr/bin/python3
-"""The way to the desk, by roles: filter.py PORT
+"""The way to the desk, by roles: filter.py PATH
 
-Hands a call at a role's socket, which is systemd's, on to the desk at a port of 127.0.0.1 if it is one that the role needs. Each role has
-one call under way, and the desk sees a whole request or none: who stalls, stalls his own role.
+Hands a call at a role's socket, which is systemd's, on to the desk at its own socket if it is one that the role needs. Each role has one
+call under way, and the desk sees a whole request or none: who stalls, stalls his own role.
 """
 import re
 import shutil
@@ -29,10 +29,10 @@ REFUSED = b"HTTP/1.1 403 Forbidden\r\nConnection: close\r\nContent-Length: 0\r\n
 class Role(socketserver.UnixStreamServer):
     """What is let through of one role, one call after another, from those who reach its socket."""
 
-    def __init__(self, role, listener, port):
+    def __init__(self, role, listener, place):
         super().__init__(None, Call, bind_and_activate=False)
         self.socket.close()
-        self.socket, self.role, self.allowed, self.port = listener, role, re.compile(ROLES[role]), port
+        self.socket, self.role, self.allowed, self.place = listener, role, re.compile(ROLES[role]), place
 
     def handle_error(self, request, client_address):
         print(f"{self.role}: {sys.exc_info()[1]}", flush=True)
@@ -48,7 +48,9 @@ class Call(socketserver.StreamRequestHandler):
             print(f"{self.server.role}: refused: {request.partition(bytes([13]))[0][:200]!r}", flush=True)
             self.wfile.write(REFUSED)
             return
-        with socket.create_connection(("127.0.0.1", self.server.port), PATIENCE) as desk, tempfile.SpooledTemporaryFile(2**20) as reply:
+        with socket.socket(socket.AF_UNIX) as desk, tempfile.SpooledTemporaryFile(2**20) as reply:
+            desk.settimeout(PATIENCE)
+            desk.connect(self.server.place)
             desk.sendall(request)
             desk.shutdown(socket.SHUT_WR)
             shutil.copyfileobj(desk.makefile("rb"), reply)
@@ -67,7 +69,7 @@ class Call(socketserver.StreamRequestHandler):
 def main():
     roles = environ["LISTEN_FDNAMES"].split(":")
     for number, role in enumerate(roles, 3):
-        threading.Thread(target=Role(role, socket.socket(fileno=number), int(sys.argv[1])).serve_forever).start()
+        threading.Thread(target=Role(role, socket.socket(fileno=number), sys.argv[1]).serve_forever).start()
 
 
 if __name__ == "__main__":

@@ -3,8 +3,8 @@
   python3 -m scripts.gate.readme run PROGRAM FILE..           runs the commands of each block, in a folder with the program as its bin/desk
   python3 -m scripts.gate.readme said COMMAND OUTPUT FILE..   compares what a command printed, which the file OUTPUT has, with what the blocks show
 
-A block is what stands between two lines of three backticks, and has lines `$ COMMAND`, each before what the command prints. Ports, times
-and numbers of bytes are not compared. Blocks with a command of ELSEWHERE are left to `said`, where that command is run.
+A block is what stands between two lines of three backticks, and has lines `$ COMMAND`, each before what the command prints. Ports, times,
+folders of a house and numbers of bytes are not compared. Blocks with a command of ELSEWHERE are left to `said`, where that command is run.
 """
 import difflib
 import os
@@ -22,6 +22,7 @@ from scripts.trying import free_port
 ELSEWHERE = ("./try", "./test", "make try", "make house")
 MASKS = [
     (re.compile(r"\b(127\.0\.0\.1|localhost):\d+"), r"\1:PORT"),
+    (re.compile(r"/tmp/desk-house-\w+/"), "FOLDER/"),
     (re.compile(r"\b\d+(\.\d+)? (s|ms|seconds|minutes)\b"), r"TIME \2"),
     (re.compile(r"\b\d+(\.\d+)? (bytes|kB|MB|GB)\b"), r"SIZE \2"),
 ]

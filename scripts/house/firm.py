@@ -394,7 +394,7 @@ def roles(trial):
         listener = socket.socket(socket.AF_UNIX)
         listener.bind(f"{folder}/{role}")
         listener.listen()
-        servers[role] = filter.Role(role, listener, trial.house.desk_port)
+        servers[role] = filter.Role(role, listener, trial.house.desk_socket)
         threading.Thread(target=servers[role].serve_forever, daemon=True).start()
 
     def status(role, request):

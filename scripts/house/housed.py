@@ -62,7 +62,7 @@ class Run:
 
 
 class House:
-    """A desk of a program in a folder, and the house around it, which calls it by `called_port`; `web` and `names` are ports for
+    """A desk of a program in a folder, and the house around it, which calls it by `called`, a socket or a port; `web` and `names` are ports for
     trials of challenges, `more` are further words of the house, and `errors` is where its standard error goes. `binding` is the identifier
     and the key by which accounts are bound to an external one, where they are to be."""
 
@@ -81,24 +81,25 @@ class House:
         if made.returncode:
             raise RuntimeError("the desk was not made")
         self.say(f"desk: {made.stdout.rstrip()}")
-        self.desk_port = self.called_port = self.serve()
+        self.called = self.desk_socket = f"{self.folder}/desk.socket"
+        self.serve()
 
-    def serve(self, port=0):
-        """Serves the desk at a port, 0 for any, and gives it."""
-        words = [self.program, "serve", f"{self.folder}/ca.db", "--port", str(port)]
-        self.desk = Run("desk", words, self.say, r"listening on 127\.0\.0\.1:(\d+)")
+    def serve(self):
+        """Serves the desk at its socket."""
+        words = [self.program, "serve", f"{self.folder}/ca.db", "--socket", self.desk_socket]
+        self.desk = Run("desk", words, self.say, f"listening on {re.escape(self.desk_socket)}")
         self.runs.append(self.desk)
-        return int(self.desk.wait()[1])
+        self.desk.wait()
 
     def kill_desk(self):
-        """Kills the desk, and serves its file again at the same port."""
+        """Kills the desk, and serves its file again at the same socket, which the one that was killed left there."""
         self.desk.run.kill()
         self.desk.run.wait()
-        self.serve(self.desk_port)
+        self.serve()
 
     def start(self):
         """Starts the house around the desk."""
-        words = [sys.executable, "-B", f"{ROOT}/examples/house/house.py", f"{self.folder}/ca", f"--desk={self.called_port}",
+        words = [sys.executable, "-B", f"{ROOT}/examples/house/house.py", f"{self.folder}/ca", f"--desk={self.called}",
                  f"--port={self.port}", *self.options]
         self.house = Run("house", words, self.say, "the front serves", stderr=self.errors)
         self.runs.append(self.house)

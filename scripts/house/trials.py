@@ -234,8 +234,8 @@ class Losing(socketserver.ThreadingTCPServer):
 
     daemon_threads = True
 
-    def __init__(self, port):
-        self.port, self.is_on, self.count, self.lost, self.paths = port, False, 0, 0, collections.Counter()
+    def __init__(self, place):
+        self.place, self.is_on, self.count, self.lost, self.paths = place, False, 0, 0, collections.Counter()
         super().__init__(("127.0.0.1", 0), LosingHandler)
         threading.Thread(target=self.serve_forever, daemon=True).start()
 
@@ -249,7 +249,8 @@ class Losing(socketserver.ThreadingTCPServer):
 
 class LosingHandler(socketserver.BaseRequestHandler):
     def handle(self):
-        with contextlib.suppress(OSError), socket.create_connection(("127.0.0.1", self.server.port)) as desk:
+        with contextlib.suppress(OSError), socket.socket(socket.AF_UNIX) as desk:
+            desk.connect(self.server.place)
             asked = self.request.recv(65536)
             self.server.paths[asked.split(b" ", 2)[1].decode()] += 1
             desk.sendall(asked)
@@ -269,8 +270,8 @@ class LosingHouse(House):
 
     def make_desk(self):
         super().make_desk()
-        self.losing = Losing(self.desk_port)
-        self.called_port = self.losing.server_address[1]
+        self.losing = Losing(self.desk_socket)
+        self.called = self.losing.server_address[1]
 
 
 def lost(trial):

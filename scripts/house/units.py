@@ -183,7 +183,8 @@ def prepare(machine):
 
 
 def attack(machine):
-    """What users of the machine try at the desk's port and socket, and how the units stand what happens to them."""
+    """What users of the machine try at the port that the desk had before and at its sockets, and how the units stand what happens to them."""
+    at_own_socket(machine)
     for user in ("nobody", "desk-front", None):
         said = machine.call(PYTHON, "-c", "import socket; socket.create_connection(('127.0.0.1', 8555))", user=user)[1]
         see(f"{user or 'root'} at port 8555", "ConnectionRefusedError" in said, True)
@@ -219,6 +220,21 @@ def attack(machine):
     see_state(machine, "desk-office", "failed")
     said = machine.call("systemctl", "show", "--property=ActiveState,ExecMainStatus", "desk-office")[1].split()
     see("an office without its certificate", sorted(said), ["ActiveState=failed", f"ExecMainStatus={os.EX_CONFIG}"])
+
+
+def at_own_socket(machine):
+    """What users of the machine try at the desk's own socket: the desk's group alone may enter its directory, and the desk alone write there."""
+    place = "/run/desk-serve/socket"
+    for user in ("nobody", "desk-front", "desk-validator", "desk-office"):
+        for words in (f"import socket; socket.socket(socket.AF_UNIX).connect('{place}')", f"import os; os.unlink('{place}')",
+                      f"import socket; socket.socket(socket.AF_UNIX).bind('{place}.other')"):
+            see(f"{user}: {words}", "PermissionError" in machine.call(PYTHON, "-c", words, user=user)[1], True)
+    found = well(machine, "stat", "--format=%A %U %G", "/run/desk-serve", place).splitlines()
+    see("the desk's own socket and its directory", found, ["drwxr-x--- desk desk", "srwxrwx--- desk desk"])
+    see("the mode of its file", well(machine, "stat", "--format=%a", "/var/lib/desk/desk.db"), "600\n")
+    for place, said in ((place, "desk: there is nothing here\n"), ("/run/desk/operator", "desk: there is nothing here\n")):
+        ended = machine.call("/usr/local/bin/desk", "revoke-account", "4611686018427387904", "--socket", place)
+        see(f"a revocation at {place}", (ended[0], ended[1].splitlines()[:1]), (1, [said.rstrip()]))
 
 
 def journal(machine):
