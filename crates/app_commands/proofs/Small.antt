@@ -12,7 +12,7 @@ use Rattle.app_tasks.specs.Deeds.{AnswersReader, ChecksStatuses, ListsRows, Revo
 use Rattle.app_tasks.specs.Deeds.{Revokes, Serves, ServesUnlessAhead, adopted, clocked, clockless, served, unadopted, unserved}
 use Rattle.app_tasks.specs.Deeds.{IsUntaken, how_checked, how_listed, how_served}
 use Rattle.app_tasks.specs.{Faults.IsOfOpening, declared.fault.Fault.Fault}
-use Rattle.app_commands.specs.Statuses.{EndsBackUp, IsToldCopied, IsToldWords}
+use Rattle.app_commands.specs.Statuses.{CopiesChecked, EndsBackUp, EndsRestore, IsToldCopied, IsToldWords}
 use Rattle.app_commands.specs.Statuses.{Ends, EndsBy, EndsList, EndsMake, EndsOverFiles, IsToldMade, status_of, terms_in_memory}
 use Rattle.app_tasks.specs.{Deeds.form_of, GivenTerms.terms_of}
 use Rattle.desk_http.specs.declared.serve_fault.ServeFault.{ServeFault}
@@ -205,10 +205,18 @@ module _ {D : Type 0} (g : disk.Ghosts D) (image : Image) where
   small_rows r was is how left it = small_over (ListsRows r) (small_lists r) was is how left it
 
   -- copies
+  small_checked_copy : (was is : Option (List ℕ)) (how : Result ℕ Fault) (left : Left D g) → CopiesChecked g image was is how left → IsSmall how
+  small_checked_copy was is how left it =
+      small_copied it.checked how (small_over (ChecksStatuses form.Text) (small_checks form.Text) was it.written it.checked left it.ends) it.told
+
   small_back_up : (was is : Option (List ℕ)) (how : Result ℕ Fault) (left : Left D g) → EndsBackUp g image was is how left → IsSmall how
   small_back_up was is how left (inl it) = small_as how _ it.0 (omega arith)
-  small_back_up was is how left (inr it) =
-      small_copied it.checked how (small_over (ChecksStatuses form.Text) (small_checks form.Text) was it.written it.checked left it.ends) it.told
+  small_back_up was is how left (inr it) = small_checked_copy was is how left it
+
+  -- copies that take the place of a desk
+  small_restore : (was is : Option (List ℕ)) (how : Result ℕ Fault) (left : Left D g) → EndsRestore g image was is how left → IsSmall how
+  small_restore was is how left (inl it) = small_as how _ it.2 (omega arith)
+  small_restore was is how left (inr it) = small_checked_copy was is how left it
 
   -- each command
   small_command : (bytes was is : Option (List ℕ)) (o : Command) (how : Result ℕ Fault) (left : Left D g) → Ends g image bytes was is o how left
@@ -227,6 +235,7 @@ module _ {D : Type 0} (g : disk.Ghosts D) (image : Image) where
   small_command bytes was is (command.Check file json) how left it =
       small_over (ChecksStatuses (form_of json)) (small_checks (form_of json)) was is how left it
   small_command bytes was is (command.BackUp file to) how left it = small_back_up was is how left it
+  small_command bytes was is (command.Restore copy file) how left it = small_restore was is how left it
   small_command bytes was is (command.Revoke file target) how left (inl it) = small_as how _ it.0 (omega arith)
   small_command bytes was is (command.Revoke file target) how left (inr it) =
       small_over (RevokesTarget target it.0) (small_revokes target it.0) was is how left it.1

@@ -56,6 +56,10 @@ pub record IsToldCopied (checked how : Result ℕ Fault) : Type 0 where
   pub copied : checked ≡ Ok 0 → (how ≡ Ok 0) ⊎ (((why : CopyFault) × (how ≡ Err (fault.Copy why))) ⊎ (how ≡ Err fault.Output))
   pub otherwise : checked ≢ Ok 0 → how ≡ checked
 
+-- a file whose place a copy is to take could not be held, by the fault of its desk, or is the copy
+abbrev pub IsOfPlace : Fault → Type 0
+IsOfPlace why = ((cause : OpenFault) × (why ≡ fault.Place (open_fault cause))) ⊎ (why ≡ fault.Copy copyfault.Same)
+
 -- memory was refused, or the size of a file not to be had
 abbrev pub IsOfLog : DeskFault → Type 0
 IsOfLog why = (why ≡ deskfault.Memory) ⊎ (why ≡ deskfault.Device)
@@ -130,6 +134,10 @@ module _ {D : Type 0} (g : disk.Ghosts D) (image : Image) where
   abbrev pub EndsBackUp : (was is : Option (List ℕ)) → Result ℕ Fault → Left D g → Type 0
   EndsBackUp was is how left = ((how ≡ Err (fault.Copy copyfault.Taken)) × IsIdle was is left) ⊎ CopiesChecked was is how left
 
+  -- the file whose place a copy is to take could not be held, or is the copy, and that was not opened; or the copy was checked first
+  abbrev pub EndsRestore : (was is : Option (List ℕ)) → Result ℕ Fault → Left D g → Type 0
+  EndsRestore was is how left = ((why : Fault) × IsOfPlace why × (how ≡ Err why) × IsIdle was is left) ⊎ CopiesChecked was is how left
+
   -- how a command over files with these bytes ends, and what it leaves; its reader has these bytes, and its writer was given these and has
   -- these in the end, where that is known
   abbrev pub Ends : (bytes was is : Option (List ℕ)) → Command → Result ℕ Fault → Left D g → Type 0
@@ -143,6 +151,7 @@ module _ {D : Type 0} (g : disk.Ghosts D) (image : Image) where
       EndsList (StandsForName listing.name) (ListsAuthorizations listing was is how left) was is how left
   Ends bytes was is (command.Check file json) how left = EndsOverFiles (ChecksStatuses (form_of json)) was is how left
   Ends bytes was is (command.BackUp file to) how left = EndsBackUp was is how left
+  Ends bytes was is (command.Restore copy file) how left = EndsRestore was is how left
   Ends bytes was is (command.Revoke file target) how left = EndsRevoke target was is how left
   Ends bytes was is (command.RevokeServed place target) how left = RevokesServed target was is how × (left ≡ rest.Untouched)
   Ends bytes was is (command.Batch (Some file)) how left = EndsOverFiles (AnswersReader bytes) was is how left

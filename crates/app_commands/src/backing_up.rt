@@ -5,7 +5,7 @@ ghost use Rattle.app_commands.specs.Statuses.{EndsBackUp, IsToldCopied};
 
 use app_files::{Left, run_over_file};
 use app_reports::Form;
-use app_tasks::{CheckStatuses, CopyFault, Fault, copy_file, is_taken};
+use app_tasks::{CheckStatuses, CopyFault, Copying, Fault, is_taken};
 use desk_http::moment;
 use sqlite::{FileFrom, Start};
 use sqlite_disk::Disk;
@@ -32,33 +32,33 @@ pub(crate) fn back_up<S: Start, W: Write, E: Write>(
         errors,
     };
     let (checked, left) = run_over_file(rt, file, start, task, out);
-    (copied(rt, checked, file, to, out), left)
+    let copying = Copying::New { from: file, to };
+    (copied(rt, checked, copying, out), left)
 }
 
-// Copies the file of a desk that is closed and has no wrong status, says so, and gives the exit status. It takes the result of the
-// check as it is, since `back_up` gives what is left of the files beside it.
-fn copied<W: Write>(
+/// Copies the file of a desk that is closed and has no wrong status, says so, and gives the exit status. It takes the result of the
+/// check as it is, since its callers give what is left of the files beside it.
+pub(crate) fn copied<W: Write>(
     rt: &HostRuntime,
     checked: Result<u8, Fault>,
-    file: &str,
-    to: &str,
+    copying: Copying<'_>,
     out: &mut W,
 ) -> Result<u8, Fault>
     ensures told { IsToldCopied checked result }
     ensures silent { checked ≢ Ok 0 → W.contents out.new ≡ W.contents out.old }
 {
     match checked {
-        Ok(0) => copy(rt, file, to, out),
+        Ok(0) => copy(rt, copying, out),
         checked => checked,
     }
 }
 
 // Copies a file, and says so; gives the exit status.
-fn copy<W: Write>(rt: &HostRuntime, file: &str, to: &str, out: &mut W) -> Result<u8, Fault>
+fn copy<W: Write>(rt: &HostRuntime, copying: Copying<'_>, out: &mut W) -> Result<u8, Fault>
     ensures { IsToldCopied (Ok 0) result }
 {
-    match copy_file(rt, file, to) {
-        Ok(()) => match writeln!(out, "copied") {
+    match copying.make(rt) {
+        Ok(()) => match writeln!(out, "{}", copying.done()) {
             Ok(()) => Ok(0),
             Err(_) => Err(Fault::Output),
         },

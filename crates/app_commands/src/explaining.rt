@@ -34,6 +34,17 @@ pub(crate) fn explain<D: Disk, E: Write>(
         (Err(Fault::Copy(fault)), Command::BackUp { file, to }) => {
             explain_copy(errors, fault, file, to)
         }
+        (Err(Fault::Copy(fault)), Command::Restore { copy, file }) => {
+            explain_copy(errors, fault, copy, file)
+        }
+        (Err(Fault::Place(fault)), Command::Restore { file, .. }) => {
+            let _ = writeln!(
+                errors,
+                "desk: {}: {}",
+                Shown(file),
+                place_cause(rt, file, fault)
+            );
+        }
         (Err(Fault::Serve(fault)), Command::Serve { file, serving }) => {
             explain_serving(rt, errors, fault, command, file.path, serving.listening, left)
         }
@@ -56,12 +67,13 @@ pub(crate) fn explain<D: Disk, E: Write>(
 fn explain_copy<E: Write>(errors: &mut E, fault: CopyFault, file: &str, to: &str) {
     let _ = match fault {
         CopyFault::Taken => writeln!(errors, "desk: {}: {}", Shown(to), FileCause::Taken),
+        CopyFault::Same => return,
         CopyFault::Unread(cause) => writeln!(errors, "desk: {}: {cause}", Shown(file)),
         CopyFault::Failed(cause) => writeln!(errors, "desk: {}: {cause}", Shown(to)),
         CopyFault::Left(cause) => {
             writeln!(
                 errors,
-                "desk: {}: {cause}; a part of it is left: remove it",
+                "desk: {}: {cause}; a part of it is left: remove it, the file -part beside it",
                 Shown(to)
             )
         }
@@ -147,18 +159,22 @@ fn explain_desk_fault<D: Disk, E: Write>(
         let cause = match fault {
             DeskFault::Device => FaultCause::OfFile(device_cause(rt, file, left)),
             DeskFault::NotADesk => FaultCause::OfFile(deskless_cause(rt, file, command)),
-            DeskFault::Memory => FaultCause::Memory,
-            DeskFault::Reopen => FaultCause::Closed,
-            DeskFault::Moment => FaultCause::Moment,
-            DeskFault::ShortRandom => FaultCause::ShortRandom,
-            DeskFault::Full => FaultCause::Full,
-            DeskFault::NewerFormat => FaultCause::Newer,
+            _ => FaultCause::of(fault),
         };
         let remains = match command {
             Command::Make { .. } if cause.is_of_machine() => remains(rt, file, left),
             _ => "",
         };
         let _ = writeln!(errors, "desk: {}: {cause}{remains}", Shown(file));
+    }
+}
+
+// What a fault comes from of a desk whose place a copy was to take.
+fn place_cause(rt: &HostRuntime, file: &str, fault: DeskFault) -> FaultCause {
+    match fault {
+        DeskFault::Device => FaultCause::OfFile(FileCause::unreached(rt, file)),
+        DeskFault::NotADesk => FaultCause::OfFile(FileCause::not_replaced(rt, file)),
+        _ => FaultCause::of(fault),
     }
 }
 
@@ -211,6 +227,20 @@ enum FaultCause {
 }
 
 impl FaultCause {
+    // That of a fault, as far as no look at the file tells it.
+    fn of(fault: DeskFault) -> FaultCause {
+        match fault {
+            DeskFault::Device => FaultCause::OfFile(FileCause::Failed),
+            DeskFault::NotADesk => FaultCause::OfFile(FileCause::NoDesk),
+            DeskFault::Memory => FaultCause::Memory,
+            DeskFault::Reopen => FaultCause::Closed,
+            DeskFault::Moment => FaultCause::Moment,
+            DeskFault::ShortRandom => FaultCause::ShortRandom,
+            DeskFault::Full => FaultCause::Full,
+            DeskFault::NewerFormat => FaultCause::Newer,
+        }
+    }
+
     // Whether the machine had no memory or no room, or its disk failed.
     fn is_of_machine(self) -> bool {
         matches!(

@@ -4,6 +4,7 @@
 
 mod backing_up;
 mod explaining;
+mod restoring;
 mod running;
 
 pub use running::{run_command, run_words, tell_no_memory};

@@ -15,6 +15,7 @@ ghost use Rattle.app_tasks.specs.declared.fault.Fault.TheVariants as fault;
 
 use crate::backing_up::back_up;
 use crate::explaining::explain;
+use crate::restoring::restore;
 use app_files::{Left, Unknown, Wary, make_desk, run_in_memory, run_over_file};
 use app_reports::{AllAccounts, Beside, RowList};
 use app_tasks::{
@@ -83,7 +84,7 @@ fn run_asked<R: Read + Drop, W: Write, E: Write>(
         asked.entry.command result)
         (syncs_of asked.entry.command) }
 {
-    if let Some(file) = asked.command.file() {
+    if let Some(file) = asked.command.waited_file() {
         wait_for(rt, file, asked.wait);
     }
     match syncs_of(asked.command) {
@@ -186,6 +187,7 @@ fn try_command<S: Start, R: Read + Drop, W: Write, E: Write>(
         }
         Command::Check { file, json } => check_file(rt, file, json, start, out, errors),
         Command::BackUp { file, to } => back_up(rt, file, to, start, out, errors),
+        Command::Restore { copy, file } => restore(rt, copy, file, start, out, errors),
         Command::Revoke { file, target } => revoke_over(rt, file, target, start, out),
         Command::RevokeServed { place, target } => {
             (revoke_served(rt, place, target, out), Left::Untouched)
@@ -436,6 +438,7 @@ fn syncs_of(command: Command<'_>) -> Syncs
         Command::Authorizations { .. } => Syncs::Twice,
         Command::Check { .. } => Syncs::Twice,
         Command::BackUp { .. } => Syncs::Twice,
+        Command::Restore { .. } => Syncs::Twice,
         Command::Revoke { .. } => Syncs::Twice,
         Command::RevokeServed { .. } => Syncs::Twice,
         Command::Batch { file: Some(file) } => file.syncs,

@@ -13,8 +13,9 @@ use Rattle.desk_model.specs.{History.first_history, Tables.picture, Terms.Terms}
 use Rattle.store_api.specs.Sight.{Keeps}
 use Rattle.desk_store.specs.{Causes.Failed, Desks.store_sight, Making.IsOfStorage}
 use Rattle.desk_store.specs.declared.{open_fault.OpenFault.OpenFault, open_fault.OpenFault.TheVariants.NotADesk, store.Store.Store}
-use Rattle.app_tasks.specs.Doing.{Deed, Doing}
-use Rattle.app_files.specs.declared.left.Left.{Left}
+use Rattle.app_tasks.specs.{Doing.Deed, Doing.Doing, declared.begun.EmptyFile.EmptyFile}
+use Rattle.app_files.specs.declared.{holding.HeldFile.HeldFile, left.Left.Left}
+use Rattle.app_files.specs.declared.holding.HeldFile.TheVariants as held
 use Rattle.app_files.specs.declared.left.Left.TheVariants as rest
 
 -- no file was opened: there was one where none may be, or none with bytes; or the path could not be looked at
@@ -65,6 +66,23 @@ module _ {D : Type 0} {g : disk.Ghosts D} where
   IsUnopened bytes cause rest.Untouched = IsUntouched cause
   IsUnopened bytes cause (rest.Unopened un) = FailsToOpen bytes cause un
   IsUnopened bytes cause _ = ⊥
+
+  -- ---- files that are held
+
+  -- the files of a store are held, closed; or they could not be closed, for this cause
+  abbrev pub IsShut : Store (FileStore D g) → Result (HeldFile D g) (OpenFault × Left D g) → Type 0
+  IsShut store (Ok (held.Desk left)) = IsLeft store (Ok tt) left
+  IsShut store (Ok (held.Empty file)) = ⊥
+  IsShut store (Err e) = IsLeft store (Err e.0) e.1
+
+  -- no desk was opened in a file with these bytes, for this cause; or one was, and nothing done with its store but to close the files; or the
+  -- file is empty, and held
+  pub data EndsHolding (bytes : Image) : Result (HeldFile D g) (OpenFault × Left D g) → Type 0 where
+    unheld : (e : OpenFault × Left D g) → IsUnopened bytes e.0 e.1 → EndsHolding bytes (Err e)
+    shut :
+        (store : Store (FileStore D g)) (how : Result (HeldFile D g) (OpenFault × Left D g)) → OpensFiles bytes store → OpensKnown bytes store
+        → IsShut store how → EndsHolding bytes how
+    empty : (file : EmptyFile) → EndsHolding bytes (Ok (held.Empty file))
 
   -- ---- makings
 

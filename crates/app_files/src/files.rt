@@ -19,8 +19,12 @@ use store_api::StorageFault;
 /// What the engine keeps of a file, by what it takes for granted of the bytes that it finds there.
 pub(crate) type DeskFile<S> = FileStore<FileFrom<S>>;
 
-// Whether there is a file with bytes at the path.
-fn holds_bytes(rt: &HostRuntime, path: &str) -> Result<bool, OpenFault>
+/// Whether there is a file with bytes at the path.
+///
+/// # Errors
+///
+/// `Storage` where the path can't be looked at.
+pub(crate) fn holds_bytes(rt: &HostRuntime, path: &str) -> Result<bool, OpenFault>
     ensures { IfErr result IsOfStorage }
 {
     match fs::metadata(rt, path) {
@@ -47,8 +51,8 @@ fn make_empty(rt: &HostRuntime, path: &str) -> Result<Begun, OpenFault>
     }
 }
 
-// The fault of a path that can't be looked at, or at which no file can be made.
-fn path_fault(kind: ErrorKind) -> OpenFault
+/// The fault of a path that can't be looked at, or at which no file can be made.
+pub(crate) fn path_fault(kind: ErrorKind) -> OpenFault
     ensures { IsOfStorage result }
 {
     match kind {

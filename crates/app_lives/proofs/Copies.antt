@@ -8,7 +8,7 @@ use Rattle.sqlite_disk.specs.declared.Files.{Files}
 use Rattle.sqlite_store.specs.declared.store.FileStore.{FileStore}
 use Rattle.app_tasks.specs.Deeds.{ChecksStatuses, how_checked}
 use Rattle.app_tasks.specs.{Faults.IsOfOpening, declared.fault.Fault.Fault}
-use Rattle.app_commands.specs.Statuses.{EndsOverFiles, IsToldCopied}
+use Rattle.app_commands.specs.Statuses.{CopiesChecked, EndsBackUp, EndsOverFiles, EndsRestore, IsToldCopied}
 use Rattle.desk_model.specs.{Entry.History, Tables.picture}
 use Rattle.desk_files.specs.LeftFiles.{HoldDesk, LeftFiles, file_sight}
 use Rattle.desk_store.specs.{Desks.store_sight, declared.open_fault.OpenFault.OpenFault, declared.store.Store.Store}
@@ -17,7 +17,7 @@ use Rattle.app_files.specs.Endings.{IsClosed, IsDoneOver, IsLeft, IsTold, done, 
 use Rattle.app_files.specs.declared.left.Left.TheVariants as rest
 use Rattle.app_reports.specs.declared.{fault.ReportFault.ReportFault, faults.Checked.Checked}
 use Rattle.app_reports.specs.declared.form.Form.TheVariants as form
-use Rattle.app_lives.specs.Left.{CopiesHoldDesk}
+use Rattle.app_lives.specs.Left.{CopiesHoldDesk, StoresHoldDesk}
 
 -- a check behind which a copy was made ended by 0
 checked_well : (checked : Result ℕ Fault) → IsToldCopied checked (Ok 0) → checked ≡ Ok 0
@@ -79,8 +79,21 @@ module _ {D : Type 0} (g : disk.Ghosts D) where
         let it = closed_well over.ended closing left closes (subst (λ how. IsTold IsOfOpening how closing (Ok 0)) well told) in
         (it.0, it.1, of_closed checked it.0 it.2)
 
-  pub copies_hold_desk : CopiesHoldDesk g
-  copies_hold_desk image was is left (inl it) F files same has = absurd (let e = it.0 in cc e)
-  copies_hold_desk image was is left (inr it) F files same has =
+  -- a check behind which a copy was made
+  of_copy : (image : Image) (was is : Option (List ℕ)) (left : Left D g) → CopiesChecked g image was is (Ok 0) left
+      → (F : History) (files : LeftFiles) → files.image ≡ image → (file_sight g).has files (picture F) → HoldsCopied image F left
+  of_copy image was is left it F files same has =
       of_check image was it.written F files same has left
       (subst (λ how. EndsOverFiles g image (ChecksStatuses form.Text) was it.written how left) (checked_well it.checked it.told) it.ends)
+
+  pub copies_hold_desk : CopiesHoldDesk g (EndsBackUp g)
+  copies_hold_desk image was is left (inl it) F files same has = absurd (let e = it.0 in cc e)
+  copies_hold_desk image was is left (inr it) F files same has = of_copy image was is left it F files same has
+
+  pub restored_hold_desk : CopiesHoldDesk g (EndsRestore g)
+  restored_hold_desk image was is left (inl it) F files same has = absurd (let e = it.2 in cc e)
+  restored_hold_desk image was is left (inr it) F files same has = of_copy image was is left it F files same has
+
+  pub stores_hold_desk : StoresHoldDesk g
+  stores_hold_desk bytes store opens honest F files same has left may =
+      (opens honest files same (picture F) has).tables.left left.trees may

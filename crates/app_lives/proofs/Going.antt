@@ -1,7 +1,7 @@
 -- Words over the files that the one before left.
-use Rattle.std.proofs.Common.{◌≡◌, ◌∙◌, ℕ, List, [], ◌∷◌, ◌++◌, Result, true, ap₂, arith, inl, inr, refl, subst, sym}
+use Rattle.std.proofs.Common.{◌≡◌, ◌∙◌, ℕ, List, [], ◌∷◌, ◌++◌, Option, Result, true, ap₂, arith, inl, inr, refl, subst, sym}
 use Rattle.std.proofs.Math.Logic.{∥∥₁_map}
-use Rattle.sqlite.specs.Files.{over_files}
+use Rattle.sqlite.specs.{Files.over_files, Recovery.Image}
 use Rattle.sqlite_disk.specs.declared.Disk as disk
 use Rattle.app_tasks.specs.Deeds.{AnswersReader, ChecksStatuses, ListsRows, RevokesTarget, ServesClients, TellsAbout, TellsPage}
 use Rattle.app_tasks.specs.declared.fault.Fault.{Fault}
@@ -14,14 +14,15 @@ use Rattle.desk_files.proofs.Finding.{in_todays, opening_keeps}
 use Rattle.desk_files.proofs.Refused.{if_there}
 use Rattle.desk_files.specs.LeftFiles.{LeftFiles, file_sight}
 use Rattle.desk_store.specs.Desks.{AreOfDesk, store_sight}
-use Rattle.app_files.specs.Endings.{IsDoneOver}
+use Rattle.app_commands.specs.Statuses.{EndsBackUp, EndsRestore}
+use Rattle.app_files.specs.{Endings.IsDoneOver, declared.left.Left.Left}
 use Rattle.app_tasks.specs.Doing.{Doing}
 use Rattle.app_reports.specs.Listed.{accounts_roster, authorizations_roster, orders_roster}
 use Rattle.app_lives.proofs.Joined.{history_on, kept_on, lives_on, replied_on}
 use Rattle.app_lives.proofs.Leaving.{words_leave}
-use Rattle.app_lives.specs.Again.{BeginsLife, CopiesGoOn, GoesOn, HasLives, MayBeginLife, StaysOn, StaysUnopened, WordsGoOn}
+use Rattle.app_lives.specs.Again.{BeginsLife, CopiesGoOn, GoesOn, HasLives, MayBeginLife, StaysOn, StaysUnopened, StaysUntilReplaced, WordsGoOn}
 use Rattle.app_lives.specs.Kept.{HasLife}
-use Rattle.app_lives.specs.Left.{IsOver, LeavesAsIs, LeavesLife, LivesOn, WordsLeave}
+use Rattle.app_lives.specs.Left.{CopiesHoldDesk, IsOver, LeavesAsIs, LeavesLife, LivesOn, StoresHoldDesk, WordsLeave}
 use Rattle.app_lives.specs.Told.{TellsAny, TellsBatch, TellsRevocation}
 
 -- the life of all words before has one more word
@@ -74,17 +75,21 @@ module _ {D : Type 0} (g : disk.Ghosts D) where
       (subst (λ t. AreOfDesk t (picture (history F h.life)))
       (sym (opening_keeps files left.trees (picture (history F h.life)) h.tables (leaves clean files refl left.trees may))) h.tables))
 
-  copies_go_on : CopiesGoOn g
-  copies_go_on F words files h was is left ends =
-      let all : WordsLeave g = words_leave g in
+  copies_go_on : (EndsCopy : Image → (was is : Option (List ℕ)) → Result ℕ Fault → Left D g → Type 0) → CopiesHoldDesk g EndsCopy → CopiesGoOn g EndsCopy
+  copies_go_on EndsCopy holds F words files h was is left ends =
       let it =
-      all.backup files.image was is left ends (history F h.life) files refl (in_todays files (picture (history F h.life)) h.tables) in (
+      holds files.image was is left ends (history F h.life) files refl (in_todays files (picture (history F h.life)) h.tables) in (
         it.0,
         it.1,
         λ clean. ∥∥₁_map (it.2 clean) (λ found.
             let same = has_same F words files found.0 h found.2 in
             (found.0, found.1, same.0, same.1)),
       )
+
+  stays_until_replaced : StoresHoldDesk g → StaysUntilReplaced g
+  stays_until_replaced holds F words files h store opens honest left may =
+      has_same F words files left h
+      (holds files.image store opens honest (history F h.life) files refl (in_todays files (picture (history F h.life)) h.tables) left may)
 
   -- the word is over the desk that the life ends with
   is_over : {does : Doing Fault} {how : Result ℕ Fault} (F : History) (words : List (List Told)) (files : LeftFiles) (h : HasLives F words files)
@@ -116,7 +121,9 @@ module _ {D : Type 0} (g : disk.Ghosts D) where
         make = begins_life;
         unmade = may_begin_life;
         unopened = stays_unopened;
-        backup = copies_go_on;
+        backup = copies_go_on (EndsBackUp g) all.backup;
+        restore = copies_go_on (EndsRestore g) all.restore;
+        replaced = stays_until_replaced all.replaced;
         about = λ b was is. desk_stays_on (TellsAbout b was is) (all.about b was is);
         page = λ was is. desk_stays_on (TellsPage was is) (all.page was is);
         status = λ filter f was is. desk_stays_on (ListsRows (orders_roster filter f) was is) (all.status filter f was is);

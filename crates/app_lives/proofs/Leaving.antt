@@ -38,7 +38,7 @@ use Rattle.http_routes.specs.declared.{lines.Line.Line, request.Request.Request}
 use Rattle.http_routes.specs.declared.request.Request.TheVariants as request
 use Rattle.app_lives.specs.Left.{IsOver, LeavesDesk, LeavesLife, LivesOn, WordsLeave}
 use Rattle.app_lives.specs.Told.{IsOfNext, TellsAny, TellsBatch, TellsLines, TellsRevocation, asked, no_line, refused}
-use Rattle.app_lives.proofs.Copies.{copies_hold_desk}
+use Rattle.app_lives.proofs.Copies.{copies_hold_desk, restored_hold_desk, stores_hold_desk}
 use Rattle.app_lives.proofs.Chains.{Any, AreCalls, OrOneMore, honest_at_first, left_behind, no_call, none_more, of_calls, once_more, one_replied}
 use Rattle.app_lives.proofs.Chains.{one_unanswered}
 
@@ -405,5 +405,7 @@ module _ {D : Type 0} (g : disk.Ghosts D) where
     revoke = revoke_leaves;
     batch = batch_leaves;
     backup = copies_hold_desk g;
+    restore = restored_hold_desk g;
+    replaced = stores_hold_desk g;
     serve = serve_leaves;
   }

@@ -8,13 +8,13 @@ use Rattle.sqlite_store.specs.declared.store.FileStore.{FileStore}
 use Rattle.app_words.specs.declared.command.{Revocation.Revocation, Serving.Serving}
 use Rattle.app_tasks.specs.Deeds.{AnswersReader, ChecksStatuses, ListsRows, RevokesTarget, ServesClients, TellsAbout, TellsPage}
 use Rattle.app_tasks.specs.declared.fault.Fault.{Fault}
-use Rattle.app_commands.specs.Statuses.{EndsBackUp}
+use Rattle.app_commands.specs.Statuses.{EndsBackUp, EndsRestore}
 use Rattle.desk.specs.Seen.{Told, replied}
 use Rattle.desk_model.specs.{Entry.History, History.first_history, Tables.picture, declared.call.Call.Call}
 use Rattle.desk_model.specs.Life.{Event, IsLife, history, kept_calls}
 use Rattle.desk_model.specs.Terms.{Terms, are_terms}
 use Rattle.desk_files.specs.LeftFiles.{LeftFiles, file_sight}
-use Rattle.desk_files.specs.{Opening.MakesFiles, declared.opening.NotOpened.NotOpened}
+use Rattle.desk_files.specs.{Opening.MakesFiles, Opening.OpensFiles, declared.opening.NotOpened.NotOpened}
 use Rattle.desk_store.specs.Desks.{AreOfDesk}
 use Rattle.desk_store.specs.declared.{open_fault.OpenFault.OpenFault, store.Store.Store}
 use Rattle.app_files.specs.Endings.{FailsToBeMade, FailsToOpen, IsDoneOver}
@@ -85,22 +85,32 @@ module _ {D : Type 0} (g : disk.Ghosts D) where
       → IfSome un.conn (λ conn. HasCleanDisk (file_state conn) → (left : LeftFiles) → (file_state conn).may_leave left.trees
       → (still : HasLives F words left) × (still.life ≡ h.life))
 
-  -- where a copy of files with such a life is told as made, they are closed, and the bytes of the database file alone, which are copied,
-  -- have the same life, on a disk that is honest to the end
-  abbrev pub CopiesGoOn : Type 0
-  CopiesGoOn =
+  -- where a copy of files with such a life is told as made, by a word that ends so, they are closed, and the bytes of the database file alone,
+  -- which are copied, have the same life, on a disk that is honest to the end
+  abbrev pub CopiesGoOn : (Image → (was is : Option (List ℕ)) → Result ℕ Fault → Left D g → Type 0) → Type 0
+  CopiesGoOn EndsCopy =
       (F : History) (words : List (List Told)) (files : LeftFiles) (h : HasLives F words files) (was is : Option (List ℕ)) (left : Left D g)
-      → EndsBackUp g files.image was is (Ok 0) left
+      → EndsCopy files.image was is (Ok 0) left
       → (closed : Files D) × (left ≡ rest.Closed closed)
       × (AreClean g closed.log closed.db → ∥ ((copy : LeftFiles) × (copy.image ≡ record (image_of g closed) { log = [] })
       × (still : HasLives F words copy) × (still.life ≡ h.life)) ∥₁)
 
-  -- so it is of each word, and of files that are made, copied, or not opened
+  -- files with such a life that were opened, so that a copy takes their place, have the same life until it does, whatever files are closed or
+  -- a stop then leaves, on a disk that is honest to the end
+  abbrev pub StaysUntilReplaced : Type 0
+  StaysUntilReplaced =
+      (F : History) (words : List (List Told)) (files : LeftFiles) (h : HasLives F words files)
+      (store : Store (FileStore D g)) → OpensFiles files.image store → (file_sight g).is_honest store
+      → (left : LeftFiles) → (file_sight g).leaves store left → (still : HasLives F words left) × (still.life ≡ h.life)
+
+  -- so it is of each word, and of files that are made, copied, replaced, or not opened
   pub record WordsGoOn : Type 0 where
     pub make : BeginsLife
     pub unmade : MayBeginLife
     pub unopened : StaysUnopened
-    pub backup : CopiesGoOn
+    pub backup : CopiesGoOn (EndsBackUp g)
+    pub restore : CopiesGoOn (EndsRestore g)
+    pub replaced : StaysUntilReplaced
     pub about : (b : Beside) (was is : Option (List ℕ)) → StaysOn (TellsAbout b was is)
     pub page : (was is : Option (List ℕ)) → StaysOn (TellsPage was is)
     pub status : (filter : OrderFilter) (f : Form) (was is : Option (List ℕ)) → StaysOn (ListsRows (orders_roster filter f) was is)

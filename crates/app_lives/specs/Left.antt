@@ -7,11 +7,12 @@ use Rattle.sqlite_disk.specs.declared.Files.{Files}
 use Rattle.sqlite_store.specs.declared.store.FileStore.{FileStore}
 use Rattle.app_words.specs.declared.command.{Revocation.Revocation, Serving.Serving}
 use Rattle.app_tasks.specs.Deeds.{Adopts, AnswersReader, ChecksStatuses, FailsToAdopt, ListsRows, RevokesTarget, ServesClients, TellsAbout, TellsPage}
-use Rattle.app_commands.specs.Statuses.{EndsBackUp}
+use Rattle.app_commands.specs.Statuses.{EndsBackUp, EndsRestore}
 use Rattle.app_tasks.specs.declared.fault.Fault.{Fault}
 use Rattle.desk.specs.{Seen.Told, State.DeskState}
 use Rattle.desk_model.specs.{Entry.History, Legal.Legal, Tables.picture}
 use Rattle.desk_files.specs.LeftFiles.{HoldDesk, LeftFiles, file_sight}
+use Rattle.desk_files.specs.Opening.{OpensFiles}
 use Rattle.desk_store.specs.{Desks.store_sight, declared.store.Store.Store}
 use Rattle.app_files.specs.{Endings.IsDoneOver, declared.left.Left.Left}
 use Rattle.app_tasks.specs.Doing.{Doing}
@@ -64,14 +65,21 @@ module _ {D : Type 0} (g : disk.Ghosts D) where
       (bytes : Image) (how : Result ℕ Fault) (done : IsDoneOver g bytes does how) (F : History) → IsOver F done
       → LeavesLife (Says how) F done.opened done.ended
 
-  -- where a copy is told as made, the files that held the desk of a history, in either format, are closed, and the bytes of the database
-  -- file alone, which are copied, hold it as it was, in today's format, on a disk that is honest to the end
-  abbrev pub CopiesHoldDesk : Type 0
-  CopiesHoldDesk =
-      (image : Image) (was is : Option (List ℕ)) (left : Left D g) → EndsBackUp g image was is (Ok 0) left
+  -- where a copy is told as made, by a word that ends so, the files that held the desk of a history, in either format, are closed, and the
+  -- bytes of the database file alone, which are copied, hold it as it was, in today's format, on a disk that is honest to the end
+  abbrev pub CopiesHoldDesk : (Image → (was is : Option (List ℕ)) → Result ℕ Fault → Left D g → Type 0) → Type 0
+  CopiesHoldDesk EndsCopy =
+      (image : Image) (was is : Option (List ℕ)) (left : Left D g) → EndsCopy image was is (Ok 0) left
       → (F : History) (files : LeftFiles) → files.image ≡ image → (file_sight g).has files (picture F)
       → (closed : Files D) × (left ≡ rest.Closed closed)
       × (AreClean g closed.log closed.db → HoldDesk (record (image_of g closed) { log = [] }) (picture F))
+
+  -- a store that was opened, so that a copy takes the place of its files, has the desk of a history as it was, in today's format, in whatever
+  -- files are closed or a stop then leaves, on a disk that is honest to the end
+  abbrev pub StoresHoldDesk : Type 0
+  StoresHoldDesk =
+      (bytes : Image) (store : Store (FileStore D g)) → OpensFiles bytes store → (file_sight g).is_honest store
+      → (F : History) (files : LeftFiles) → files.image ≡ bytes → (file_sight g).has files (picture F) → LeavesDesk F store
 
   -- so it is of each word, whose writer was given these bytes and has these in the end, where that is known
   pub record WordsLeave : Type 0 where
@@ -83,5 +91,7 @@ module _ {D : Type 0} (g : disk.Ghosts D) where
     pub check : (f : Form) (was is : Option (List ℕ)) → LeavesAsIs (ChecksStatuses f was is)
     pub revoke : (what : Revocation) (at : ℕ) (was is : Option (List ℕ)) → LivesOn (RevokesTarget what at was is) (TellsRevocation what at)
     pub batch : (bytes was is : Option (List ℕ)) → LivesOn (AnswersReader bytes was is) (TellsBatch bytes was is)
-    pub backup : CopiesHoldDesk
+    pub backup : CopiesHoldDesk (EndsBackUp g)
+    pub restore : CopiesHoldDesk (EndsRestore g)
+    pub replaced : StoresHoldDesk
     pub serve : (s : Serving) (now : Option ℕ) (was is : Option (List ℕ)) → LivesOn (ServesClients s now was is) TellsAny

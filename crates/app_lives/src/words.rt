@@ -10,7 +10,8 @@ use sqlite_disk::Disk;
 /// calls of `batch` are those that its reader's lines spell, in turn, all but the last at most; a revocation has that of its target, or none.
 ///
 /// Words that are done one after the other, each over the files that the one before left, go on with one life, to which the reports add
-/// nothing; so do files whose opening failed, and the copy of a backup. A desk that is made begins one.
+/// nothing; so do files whose opening failed, the copy of a backup, and the copy that is restored; and so do, until then, the files whose
+/// place that takes. A desk that is made begins one.
 pub fn words_live<D: Disk>()
     ensures left { WordsLeave D.Disk }
     ensures again { WordsGoOn D.Disk }

@@ -1,11 +1,12 @@
-//! What a making begins at a path, and what is taken back of it where it fails.
+//! What a making or a restoring begins at a path, and what is taken back of it where it fails.
 
-use crate::beside::missing_log;
+use crate::beside::{has_full_log, missing_log};
+use crate::causes::has_journal;
 use crate::copies::make_new;
 use crate::locks::take_lock;
 use std::fs::{self, Metadata, OpenOptions};
 use std::io::{self, ErrorKind};
-use std::os::unix::fs::MetadataExt;
+use std::os::unix::fs::{MetadataExt, fchown};
 
 // How many bytes a file may have that has no more than the first page, which the engine writes as it opens an empty one. A desk has
 // more once it is made and closed.
@@ -127,6 +128,68 @@ impl Begun {
             fs::metadata(rt, path)
         };
         found.is_ok_and(|found| found.is_file() && Place::of(&found) == self.file)
+    }
+}
+
+/// A file without bytes, which this program has, and which a copy is to take the place of.
+#[derive(Drop)]
+pub struct EmptyFile {
+    begun: Begun,
+    // It has the lock.
+    _file: fs::File,
+}
+
+impl EmptyFile {
+    /// That at a path, which is made where there is none: its user alone may read and write it, and its owner is that of the directory,
+    /// where this user may give it that.
+    ///
+    /// # Errors
+    ///
+    /// Those of making it and looking at it; `WouldBlock` where another program has it, or put something into it; `Unsupported` where
+    /// a journal of SQLite's stands beside it; `AlreadyExists` where a log does that holds something.
+    pub fn hold(rt: &HostRuntime, path: &str) -> io::Result<EmptyFile> {
+        if has_full_log(rt, path) {
+            return Err(ErrorKind::AlreadyExists.into());
+        }
+        if has_journal(rt, path) {
+            return Err(ErrorKind::Unsupported.into());
+        }
+        let begun = Begun::at(rt, path)?;
+        match lock_empty(rt, path, begun.is_new) {
+            Ok(file) => Ok(EmptyFile { begun, _file: file }),
+            Err(error) => {
+                begun.take_back(rt, path, Unfinished::Unreached);
+                Err(error)
+            }
+        }
+    }
+
+    /// Removes the file, where it was made and nothing has taken its place.
+    pub fn give_up(&self, rt: &HostRuntime, path: &str) {
+        self.begun.take_back(rt, path, Unfinished::Unmade);
+    }
+}
+
+// Locks the file without bytes at a path; where it is new it gets the owner of its directory.
+fn lock_empty(rt: &HostRuntime, path: &str, is_new: bool) -> io::Result<fs::File> {
+    let file = open(rt, path)?;
+    if !take_lock(&file) || file.metadata()?.len() > 0 {
+        return Err(ErrorKind::WouldBlock.into());
+    }
+    if is_new {
+        give_to_owner_of_directory(rt, &file, path)?;
+    }
+    Ok(file)
+}
+
+// Gives the file at a path the owner and the group of its directory, where this user may.
+fn give_to_owner_of_directory(rt: &HostRuntime, file: &fs::File, path: &str) -> io::Result<()> {
+    let mut directory = fs::canonicalize(rt, path)?;
+    directory.pop();
+    let found = fs::metadata(rt, directory.as_str())?;
+    match fchown(file, Some(found.uid()), Some(found.gid())) {
+        Err(error) if error.kind() != ErrorKind::PermissionDenied => Err(error),
+        _ => Ok(()),
     }
 }
 

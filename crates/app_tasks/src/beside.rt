@@ -36,6 +36,17 @@ pub(crate) fn has_log(rt: &HostRuntime, path: &str) -> bool {
     }
 }
 
+/// Whether the log beside the path holds something, or can't be looked at; not so where there is none.
+pub(crate) fn has_full_log(rt: &HostRuntime, path: &str) -> bool {
+    match named(rt, path, "-wal") {
+        Ok(log) => match fs::symlink_metadata(rt, log.as_str()) {
+            Ok(found) => !found.is_file() || found.len() > EMPTY_LOG,
+            Err(error) => error.kind() != ErrorKind::NotFound,
+        },
+        Err(_) => true,
+    }
+}
+
 /// Whether there is a directory for the file at a path.
 pub(crate) fn has_directory(rt: &HostRuntime, path: &str) -> bool {
     match path.rsplit_once('/') {
@@ -60,4 +71,30 @@ pub fn remove_empty_log(rt: &HostRuntime, log: &str) {
     {
         let _ = fs::remove_file(rt, log);
     }
+}
+
+/// Removes the log beside the file at a path, where there is one, and syncs the directory.
+///
+/// # Errors
+///
+/// Those of removing and syncing, and `Unsupported` where the log holds something: it stays.
+pub(crate) fn take_log_away(rt: &HostRuntime, path: &str) -> io::Result<()> {
+    if has_full_log(rt, path) {
+        return Err(ErrorKind::Unsupported.into());
+    }
+    match fs::remove_file(rt, beside(rt, path, "-wal")?.as_str()) {
+        Err(error) if error.kind() != ErrorKind::NotFound => Err(error),
+        _ => sync_directory(rt, path),
+    }
+}
+
+/// Syncs the directory of the file at a path.
+///
+/// # Errors
+///
+/// Those of the system.
+pub(crate) fn sync_directory(rt: &HostRuntime, path: &str) -> io::Result<()> {
+    let mut directory = fs::canonicalize(rt, path)?;
+    directory.pop();
+    fs::open(rt, directory.as_str())?.sync_all()
 }

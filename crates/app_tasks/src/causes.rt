@@ -1,6 +1,6 @@
 //! Why a file is not opened, made or copied, as looking at it tells.
 
-use crate::beside::{has_directory, has_log, named};
+use crate::beside::{has_directory, has_full_log, has_log, named};
 use crate::locks::is_held;
 use std::fs::{self, OpenOptions};
 use std::io::{self, ErrorKind};
@@ -52,6 +52,12 @@ pub enum FileCause {
     /// Its log is not for this user, or has another name.
     #[error("this user may not read and write its log, the file -wal beside it")]
     LogDenied,
+    /// The name of its part is taken.
+    #[error("another program copies there, or the file -part beside it is to be removed")]
+    PartTaken,
+    /// Its file system gives a file no second name.
+    #[error("its file system has no hard links, by which a copy gets its name")]
+    NoLinks,
     /// Neither it nor its log can be made where it stands.
     #[error("no file can be made in its directory: this user may not, or that is read-only or full")]
     NoRoom,
@@ -114,6 +120,22 @@ impl FileCause {
         }
     }
 
+    /// Why the part of a new file could not be made, by an error of the system.
+    pub(crate) fn of_part(error: io::Error) -> FileCause {
+        match FileCause::unmade(error) {
+            FileCause::Taken => FileCause::PartTaken,
+            cause => cause,
+        }
+    }
+
+    /// Why a new file could not be linked to its path, by an error of the system.
+    pub(crate) fn of_link(error: io::Error) -> FileCause {
+        match FileCause::of(error) {
+            FileCause::Denied => FileCause::NoLinks,
+            cause => cause,
+        }
+    }
+
     /// Why the file at a path could not be read, by an error of the system.
     pub(crate) fn unread(error: io::Error) -> FileCause {
         match FileCause::of(error) {
@@ -129,6 +151,15 @@ impl FileCause {
             Ok(_) => FileCause::NoDesk,
             Err(_) if has_directory(rt, path) => FileCause::Missing,
             Err(_) => FileCause::NoDirectory,
+        }
+    }
+
+    /// Why no copy takes the place of the file at a path, which holds no desk.
+    pub fn not_replaced(rt: &HostRuntime, path: &str) -> FileCause {
+        if has_full_log(rt, path) && !fs::metadata(rt, path).is_ok_and(|found| found.len() > 0) {
+            FileCause::LogAlone
+        } else {
+            FileCause::deskless(rt, path)
         }
     }
 }
@@ -163,8 +194,8 @@ fn of_neighbours(rt: &HostRuntime, path: &str) -> FileCause {
     }
 }
 
-// Whether a journal of SQLite's stands beside the file at a path, or where that would stand.
-fn has_journal(rt: &HostRuntime, path: &str) -> bool {
+/// Whether a journal of SQLite's stands beside the file at a path, or where that would stand.
+pub(crate) fn has_journal(rt: &HostRuntime, path: &str) -> bool {
     match named(rt, path, "-journal") {
         Ok(journal) => fs::symlink_metadata(rt, journal.as_str()).is_ok_and(|found| !found.is_file()
             || found.len() > 0),

@@ -1,11 +1,13 @@
-//! Copies of the file of a desk that is closed.
+//! Copies of the file of a desk that is closed: new files, and such as take the place of another.
 ghost use Rattle.std.specs.Prelude.{IsTrue};
 ghost use Rattle.std.specs.Fs.{asks_create_new};
 
+use crate::beside::take_log_away;
 use crate::causes::FileCause;
+use crate::parts::Part;
 use std::fs::{self, OpenOptions};
 use std::io::{self, ErrorKind};
-use std::os::unix::fs::OpenOptionsExt;
+use std::os::unix::fs::{MetadataExt, OpenOptionsExt};
 use thiserror::Error;
 
 /// Why a file is not copied.
@@ -14,6 +16,9 @@ pub enum CopyFault {
     /// There is something at the new path, which stays as it is.
     #[error("there is a file already")]
     Taken,
+    /// The copy is the file whose place it is to take.
+    #[error("the copy is the file itself")]
+    Same,
     /// The file could not be read, for this cause; no new one is left.
     #[error("copy")]
     Unread(FileCause),
@@ -23,6 +28,49 @@ pub enum CopyFault {
     /// The new file could not be written, for this cause, and then not be removed: a part of it is left.
     #[error("copy")]
     Left(FileCause),
+}
+
+/// The copy that is made of a file, which the caller holds against every other program.
+#[derive(Clone, Copy)]
+pub enum Copying<'a> {
+    /// A new file, which its user alone may read and write.
+    New {
+        /// The path of the file.
+        from: &'a str,
+        /// The path of the new one.
+        to: &'a str,
+    },
+    /// A file in the place of another, with the owner and the mode of that. The caller holds that, too, and its log holds nothing.
+    Replacing {
+        /// The path of the file.
+        from: &'a str,
+        /// The path of the one whose place it takes.
+        to: &'a str,
+    },
+}
+
+impl Copying<'_> {
+    /// The word that says that it is made.
+    pub fn done(self) -> &'static str {
+        match self {
+            Copying::New { .. } => "copied",
+            Copying::Replacing { .. } => "restored",
+        }
+    }
+
+    /// Makes it, whole and synced with its directory, by a part under a name of its own, so that a stop leaves at its path what
+    /// stood there, or the whole copy.
+    ///
+    /// # Errors
+    ///
+    /// `Taken` where something stands at the path of a new file, `Unread` where the file could not be opened, `Failed` where the
+    /// copy could not be made, written or synced: its part is then removed, or `Left` where it can't be.
+    pub fn make(self, rt: &HostRuntime) -> Result<(), CopyFault> {
+        match self {
+            Copying::New { from, to } => copy_file(rt, from, to),
+            Copying::Replacing { from, to } => replace_file(rt, from, to),
+        }
+    }
 }
 
 // How a file is opened that is to be new, for its user alone: where something stands at its path the system refuses that.
@@ -49,42 +97,78 @@ pub fn is_taken(rt: &HostRuntime, path: &str) -> bool {
     fs::symlink_metadata(rt, path).is_ok()
 }
 
-/// Copies the file at a path into a new one, which its user alone may read and write, and syncs that and its directory. The
-/// caller sees to it that nobody writes the first.
-///
-/// # Errors
-///
-/// `Taken` where something stands at the new path, `Unread` where the file could not be opened, `Failed` where the new one could
-/// not be made, written or synced: it is then removed, or `Left` where it can't be.
-pub fn copy_file(rt: &HostRuntime, from: &str, to: &str) -> Result<(), CopyFault> {
-    let mut file = match fs::open(rt, from) {
-        Ok(file) => file,
-        Err(error) => return Err(CopyFault::Unread(FileCause::unread(error))),
-    };
-    let mut copy = match make_new(rt, to) {
-        Ok(copy) => copy,
-        Err(error) if error.kind() == ErrorKind::AlreadyExists => return Err(CopyFault::Taken),
-        Err(error) => return Err(CopyFault::Failed(FileCause::unmade(error))),
-    };
-    match fill(rt, &mut file, &mut copy, to) {
+/// Whether both paths lead to one file.
+pub fn are_same(rt: &HostRuntime, one: &str, other: &str) -> bool {
+    match (fs::metadata(rt, one), fs::metadata(rt, other)) {
+        (Ok(one), Ok(other)) => one.dev() == other.dev() && one.ino() == other.ino(),
+        _ => false,
+    }
+}
+
+// The file at a path, to be read.
+fn open(rt: &HostRuntime, from: &str) -> Result<fs::File, CopyFault> {
+    match fs::open(rt, from) {
+        Ok(file) => Ok(file),
+        Err(error) => Err(CopyFault::Unread(FileCause::unread(error))),
+    }
+}
+
+// The part of the copy that gets a path.
+fn begin(rt: &HostRuntime, to: &str) -> Result<Part, CopyFault> {
+    match Part::of(rt, to) {
+        Ok(part) => Ok(part),
+        Err(error) => Err(CopyFault::Failed(FileCause::of_part(error))),
+    }
+}
+
+// Gives up the part of a copy that failed so, and gives the fault.
+fn given_up(rt: &HostRuntime, part: &Part, cause: FileCause) -> CopyFault {
+    if part.remove(rt) {
+        CopyFault::Failed(cause)
+    } else {
+        CopyFault::Left(cause)
+    }
+}
+
+// Copies a file into a new one.
+fn copy_file(rt: &HostRuntime, from: &str, to: &str) -> Result<(), CopyFault> {
+    let mut file = open(rt, from)?;
+    let mut part = begin(rt, to)?;
+    if let Err(error) = part.fill(&mut file) {
+        return Err(given_up(rt, &part, FileCause::of(error)));
+    }
+    match part.link(rt, to) {
         Ok(()) => Ok(()),
-        Err(error) => Err(removed(rt, to, FileCause::of(error))),
+        Err(error) => match given_up(rt, &part, FileCause::of_link(error)) {
+            CopyFault::Failed(FileCause::Taken) => Err(CopyFault::Taken),
+            fault => Err(fault),
+        },
     }
 }
 
-// Removes the new file at a path, which could not be written for this cause, and gives the fault.
-fn removed(rt: &HostRuntime, to: &str, cause: FileCause) -> CopyFault {
-    match fs::remove_file(rt, to) {
-        Err(error) if error.kind() != ErrorKind::NotFound => CopyFault::Left(cause),
-        _ => CopyFault::Failed(cause),
+// Copies a file into the place of another.
+fn replace_file(rt: &HostRuntime, from: &str, to: &str) -> Result<(), CopyFault> {
+    let mut file = open(rt, from)?;
+    let to = match fs::canonicalize(rt, to) {
+        Ok(to) => to,
+        Err(error) => return Err(CopyFault::Failed(FileCause::of(error))),
+    };
+    let mut part = begin(rt, to.as_str())?;
+    match put_in_place(rt, &mut file, &mut part, to.as_str()) {
+        Ok(()) => Ok(()),
+        Err(error) => Err(given_up(rt, &part, FileCause::of(error))),
     }
 }
 
-// Writes the bytes of a file into the new one at a path, and syncs that and its directory.
-fn fill(rt: &HostRuntime, file: &mut fs::File, copy: &mut fs::File, to: &str) -> io::Result<()> {
-    io::copy(file, copy)?;
-    copy.sync_all()?;
-    let mut directory = fs::canonicalize(rt, to)?;
-    directory.pop();
-    fs::open(rt, directory.as_str())?.sync_all()
+// Fills the part with a file, and puts it into the place of another, whose log is taken away before.
+fn put_in_place(
+    rt: &HostRuntime,
+    file: &mut fs::File,
+    part: &mut Part,
+    to: &str,
+) -> io::Result<()> {
+    part.take_access(&fs::metadata(rt, to)?)?;
+    part.fill(file)?;
+    take_log_away(rt, to)?;
+    part.replace(rt, to)
 }

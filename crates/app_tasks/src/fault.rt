@@ -1,7 +1,7 @@
 //! Why a command ends, and how that is said.
 ghost use Rattle.std.specs.Prelude.{◌≡◌};
-ghost use Rattle.app_tasks.specs.declared.fault.Fault.TheVariants.{Desk, Serve};
-ghost use Rattle.app_tasks.specs.Faults.{IsOfOpening, report_fault};
+ghost use Rattle.app_tasks.specs.declared.fault.Fault.TheVariants.{Desk, Place, Serve};
+ghost use Rattle.app_tasks.specs.Faults.{IsOfOpening, open_fault, report_fault};
 
 use crate::copies::CopyFault;
 use crate::sockets::SocketCause;
@@ -19,6 +19,9 @@ pub enum Fault {
     /// A fault of the desk, 20 to 27.
     #[error(transparent)]
     Desk(DeskFault),
+    /// A fault of the desk, 20 to 27, whose place a copy was to take.
+    #[error(transparent)]
+    Place(DeskFault),
     /// The file is not copied.
     #[error(transparent)]
     Copy(CopyFault),
@@ -62,11 +65,27 @@ impl From<OpenFault> for Fault {
     ghost from_gives = { IsOfOpening };
 
     fn from(fault: OpenFault) -> Fault {
-        Fault::Desk(match fault {
-            OpenFault::Storage(fault) => DeskFault::from(fault),
-            OpenFault::NotADesk => DeskFault::NotADesk,
-            OpenFault::NewerFormat => DeskFault::NewerFormat,
-        })
+        Fault::Desk(desk_fault(fault))
+    }
+}
+
+impl Fault {
+    /// That of a desk whose place a copy was to take, and which was not opened or not closed.
+    pub fn of_place(fault: OpenFault) -> Fault
+        ensures { result ≡ Place (open_fault fault) }
+    {
+        Fault::Place(desk_fault(fault))
+    }
+}
+
+// The fault of a desk that was not opened, made or closed.
+fn desk_fault(fault: OpenFault) -> DeskFault
+    ensures { result ≡ open_fault fault }
+{
+    match fault {
+        OpenFault::Storage(fault) => DeskFault::from(fault),
+        OpenFault::NotADesk => DeskFault::NotADesk,
+        OpenFault::NewerFormat => DeskFault::NewerFormat,
     }
 }
 

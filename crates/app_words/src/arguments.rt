@@ -6,6 +6,9 @@ pub(crate) const FILE: &str = "FILE";
 /// The new file that a backup is copied into.
 pub(crate) const TO: &str = "TO";
 
+/// The copy of a desk that is restored.
+pub(crate) const COPY: &str = "COPY";
+
 /// How long to try again while another program has the file.
 pub(crate) const WAIT: &str = "wait";
 

@@ -73,6 +73,13 @@ pub enum Command<'a> {
         /// The path of the new file.
         to: &'a str,
     },
+    /// To check the desk in a copy, and to put that into the place of a file.
+    Restore {
+        /// The path of the copy.
+        copy: &'a str,
+        /// The path of the file whose place it takes.
+        file: &'a str,
+    },
     /// To revoke an authorization or an account.
     Revoke {
         /// The path of the file that holds the desk.
@@ -95,7 +102,8 @@ pub enum Command<'a> {
 }
 
 impl<'a> Command<'a> {
-    /// The path of the file that holds the desk, or that will; `None` for a desk in memory, or one that is asked where it is served.
+    /// The path of the file that holds the desk, or that will, of a restoring the copy; `None` for a desk in memory, or one that is
+    /// asked where it is served.
     pub fn file(self) -> Option<&'a str> {
         match self {
             Command::Make { file, .. } => Some(file),
@@ -107,10 +115,19 @@ impl<'a> Command<'a> {
             Command::Authorizations { file, .. } => Some(file),
             Command::Check { file, .. } => Some(file),
             Command::BackUp { file, .. } => Some(file),
+            Command::Restore { copy, .. } => Some(copy),
             Command::Revoke { file, .. } => Some(file),
             Command::RevokeServed { .. } => None,
             Command::Batch { file: Some(file) } => Some(file.path),
             Command::Batch { file: None } => None,
+        }
+    }
+
+    /// The path of the file that a wait is for: the one that may be served, of a restoring the one whose place is taken.
+    pub fn waited_file(self) -> Option<&'a str> {
+        match self {
+            Command::Restore { file, .. } => Some(file),
+            command => command.file(),
         }
     }
 }

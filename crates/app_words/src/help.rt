@@ -20,7 +20,7 @@ Exit statuses:
   0  done
   1  a fault or a refusal, with a line on standard error that begins with desk:
   2  wrong words, or a limit that is broken
-  3  a stored status is wrong: check found it, or backup, which then copies nothing"
+  3  a stored status is wrong: check found it, or backup or restore, which then copies nothing"
         )
     };
 }
@@ -142,10 +142,23 @@ pub(crate) const BACKUP: &str = after!(
     "Copies:
   The copy is the desk as it stands, in one file, which is its user's alone, and it is on the disk
   once copied is printed. A file that stands at TO is left as it is. A desk with a wrong stored status
-  is listed, as check does, and not copied. To restore a copy, stop the desk, put the copy in the
-  place of the file, and remove the old FILE-wal. A copy by hand takes a desk that no program has:
-  while one does, some of the desk is in FILE-wal alone.",
+  is listed, as check does, and not copied. While it is made the copy is TO-part, and a stop leaves
+  nothing else: the next backup to TO removes it. Its file system has to have hard links. A copy by
+  hand takes a desk that no program has: while one does, some of the desk is in FILE-wal alone.",
     Example: "desk backup /var/lib/desk/desk.db /var/backups/desk.db"
+);
+
+/// Below the arguments of `restore`.
+pub(crate) const RESTORE: &str = after!(
+    "Restoring:
+  Stop the desk first: a FILE that another program has is left as it is. The copy is checked as check
+  does; one with a wrong stored status is listed, and not restored. The old desk is gone then: back it
+  up first, if it is any good. Whenever the program is stopped, FILE has the old desk or the whole
+  copy; what may be left beside it, FILE-part, the next restore removes. The file that takes its place
+  has the owner and the mode of FILE; where there is none, the owner of its directory and mode 600. A
+  FILE that holds something else than a desk, or a newer one, stays: move it away first, and its
+  FILE-wal.",
+    Example: "desk restore /var/backups/desk.db /var/lib/desk/desk.db"
 );
 
 /// Below the options of `status`.

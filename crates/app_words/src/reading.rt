@@ -97,6 +97,7 @@ fn with_file<'a>(
         Subcommand::Authorizations => Some(authorizations(file, given)),
         Subcommand::Check => Some(Command::Check { file, json }),
         Subcommand::BackUp => back_up(file, given),
+        Subcommand::Restore => restore(file, given),
         Subcommand::RevokeAuthorization => {
             let authorization = Revocation::Authorization(revoked(file, given)?);
             Some(revoke(file, given, authorization))
@@ -135,6 +136,11 @@ fn authorizations<'a>(file: &'a str, given: &ArgMatches<'a>) -> Command<'a> {
 fn back_up<'a>(file: &'a str, given: &ArgMatches<'a>) -> Option<Command<'a>> {
     let to = given.get_str(arguments::TO)?;
     Some(Command::BackUp { file, to })
+}
+
+fn restore<'a>(file: &'a str, given: &ArgMatches<'a>) -> Option<Command<'a>> {
+    let copy = given.get_str(arguments::COPY)?;
+    Some(Command::Restore { copy, file })
 }
 
 fn serve<'a>(path: &'a str, given: &ArgMatches<'a>, is_verbose: bool) -> Option<Command<'a>> {

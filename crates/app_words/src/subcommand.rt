@@ -24,6 +24,8 @@ pub(crate) enum Subcommand {
     Check,
     /// Checks a desk and copies it.
     BackUp,
+    /// Checks a copy of a desk and puts it into the place of one.
+    Restore,
     /// Revokes an authorization.
     RevokeAuthorization,
     /// Revokes an account.

@@ -310,6 +310,20 @@ const BACKUP: &[Argument] = on_desk! {
     },
 };
 
+const RESTORE: &[Argument] = &[
+    Argument::Positional {
+        id: arguments::COPY,
+        value: Value::Text,
+        help: "the copy, as backup makes one",
+    },
+    Argument::Positional {
+        id: arguments::FILE,
+        value: Value::Text,
+        help: "the file that holds the desk whose place the copy takes, or that will hold it",
+    },
+    DESK_WAIT,
+];
+
 const REVOKE: &[Argument] = &[
     Argument::Positional {
         id: arguments::FILE,
@@ -363,6 +377,7 @@ const OPERATOR_WORDS: &[Word] = &[
     },
     word! { Check, "check", "Lists the stored statuses that are wrong, and then ends with status 3", CHECK, CHECK },
     word! { BackUp, "backup", "Checks a desk, and copies it into a new file", BACKUP, BACKUP },
+    word! { Restore, "restore", "Checks a copy, and puts it into the place of a desk", RESTORE, RESTORE },
     word! { RevokeAuthorization, "revoke-authz", "Revokes an authorization", REVOKE_AUTHZ, REVOKE, Some(help::REVOKE_AUTHZ_USAGE) },
     word! { RevokeAccount, "revoke-account", "Revokes an account", REVOKE_ACCOUNT, REVOKE, Some(help::REVOKE_ACCOUNT_USAGE) },
 ];

@@ -37,6 +37,9 @@ returns-in-Check g c = as_command _ _ _ _ _ c.args.command _ _ _ c.in-Check.is c
 pub returns-in-BackUp : goal.returns-in-BackUp
 returns-in-BackUp g c = as_command _ _ _ _ _ c.args.command _ _ _ c.in-BackUp.is c.back_up.ensures
 
+pub returns-in-Restore : goal.returns-in-Restore
+returns-in-Restore g c = as_command _ _ _ _ _ c.args.command _ _ _ c.in-Restore.is c.restore.ensures
+
 pub returns-in-Revoke : goal.returns-in-Revoke
 returns-in-Revoke g c = as_command _ _ _ _ _ c.args.command _ _ _ c.in-Revoke.is c.revoke_over.ensures
 

@@ -1,0 +1,15 @@
+use Rattle.std.proofs.Common.{inl, inr, refl}
+use Rattle.app_commands.proofs.restoring.restore.Goals as goal
+
+pub returns-in-Err : goal.returns-in-Err
+returns-in-Err g c = inl (c.in-Err.fault, c.in-Err.ensures, refl, (refl, refl))
+
+pub returns : goal.returns
+returns g c =
+    inr (record {
+      checked = c.run_over_file-checked.result.0;
+      written = _;
+      ends = c.run_over_file-checked.ensures;
+      told = c.copied-how.ensures.told;
+      silent = c.copied-how.ensures.silent;
+    })
