@@ -8,6 +8,7 @@
    STOP_FILE   the path of a desk. The process ends before, or half way through (STOP_HALF is 1), write number STOP_AT (0: none) to it or its log; or,
                with STOP_FAILED, that call fails, a read, a write or a sync, the process goes on, and the file of this path is made. With STOP_SERVING
                calls are counted from the first connection on.
+   STEP_AT     the process is killed before the call of this number that changes a file, its name, its owner or its mode, or syncs it.
    UNLINK      no name of a file can be removed.
    GROWTHS     a file, shared: the first growth of memory to refuse since a connection was accepted (0: none), the last one, how many there were, and how
                many were refused. GROWTHS_FROM says that they are counted from elsewhere: `start` from the program's start, `input` from its first read of
@@ -17,12 +18,14 @@
 #include <errno.h>
 #include <fcntl.h>
 #include <limits.h>
+#include <signal.h>
 #include <stdint.h>
 #include <stdio.h>
 #include <stdlib.h>
 #include <string.h>
 #include <sys/mman.h>
 #include <sys/socket.h>
+#include <sys/stat.h>
 #include <sys/syscall.h>
 #include <sys/types.h>
 #include <sys/uio.h>
@@ -75,11 +78,46 @@ ssize_t getrandom(void *bytes, size_t count, unsigned flags) {
 
 int getentropy(void *bytes, size_t count) { return getrandom(bytes, count, 0) < 0 ? -1 : 0; }
 
-/* ---- Names of files. */
+/* ---- Steps. */
+
+/* Kills the process where this step is the last. */
+static void step(void) {
+    static long seen;
+    const char *at = getenv("STEP_AT");
+    if (at && ++seen == atol(at))
+        kill(getpid(), SIGKILL);
+}
+
+/* ---- Names, owners and modes of files. */
 
 int unlink(const char *path) {
     REAL(unlink);
+    step();
     return getenv("UNLINK") ? fails(EROFS) : real(path);
+}
+
+int link(const char *path, const char *to) {
+    REAL(link);
+    step();
+    return real(path, to);
+}
+
+int rename(const char *path, const char *to) {
+    REAL(rename);
+    step();
+    return real(path, to);
+}
+
+int fchown(int fd, uid_t user, gid_t group) {
+    REAL(fchown);
+    step();
+    return real(fd, user, group);
+}
+
+int fchmod(int fd, mode_t mode) {
+    REAL(fchmod);
+    step();
+    return real(fd, mode);
 }
 
 /* ---- Growths of memory. */
@@ -254,6 +292,7 @@ static ssize_t written_last(size_t count) {
 
 ssize_t write(int fd, const void *bytes, size_t count) {
     REAL(write);
+    step();
     STOP(fd, count, real(fd, bytes, (size_t)left));
     return real(fd, bytes, count);
 }
@@ -262,30 +301,35 @@ ssize_t __write(int fd, const void *bytes, size_t count) { return write(fd, byte
 
 ssize_t pwrite(int fd, const void *bytes, size_t count, off_t at) {
     REAL(pwrite);
+    step();
     STOP(fd, count, real(fd, bytes, (size_t)left, at));
     return real(fd, bytes, count, at);
 }
 
 ssize_t pwrite64(int fd, const void *bytes, size_t count, off64_t at) {
     REAL(pwrite64);
+    step();
     STOP(fd, count, real(fd, bytes, (size_t)left, at));
     return real(fd, bytes, count, at);
 }
 
 ssize_t writev(int fd, const struct iovec *parts, int count) {
     REAL(writev);
+    step();
     STOP(fd, (size_t)count, real(fd, parts, (int)left));
     return real(fd, parts, count);
 }
 
 int ftruncate(int fd, off_t length) {
     REAL(ftruncate);
+    step();
     STOP(fd, 0, );
     return real(fd, length);
 }
 
 int ftruncate64(int fd, off64_t length) {
     REAL(ftruncate64);
+    step();
     STOP(fd, 0, );
     return real(fd, length);
 }
@@ -325,6 +369,7 @@ static void note_sync(void) {
 
 int fsync(int fd) {
     REAL(fsync);
+    step();
     STOP(fd, 0, );
     note_sync();
     return real(fd);
@@ -332,6 +377,7 @@ int fsync(int fd) {
 
 int fdatasync(int fd) {
     REAL(fdatasync);
+    step();
     STOP(fd, 0, );
     note_sync();
     return real(fd);

@@ -250,7 +250,8 @@ def kept(program, folder):
             os.remove(f"{room}/{name}")
     see("what is said of what stays", ends, {DISK + REMOVE, DISK + EMPTY})
     said = run(program, "backup", path, f"{room}/copy.db", "--verbose", preexec_fn=lambda: small_files(9000), env=env)
-    see("a copy that stays in part", said, (1, b"no fault\n", b"desk: copy\n" + because(f"{room}/copy.db", f"{DISK}; a part of it is left: remove it")))
+    stays = because(f"{room}/copy.db", f"{DISK}; a part of it is left: remove it, the file -part beside it")
+    see("a copy that stays in part", said, (1, b"no fault\n", b"desk: copy\n" + stays))
 
 
 def stood_there(program, folder):

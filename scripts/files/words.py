@@ -3,7 +3,7 @@
 `about`, `page`, `status`, `accounts`, `authorizations`, `check`, `revoke-authz` and `revoke-account` print what docs/SPECIFICATION.md
 says, section 14, and end with the status that it gives; the reports change nothing, also where they are stopped after a line. Help
 names the options of each word, their limits, and the exit statuses. What files and faults say, and copies of a desk, are in backups.py;
-whom the second line is for, in second_lines.py.
+copies that take the place of a desk, in restores.py; whom the second line is for, in second_lines.py.
 """
 import fcntl
 import html
@@ -13,7 +13,7 @@ import re
 import subprocess
 import time
 
-from scripts.files import backups, second_lines
+from scripts.files import backups, restores, second_lines
 from scripts.files.stops import Desk
 from scripts.model.texts import canonical, spelled, thumbprint
 from scripts.repository import read
@@ -46,7 +46,8 @@ HELP = {
     "accounts": ("FILE", "--json", *WAIT),
     "authorizations": ("FILE", "--account", "1 to 2^62", "--name", "--json", *WAIT),
     "check": ("FILE", "--json", "status 3", *WAIT),
-    "backup": ("FILE", "TO", "not copied", "remove the old FILE-wal", *WAIT),
+    "backup": ("FILE", "TO", "not copied", "TO-part", *WAIT),
+    "restore": ("COPY", "FILE", "Stop the desk first", "FILE-part", "the owner and the mode", *WAIT),
     "revoke-authz": ("FILE", "N", "1 to 2^62", "--port", "--socket", "desk: connection", *WAIT),
     "revoke-account": ("FILE", "N", "1 to 2^62", "--port", "--socket", "desk: connection", *WAIT),
 }
@@ -569,7 +570,7 @@ def main(program):
     with workspace("words") as folder:
         for tries in (reports, wrong_statuses, interleaved, narrowed, named, accounts, about, page, long_page, log_left, clock_ahead,
                       wrong_statuses_as_json, stopped_reports, readers_gone, revocations, shared_revocation, wrong_words,
-                      numbers_of_other_forms, helps, *backups.TRIES, *second_lines.TRIES):
+                      numbers_of_other_forms, helps, *backups.TRIES, *restores.TRIES, *second_lines.TRIES):
             tries(program, folder)
     return finish("Words")
 
