@@ -46,7 +46,15 @@ pub(crate) fn explain<D: Disk, E: Write>(
             );
         }
         (Err(Fault::Serve(fault)), Command::Serve { file, serving }) => {
-            explain_serving(rt, errors, fault, command, file.path, serving.listening, left)
+            explain_serving(
+                rt,
+                errors,
+                fault,
+                command,
+                file.path,
+                serving.listening,
+                left,
+            )
         }
         (Err(Fault::Socket(cause)), Command::Serve { serving, .. }) => {
             explain_socket(errors, cause, serving.listening)

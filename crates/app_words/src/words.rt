@@ -314,11 +314,13 @@ const RESTORE: &[Argument] = &[
     Argument::Positional {
         id: arguments::COPY,
         value: Value::Text,
+        need: Need::Always,
         help: "the copy, as backup makes one",
     },
     Argument::Positional {
         id: arguments::FILE,
         value: Value::Text,
+        need: Need::Always,
         help: "the file that holds the desk whose place the copy takes, or that will hold it",
     },
     DESK_WAIT,
