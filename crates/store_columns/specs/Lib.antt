@@ -4,6 +4,5 @@ pub mod Laws
 pub mod Limits
 pub mod MetaParts
 pub mod Reading
-pub mod RowHeads
 pub mod Spelling
 pub mod TextColumns

@@ -1,60 +1,34 @@
 //! Rows of the table `account`.
 ghost use Rattle.std.specs.Prelude.{◌≡◌, [], ◌∷◌, IfOk, Some};
-ghost use Rattle.store_columns.specs.{Columns.account_columns, Limits.IsStoredAccount, RowHeads.IsAccountHeadRead, Spelling.contacts_text};
-ghost use Rattle.store_columns.specs.{declared.columns.AccountColumns.AccountColumns as ColumnsOf};
+ghost use Rattle.store_columns.specs.{Columns.account_columns, Limits.IsStoredAccount, Spelling.contacts_text};
 ghost use Rattle.store_columns.specs.Reading.{IsRead, Unlimited};
 ghost use Rattle.serde_json.specs.{Read.read, View.view};
 
 use crate::columns::AccountColumns;
 use crate::facts::{Columns, is_compact, read_account_end, read_moment, read_number};
-use desk_model::{AccountEnd, AccountRow, AccountStatus, Jwk, Sequence, Text, is_same_text};
+use desk_model::{AccountRow, AccountStatus, Jwk, Sequence, Text, is_same_text};
 use json_texts::{lone_text, texts_in, value_of};
 use serde_json::Value;
 use std::alloc::{AllocError, Global};
 
-// What owns nothing.
-#[derive(Clone, Copy)]
-struct AccountHead {
-    number: u64,
-    opened: u64,
-    ended: Option<AccountEnd>,
-    status: AccountStatus,
-}
-
-// The account of this head, with the key of this text and the contacts that were read, or `None` where one of them is none.
-fn account_with(
-    head: Option<AccountHead>,
-    jwk: Text,
-    contacts: Option<Sequence<Text>>,
-) -> Option<AccountRow>
-    ensures { (columns : ColumnsOf) → IsAccountHeadRead columns head → columns.jwk ≡ jwk
-        → IsRead contacts_text Unlimited columns.contacts contacts → IsRead account_columns IsStoredAccount columns result }
+// The account with these columns, of which these contacts were read, or `None` where none in its limits has them.
+fn read_account(columns: AccountColumns, contacts: Option<Sequence<Text>>) -> Option<AccountRow>
+    requires { IsRead contacts_text Unlimited columns.contacts contacts }
+    ensures { IsRead account_columns IsStoredAccount columns result }
 {
-    let (Some(head), Some(contacts)) = (head, contacts) else {
-        return None;
-    };
-    match Jwk::from_canonical(jwk.into_string()) {
-        Some(key) => Some(AccountRow {
-            number: head.number,
-            key,
-            contacts,
-            opened: head.opened,
-            ended: head.ended,
-            status: head.status,
-        }),
-        None => None,
-    }
-}
-
-// The parts of an account that own nothing, or `None` where no account has these columns.
-fn read_head(columns: &AccountColumns) -> Option<AccountHead>
-    ensures { IsAccountHeadRead columns.now result }
-{
-    Some(AccountHead {
-        number: read_number(columns.num)?,
-        opened: read_moment(columns.opened)?,
-        ended: read_account_end(columns.ended, &columns.end_kind)?,
-        status: AccountStatus::from_text(columns.status.as_str())?,
+    let number = read_number(columns.num)?;
+    let opened = read_moment(columns.opened)?;
+    let ended = read_account_end(columns.ended, &columns.end_kind)?;
+    let status = AccountStatus::from_text(columns.status.as_str())?;
+    let contacts = contacts?;
+    let key = Jwk::from_canonical(columns.jwk.into_string())?;
+    Some(AccountRow {
+        number,
+        key,
+        contacts,
+        opened,
+        ended,
+        status,
     })
 }
 
@@ -66,9 +40,8 @@ impl Columns for AccountColumns {
     ghost IsStored = { IsStoredAccount };
 
     fn read(self, alloc: Global) -> Result<Option<AccountRow>, AllocError> {
-        let head = read_head(&self);
         let contacts = read_contacts(alloc, self.contacts.as_str())?;
-        Ok(account_with(head, self.jwk, contacts))
+        Ok(read_account(self, contacts))
     }
 }
 

@@ -1,8 +1,7 @@
 //! Rows of the table `authz`, and of `chall`, which has their challenges.
-ghost use Rattle.std.specs.Prelude.{◌≡◌};
 ghost use Rattle.store_columns.specs.Columns.{authorization_columns, challenge_columns, key_columns};
 ghost use Rattle.store_columns.specs.Limits.{IsStoredAuthorization, IsStoredChallenge, IsStoredKey};
-ghost use Rattle.store_columns.specs.{Reading.IsRead, RowHeads.IsAuthorizationHeadRead, declared.columns.AuthzColumns.AuthzColumns as ColumnsOf};
+ghost use Rattle.store_columns.specs.{Reading.IsRead};
 
 use crate::columns::{
     AnswerKey, AuthzColumns, BareChallenge, ChallColumns, ChallKeyColumns, Owned,
@@ -12,59 +11,33 @@ use crate::facts::{
     read_report, read_sixteen, read_thirty_two, read_wildcard,
 };
 use desk_model::{
-    AuthorizationEnd, AuthorizationRow, AuthzStatus, ChallengeStatus, DnsName, Kind, Sequence, Text,
+    AuthorizationRow, AuthzStatus, ChallengeStatus, DnsName, Kind, Sequence,
 };
 use std::alloc::{AllocError, Global};
 
 // ---- authorizations
 
-// What owns nothing.
-#[derive(Clone, Copy)]
-struct AuthorizationHead {
-    number: u64,
-    account: u64,
-    wildcard: bool,
-    made: u64,
-    expires: u64,
-    ended: Option<AuthorizationEnd>,
-    status: AuthzStatus,
-}
-
-// The authorization of this head and name, with no challenges, or `None` where one of them is none.
-fn authorization_with(
-    alloc: Global,
-    head: Option<AuthorizationHead>,
-    name: Text,
-) -> Option<AuthorizationRow>
-    ensures { (columns : ColumnsOf) → IsAuthorizationHeadRead columns head → columns.name ≡ name
-        → IsRead authorization_columns IsStoredAuthorization columns result }
+// The authorization with these columns and no challenges, or `None` where none in its limits has them.
+fn read_authorization(alloc: Global, columns: AuthzColumns) -> Option<AuthorizationRow>
+    ensures { IsRead authorization_columns IsStoredAuthorization columns result }
 {
-    let head = head?;
-    let name = DnsName::new(name, head.wildcard)?;
+    let number = read_number(columns.num)?;
+    let account = read_number(columns.account)?;
+    let wildcard = read_wildcard(columns.wildcard)?;
+    let made = read_moment(columns.made)?;
+    let expires = read_expiry(columns.expires)?;
+    let ended = read_authorization_end(columns.ended, &columns.end_kind)?;
+    let status = AuthzStatus::from_text(columns.status.as_str())?;
+    let name = DnsName::new(columns.name, wildcard)?;
     Some(AuthorizationRow {
-        number: head.number,
-        account: head.account,
+        number,
+        account,
         name,
-        made: head.made,
-        expires: head.expires,
-        ended: head.ended,
+        made,
+        expires,
+        ended,
         challenges: Sequence::new(Vec::new(alloc)),
-        status: head.status,
-    })
-}
-
-// The parts of an authorization that own nothing, or `None` where none has these columns.
-fn read_head(columns: &AuthzColumns) -> Option<AuthorizationHead>
-    ensures { IsAuthorizationHeadRead columns.now result }
-{
-    Some(AuthorizationHead {
-        number: read_number(columns.num)?,
-        account: read_number(columns.account)?,
-        wildcard: read_wildcard(columns.wildcard)?,
-        made: read_moment(columns.made)?,
-        expires: read_expiry(columns.expires)?,
-        ended: read_authorization_end(columns.ended, &columns.end_kind)?,
-        status: AuthzStatus::from_text(columns.status.as_str())?,
+        status,
     })
 }
 
@@ -76,8 +49,7 @@ impl Columns for AuthzColumns {
     ghost IsStored = { IsStoredAuthorization };
 
     fn read(self, alloc: Global) -> Result<Option<AuthorizationRow>, AllocError> {
-        let head = read_head(&self);
-        Ok(authorization_with(alloc, head, self.name))
+        Ok(read_authorization(alloc, self))
     }
 }
 
