@@ -1,5 +1,6 @@
 -- Challenges, each with the key of its answer.
 use Rattle.std.specs.Prelude.{ℕ, List, [], ◌∷◌, Option, None, Some}
+use Rattle.store_columns.specs.Flat.{with_answer}
 use Rattle.store_columns.specs.declared.columns.{AnswerKey.AnswerKey, BareChallenge.BareChallenge, Owned.Owned}
 use Rattle.desk_model.specs.declared.{objects.Answer.Answer, rows.ChallengeRow.ChallengeRow}
 
@@ -9,15 +10,8 @@ split_by None ks = (None, ks)
 split_by (Some date) [] = (None, [])
 split_by (Some date) (k ∷ ks) = (Some (record { date = date; thumb = k.thumb }), ks)
 
--- the challenge with this answer
-abbrev pub with_answer : Owned BareChallenge → Option Answer → Owned ChallengeRow
-with_answer c answer =
-    record {
-      owner = c.owner;
-      row = record { number = c.row.number; kind = c.row.kind; token = c.row.token; answered = answer; reported = c.row.reported; status = c.row.status };
-    }
-
 -- the challenges, each that was answered with the next of the keys
 abbrev pub joined : List (Owned BareChallenge) → List AnswerKey → List (Owned ChallengeRow)
 joined [] ks = []
-joined (c ∷ cs) ks = with_answer c (split_by c.row.answered ks).0 ∷ joined cs (split_by c.row.answered ks).1
+joined (c ∷ cs) ks =
+    (record { owner = c.owner; row = with_answer c.row (split_by c.row.answered ks).0 }) ∷ joined cs (split_by c.row.answered ks).1

@@ -1,6 +1,6 @@
 //! Challenges, each with the key of its answer.
 ghost use Rattle.std.specs.Prelude.{◌≡◌, IfOk};
-ghost use Rattle.store_book.specs.Joining.{joined, split_by, with_answer};
+ghost use Rattle.store_book.specs.Joining.{joined, split_by};
 
 use desk_model::{Answer, ChallengeRow};
 use std::alloc::{AllocError, Global};
@@ -20,24 +20,6 @@ fn split(answered: Option<u64>, keys: &[AnswerKey]) -> (Option<Answer>, &[Answer
     (Some(Answer { date, thumb }), behind)
 }
 
-// The challenge with this answer.
-fn with_answer(row: &Owned<BareChallenge>, answered: Option<Answer>) -> Owned<ChallengeRow>
-    ensures { result ≡ with_answer row.now answered }
-{
-    let token = row.row.token;
-    Owned {
-        owner: row.owner,
-        row: ChallengeRow {
-            number: row.row.number,
-            kind: row.row.kind,
-            token,
-            answered,
-            reported: row.row.reported,
-            status: row.row.status,
-        },
-    }
-}
-
 /// The challenges, each that was answered with the next of the keys.
 ///
 /// # Errors
@@ -54,7 +36,10 @@ pub(crate) fn join(
     let mut rows = Vec::new(alloc);
     for row in challenges {
         let (answered, behind) = split(row.row.answered, rest);
-        rows.push(with_answer(row, answered))?;
+        rows.push(Owned {
+            owner: row.owner,
+            row: row.row.with_answer(answered),
+        })?;
         rest = behind;
     }
     Ok(rows)

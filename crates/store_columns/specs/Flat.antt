@@ -2,7 +2,8 @@
 use Rattle.std.specs.Prelude.{ℕ, List, [], ◌∷◌, map, Option, option_map, filter_map}
 use Rattle.std.specs.{List.flat_map, List.Sorted.IsPermutation}
 use Rattle.desk_model.specs.Tables.{Tables}
-use Rattle.desk_model.specs.declared.rows.{AuthorizationRow.AuthorizationRow, ChallengeRow.ChallengeRow, Listed.Listed, OrderRow.OrderRow}
+use Rattle.desk_model.specs.declared.{objects.Answer.Answer, rows.AuthorizationRow.AuthorizationRow, rows.ChallengeRow.ChallengeRow}
+use Rattle.desk_model.specs.declared.rows.{Listed.Listed, OrderRow.OrderRow}
 use Rattle.store_columns.specs.declared.columns.{AnswerKey.AnswerKey, BareChallenge.BareChallenge, Owned.Owned, FlatRows.FlatRows}
 
 -- rows that belong to the row of this number
@@ -29,7 +30,11 @@ challenge_rows rows = flat_map (λ a. owned_by a.number a.challenges) rows
 abbrev pub bare : ChallengeRow → BareChallenge
 bare c = record { number = c.number; kind = c.kind; token = c.token; answered = option_map (λ a. a.date) c.answered; reported = c.reported; status = c.status }
 
--- the same, under its authorization
+-- a challenge of its table, with this answer
+abbrev pub with_answer : BareChallenge → Option Answer → ChallengeRow
+with_answer c answered = record { number = c.number; kind = c.kind; token = c.token; answered = answered; reported = c.reported; status = c.status }
+
+-- the bare challenge, under its authorization
 abbrev pub bare_row : Owned ChallengeRow → Owned BareChallenge
 bare_row c = record { owner = c.owner; row = bare c.row }
 

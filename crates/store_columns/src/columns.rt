@@ -1,9 +1,11 @@
 //! The columns of the tables of a file, format 2: INTEGER is `i64`, TEXT is `Text`, BLOB is a `Sequence<u8>`, and `None` is NULL;
 //! and the rows of a desk as these tables have them.
+ghost use Rattle.std.specs.Prelude.{◌≡◌};
+ghost use Rattle.store_columns.specs.Flat.{with_answer};
 
 use desk_model::{
-    AccountRow, AuthorizationRow, ChallengeStatus, Kind, Listed, Meta, Nonce, OrderRow, Report,
-    Sequence, Text,
+    AccountRow, Answer, AuthorizationRow, ChallengeRow, ChallengeStatus, Kind, Listed, Meta, Nonce,
+    OrderRow, Report, Sequence, Text,
 };
 
 /// The format of the tables.
@@ -203,6 +205,23 @@ pub struct BareChallenge {
     pub status: ChallengeStatus,
 }
 
+impl BareChallenge {
+    /// The challenge with this answer.
+    pub fn with_answer(&self, answered: Option<Answer>) -> ChallengeRow
+        ensures { result ≡ with_answer self.now answered }
+    {
+        let token = self.token;
+        ChallengeRow {
+            number: self.number,
+            kind: self.kind,
+            token,
+            answered,
+            reported: self.reported,
+            status: self.status,
+        }
+    }
+}
+
 /// The key under which a challenge was answered.
 #[derive(Clone, Copy)]
 pub struct AnswerKey {
@@ -232,5 +251,3 @@ pub struct FlatRows {
     /// The keys of answers.
     pub keys: Sequence<AnswerKey>,
 }
-
-// ---- tables, read row by row
