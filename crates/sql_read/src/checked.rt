@@ -65,7 +65,7 @@ fn check_row<C: Selected, K: RowCheck<C>>(
     let Some(found) = columns.read(alloc)? else {
         return Ok(false);
     };
-    Ok(check.passes(found)?)
+    Ok(check.passes(&found)?)
 }
 
 // Whether each row that a query shows passes, one after the other; the first that does not ends the query. More rows than can be

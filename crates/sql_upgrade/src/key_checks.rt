@@ -81,8 +81,8 @@ impl RowCheck<AccountColumns> for ThumbCheck {
 
     ghost AreAll = { λ first rows. ⊤ };
 
-    fn passes(&mut self, row: AccountRow) -> Result<bool, AllocError> {
-        self.thumbs.put(thumb_of(&row))?;
+    fn passes(&mut self, row: &AccountRow) -> Result<bool, AllocError> {
+        self.thumbs.put(thumb_of(row))?;
         Ok(true)
     }
 
@@ -127,8 +127,8 @@ impl RowCheck<AuthzColumns> for OwnerCheck {
 
     ghost AreAll = { λ first rows. ⊤ };
 
-    fn passes(&mut self, row: AuthorizationRow) -> Result<bool, AllocError> {
-        self.accounts.put(account_of(&row))?;
+    fn passes(&mut self, row: &AuthorizationRow) -> Result<bool, AllocError> {
+        self.accounts.put(account_of(row))?;
         Ok(true)
     }
 
@@ -207,8 +207,8 @@ impl<'a> RowCheck<ChallColumns> for AnswerCheck<'a> {
 
     ghost AreAll = { λ first rows. EachOf (HasKey first.accounts.now first.thumbs.now) rows };
 
-    fn passes(&mut self, row: Owned<BareChallenge>) -> Result<bool, AllocError> {
-        let key = self.row_key(&row);
+    fn passes(&mut self, row: &Owned<BareChallenge>) -> Result<bool, AllocError> {
+        let key = self.row_key(row);
         if key.is_none() && row.row.answered.is_some() {
             return Ok(false);
         }

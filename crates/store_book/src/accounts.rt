@@ -45,12 +45,12 @@ impl RowCheck<AccountColumns> for AccountCheck {
 
     ghost AreAll = { λ first rows. AreAccounts first.counter.last rows };
 
-    fn passes(&mut self, row: AccountRow) -> Result<bool, AllocError> {
+    fn passes(&mut self, row: &AccountRow) -> Result<bool, AllocError> {
         if !self.counter.passes(row.number) {
             return Ok(false);
         }
         self.numbers.push(row.number)?;
-        self.keys.push(row.key)?;
+        self.keys.push(row.key.clone()?)?;
         Ok(true)
     }
 

@@ -5,7 +5,6 @@ ghost use Rattle.store_book.specs.{BookRows.AreBookRows, Passing.PlacedFrom};
 ghost use Rattle.store_book.specs.declared.rows_fault.RowsFault.TheVariants.{NotABook};
 
 use crate::accounts::AccountCheck;
-use crate::copied::Copied;
 use crate::keys::KeyCheck;
 use crate::listed::ListedCheck;
 use crate::meta::MetaCheck;
@@ -15,12 +14,12 @@ use crate::row_check::RowCheck;
 use crate::rows_fault::RowsFault;
 use std::alloc::Global;
 use store_columns::{
-    AccountColumns, AuthzColumns, ChallColumns, ChallKeyColumns, FlatRows, MetaColumns,
+    AccountColumns, AuthzColumns, ChallColumns, ChallKeyColumns, Columns, FlatRows, MetaColumns,
     NonceColumns, OrderAuthzColumns, OrderColumns,
 };
 
 // What is kept of the rows of a table, which pass one after the other.
-fn check_rows<C: Copied, K: RowCheck<C>>(
+fn check_rows<C: Columns, K: RowCheck<C>>(
     alloc: Global,
     rows: &[C::Row],
     check: K,
@@ -32,7 +31,7 @@ fn check_rows<C: Copied, K: RowCheck<C>>(
 {
     let mut check = check;
     for row in rows {
-        if !check.passes(C::copy_of(row)?)? {
+        if !check.passes(row)? {
             return Err(RowsFault::NotABook);
         }
     }

@@ -33,7 +33,7 @@ impl<'a> RowCheck<ChallKeyColumns> for KeyCheck<'a> {
 
     ghost AreAll = { λ first rows. AreKeys first.left.now rows };
 
-    fn passes(&mut self, row: AnswerKey) -> Result<bool, AllocError> {
+    fn passes(&mut self, row: &AnswerKey) -> Result<bool, AllocError> {
         let Some((first, behind)) = self.left.split_first() else {
             return Ok(false);
         };

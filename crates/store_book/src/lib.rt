@@ -4,7 +4,6 @@
 
 mod accounts;
 mod checking;
-mod copied;
 mod counter;
 mod joining;
 mod keys;

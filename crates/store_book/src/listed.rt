@@ -57,7 +57,7 @@ impl<'a> RowCheck<OrderAuthzColumns> for ListedCheck<'a> {
 
     ghost AreAll = { λ first rows. ArePlaced first.order first.place first.orders.now first.authorizations.now rows };
 
-    fn passes(&mut self, row: Owned<Listed>) -> Result<bool, AllocError> {
+    fn passes(&mut self, row: &Owned<Listed>) -> Result<bool, AllocError> {
         if !self.is_next(row.owner, row.row.place) {
             return Ok(false);
         }

@@ -31,7 +31,7 @@ impl RowCheck<MetaColumns> for MetaCheck {
 
     ghost AreAll = { λ first rows. IsOneRow rows };
 
-    fn passes(&mut self, row: Meta) -> Result<bool, AllocError> {
+    fn passes(&mut self, row: &Meta) -> Result<bool, AllocError> {
         if self.counters.is_some() {
             return Ok(false);
         }

@@ -35,7 +35,7 @@ impl RowCheck<NonceColumns> for NonceCheck {
 
     ghost AreAll = { λ first rows. IsTable (λ n. n.serial) first.counter.last rows };
 
-    fn passes(&mut self, row: Nonce) -> Result<bool, AllocError> {
+    fn passes(&mut self, row: &Nonce) -> Result<bool, AllocError> {
         Ok(self.counter.passes(row.serial))
     }
 

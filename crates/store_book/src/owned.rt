@@ -60,7 +60,7 @@ impl<'a> RowCheck<OrderColumns> for OwnedCheck<'a> {
 
     ghost AreAll = { λ first rows. Rise first.owners.now × AreOrders first.counter.last first.owners.now rows };
 
-    fn passes(&mut self, row: OrderRow) -> Result<bool, AllocError> {
+    fn passes(&mut self, row: &OrderRow) -> Result<bool, AllocError> {
         self.takes(row.number, row.account)
     }
 
@@ -79,7 +79,7 @@ impl<'a> RowCheck<AuthzColumns> for OwnedCheck<'a> {
 
     ghost AreAll = { λ first rows. Rise first.owners.now × AreAuthorizations first.counter.last first.owners.now rows };
 
-    fn passes(&mut self, row: AuthorizationRow) -> Result<bool, AllocError> {
+    fn passes(&mut self, row: &AuthorizationRow) -> Result<bool, AllocError> {
         self.takes(row.number, row.account)
     }
 
@@ -132,11 +132,11 @@ impl<'a> RowCheck<ChallColumns> for ChallengeCheck<'a> {
 
     ghost AreAll = { λ first rows. Rise first.authorizations.now × AreChallenges first.counter.last first.authorizations.now rows };
 
-    fn passes(&mut self, row: Owned<BareChallenge>) -> Result<bool, AllocError> {
+    fn passes(&mut self, row: &Owned<BareChallenge>) -> Result<bool, AllocError> {
         if !self.counter.passes(row.row.number) || !self.authorizations.has(row.owner) {
             return Ok(false);
         }
-        push_answered(&mut self.answered, &row)?;
+        push_answered(&mut self.answered, row)?;
         Ok(true)
     }
 

@@ -24,11 +24,11 @@ pub trait RowCheck<C: Columns>: Drop {
     /// # Errors
     ///
     /// Where there is no memory for what is kept of it.
-    fn passes(&mut self, row: C::Row) -> Result<bool, AllocError>
+    fn passes(&mut self, row: &C::Row) -> Result<bool, AllocError>
         ensures passed { IfOk result (λ passes. IsTrue passes → (first : Self) (rows : List C.Row) → Passed first self.old rows
-            → Passed first self.new (rows ++ row ∷ [])) }
+            → Passed first self.new (rows ++ row.now ∷ [])) }
         ensures fine { IfOk result (λ passes. (first : Self) (rows rest : List C.Row) → Passed first self.old rows
-            → AreAll first (rows ++ row ∷ rest) → IsTrue passes) };
+            → AreAll first (rows ++ row.now ∷ rest) → IsTrue passes) };
 
     /// What is kept of the rows that passed, behind the last one, if they are a whole table, as all rows of a book are.
     ///

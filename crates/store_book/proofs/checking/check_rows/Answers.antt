@@ -6,7 +6,7 @@ pub returns-then-not-branch : goal.returns-then-not-branch
 returns-then-not-branch g c _ all =
     let rows = c.args.rows.now in
     let index = c.loop-row.row-index in
-    let whole = row-among rows index _ c.in_ok-copy_of.field-0 c.loop-row-test.true (c.in_ok-copy_of.ensures ∙ c.row-item.is) in
+    let whole = row-among rows index _ _ c.loop-row-test.true c.row-item.is in
     let passes = c.in_ok-passes.ensures.fine c.args.check (take index rows) (drop (index + 1) rows) c.loop-row.invariant
     (subst (g.K.RowCheck.AreAll c.args.check) (sym whole) all) in
     absurd (let x = sym c.if-not-branch.true ∙ passes in cc)

@@ -6,5 +6,5 @@ use Rattle.sql_upgrade.proofs.key_checks.OwnerCheckRowCheckAuthzColumns.passes.G
 
 pub returns-clause-passed : goal.returns-clause-passed
 returns-clause-passed c _ first rows so_far =
-    put_more (λ a. a.number) account_of rows c.args.row c.args.self.now.accounts c.put.new.self
+    put_more (λ a. a.number) account_of rows c.args.row.now c.args.self.now.accounts c.put.new.self
     (c.in_ok-put.ensures.done ∙ ap (λ a. put (λ r. r.number) a c.args.self.now.accounts) c.account_of.ensures) so_far

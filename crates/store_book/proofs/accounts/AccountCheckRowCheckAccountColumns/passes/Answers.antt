@@ -4,12 +4,12 @@ use Rattle.store_book.proofs.accounts.AccountCheckRowCheckAccountColumns.passes.
 
 pub returns-clause-passed : goal.returns-clause-passed
 returns-clause-passed c _ first rows so_far = (
-  up_to_more (λ a. a.number) first.counter c.args.self.now.counter c.passes.new.self rows c.args.row (c.passes.ensures.counts c.if-not-passes.false) so_far.0,
-  kept_more (λ a. a.number) rows c.args.row c.args.self.now.numbers c.push.new.self c.in_ok-push.ensures so_far.1,
-  kept_more (λ a. a.key) rows c.args.row c.args.self.now.keys.items _ c.in_ok-push-2.ensures.items so_far.2,
+  up_to_more (λ a. a.number) first.counter c.args.self.now.counter c.passes.new.self rows c.args.row.now (c.passes.ensures.counts c.if-not-passes.false) so_far.0,
+  kept_more (λ a. a.number) rows c.args.row.now c.args.self.now.numbers c.push.new.self c.in_ok-push.ensures so_far.1,
+  kept_more (λ a. a.key) rows c.args.row.now c.args.self.now.keys.items _ c.in_ok-push-2.ensures.items so_far.2,
 )
 
 pub returns-then-not-passes-clause-fine : goal.returns-then-not-passes-clause-fine
 returns-then-not-passes-clause-fine c first rows rest so_far are =
-    let on = counts_on (λ a. a.number) first.counter c.args.self.now.counter rows c.args.row rest so_far.0 are.table in
+    let on = counts_on (λ a. a.number) first.counter c.args.self.now.counter rows c.args.row.now rest so_far.0 are.table in
     absurd (let x = sym c.if-not-passes.true ∙ c.passes.ensures.fine on.0 on.1 in cc)
