@@ -26,6 +26,10 @@ use Rattle.sql_tables.proofs.Casts.{cast_int, cast_int_or_null, cast_null, cast_
 use Rattle.sql_tables.proofs.{Clashes.clash_by_key, InsertStatement.IsInsert, UpdateStatement.IsUpdate}
 use Rattle.sql_tables.proofs.UpsertStatement.{IsUpsert, sets_key, upsert_as}
 
+-- a column keeps its value, and so do those behind it
+and : {A B : Type 0} → A → B → A × B
+and a b = (a, b)
+
 -- ---- `meta`, in any format
 
 -- the text that puts a row
@@ -33,40 +37,9 @@ pub meta_upsert : IsUpsert formatted_layout (λ row. meta_params (formatted_colu
 unfolding understood everything
 meta_upsert =
     upsert_as formatted_layout _ _ 0 11 refl (refl, refl) refl refl (λ _. refl) (λ _. refl)
-    (λ _. row_kept meta_table _ _ (
-      cast_null,
-      (
-        cast_int _,
-        (
-          refl,
-          (
-            cast_int _,
-            (
-              cast_int _,
-              (
-                cast_int _,
-                (
-                  cast_int _,
-                  (
-                    cast_int _,
-                    (
-                      cast_int _,
-                      (
-                        cast_int _,
-                        (
-                          cast_int _,
-                          (cast_int _, tt),
-                        ),
-                      ),
-                    ),
-                  ),
-                ),
-              ),
-            ),
-          ),
-        ),
-      ),
-    ))
+    (λ _. row_kept meta_table _ _
+    (and cast_null (and (cast_int _) (and refl (and (cast_int _) (and (cast_int _) (and (cast_int _) (and (cast_int _) (and (cast_int _) (and (cast_int _) (and
+    (cast_int _) (and (cast_int _) (and (cast_int _) tt)))))))))))))
     (clash_by_key formatted_layout (λ _. refl)) (λ _. refl) (sets_key formatted_layout) (λ _. refl)
 
 -- that renews one, in the columns that calls move
@@ -144,34 +117,9 @@ pub order_upsert : IsUpsert order_layout (λ row. order_params (order_columns ro
 unfolding understood everything
 order_upsert =
     upsert_as order_layout _ _ 3 10 refl (refl, refl) refl refl (λ _. refl) (λ _. refl)
-    (λ _. row_kept ord_table _ _ (
-      cast_null,
-      (
-        cast_int _,
-        (
-          cast_int _,
-          (
-            cast_int _,
-            (
-              cast_int_or_null _,
-              (
-                refl,
-                (
-                  cast_int_or_null _,
-                  (
-                    refl,
-                    (
-                      cast_int_or_null _,
-                      (cast_text_or_null _, (refl, tt)),
-                    ),
-                  ),
-                ),
-              ),
-            ),
-          ),
-        ),
-      ),
-    ))
+    (λ _. row_kept ord_table _ _
+    (and cast_null (and (cast_int _) (and (cast_int _) (and (cast_int _) (and (cast_int_or_null _) (and refl (and (cast_int_or_null _) (and refl (and
+    (cast_int_or_null _) (and (cast_text_or_null _) (and refl tt))))))))))))
     (clash_by_key order_layout (λ _. refl)) (λ _. refl) (sets_key order_layout) (λ _. refl)
 
 -- that renews one, in the columns that calls move
