@@ -232,92 +232,51 @@ blob_fits (Some b) = tt
 
 -- `meta`
 pub meta_fits : (c : MetaColumns) → HasTextMeta c → FitsMeta (meta_params c)
-meta_fits c h =
-    record {
-      id = (omega arith, tt);
-      format = (omega arith, tt);
-      base = (omega arith, h);
-      nonce_life = (omega arith, tt);
-      order_life = (omega arith, tt);
-      authz_life = (omega arith, tt);
-      clock = (omega arith, tt);
-      nonces = (omega arith, tt);
-      accounts = (omega arith, tt);
-      orders = (omega arith, tt);
-      authzs = (omega arith, tt);
-      challs = (omega arith, tt);
-    }
+meta_fits c h = (
+  (omega arith, tt), (omega arith, tt), (omega arith, h), (omega arith, tt), (omega arith, tt), (omega arith, tt), (omega arith, tt), (omega arith, tt),
+  (omega arith, tt), (omega arith, tt), (omega arith, tt), (omega arith, tt),
+)
 
 -- `nonce`
 pub nonce_fits : (c : NonceColumns) → Unit {0} → FitsNonce (nonce_params c)
-nonce_fits c h = record { serial = (omega arith, tt); random = (omega arith, tt); issued = (omega arith, tt) }
+nonce_fits c h = ((omega arith, tt), (omega arith, tt), (omega arith, tt))
 
 -- `account`
 pub account_fits : (c : AccountColumns) → HasTextAccount c → FitsAccount (account_params c)
-account_fits c h =
-    record {
-      num = (omega arith, tt);
-      jwk = (omega arith, h.jwk);
-      contacts = (omega arith, h.contacts);
-      opened = (omega arith, tt);
-      ended = (omega arith, int_fits c.ended);
-      end_kind = (omega arith, text_fits c.end_kind h.end_kind);
-      status = (omega arith, h.status);
-    }
+account_fits c h = (
+  (omega arith, tt), (omega arith, h.jwk), (omega arith, h.contacts), (omega arith, tt), (omega arith, int_fits c.ended),
+  (omega arith, text_fits c.end_kind h.end_kind), (omega arith, h.status),
+)
 
 -- `ord`
 pub order_fits : (c : OrderColumns) → HasTextOrder c → FitsOrder (order_params c)
-order_fits c h =
-    record {
-      num = (omega arith, tt);
-      account = (omega arith, tt);
-      made = (omega arith, tt);
-      expires = (omega arith, tt);
-      finalized = (omega arith, int_fits c.finalized);
-      csr = (omega arith, blob_fits c.csr);
-      certified = (omega arith, int_fits c.certified);
-      cert = (omega arith, blob_fits c.cert);
-      failed = (omega arith, int_fits c.failed);
-      problem = (omega arith, text_fits c.problem h.problem);
-      status = (omega arith, h.status);
-    }
+order_fits c h = (
+  (omega arith, tt), (omega arith, tt), (omega arith, tt), (omega arith, tt), (omega arith, int_fits c.finalized), (omega arith, blob_fits c.csr),
+  (omega arith, int_fits c.certified), (omega arith, blob_fits c.cert), (omega arith, int_fits c.failed), (omega arith, text_fits c.problem h.problem),
+  (omega arith, h.status),
+)
 
 -- `authz`
 pub authorization_fits : (c : AuthzColumns) → HasTextAuthorization c → FitsAuthorization (authorization_params c)
-authorization_fits c h =
-    record {
-      num = (omega arith, tt);
-      account = (omega arith, tt);
-      name = (omega arith, h.name);
-      wildcard = (omega arith, tt);
-      made = (omega arith, tt);
-      expires = (omega arith, tt);
-      ended = (omega arith, int_fits c.ended);
-      end_kind = (omega arith, text_fits c.end_kind h.end_kind);
-      status = (omega arith, h.status);
-    }
+authorization_fits c h = (
+  (omega arith, tt), (omega arith, tt), (omega arith, h.name), (omega arith, tt), (omega arith, tt), (omega arith, tt), (omega arith, int_fits c.ended),
+  (omega arith, text_fits c.end_kind h.end_kind), (omega arith, h.status),
+)
 
 -- `ord_authz`
 pub listed_fits : (c : OrderAuthzColumns) → Unit {0} → FitsListed (listed_params c)
-listed_fits c h = record { ord = (omega arith, tt); place = (omega arith, tt); authz = (omega arith, tt) }
+listed_fits c h = ((omega arith, tt), (omega arith, tt), (omega arith, tt))
 
 -- `chall`
 pub challenge_fits : (c : ChallColumns) → HasTextChallenge c → FitsChallenge (challenge_params c)
-challenge_fits c h =
-    record {
-      num = (omega arith, tt);
-      authz = (omega arith, tt);
-      kind = (omega arith, h.kind);
-      token = (omega arith, tt);
-      answered = (omega arith, int_fits c.answered);
-      reported = (omega arith, int_fits c.reported);
-      outcome = (omega arith, text_fits c.outcome h.outcome);
-      status = (omega arith, h.status);
-    }
+challenge_fits c h = (
+  (omega arith, tt), (omega arith, tt), (omega arith, h.kind), (omega arith, tt), (omega arith, int_fits c.answered), (omega arith, int_fits c.reported),
+  (omega arith, text_fits c.outcome h.outcome), (omega arith, h.status),
+)
 
 -- `chall_key`
 pub key_fits : (c : ChallKeyColumns) → Unit {0} → FitsKey (key_params c)
-key_fits c h = record { chall = (omega arith, tt); thumb = (omega arith, tt) }
+key_fits c h = ((omega arith, tt), (omega arith, tt))
 
 -- ---- tables whose rows fit
 

@@ -164,80 +164,43 @@ HasAt Holds r at = (at < length r) × Holds (column r at)
 -- ---- rows of such values
 
 -- of `meta`
-pub record FitsMeta (r : Row) : Type 0 where
-  pub id : HasAt HoldsInt r 0
-  pub format : HasAt HoldsInt r 1
-  pub base : HasAt HoldsText r 2
-  pub nonce_life : HasAt HoldsInt r 3
-  pub order_life : HasAt HoldsInt r 4
-  pub authz_life : HasAt HoldsInt r 5
-  pub clock : HasAt HoldsInt r 6
-  pub nonces : HasAt HoldsInt r 7
-  pub accounts : HasAt HoldsInt r 8
-  pub orders : HasAt HoldsInt r 9
-  pub authzs : HasAt HoldsInt r 10
-  pub challs : HasAt HoldsInt r 11
+abbrev pub FitsMeta : Row → Type 0
+FitsMeta r =
+    HasAt HoldsInt r 0 × HasAt HoldsInt r 1 × HasAt HoldsText r 2 × HasAt HoldsInt r 3 × HasAt HoldsInt r 4 × HasAt HoldsInt r 5 × HasAt HoldsInt r 6
+    × HasAt HoldsInt r 7 × HasAt HoldsInt r 8 × HasAt HoldsInt r 9 × HasAt HoldsInt r 10 × HasAt HoldsInt r 11
 
 -- of `nonce`
-pub record FitsNonce (r : Row) : Type 0 where
-  pub serial : HasAt HoldsInt r 0
-  pub random : HasAt HoldsBlob r 1
-  pub issued : HasAt HoldsInt r 2
+abbrev pub FitsNonce : Row → Type 0
+FitsNonce r = HasAt HoldsInt r 0 × HasAt HoldsBlob r 1 × HasAt HoldsInt r 2
 
 -- of `account`
-pub record FitsAccount (r : Row) : Type 0 where
-  pub num : HasAt HoldsInt r 0
-  pub jwk : HasAt HoldsText r 1
-  pub contacts : HasAt HoldsText r 2
-  pub opened : HasAt HoldsInt r 3
-  pub ended : HasAt HoldsIntOrNull r 4
-  pub end_kind : HasAt HoldsTextOrNull r 5
-  pub status : HasAt HoldsText r 6
+abbrev pub FitsAccount : Row → Type 0
+FitsAccount r =
+    HasAt HoldsInt r 0 × HasAt HoldsText r 1 × HasAt HoldsText r 2 × HasAt HoldsInt r 3 × HasAt HoldsIntOrNull r 4 × HasAt HoldsTextOrNull r 5
+    × HasAt HoldsText r 6
 
 -- of `ord`
-pub record FitsOrder (r : Row) : Type 0 where
-  pub num : HasAt HoldsInt r 0
-  pub account : HasAt HoldsInt r 1
-  pub made : HasAt HoldsInt r 2
-  pub expires : HasAt HoldsInt r 3
-  pub finalized : HasAt HoldsIntOrNull r 4
-  pub csr : HasAt HoldsBlobOrNull r 5
-  pub certified : HasAt HoldsIntOrNull r 6
-  pub cert : HasAt HoldsBlobOrNull r 7
-  pub failed : HasAt HoldsIntOrNull r 8
-  pub problem : HasAt HoldsTextOrNull r 9
-  pub status : HasAt HoldsText r 10
+abbrev pub FitsOrder : Row → Type 0
+FitsOrder r =
+    HasAt HoldsInt r 0 × HasAt HoldsInt r 1 × HasAt HoldsInt r 2 × HasAt HoldsInt r 3 × HasAt HoldsIntOrNull r 4 × HasAt HoldsBlobOrNull r 5
+    × HasAt HoldsIntOrNull r 6 × HasAt HoldsBlobOrNull r 7 × HasAt HoldsIntOrNull r 8 × HasAt HoldsTextOrNull r 9 × HasAt HoldsText r 10
 
 -- of `authz`
-pub record FitsAuthorization (r : Row) : Type 0 where
-  pub num : HasAt HoldsInt r 0
-  pub account : HasAt HoldsInt r 1
-  pub name : HasAt HoldsText r 2
-  pub wildcard : HasAt HoldsInt r 3
-  pub made : HasAt HoldsInt r 4
-  pub expires : HasAt HoldsInt r 5
-  pub ended : HasAt HoldsIntOrNull r 6
-  pub end_kind : HasAt HoldsTextOrNull r 7
-  pub status : HasAt HoldsText r 8
+abbrev pub FitsAuthorization : Row → Type 0
+FitsAuthorization r =
+    HasAt HoldsInt r 0 × HasAt HoldsInt r 1 × HasAt HoldsText r 2 × HasAt HoldsInt r 3 × HasAt HoldsInt r 4 × HasAt HoldsInt r 5 × HasAt HoldsIntOrNull r 6
+    × HasAt HoldsTextOrNull r 7 × HasAt HoldsText r 8
 
 -- of `ord_authz`
-pub record FitsListed (r : Row) : Type 0 where
-  pub ord : HasAt HoldsInt r 0
-  pub place : HasAt HoldsInt r 1
-  pub authz : HasAt HoldsInt r 2
+abbrev pub FitsListed : Row → Type 0
+FitsListed r = HasAt HoldsInt r 0 × HasAt HoldsInt r 1 × HasAt HoldsInt r 2
 
 -- of `chall`
-pub record FitsChallenge (r : Row) : Type 0 where
-  pub num : HasAt HoldsInt r 0
-  pub authz : HasAt HoldsInt r 1
-  pub kind : HasAt HoldsText r 2
-  pub token : HasAt HoldsBlob r 3
-  pub answered : HasAt HoldsIntOrNull r 4
-  pub reported : HasAt HoldsIntOrNull r 5
-  pub outcome : HasAt HoldsTextOrNull r 6
-  pub status : HasAt HoldsText r 7
+abbrev pub FitsChallenge : Row → Type 0
+FitsChallenge r =
+    HasAt HoldsInt r 0 × HasAt HoldsInt r 1 × HasAt HoldsText r 2 × HasAt HoldsBlob r 3 × HasAt HoldsIntOrNull r 4 × HasAt HoldsIntOrNull r 5
+    × HasAt HoldsTextOrNull r 6 × HasAt HoldsText r 7
 
 -- of `chall_key`
-pub record FitsKey (r : Row) : Type 0 where
-  pub chall : HasAt HoldsInt r 0
-  pub thumb : HasAt HoldsBlob r 1
+abbrev pub FitsKey : Row → Type 0
+FitsKey r = HasAt HoldsInt r 0 × HasAt HoldsBlob r 1
