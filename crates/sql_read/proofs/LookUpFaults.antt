@@ -1,9 +1,12 @@
 -- By what a look-up fails: its calls one after another.
-use Rattle.std.proofs.Common.{◌≡◌, ◌<◌, inl, ℕ, List, [], ◌∷◌, map, length, get_or, zero, suc, Result, Ok, Err, IfErr, arith}
+use Rattle.std.proofs.Common.{◌≡◌, ◌++◌, inl, List, [], ◌∷◌, map, Result, Ok, Err, IfErr}
+use Rattle.std.specs.List.{AllByRecursion}
+use Rattle.std.proofs.lemmas.List.Elements.{All-from_recursion, recursion_from_All}
+use Rattle.sqlite.specs.Order.{Row}
 use Rattle.sqlite.specs.State.{State}
 use Rattle.desk_model.specs.Kept.{EachOf}
 use Rattle.sql_schema.specs.Stays.{Asks}
-use Rattle.sql_read.specs.LookUpFaults.{IsOfMemory, IsOfMemoryOrDisk}
+use Rattle.sql_read.specs.LookUpFaults.{AreTableRows, IsOfMemory, IsOfMemoryOrDisk}
 use Rattle.sql_read.specs.declared.fault.ReadFault.{ReadFault}
 use Rattle.sql_read.specs.declared.fault.ReadFault.TheVariants.{Engine, NotARow}
 use Rattle.sql_read.proofs.MetFaults.{memory_is_none, met_behind, no_device}
@@ -31,19 +34,30 @@ caused_behind (Ok a) old mid new asks is = tt
 caused_behind (Err (Engine e)) old mid new asks is = (is.0, met_behind old mid new e asks is.1)
 caused_behind (Err NotARow) old mid new asks is = absurd is
 
--- ---- rows with children
+-- ---- rows in turn
 
--- each bare row is that of a whole one, which is so
-whole_at : {X Y : Type 0} (P : X → Type 0) (bare : X → Y) (heads : List Y) (xs : List X) (i : ℕ) (d : Y) → heads ≡ map bare xs → EachOf P xs
-    → i < length heads → (x : X) × P x × (get_or heads i d ≡ bare x)
-whole_at P bare [] [] i d are own low = absurd (omega (arith, low))
-whole_at P bare [] (x ∷ xs) i d are own low = absurd (cc are)
-whole_at P bare (y ∷ ys) [] i d are own low = absurd (cc are)
-whole_at P bare (y ∷ ys) (x ∷ xs) zero d are own low = (x, own.0, (let e : y ≡ bare x = cc are in e))
-whole_at P bare (y ∷ ys) (x ∷ xs) (suc i) d are own low =
-    whole_at P bare ys xs i d (let e : ys ≡ map bare xs = cc are in e) own.1 (omega (arith, low))
+-- of rows of a table the first is one, and so are the others
+pub table_first : {R C : Type 0} (spelled : Row → C) (Fits : Row → Type 0) (write : R → C) (IsStored : R → Type 0) (row : Row) (rest : List Row)
+    → AreTableRows spelled Fits write IsStored (row ∷ rest)
+    → (Fits row × ((found : R) × IsStored found × (spelled row ≡ write found))) × AreTableRows spelled Fits write IsStored rest
+table_first {R} {C} spelled Fits write IsStored row rest are = by are.written are.stored are.columns
+  where
+    fits : AllByRecursion Fits (row ∷ rest)
+    fits = recursion_from_All Fits (row ∷ rest) are.fit
 
--- and serves what the whole one serves
-pub with_whole : {X Y Q : Type 0} (P : X → Type 0) (bare : X → Y) (heads : List Y) (xs : List X) (i : ℕ) (d : Y) → heads ≡ map bare xs → EachOf P xs
-    → i < length heads → ((x : X) → P x → get_or heads i d ≡ bare x → Q) → Q
-with_whole P bare heads xs i d are own low serve = let it = whole_at P bare heads xs i d are own low in serve it.0 it.1 it.2
+    by : (written : List R) → EachOf IsStored written → map spelled (row ∷ rest) ≡ map write written
+        → (Fits row × ((found : R) × IsStored found × (spelled row ≡ write found))) × AreTableRows spelled Fits write IsStored rest
+    by [] stored same = absurd (cc same)
+    by (w ∷ ws) stored same =
+        let first : spelled row ≡ write w = cc same in
+        let others : map spelled rest ≡ map write ws = cc same in
+        ((fits.0, w, stored.0, first), record { fit = All-from_recursion Fits rest fits.1; written = ws; stored = stored.1; columns = others })
+
+-- each bare row is that of a whole one, which is so, and serves what that one serves
+pub with_whole : {X Y Q : Type 0} (P : X → Type 0) (bare : X → Y) (before : List Y) (head : Y) (after : List Y) (xs : List X)
+    → before ++ head ∷ after ≡ map bare xs → EachOf P xs → ((x : X) → P x → head ≡ bare x → Q) → Q
+with_whole P bare [] head after [] are own serve = absurd (cc are)
+with_whole P bare [] head after (x ∷ xs) are own serve = serve x own.0 (let e : head ≡ bare x = cc are in e)
+with_whole P bare (y ∷ before) head after [] are own serve = absurd (cc are)
+with_whole P bare (y ∷ before) head after (x ∷ xs) are own serve =
+    with_whole P bare before head after xs (let e : before ++ head ∷ after ≡ map bare xs = cc are in e) own.1 serve

@@ -1,6 +1,6 @@
 -- Look-ups one after another, and what is made of what they found.
-use Rattle.std.proofs.Common.{◌≡◌, ◌≢◌, ℕ, List, Result, Ok, Err, IsErrAnd, map, inl, inr, refl, subst, sym, arith, ◌∙◌}
-use Rattle.std.specs.Prelude.{IfErr, IfOk, IsErr, IsTrue, MatchResult, OnOk}
+use Rattle.std.proofs.Common.{◌≡◌, ℕ, List, Result, Ok, Err, IsErrAnd, map, subst, sym, arith}
+use Rattle.std.specs.Prelude.{IfErr, IfOk, IsErr, IsTrue, OnOk}
 use Rattle.std.proofs.lemmas.Result.{IfOk-from_err}
 use Rattle.sqlite.proofs.StateLemmas.{unchanged}
 use Rattle.sqlite.specs.{Order.Row, Store.Ghosts}
@@ -13,14 +13,13 @@ use Rattle.sql_schema.specs.Stays.{Asks}
 use Rattle.sql_schema.proofs.StaysLemmas.{asks_nothing, asks_then}
 use Rattle.sql_tables.specs.Holds.{Holds}
 use Rattle.sql_tables.proofs.Holding.{holds_still}
-use Rattle.sql_read.specs.{Failures.MayRead, Reads.ReadsColumns, Reads.ReadsRows}
+use Rattle.sql_read.specs.{Failures.MayRead, Reads.ReadsRows}
 use Rattle.sql_read.specs.{Looking.Finds, Looking.LooksFor, Looking.LooksUp, Selecting.IsQuery}
-use Rattle.sql_read.specs.LookUpFaults.{IsOfMemory, IsOfMemoryOrDisk, IsOfMemoryOrRows}
+use Rattle.sql_read.specs.LookUpFaults.{AreTableRows, IsOfMemory, IsOfMemoryOrDisk}
 use Rattle.sql_read.specs.declared.fault.ReadFault.{ReadFault}
-use Rattle.sql_read.specs.declared.fault.ReadFault.TheVariants.{Engine, NotARow}
+use Rattle.sql_read.specs.declared.fault.ReadFault.TheVariants.{Engine}
 use Rattle.sql_read.proofs.{Failing.may_read_still, Results.unchanged_after}
 use Rattle.sql_read.proofs.LookUpFaults.{all_of_memory, caused_behind}
-use Rattle.sql_read.proofs.MetFaults.{memory_is_none, no_device}
 
 -- whatever a query is called
 pub finds_as : {S R C : Type 0} {g : Ghosts S} {spelled : Row → C} {Fits : Row → Type 0} {write : R → C} {IsStored : R → Type 0} {ask other : List ℕ × Row}
@@ -28,63 +27,6 @@ pub finds_as : {S R C : Type 0} {g : Ghosts S} {spelled : Row → C} {Fits : Row
     → other ≡ ask → Finds g spelled Fits write IsStored ask old found → Finds g spelled Fits write IsStored other old found
 finds_as {S} {R} {C} {g} {spelled} {Fits} {write} {IsStored} {ask} {other} {old} {found} same finds =
     subst (λ a. Finds g spelled Fits write IsStored a old found) (sym same) finds
-
--- a query is looked up by reading the columns that it shows, and making rows of them
-pub rows_found : {S R C A : Type 0} (g : Ghosts S) (spelled : Row → C) (Fits : Row → Type 0) (write : R → C) (IsStored : R → Type 0) (ask : List ℕ × Row)
-    (old new : Held S) (items : A → List R) (read : Result (List C) Error) (r : Result A ReadFault)
-    → ReadsColumns g spelled Fits ask old new read
-    → IfOk read (λ all. MatchResult r (λ a. EachOf IsStored (items a) × (all ≡ map write (items a)))
-    (λ fault. fault ≡ NotARow → (rows : List R) → EachOf IsStored rows → all ≢ map write rows))
-    → IfOk read (λ _. IfErr r IsOfMemoryOrRows) → IfErr read (λ e. r ≡ Err (Engine e))
-    → LooksFor g old new (λ _ rows. Finds g spelled Fits write IsStored ask old rows) (λ rows a. items a ≡ rows) r
-rows_found g spelled Fits write IsStored ask old new items (Ok all) (Ok a) columns rows fault passed = record {
-  found = λ clean T has book ws finds. let it = columns.shown clean in finds.shows new it.0 (items a) it.1 rows.0 (sym it.2 ∙ rows.1);
-  caused = λ clean T has book may ws finds. tt;
-  unchanged = columns.unchanged;
-  asks = columns.asks;
-}
-rows_found g spelled Fits write IsStored ask old new items (Ok all) (Err (Engine e)) columns rows fault passed = record {
-  found = λ clean T has book ws finds. tt;
-  caused = λ clean T has book may ws finds. (inl fault, no_device (state g old) (state g new) e (memory_is_none e fault));
-  unchanged = λ clean. tt;
-  asks = columns.asks;
-}
-rows_found g spelled Fits write IsStored ask old new items (Ok all) (Err NotARow) columns rows fault passed = record {
-  found = λ clean T has book ws finds. tt;
-  caused = λ clean T has book may ws finds.
-      let it = columns.shown clean in
-      let sure = (finds.sure may).shows new it.0 it.1 in
-      absurd (rows refl sure.written sure.stored (it.2 ∙ sure.columns));
-  unchanged = λ clean. tt;
-  asks = columns.asks;
-}
-rows_found {S} {R} {C} {A} g spelled Fits write IsStored ask old new items (Err e) r columns rows fault passed =
-    subst (LooksFor g old new (λ _ rows. Finds g spelled Fits write IsStored ask old rows) (λ rows a. items a ≡ rows)) (sym passed)
-    (record {
-      found = λ clean T has book ws finds. tt;
-      caused = λ clean T has book may ws finds. (
-        elim (columns.fails clean) [
-          | inl query ↦ (finds.sure may).fails new e query
-          | inr it ↦ inl (it.2 ((finds.sure may).shows new it.0 it.1).fit)
-        ],
-        columns.met clean,
-      );
-      unchanged = λ clean. tt;
-      asks = columns.asks;
-    })
-
--- so it is one, as the text that it is called
-pub query_as : {ask other : List ℕ × Row} → other ≡ ask → IsQuery ask.0 → IsQuery other.0
-query_as {ask} {other} same is = subst (λ (a : List ℕ × Row). IsQuery a.0) (sym same) is
-
--- so are the rows that it reads, and their columns
-pub rows_as : {S A : Type 0} {g : Ghosts S} (items : A → List Row) {ask other : List ℕ × Row} {old new : Held S} {read : Result A Error} → other ≡ ask
-    → ReadsRows g items other old new read → ReadsRows g items ask old new read
-rows_as {S} {A} {g} items {ask} {other} {old} {new} {read} same rows = subst (λ a. ReadsRows g items a old new read) same rows
-
-pub columns_as : {S C : Type 0} {g : Ghosts S} (spelled : Row → C) (Fits : Row → Type 0) {ask other : List ℕ × Row} {old new : Held S}
-    {read : Result (List C) Error} → other ≡ ask → ReadsColumns g spelled Fits other old new read → ReadsColumns g spelled Fits ask old new read
-columns_as {S} {C} {g} spelled Fits {ask} {other} {old} {new} {read} same columns = subst (λ a. ReadsColumns g spelled Fits a old new read) same columns
 
 -- what was found said more
 pub found_so : {A : Type 0} (r : Result A ReadFault) {P Q : A → Type 0} → ((a : A) → P a → Q a) → IfOk r P → IfOk r Q
@@ -95,6 +37,42 @@ found_so (Err fault) so p = tt
 always : {A : Type 0} (r : Result A ReadFault) {Q : Type 0} → Q → OnOk r Q
 always (Ok a) q = q
 always (Err fault) q = tt
+
+-- a query is looked up by reading the rows that it shows, and making rows of a desk of these
+module _ {S R C A B : Type 0} (g : Ghosts S) (spelled : Row → C) (Fits : Row → Type 0) (write : R → C) (IsStored : R → Type 0) (ask : List ℕ × Row)
+    (old new : Held S) (shown : B → List Row) (items : A → List R) (r : Result A ReadFault) where
+  pub rows_made : (b : B) → ReadsRows g shown ask old new (Ok b)
+      → IfOk r (λ a. EachOf IsStored (items a) × (map spelled (shown b) ≡ map write (items a)))
+      → (AreTableRows spelled Fits write IsStored (shown b) → IfErr r IsOfMemory)
+      → LooksFor g old new (λ _ rows. Finds g spelled Fits write IsStored ask old rows) (λ rows a. items a ≡ rows) r
+  rows_made b read made fault = record {
+    found = λ clean T has book ws finds. found_so r (λ a it. finds.shows new (shown b) (items a) (read.shown clean) it.0 it.1) made;
+    caused = λ clean T has book may ws finds.
+        all_of_memory r (state g old) (state g new) (fault ((finds.sure may).shows new (shown b) (read.shown clean)));
+    unchanged = λ clean. always r (read.unchanged clean);
+    asks = read.asks;
+  }
+
+  -- or the reading failed
+  pub rows_failed : (e : Error) → ReadsRows g shown ask old new (Err e) → r ≡ Err (Engine e)
+      → LooksFor g old new (λ _ rows. Finds g spelled Fits write IsStored ask old rows) (λ rows a. items a ≡ rows) r
+  rows_failed e read same =
+      subst (LooksFor g old new (λ _ rows. Finds g spelled Fits write IsStored ask old rows) (λ rows a. items a ≡ rows)) (sym same)
+      (record {
+        found = λ clean T has book ws finds. tt;
+        caused = λ clean T has book may ws finds. ((finds.sure may).fails new e (read.fails clean), read.met clean);
+        unchanged = λ clean. tt;
+        asks = read.asks;
+      })
+
+-- so it is one, as the text that it is called
+pub query_as : {ask other : List ℕ × Row} → other ≡ ask → IsQuery ask.0 → IsQuery other.0
+query_as {ask} {other} same is = subst (λ (a : List ℕ × Row). IsQuery a.0) (sym same) is
+
+-- so are the rows that it reads
+pub rows_as : {S A : Type 0} {g : Ghosts S} (items : A → List Row) {ask other : List ℕ × Row} {old new : Held S} {read : Result A Error} → other ≡ ask
+    → ReadsRows g items other old new read → ReadsRows g items ask old new read
+rows_as {S} {A} {g} items {ask} {other} {old} {new} {read} same rows = subst (λ a. ReadsRows g items a old new read) same rows
 
 -- what a desk's tables have was looked for
 pub looked : {S W A : Type 0} {g : Ghosts S} {old new : Held S} {Such : Tables → W → Type 0} {Is : W → A → Type 0} {Are : Tables → A → Type 0}

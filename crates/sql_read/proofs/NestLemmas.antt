@@ -1,17 +1,13 @@
 -- Rows that get their own under them, one after the other.
-use Rattle.std.proofs.Common.{◌≡◌, ◌<◌, ◌+◌, ℕ, List, [], ◌∷◌, ◌++◌, length, arith, map, refl, sym, ap, subst, ◌∙◌, IfErr, IsErrAnd, IsTrue, Result}
-use Rattle.std.proofs.Common.{add-one, append-nil, drop, drop-cons, get_or, set, take}
-use Rattle.std.proofs.lemmas.List.{drop-set-lt, drop_all, take_all, take_more, take_more_set}
+use Rattle.std.proofs.Common.{◌≡◌, List, [], ◌∷◌, ◌++◌, arith, map, refl, sym, ap, subst, ◌∙◌, IfErr, IsErrAnd, IsTrue, Result}
 use Rattle.sqlite.proofs.{Callers.unchanged_then, StateLemmas.unchanged}
 use Rattle.sqlite.specs.State.{HasCleanDisk, IsUnchanged, State}
 use Rattle.desk_model.specs.{Kept.EachOf, Tables.Tables}
-use Rattle.desk_model.specs.declared.rows.ChallengeRow.{ChallengeRow}
-use Rattle.store_columns.specs.declared.columns.Owned.{Owned}
 use Rattle.sql_schema.specs.Stays.{Asks}
 use Rattle.sql_schema.proofs.StaysLemmas.{asks_nothing, asks_then}
 use Rattle.sql_tables.specs.Holds.{Holds}
 use Rattle.sql_tables.proofs.Holding.{holds_still}
-use Rattle.sql_read.specs.{Failures.MayRead, Held.ForHeld, Keys.HasItsKey, LookUpFaults.IsOfMemoryOrDisk}
+use Rattle.sql_read.specs.{Failures.MayRead, Held.ForHeld, LookUpFaults.IsOfMemoryOrDisk}
 use Rattle.sql_read.specs.declared.fault.ReadFault.{ReadFault}
 use Rattle.store_book.specs.IsBook.{IsStoredBook}
 use Rattle.sql_read.proofs.{Failing.may_read_still, Results.failed_as}
@@ -58,7 +54,7 @@ filled_none P bare [] own are = refl
 filled_none P bare (x ∷ xs) own are = absurd (cc are)
 
 -- one row more
-filled_more : {X Y : Type 0} (P : X → Type 0) (bare : X → Y) (read : List Y) (rows new : List X) (head : Y) (filled : X) → AreFilled P bare read rows
+pub filled_more : {X Y : Type 0} (P : X → Type 0) (bare : X → Y) (read : List Y) (rows new : List X) (head : Y) (filled : X) → AreFilled P bare read rows
     → ((x : X) → P x → head ≡ bare x → filled ≡ x) → new ≡ rows ++ filled ∷ []
     → AreFilled P bare (read ++ head ∷ []) new
 filled_more P bare read rows new head filled before fill pushed xs own are =
@@ -69,52 +65,6 @@ filled_more P bare read rows new head filled before fill pushed xs own are =
     ∙ (λ i. front i ++ fill it.last parts.1 it.lasts i ∷ [])
     ∙ sym it.whole
 
--- the next row of a slice is filled
-pub filled_slice : {X Y : Type 0} (P : X → Type 0) (bare : X → Y) (ys : List Y) (i : ℕ) (d : Y) (rows new : List X) (filled : X) → i < length ys
-    → AreFilled P bare (take i ys) rows → ((x : X) → P x → get_or ys i d ≡ bare x → filled ≡ x) → new ≡ rows ++ filled ∷ []
-    → AreFilled P bare (take (i + 1) ys) new
-filled_slice P bare ys i d rows new filled low before fill pushed =
-    subst (λ read. AreFilled P bare read new) (sym (take_more ys i d low))
-    (filled_more P bare (take i ys) rows new (get_or ys i d) filled before fill pushed)
-
--- ---- row by row
-
--- what is left is one more and the rest
-one_more : {X : Type 0} (xs : List X) (i : ℕ) (d : X) → i < length xs → drop i xs ≡ get_or xs i d ∷ drop (i + 1) xs
-one_more xs i d low = drop-cons xs i d low ∙ ap (λ j. get_or xs i d ∷ drop j xs) (sym (add-one i))
-
--- where what is left is the same, the next item is, and what is left behind it
-pub same_next : {X : Type 0} (xs ys : List X) (i : ℕ) (d : X) → i < length xs → length xs ≡ length ys → drop i xs ≡ drop i ys →
-    (get_or xs i d ≡ get_or ys i d) × (drop (i + 1) xs ≡ drop (i + 1) ys)
-same_next xs ys i d low size same =
-    let both : get_or xs i d ∷ drop (i + 1) xs ≡ get_or ys i d ∷ drop (i + 1) ys =
-    sym (one_more xs i d low) ∙ same ∙ one_more ys i d (omega (arith, low, size)) in
-    let here : get_or xs i d ≡ get_or ys i d = cc both in
-    let rest : drop (i + 1) xs ≡ drop (i + 1) ys = cc both in
-    (here, rest)
-
--- what is left behind a row that was written
-pub left_next : {X : Type 0} (xs ys : List X) (i : ℕ) (d y : X) → i < length xs → length xs ≡ length ys → drop i xs ≡ drop i ys →
-    drop (i + 1) (set xs i y) ≡ drop (i + 1) ys
-left_next xs ys i d y low size same = drop-set-lt (i + 1) xs i y (omega arith) ∙ (same_next xs ys i d low size same).1
-
--- the next row is filled
-pub filled_next : {X : Type 0} (P : X → Type 0) (bare : X → X) (xs ys : List X) (i : ℕ) (d filled : X)
-    → i < length xs → length xs ≡ length ys → drop i xs ≡ drop i ys → AreFilled P bare (take i ys) (take i xs)
-    → ((x : X) → P x → get_or xs i d ≡ bare x → filled ≡ x)
-    → AreFilled P bare (take (i + 1) ys) (take (i + 1) (set xs i filled))
-filled_next P bare xs ys i d filled low size left before fill rows own are =
-    let here = (same_next xs ys i d low size left).0 in
-    filled_more P bare (take i ys) (take i xs) _ (get_or xs i d) filled before fill (take_more_set xs i filled low) rows own
-    (ap (λ x. take i ys ++ x ∷ []) here ∙ sym (take_more ys i d (omega (arith, low, size))) ∙ are)
-
--- what is written over all items is all there is
-pub written_over : {X : Type 0} (n : ℕ) (xs ys : List X) → n ≡ length ys → length xs ≡ length ys → take n (xs ++ drop (length xs) ys) ≡ xs
-written_over n xs ys counted size =
-    ap (λ l. take n (xs ++ l)) (drop_all (length xs) ys (omega (arith, size)))
-    ∙ ap (take n) (append-nil xs)
-    ∙ take_all n xs (omega (arith, counted, size))
-
 -- ---- over the tables of a desk
 
 -- rows were filled by calls that changed nothing, so as they stand under these
@@ -122,10 +72,6 @@ pub record Filled {X Y : Type 0} (P : Tables → X → Type 0) (bare : X → Y) 
   pub found : ForHeld first now (λ T. IsStoredBook T → IsTrue first.is_open → AreFilled (P T) bare read rows)
   pub unchanged : HasCleanDisk now → IsTrue first.is_open → IsUnchanged first now
   pub asks : Asks first now
-
--- a challenge under its authorization has its key
-abbrev pub HasOwnKey : Tables → Owned ChallengeRow → Type 0
-HasOwnKey T c = HasItsKey T c.row
 
 -- none was yet
 pub filled_first : {X Y : Type 0} (P : Tables → X → Type 0) (bare : X → Y) (first : State) (rows : List X) → rows ≡ [] → Filled P bare first first [] rows
@@ -156,13 +102,13 @@ filled_on {X} {Y} {P} {bare} {first} {old} {new} before asks same step = record 
 -- or it failed, as it does under a row that is like the one that is filled
 pub filled_failed : {X Y A : Type 0} {P : Tables → X → Type 0} {bare : X → Y} {first old new : State} {read : List Y} {rows : List X}
     → Filled P bare first old read rows → Asks old new → HasCleanDisk new → (T : Tables) → Holds first.now T → MayRead first
-    → (heads : List Y) (wholes : List X) (i : ℕ) (d : Y) → heads ≡ map bare wholes → EachOf (P T) wholes → i < length heads
+    → (head : Y) (after : List Y) (wholes : List X) → read ++ head ∷ after ≡ map bare wholes → EachOf (P T) wholes
     → (r : Result A ReadFault) (fault : ReadFault) → IsErrAnd r (λ x. x ≡ fault)
-    → (Holds old.now T → MayRead old → (x : X) → P T x → get_or heads i d ≡ bare x → IsOfMemoryOrDisk old new fault)
+    → (Holds old.now T → MayRead old → (x : X) → P T x → head ≡ bare x → IsOfMemoryOrDisk old new fault)
     → IfErr r (IsOfMemoryOrDisk first new)
-filled_failed {X} {Y} {A} {P} {bare} {first} {old} {new} before asks clean T has may heads wholes i d are own low r fault same fails =
+filled_failed {X} {Y} {A} {P} {bare} {first} {old} {new} {read} before asks clean T has may head after wholes are own r fault same fails =
     let clean_old : HasCleanDisk old = omega (arith, clean, asks.survives.clean) in
     let still = before.unchanged clean_old may.is_open in
     failed_as r fault (IsOfMemoryOrDisk first new)
     (caused_behind (failed (Unit {0}) fault) first old new before.asks
-    (with_whole (P T) bare heads wholes i d are own low (fails (holds_still first old T still has) (may_read_still first old still before.asks may)))) same
+    (with_whole (P T) bare read head after wholes are own (fails (holds_still first old T still has) (may_read_still first old still before.asks may)))) same

@@ -17,11 +17,6 @@ abbrev pub IsOfMemory : ReadFault → Type 0
 IsOfMemory (Engine e) = IsOutOfMemory e
 IsOfMemory NotARow = ⊥
 
--- so it was, where the engine failed
-abbrev pub IsOfMemoryOrRows : ReadFault → Type 0
-IsOfMemoryOrRows (Engine e) = IsOutOfMemory e
-IsOfMemoryOrRows NotARow = ⊤
-
 -- memory was refused, or the disk failed, which then met one more fault
 abbrev pub IsOfMemoryOrDisk : State → State → ReadFault → Type 0
 IsOfMemoryOrDisk old new (Engine e) = IsFailure e × IsMet old new e

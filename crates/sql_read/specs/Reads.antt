@@ -1,11 +1,11 @@
 -- What a reading leaves, and what readings one after the other do.
-use Rattle.std.specs.Prelude.{◌≡◌, ℕ, List, Result, IfErr, IfOk, OnOk, map}
+use Rattle.std.specs.Prelude.{◌≡◌, ℕ, List, Result, IfErr, IfOk, OnOk}
 use Rattle.sqlite.specs.Held.{Held, state}
 use Rattle.sqlite.specs.{Order.Row, Store.Ghosts}
 use Rattle.sqlite.specs.State.{FailsToQuery, HasCleanDisk, IsUnchanged, Shown}
 use Rattle.sqlite.specs.declared.error.Error.{Error}
 use Rattle.sql_schema.specs.{Failing.IsFailure, Stays.Asks}
-use Rattle.sql_read.specs.Failures.{FailsToRead, IsMet, MayRead}
+use Rattle.sql_read.specs.Failures.{IsMet, MayRead}
 
 module _ {S : Type 0} (g : Ghosts S) where
   -- this is what was read, or the reading failed so; it changed nothing
@@ -20,12 +20,6 @@ module _ {S : Type 0} (g : Ghosts S) where
   abbrev pub ReadsRows : {A : Type 0} (items : A → List Row) (ask : List ℕ × Row) (old new : Held S) → Result A Error → Type 0
   ReadsRows items ask old new read =
       Queried old new (λ rows. Shown ask.0 ask.1 (state g old) (state g new) (items rows)) (FailsToQuery ask.0 ask.1 (state g old) (state g new)) read
-
-  -- and the columns of rows
-  abbrev pub ReadsColumns : {C : Type 0} (spelled : Row → C) (Fits : Row → Type 0) (ask : List ℕ × Row) (old new : Held S) → Result (List C) Error → Type 0
-  ReadsColumns spelled Fits ask old new read =
-      Queried old new (λ all. (rows : List Row) × Shown ask.0 ask.1 (state g old) (state g new) rows × (all ≡ map spelled rows))
-      (FailsToRead ask.0 ask.1 (state g old) (state g new) Fits) read
 
   -- what was read so far is this, or the readings failed, one of them so; they fail for memory or the disk alone, where that is known of each
   pub record Reads {A : Type 0} (first now : Held S) (P : A → Type 0) (Readable : Type 0) (Fails : Error → Type 0) (read : Result A Error)

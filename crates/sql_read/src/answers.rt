@@ -1,15 +1,14 @@
 //! Challenges, each with the key of its answer.
-ghost use Rattle.std.specs.Prelude.{◌≡◌, [], ◌∷◌, Some, IfErr, IfOk, IsTrue, map};
+ghost use Rattle.std.specs.Prelude.{◌≡◌, [], ◌∷◌, Some, IfErr, IfOk, IsTrue};
 ghost use Rattle.sqlite.specs.Held.{state};
 ghost use Rattle.store_columns.specs.Flat.{bare, bare_row};
 ghost use Rattle.store_columns.specs.declared.columns.AnswerKey.{AnswerKey as KeyRow};
-ghost use Rattle.desk_model.specs.Kept.{EachOf};
 ghost use Rattle.sql_schema.specs.Stays.{Asks};
 ghost use Rattle.sql_read.specs.{Looking.LooksFor, Spelled.FitsKey, Spelled.key_in};
-ghost use Rattle.sql_read.specs.Keys.{HasItsKey, answered_as, keys_of};
+ghost use Rattle.sql_read.specs.Keys.{HasItsKey, keys_of};
 
 use crate::fault::ReadFault;
-use crate::rows::{Query, Selected, find_rows};
+use crate::rows::{Parted, Query, Selected, find_rows};
 use crate::values::{bytes, numbers};
 use desk_model::{Answer, ChallengeRow};
 use sql_schema::keys;
@@ -70,40 +69,23 @@ fn answer_to<S: Alter>(
     }
 }
 
-// The challenge with this answer.
-fn with_answer(row: &BareChallenge, answered: Option<Answer>) -> ChallengeRow
-    ensures { result ≡ answered_as row.now answered }
-{
-    let token = row.token;
-    ChallengeRow {
-        number: row.number,
-        kind: row.kind,
-        token,
-        answered,
-        reported: row.reported,
-        status: row.status,
-    }
-}
+// A challenge under its authorization, which has the key of its answer in another table.
+impl Parted for Owned<BareChallenge> {
+    type Whole = Owned<ChallengeRow>;
 
-/// The challenges under their authorizations, each with its answer: one statement for each that was answered. It fails as `find_rows`
-/// does.
-pub(crate) fn with_answers<S: Alter>(
-    alloc: Global,
-    conn: &mut Connection<S>,
-    heads: &[Owned<BareChallenge>],
-) -> Result<Vec<Owned<ChallengeRow>>, ReadFault>
-    ensures looks { IsTrue (state S.Store conn.old).is_open → LooksFor S.Store conn.old conn.new
-        (λ T rows. EachOf (λ c. HasItsKey T c.row) rows × (heads.now ≡ map bare_row rows)) (λ rows found. found.items ≡ rows) result }
-    ensures asks { Asks (state S.Store conn.old) (state S.Store conn.new) }
-{
-    let mut rows = Vec::new(alloc);
-    for head in heads {
-        let answered = answer_to(alloc, conn, &head.row)?;
-        let row = with_answer(&head.row, answered);
-        rows.push(Owned {
-            owner: head.owner,
-            row,
-        })?;
+    ghost bare = { bare_row };
+
+    ghost HasItsPart = { λ T c. HasItsKey T c.row };
+
+    fn complete<S: Alter>(
+        self,
+        alloc: Global,
+        conn: &mut Connection<S>,
+    ) -> Result<Owned<ChallengeRow>, ReadFault> {
+        let answered = answer_to(alloc, conn, &self.row)?;
+        Ok(Owned {
+            owner: self.owner,
+            row: self.row.with_answer(answered),
+        })
     }
-    Ok(rows)
 }

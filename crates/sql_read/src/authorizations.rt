@@ -1,18 +1,16 @@
 //! Authorizations, each with its challenges, read from the rows of answers and looked up.
 ghost use Rattle.std.specs.Prelude.{◌≡◌, map};
-ghost use Rattle.store_columns.specs.{Columns.challenge_columns, Flat.bare_row, Flat.without_challenges, Limits.IsStoredChallenge};
-ghost use Rattle.desk_model.specs.Kept.{EachOf};
+ghost use Rattle.store_columns.specs.{Flat.without_challenges};
 ghost use Rattle.model_lives.specs.Above.{authorizations_above, challenges_above, first_of};
 ghost use Rattle.model_lives.specs.LookUps.{AreWaiting, authorizations_where, bare_authorizations, owners_of};
 ghost use Rattle.sql_read.specs.Earliest.{TellsEarliest, authorization_ends};
-ghost use Rattle.sql_read.specs.Looking.{Finds, LooksFor, LooksUp};
-ghost use Rattle.sql_read.specs.{Keys.HasItsKey, Queries.asked, Queries.authorization_query, Selecting.IsQuery, Under.HasItsChallenges};
+ghost use Rattle.sql_read.specs.Looking.{LooksUp};
+ghost use Rattle.sql_read.specs.{Queries.asked, Queries.authorization_query, Under.HasItsChallenges};
 ghost use Rattle.sql_read.specs.Spelled.{FitsAuthorization, FitsChallenge, authorization_in, challenge_in};
 
-use crate::answers::with_answers;
 use crate::fault::ReadFault;
 use crate::rows::{
-    HasChildren, Query, Selected, earliest, find_parents, find_rows, owners, without_owners,
+    Parted, Query, Selected, earliest, find_rows, find_wholes, owners, without_owners,
 };
 use crate::values::{both, bytes, number_or_none, numbers, numbers_or_none, text, text_or_none};
 use desk_model::{AuthorizationRow, AuthzStatus, ChallengeRow, ChallengeStatus, Sequence};
@@ -73,32 +71,23 @@ impl Selected for ChallColumns {
     }
 }
 
-// The challenges that a query shows, each with its answer and the number of its authorization. It fails as `find_rows` does.
-fn find_challenges<S: Alter>(
-    alloc: Global,
-    conn: &mut Connection<S>,
-    query: Query<'_>,
-) -> Result<Vec<Owned<ChallengeRow>>, ReadFault>
-    requires { IsQuery (asked query).0 }
-    ensures { LooksFor S.Store conn.old conn.new (λ T rows. EachOf (λ c. HasItsKey T c.row) rows
-        × Finds S.Store challenge_in FitsChallenge challenge_columns IsStoredChallenge (asked query.entry) conn.old (map bare_row rows))
-        (λ rows found. found.items ≡ rows) result }
-{
-    let heads = find_rows::<S, ChallColumns>(alloc, conn, query)?;
-    with_answers(alloc, conn, &heads)
-}
+// An authorization, which has its challenges in another table.
+impl Parted for AuthorizationRow {
+    type Whole = AuthorizationRow;
 
-impl HasChildren for AuthorizationRow {
     ghost bare = { without_challenges };
 
-    ghost HasItsOwn = { λ T. HasItsChallenges T.authorizations };
+    ghost HasItsPart = { λ T. HasItsChallenges T.authorizations };
 
-    fn nest<S: Alter>(&mut self, alloc: Global, conn: &mut Connection<S>) -> Result<(), ReadFault> {
+    fn complete<S: Alter>(
+        self,
+        alloc: Global,
+        conn: &mut Connection<S>,
+    ) -> Result<AuthorizationRow, ReadFault> {
         let query = Query::number(challenges::SELECT_OF, self.number);
-        let rows = find_challenges(alloc, conn, query)?;
-        let challenges = without_owners(alloc, rows)?;
-        self.challenges = Sequence::new(challenges);
-        Ok(())
+        let rows = find_wholes::<S, ChallColumns, _>(alloc, conn, query)?;
+        let challenges = Sequence::new(without_owners(alloc, rows)?);
+        Ok(AuthorizationRow { challenges, ..self })
     }
 }
 
@@ -133,7 +122,7 @@ pub fn find_authorizations<S: Alter>(
 ) -> Result<Vec<AuthorizationRow>, ReadFault>
     ensures { LooksUp S.Store conn.old conn.new (λ T rows. rows.items ≡ authorizations_where T which.entry) result }
 {
-    find_parents::<S, AuthzColumns, _>(alloc, conn, query_of(which))
+    find_wholes::<S, AuthzColumns, _>(alloc, conn, query_of(which))
 }
 
 /// The authorization of a number, without its challenges.
@@ -182,11 +171,8 @@ pub fn waiting_challenges<S: Alter>(
     ensures { LooksUp S.Store conn.old conn.new (λ T rows. AreWaiting T (map (λ c. (c.owner, c.row)) rows.items)) result }
 {
     let waiting = ChallengeStatus::Processing.as_str();
-    find_challenges(
-        alloc,
-        conn,
-        Query::text(challenges::SELECT_WITH_STATUS, waiting),
-    )
+    let query = Query::text(challenges::SELECT_WITH_STATUS, waiting);
+    find_wholes::<S, ChallColumns, _>(alloc, conn, query)
 }
 
 /// The authorization of the least number above this one, if there is one.
@@ -202,7 +188,7 @@ pub fn authorization_above<S: Alter>(
     ensures { LooksUp S.Store conn.old conn.new (λ T rows. rows.items ≡ first_of (authorizations_above T number)) result }
 {
     let query = Query::number(authorizations::SELECT_ABOVE, number);
-    find_parents::<S, AuthzColumns, _>(alloc, conn, query)
+    find_wholes::<S, AuthzColumns, _>(alloc, conn, query)
 }
 
 /// The challenge of the least number above this one, of whatever authorization, if there is one.
@@ -217,7 +203,8 @@ pub fn challenge_above<S: Alter>(
 ) -> Result<Vec<ChallengeRow>, ReadFault>
     ensures { LooksUp S.Store conn.old conn.new (λ T rows. rows.items ≡ first_of (challenges_above T number)) result }
 {
-    let rows = find_challenges(alloc, conn, Query::number(challenges::SELECT_ABOVE, number))?;
+    let query = Query::number(challenges::SELECT_ABOVE, number);
+    let rows = find_wholes::<S, ChallColumns, _>(alloc, conn, query)?;
     without_owners(alloc, rows)
 }
 

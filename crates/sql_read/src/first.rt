@@ -1,5 +1,5 @@
 //! The row of a desk in format 1, and whether its rows are those of a book.
-ghost use Rattle.std.specs.Prelude.{◌≡◌, ◌≢◌, ◌⊎◌, [], ◌∷◌, IfErr, IfOk, IfSome, IsSome, MatchOption, None, OnOk, Some, map};
+ghost use Rattle.std.specs.Prelude.{◌≡◌, ◌≢◌, ◌⊎◌, [], ◌∷◌, All, IfErr, IfOk, IfSome, IsSome, MatchOption, None, OnOk, Some, map};
 ghost use Rattle.sqlite.specs.State.{HasCleanDisk, IsUnchanged};
 ghost use Rattle.sqlite.specs.Held.{state};
 ghost use Rattle.desk_model.specs.Tables.{Tables};
@@ -8,17 +8,17 @@ ghost use Rattle.store_columns.specs.declared.columns.StoredRows.{StoredRows};
 ghost use Rattle.store_book.specs.IsBook.{IsBookOfStored, IsStoredBook};
 ghost use Rattle.sql_schema.specs.declared.meta.TheConstants.{SELECT};
 ghost use Rattle.sql_schema.specs.{Failing.IsFailure, Stays.Asks};
-ghost use Rattle.sql_read.specs.{AllTables.FailsAtFirst, Spelled.FitsMeta, Reads.Reads};
-ghost use Rattle.sql_read.specs.Failures.{FailsHere, HasTexts, IsMet, IsOutOfMemory, IsReadable, MayRead};
+ghost use Rattle.sql_read.specs.{AllTables.FailsAtFirst, Spelled.FitsMeta, Spelled.meta_in, Reads.Reads};
+ghost use Rattle.sql_read.specs.Failures.{FailsHere, HasTexts, IsMet, IsOfNoDevice, IsOutOfMemory, IsReadable, MayRead};
 ghost use Rattle.sql_read.specs.First.{AreFirstShown, ForFirst, ShowsFirstMeta, raised, raised_meta};
 ghost use Rattle.sql_read.specs.FirstRows.{HasNoFirstBook, HasNoFirstMeta, HasNoRowsWith, IsFirstMeta, IsFirstReadable, IsWithRows};
 
 use crate::checked::check_nonces;
 use crate::formats::Format;
-use crate::rows::{Query, read_query};
-use desk_model::{Meta, Sequence};
+use crate::rows::{Query, Selected, all_rows};
+use desk_model::Meta;
 use sql_schema::meta;
-use sqlite::{Alter, Connection, Error};
+use sqlite::{Alter, Connection, Error, Row};
 use std::alloc::Global;
 use store_columns::{Columns, FIRST_FORMAT, FORMAT, MetaColumns};
 
@@ -54,20 +54,19 @@ fn raised_meta(row: MetaColumns) -> MetaColumns
     }
 }
 
-// The row that the columns of format 1 spell, where there is one, in its limits.
-fn only_meta(alloc: Global, read: Sequence<MetaColumns>) -> Result<Option<Meta>, Error>
-    ensures row { IfOk result (λ found. IfSome found (λ row. IsStoredMeta row × (map raised_meta read ≡ map meta_columns (row ∷ [])))) }
-    ensures none { IfOk result (λ found. found ≡ None → (row : Meta) → IsStoredMeta row → map raised_meta read ≢ map meta_columns (row ∷ [])) }
-    ensures fails { IfErr result IsOutOfMemory }
+// The row whose columns in format 1 the one row of an answer spells, where there is one, in its limits.
+fn only_meta(alloc: Global, rows: &[Row]) -> Result<Option<Meta>, Error>
+    ensures row { IfOk result (λ found. IfSome found (λ row. IsStoredMeta row × (map (λ r. raised_meta (meta_in r)) rows.now ≡ map meta_columns (row ∷ [])))) }
+    ensures none { IfOk result (λ found. found ≡ None → (row : Meta) → IsStoredMeta row
+        → map (λ r. raised_meta (meta_in r)) rows.now ≢ map meta_columns (row ∷ [])) }
+    ensures fails { All FitsMeta rows.now → IfErr result IsOutOfMemory }
+    ensures kind { IfErr result IsOfNoDevice }
 {
-    let mut rows = read.into_vec();
-    if rows.len() != 1 {
-        return Ok(None);
-    }
-    let Some(row) = rows.pop() else {
+    let [row] = rows else {
         return Ok(None);
     };
-    Ok(raised_meta(row).read(alloc)?)
+    let columns = MetaColumns::of(row)?;
+    Ok(raised_meta(columns).read(alloc)?)
 }
 
 // The row of `meta`, where there is one, of format 1.
@@ -75,8 +74,8 @@ fn read_first_meta<S: Alter>(alloc: Global, conn: &mut Connection<S>) -> Result<
     ensures { Reads S.Store conn.old conn.new (λ found. MatchOption found (HasNoFirstMeta S.Store conn.old) (ShowsFirstMeta S.Store conn.old))
         (IsReadable S.Store conn.old SELECT.now FitsMeta) (λ e. IsOutOfMemory e ⊎ FailsHere S.Store conn.old SELECT.now FitsMeta e) result }
 {
-    match read_query::<S, MetaColumns>(alloc, conn, Query::all(meta::SELECT)) {
-        Ok(read) => only_meta(alloc, read),
+    match all_rows(conn, Query::all(meta::SELECT)) {
+        Ok(rows) => only_meta(alloc, &rows),
         Err(error) => Err(error),
     }
 }

@@ -9,7 +9,7 @@ ghost use Rattle.sql_read.specs.Spelled.{FitsListed, FitsOrder, listed_in, order
 
 use crate::fault::ReadFault;
 use crate::rows::{
-    HasChildren, Query, Selected, earliest, find_parents, find_rows, owners, without_owners,
+    Parted, Query, Selected, earliest, find_rows, find_wholes, owners, without_owners,
 };
 use crate::values::{both, bytes_or_none, numbers, numbers_or_none, text, text_or_none};
 use desk_model::{OrderRow, OrderStatus, Sequence};
@@ -58,17 +58,23 @@ impl Selected for OrderAuthzColumns {
     }
 }
 
-impl HasChildren for OrderRow {
+// An order, which has what it lists in another table.
+impl Parted for OrderRow {
+    type Whole = OrderRow;
+
     ghost bare = { without_listed };
 
-    ghost HasItsOwn = { λ T. HasItsListed T.orders };
+    ghost HasItsPart = { λ T. HasItsListed T.orders };
 
-    fn nest<S: Alter>(&mut self, alloc: Global, conn: &mut Connection<S>) -> Result<(), ReadFault> {
+    fn complete<S: Alter>(
+        self,
+        alloc: Global,
+        conn: &mut Connection<S>,
+    ) -> Result<OrderRow, ReadFault> {
         let query = Query::number(listed::SELECT_OF, self.number);
         let rows = find_rows::<S, OrderAuthzColumns>(alloc, conn, query)?;
-        let listed = without_owners(alloc, rows)?;
-        self.listed = Sequence::new(listed);
-        Ok(())
+        let listed = Sequence::new(without_owners(alloc, rows)?);
+        Ok(OrderRow { listed, ..self })
     }
 }
 
@@ -101,7 +107,7 @@ pub fn find_orders<S: Alter>(
 ) -> Result<Vec<OrderRow>, ReadFault>
     ensures { LooksUp S.Store conn.old conn.new (λ T rows. rows.items ≡ orders_where T which) result }
 {
-    find_parents::<S, OrderColumns, _>(alloc, conn, query_of(which))
+    find_wholes::<S, OrderColumns, _>(alloc, conn, query_of(which))
 }
 
 /// The orders of an account, by number, without what they list.
@@ -148,7 +154,7 @@ pub fn order_above<S: Alter>(
 ) -> Result<Vec<OrderRow>, ReadFault>
     ensures { LooksUp S.Store conn.old conn.new (λ T rows. rows.items ≡ first_of (orders_above T number)) result }
 {
-    find_parents::<S, OrderColumns, _>(alloc, conn, Query::number(orders::SELECT_ABOVE, number))
+    find_wholes::<S, OrderColumns, _>(alloc, conn, Query::number(orders::SELECT_ABOVE, number))
 }
 
 /// The earliest end, in seconds since 1970, of an order of a stored status, or `None` where there is none.

@@ -1,24 +1,23 @@
 //! Queries with their parameters, and the rows of a desk that their answers spell: by columns, with children, and under owners.
-ghost use Rattle.std.specs.Prelude.{◌≡◌, [], ◌∷◌, ◌≢◌, pos, ℕ, List, option_map, IfErr, IfOk, All, map, MatchResult};
+ghost use Rattle.std.specs.Prelude.{◌≡◌, [], ◌∷◌, ◌≢◌, pos, ℕ, List, option_map, IfErr, IfOk, IsTrue, map};
 ghost use Rattle.sqlite.specs.declared.types.Value.TheVariants.{Int, Text as SqlText};
 ghost use Rattle.sql_read.specs.{Bounded.bounded, Queries.asked, Selecting.IsQuery};
 ghost use Rattle.sqlite.specs.{Values.bound, Held.state, Order.Row as SqlRow};
-ghost use Rattle.sql_read.specs.Reads.{ReadsColumns, ReadsRows};
+ghost use Rattle.sql_schema.specs.Stays.{Asks};
+ghost use Rattle.sql_read.specs.Reads.{ReadsRows};
 ghost use Rattle.desk_model.specs.{Tables.Tables, Kept.EachOf};
 ghost use Rattle.sql_read.specs.Earliest.{FindsEarliest, TellsEarliest, first_number};
-ghost use Rattle.sql_read.specs.LookUpFaults.{BeginWithMoment, IsOfMemory, IsOfMemoryOrRows};
+ghost use Rattle.sql_read.specs.LookUpFaults.{AreTableRows, BeginWithMoment, IsOfMemory};
 ghost use Rattle.sql_tables.specs.Holds.{Holds};
 ghost use Rattle.sql_read.specs.Failures.{IsOfNoDevice, IsOutOfMemory};
 ghost use Rattle.sql_read.specs.Looking.{Finds, LooksFor};
-ghost use Rattle.sql_read.specs.declared.fault.ReadFault.TheVariants.{NotARow};
 
 use crate::fault::ReadFault;
 use crate::values::numbers;
-use desk_model::Sequence;
 use sqlite::types::ValueRef;
 use sqlite::{Alter, Connection, Error, Row};
 use std::alloc::Global;
-use store_columns::{Columns, Owned, read_table};
+use store_columns::{Columns, Owned};
 
 // ---- queries: their texts, with what their parameters are bound to
 
@@ -139,23 +138,6 @@ pub(crate) fn all_rows<S: Alter>(
     }
 }
 
-/// The columns of the rows of a query.
-///
-/// # Errors
-///
-/// The engine's.
-pub(crate) fn read_query<S: Alter, C: Selected>(
-    alloc: Global,
-    conn: &mut Connection<S>,
-    query: Query<'_>,
-) -> Result<Sequence<C>, Error>
-    requires { IsQuery (asked query).0 }
-    ensures { ReadsColumns S.Store C.spelled C.Fits (asked query.entry) conn.old conn.new result }
-{
-    let rows = all_rows(conn, query)?;
-    read_all(alloc, &rows)
-}
-
 // ---- the earliest moment that a query shows
 
 // The number as a moment.
@@ -219,40 +201,34 @@ pub trait Selected: Columns {
         ensures kind { IfErr result IsOfNoDevice };
 }
 
-// The columns of each row.
+// ---- the rows
+
+// The row whose columns a row of an answer spells.
 //
 // # Errors
 //
-// Where a row has other values, or there is no memory.
-fn read_all<C: Selected>(alloc: Global, rows: &[Row]) -> Result<Sequence<C>, Error>
-    ensures read { IfOk result (λ all. all ≡ map C.spelled rows.now) }
-    ensures fails { All C.Fits rows.now → IfErr result IsOutOfMemory }
-    ensures kind { IfErr result IsOfNoDevice }
+// Where it has other values, or there is no memory; `NotARow` where no row in its limits has the columns.
+fn row_of<C: Selected>(alloc: Global, row: &Row) -> Result<C::Row, ReadFault>
+    ensures row { IfOk result (λ found. C.Columns.IsStored found × (C.spelled row.now ≡ C.Columns.write found)) }
+    ensures fault { C.Fits row.now → (found : C.Row) → C.Columns.IsStored found → C.spelled row.now ≡ C.Columns.write found → IfErr result IsOfMemory }
+{
+    match C::of(row)?.read(alloc)? {
+        Some(found) => Ok(found),
+        None => Err(ReadFault::NotARow),
+    }
+}
+
+// The rows whose columns the rows of an answer spell. It fails as `row_of` does, of rows of a table for memory alone.
+fn rows_of<C: Selected>(alloc: Global, rows: &[Row]) -> Result<Vec<C::Row>, ReadFault>
+    ensures rows { IfOk result (λ found. EachOf C.Columns.IsStored found.items × (map C.spelled rows.now ≡ map C.Columns.write found.items)) }
+    ensures fault { AreTableRows C.spelled C.Fits C.Columns.write C.Columns.IsStored rows.now → IfErr result IsOfMemory }
 {
     let mut all = Vec::new(alloc);
     for row in rows {
-        all.push(C::of(row)?)?;
+        let found = row_of::<C>(alloc, row)?;
+        all.push(found)?;
     }
-    Ok(Sequence::new(all))
-}
-
-// ---- the rows
-
-// The rows of these columns.
-//
-// # Errors
-//
-// `NotARow` where no row in its limits has some of them.
-fn rows_of<C: Columns>(alloc: Global, columns: Sequence<C>) -> Result<Vec<C::Row>, ReadFault>
-    ensures rows { MatchResult result
-        (λ rows. EachOf C.IsStored rows.items × (columns ≡ map C.write rows.items))
-        (λ fault. fault ≡ NotARow → (rows : List C.Row) → EachOf C.IsStored rows → columns ≢ map C.write rows) }
-    ensures fault { IfErr result IsOfMemoryOrRows }
-{
-    match read_table(alloc, columns)? {
-        Some(rows) => Ok(rows.into_vec()),
-        None => Err(ReadFault::NotARow),
-    }
+    Ok(all)
 }
 
 /// The rows that a query shows.
@@ -270,41 +246,65 @@ pub(crate) fn find_rows<S: Alter, C: Selected>(
         (λ _ rows. Finds S.Store C.spelled C.Fits C.Columns.write C.Columns.IsStored (asked query.entry) conn.old rows)
         (λ rows found. found.items ≡ rows) result }
 {
-    let columns = read_query::<S, C>(alloc, conn, query)?;
-    rows_of(alloc, columns)
+    let rows = all_rows(conn, query)?;
+    rows_of::<C>(alloc, &rows)
 }
 
-// ---- rows that are looked up, each with its children
+// ---- rows that are looked up, each with its part in another table
 
-/// A row that has children in a table of their own.
-pub(crate) trait HasChildren: Drop {
-    // The row without its children.
-    ghost bare: { Self → Self };
+/// A row that has a part in another table.
+pub(crate) trait Parted: Drop {
+    /// The row with its part.
+    type Whole: Drop;
 
-    // What stands under its number in these tables are its children.
-    ghost HasItsOwn: { Tables → Self → Type 0 };
+    // The row without its part.
+    ghost bare: { Self.Whole → Self };
 
-    /// Puts its children under the row. It fails as `find_rows` does.
-    fn nest<S: Alter>(&mut self, alloc: Global, conn: &mut Connection<S>) -> Result<(), ReadFault>
-        ensures { LooksFor S.Store conn.old conn.new (λ T whole. HasItsOwn T whole × (self.old ≡ bare whole)) (λ whole _. self.new ≡ whole) result };
+    // What stands under its number in these tables is its part.
+    ghost HasItsPart: { Tables → Self.Whole → Type 0 };
+
+    /// The row with its part. It fails as `find_rows` does.
+    fn complete<S: Alter>(
+        self,
+        alloc: Global,
+        conn: &mut Connection<S>,
+    ) -> Result<Self::Whole, ReadFault>
+        ensures looks { IsTrue (state S.Store conn.old).is_open → LooksFor S.Store conn.old conn.new
+            (λ T whole. HasItsPart T whole × (self ≡ bare whole)) (λ whole found. found ≡ whole) result }
+        ensures asks { Asks (state S.Store conn.old) (state S.Store conn.new) };
 }
 
-/// The rows that a query shows, each with its children. It fails as `find_rows` does.
-pub(crate) fn find_parents<S: Alter, C: Selected<Row = R>, R: HasChildren>(
+// The rows, each with its part. It fails as `find_rows` does.
+fn complete_all<S: Alter, P: Parted>(
+    alloc: Global,
+    conn: &mut Connection<S>,
+    heads: Vec<P>,
+) -> Result<Vec<P::Whole>, ReadFault>
+    ensures looks { IsTrue (state S.Store conn.old).is_open → LooksFor S.Store conn.old conn.new
+        (λ T rows. EachOf (P.HasItsPart T) rows × (heads.items ≡ map P.bare rows)) (λ rows found. found.items ≡ rows) result }
+    ensures asks { Asks (state S.Store conn.old) (state S.Store conn.new) }
+{
+    let mut rows = Vec::new(alloc);
+    for head in heads {
+        let whole = head.complete(alloc, conn)?;
+        rows.push(whole)?;
+    }
+    Ok(rows)
+}
+
+/// The rows that a query shows, each with its part. It fails as `find_rows` does.
+pub(crate) fn find_wholes<S: Alter, C: Selected<Row = P>, P: Parted>(
     alloc: Global,
     conn: &mut Connection<S>,
     query: Query<'_>,
-) -> Result<Vec<R>, ReadFault>
+) -> Result<Vec<P::Whole>, ReadFault>
     requires { IsQuery (asked query).0 }
-    ensures { LooksFor S.Store conn.old conn.new (λ T rows. EachOf (R.HasItsOwn T) rows
-        × Finds S.Store C.spelled C.Fits C.Columns.write C.Columns.IsStored (asked query.entry) conn.old (map R.bare rows))
+    ensures { LooksFor S.Store conn.old conn.new (λ T rows. EachOf (P.HasItsPart T) rows
+        × Finds S.Store C.spelled C.Fits C.Columns.write C.Columns.IsStored (asked query.entry) conn.old (map P.bare rows))
         (λ rows found. found.items ≡ rows) result }
 {
-    let mut rows = find_rows::<S, C>(alloc, conn, query)?;
-    for row in rows.iter_mut() {
-        row.nest(alloc, conn)?;
-    }
-    Ok(rows)
+    let heads = find_rows::<S, C>(alloc, conn, query)?;
+    complete_all(alloc, conn, heads)
 }
 
 // ---- rows that belong to others, and the numbers of those

@@ -5,8 +5,8 @@ use Rattle.sql_read.proofs.{LookUpReadings.challenge_above_reading, KeyRows.keys
 use Rattle.sql_read.proofs.Looking.{finds_as, looked_failed, looked_made, query_as}
 use Rattle.sql_read.proofs.authorizations.challenge_above.Goals as goal
 
-pub find_challenges-requires : goal.find_challenges-requires
-find_challenges-requires g c = query_as c.number.ensures (challenge_above_reading c.args.number).selecting
+pub find_wholes-requires : goal.find_wholes-requires
+find_wholes-requires g c = query_as c.number.ensures (challenge_above_reading c.args.number).selecting
 
 pub returns : goal.returns
 returns g c =

@@ -4,8 +4,8 @@ use Rattle.sql_read.proofs.{LookUpReadings.authorizations_asked, LookUpRows.auth
 use Rattle.sql_read.proofs.Looking.{finds_as, looked, query_as}
 use Rattle.sql_read.proofs.authorizations.find_authorizations.Goals as goal
 
-pub find_parents-requires : goal.find_parents-requires
-find_parents-requires g c = query_as c.query_of.ensures (authorizations_asked c.args.which).selecting
+pub find_wholes-requires : goal.find_wholes-requires
+find_wholes-requires g c = query_as c.query_of.ensures (authorizations_asked c.args.which).selecting
 
 pub returns : goal.returns
 returns g c =
@@ -14,4 +14,4 @@ returns g c =
       each-filter _ _ T.authorizations (authorizations_have 0 T.authorizations has.rising.authorizations),
       finds_as c.query_of.ensures (authorizations_find g.S.Store c.args.conn.now T has book c.args.which),
     ))
-    (λ T has book rows are. are) c.find_parents.ensures
+    (λ T has book rows are. are) c.find_wholes.ensures

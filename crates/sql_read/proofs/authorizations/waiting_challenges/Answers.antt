@@ -7,8 +7,8 @@ use Rattle.sql_read.proofs.Looking.{finds_as, looked, query_as}
 use Rattle.sql_read.proofs.WaitingChallenges.{are_waiting, found_waiting, numbered}
 use Rattle.sql_read.proofs.authorizations.waiting_challenges.Goals as goal
 
-pub find_challenges-requires : goal.find_challenges-requires
-find_challenges-requires g c = query_as (c.text.ensures ∙ ap (λ t. (chall.SELECT_WITH_STATUS.now, text t)) c.as_str-waiting.ensures)
+pub find_wholes-requires : goal.find_wholes-requires
+find_wholes-requires g c = query_as (c.text.ensures ∙ ap (λ t. (chall.SELECT_WITH_STATUS.now, text t)) c.as_str-waiting.ensures)
     challenges_processing_reading.selecting
 
 pub returns : goal.returns
@@ -19,4 +19,4 @@ returns g c =
           (challenges_processing_find g.S.Store c.args.conn.now T has book),
     ))
     (λ T has book rows are. subst (λ l. AreWaiting T (map numbered l)) (sym are)
-    (are_waiting T has.rising.challenges has.rising.authorizations book.book.in_order.challenges)) c.find_challenges.ensures
+    (are_waiting T has.rising.challenges has.rising.authorizations book.book.in_order.challenges)) c.find_wholes.ensures

@@ -4,8 +4,8 @@ use Rattle.sql_read.proofs.{LookUpReadings.orders_asked, LookUpRows.orders_find,
 use Rattle.sql_read.proofs.Looking.{finds_as, looked, query_as}
 use Rattle.sql_read.proofs.orders.find_orders.Goals as goal
 
-pub find_parents-requires : goal.find_parents-requires
-find_parents-requires g c = query_as c.query_of.ensures (orders_asked c.args.which).selecting
+pub find_wholes-requires : goal.find_wholes-requires
+find_wholes-requires g c = query_as c.query_of.ensures (orders_asked c.args.which).selecting
 
 pub returns : goal.returns
 returns g c =
@@ -14,4 +14,4 @@ returns g c =
       each-filter _ _ T.orders (orders_have 0 T.orders has.rising.orders),
       finds_as c.query_of.ensures (orders_find g.S.Store c.args.conn.now T has book c.args.which),
     ))
-    (λ T has book rows are. are) c.find_parents.ensures
+    (λ T has book rows are. are) c.find_wholes.ensures

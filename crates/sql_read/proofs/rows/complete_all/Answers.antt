@@ -1,0 +1,55 @@
+use Rattle.std.proofs.Common.{◌++◌, [], ◌∷◌, ◌∙◌, ap, append-nil, append_assoc, arith, sym}
+use Rattle.std.proofs.lemmas.List.{nil_from_length}
+use Rattle.std.specs.Vec.Iter.{into_iter_items}
+use Rattle.sqlite.specs.Held.{state}
+use Rattle.sql_schema.proofs.StaysLemmas.{asks_then}
+use Rattle.sql_read.proofs.Looking.{stopped}
+use Rattle.sql_read.proofs.NestLemmas.{filled_failed, filled_first, filled_more, filled_on}
+use Rattle.sql_read.proofs.rows.complete_all.Goals as goal
+
+pub loop-head-init : goal.loop-head-init
+loop-head-init g c = record {
+  whole = sym c.into_iter.ensures.rest;
+  filled = filled_first g.P.Parted.HasItsPart g.P.Parted.bare (state g.S.Store c.args.conn.now) _ c.new-rows.ensures.items;
+}
+
+pub loop-head-preserved : goal.loop-head-preserved
+loop-head-preserved g c =
+    let before = c.loop-head.invariant in
+    let after = c.in_ok-whole.ensures in
+    record {
+      whole = before.whole ∙ ap (λ l. c.loop-head.yielded ++ l) c.in-Some.ensures.steps.0
+          ∙ sym (append_assoc c.loop-head.yielded (c.in-Some.head ∷ []) (into_iter_items c.next.new.self));
+      filled = filled_on before.filled after.asks (λ clean is_open. (after.looks is_open).unchanged clean) (λ clean T has book is_open so_far.
+          filled_more (g.P.Parted.HasItsPart T) g.P.Parted.bare c.loop-head.yielded c.loop-head.rows.items _ c.in-Some.head _ so_far
+          (λ whole own head. (after.looks is_open).found clean T has book whole (own, head)) c.in_ok-push.ensures.items);
+    }
+
+pub returns-clause-looks : goal.returns-clause-looks
+returns-clause-looks g c is_open =
+    let last = c.loop-head.invariant in
+    let none = nil_from_length c.loop-head.head-iterator.rest.items
+    (omega (arith, c.loop-head.head-iterator.rest.ok, c.in-None.ensures.steps.0)) in
+    let all = sym (append-nil c.loop-head.yielded) ∙ ap (λ l. c.loop-head.yielded ++ l) (sym none) ∙ sym last.whole in
+    record {
+      found = λ clean T has book rows own. last.filled.found clean T has book is_open rows own.0 (all ∙ own.1);
+      caused = λ clean T has book may rows own. tt;
+      unchanged = λ clean. last.filled.unchanged clean is_open;
+      asks = last.filled.asks;
+    }
+
+pub returns-clause-asks : goal.returns-clause-asks
+returns-clause-asks g c = c.loop-head.invariant.filled.asks
+
+pub returns-in_err-whole-clause-looks : goal.returns-in_err-whole-clause-looks
+returns-in_err-whole-clause-looks g c is_open =
+    let loop = c.loop-head.invariant in
+    let after = c.in_err-whole.ensures in
+    stopped c.from_residual.ensures.0 (λ clean T has book may rows own.
+    filled_failed loop.filled after.asks clean T has may c.in-Some.head (into_iter_items c.next.new.self) rows
+    (ap (λ l. c.loop-head.yielded ++ l) (sym c.in-Some.ensures.steps.0) ∙ sym loop.whole ∙ own.1) own.0
+    c.from_residual.result c.in_err-whole.field-0.0 c.from_residual.ensures.1
+    (λ has may whole part head. (after.looks may.is_open).caused clean T has book may whole (part, head))) (asks_then _ _ _ loop.filled.asks after.asks)
+
+pub returns-in_err-whole-clause-asks : goal.returns-in_err-whole-clause-asks
+returns-in_err-whole-clause-asks g c = asks_then _ _ _ c.loop-head.invariant.filled.asks c.in_err-whole.ensures.asks
