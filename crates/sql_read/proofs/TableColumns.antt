@@ -233,8 +233,18 @@ blob_fits (Some b) = tt
 -- `meta`
 pub meta_fits : (c : MetaColumns) → HasTextMeta c → FitsMeta (meta_params c)
 meta_fits c h = (
-  (omega arith, tt), (omega arith, tt), (omega arith, h), (omega arith, tt), (omega arith, tt), (omega arith, tt), (omega arith, tt), (omega arith, tt),
-  (omega arith, tt), (omega arith, tt), (omega arith, tt), (omega arith, tt),
+  (omega arith, tt),
+  (omega arith, tt),
+  (omega arith, h),
+  (omega arith, tt),
+  (omega arith, tt),
+  (omega arith, tt),
+  (omega arith, tt),
+  (omega arith, tt),
+  (omega arith, tt),
+  (omega arith, tt),
+  (omega arith, tt),
+  (omega arith, tt),
 )
 
 -- `nonce`
@@ -244,23 +254,43 @@ nonce_fits c h = ((omega arith, tt), (omega arith, tt), (omega arith, tt))
 -- `account`
 pub account_fits : (c : AccountColumns) → HasTextAccount c → FitsAccount (account_params c)
 account_fits c h = (
-  (omega arith, tt), (omega arith, h.jwk), (omega arith, h.contacts), (omega arith, tt), (omega arith, int_fits c.ended),
-  (omega arith, text_fits c.end_kind h.end_kind), (omega arith, h.status),
+  (omega arith, tt),
+  (omega arith, h.jwk),
+  (omega arith, h.contacts),
+  (omega arith, tt),
+  (omega arith, int_fits c.ended),
+  (omega arith, text_fits c.end_kind h.end_kind),
+  (omega arith, h.status),
 )
 
 -- `ord`
 pub order_fits : (c : OrderColumns) → HasTextOrder c → FitsOrder (order_params c)
 order_fits c h = (
-  (omega arith, tt), (omega arith, tt), (omega arith, tt), (omega arith, tt), (omega arith, int_fits c.finalized), (omega arith, blob_fits c.csr),
-  (omega arith, int_fits c.certified), (omega arith, blob_fits c.cert), (omega arith, int_fits c.failed), (omega arith, text_fits c.problem h.problem),
+  (omega arith, tt),
+  (omega arith, tt),
+  (omega arith, tt),
+  (omega arith, tt),
+  (omega arith, int_fits c.finalized),
+  (omega arith, blob_fits c.csr),
+  (omega arith, int_fits c.certified),
+  (omega arith, blob_fits c.cert),
+  (omega arith, int_fits c.failed),
+  (omega arith, text_fits c.problem h.problem),
   (omega arith, h.status),
 )
 
 -- `authz`
 pub authorization_fits : (c : AuthzColumns) → HasTextAuthorization c → FitsAuthorization (authorization_params c)
 authorization_fits c h = (
-  (omega arith, tt), (omega arith, tt), (omega arith, h.name), (omega arith, tt), (omega arith, tt), (omega arith, tt), (omega arith, int_fits c.ended),
-  (omega arith, text_fits c.end_kind h.end_kind), (omega arith, h.status),
+  (omega arith, tt),
+  (omega arith, tt),
+  (omega arith, h.name),
+  (omega arith, tt),
+  (omega arith, tt),
+  (omega arith, tt),
+  (omega arith, int_fits c.ended),
+  (omega arith, text_fits c.end_kind h.end_kind),
+  (omega arith, h.status),
 )
 
 -- `ord_authz`
@@ -270,8 +300,14 @@ listed_fits c h = ((omega arith, tt), (omega arith, tt), (omega arith, tt))
 -- `chall`
 pub challenge_fits : (c : ChallColumns) → HasTextChallenge c → FitsChallenge (challenge_params c)
 challenge_fits c h = (
-  (omega arith, tt), (omega arith, tt), (omega arith, h.kind), (omega arith, tt), (omega arith, int_fits c.answered), (omega arith, int_fits c.reported),
-  (omega arith, text_fits c.outcome h.outcome), (omega arith, h.status),
+  (omega arith, tt),
+  (omega arith, tt),
+  (omega arith, h.kind),
+  (omega arith, tt),
+  (omega arith, int_fits c.answered),
+  (omega arith, int_fits c.reported),
+  (omega arith, text_fits c.outcome h.outcome),
+  (omega arith, h.status),
 )
 
 -- `chall_key`

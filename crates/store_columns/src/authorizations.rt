@@ -10,9 +10,7 @@ use crate::facts::{
     Columns, read_answered, read_authorization_end, read_expiry, read_moment, read_number,
     read_report, read_sixteen, read_thirty_two, read_wildcard,
 };
-use desk_model::{
-    AuthorizationRow, AuthzStatus, ChallengeStatus, DnsName, Kind, Sequence,
-};
+use desk_model::{AuthorizationRow, AuthzStatus, ChallengeStatus, DnsName, Kind, Sequence};
 use std::alloc::{AllocError, Global};
 
 // ---- authorizations
