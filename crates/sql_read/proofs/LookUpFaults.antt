@@ -51,7 +51,7 @@ table_first {R} {C} spelled Fits write IsStored row rest are = by are.written ar
     by (w ∷ ws) stored same =
         let first : spelled row ≡ write w = cc same in
         let others : map spelled rest ≡ map write ws = cc same in
-        ((fits.0, w, stored.0, first), record { fit = All-from_recursion Fits rest fits.1; written = ws; stored = stored.1; columns = others })
+        ((fits.0, (w, stored.0, first)), record { fit = All-from_recursion Fits rest fits.1; written = ws; stored = stored.1; columns = others })
 
 -- each bare row is that of a whole one, which is so, and serves what that one serves
 pub with_whole : {X Y Q : Type 0} (P : X → Type 0) (bare : X → Y) (before : List Y) (head : Y) (after : List Y) (xs : List X)

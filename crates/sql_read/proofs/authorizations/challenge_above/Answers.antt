@@ -6,14 +6,14 @@ use Rattle.sql_read.proofs.Looking.{finds_as, looked_failed, looked_made, query_
 use Rattle.sql_read.proofs.authorizations.challenge_above.Goals as goal
 
 pub find_wholes-requires : goal.find_wholes-requires
-find_wholes-requires g c = query_as c.number.ensures (challenge_above_reading c.args.number).selecting
+find_wholes-requires g c = query_as c.number-query.ensures (challenge_above_reading c.args.number).selecting
 
 pub returns : goal.returns
 returns g c =
     let n = c.args.number in
     looked_made (λ T. challenges_from T n) (λ T has book. (
       keys_above T has.rising.challenges n,
-      finds_as c.number.ensures (challenge_above_find g.S.Store c.args.conn.now T has book n),
+      finds_as c.number-query.ensures (challenge_above_find g.S.Store c.args.conn.now T has book n),
     ))
     c.in_ok-rows.ensures (λ T has book found. (
       IfOk-weaker c.without_owners.result _ _ (λ _ are. are ∙ ap (map (λ c. c.row)) found ∙ first_challenge T n has.rising.challenges)
@@ -26,6 +26,6 @@ returns-in_err-rows g c =
     let n = c.args.number in
     looked_failed (λ T. challenges_from T n) (λ T has book. (
       keys_above T has.rising.challenges n,
-      finds_as c.number.ensures (challenge_above_find g.S.Store c.args.conn.now T has book n),
+      finds_as c.number-query.ensures (challenge_above_find g.S.Store c.args.conn.now T has book n),
     ))
     c.in_err-rows.ensures c.from_residual.ensures.1

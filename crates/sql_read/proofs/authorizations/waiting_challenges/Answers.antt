@@ -8,14 +8,14 @@ use Rattle.sql_read.proofs.WaitingChallenges.{are_waiting, found_waiting, number
 use Rattle.sql_read.proofs.authorizations.waiting_challenges.Goals as goal
 
 pub find_wholes-requires : goal.find_wholes-requires
-find_wholes-requires g c = query_as (c.text.ensures ∙ ap (λ t. (chall.SELECT_WITH_STATUS.now, text t)) c.as_str-waiting.ensures)
+find_wholes-requires g c = query_as (c.text-query.ensures ∙ ap (λ t. (chall.SELECT_WITH_STATUS.now, text t)) c.as_str-waiting.ensures)
     challenges_processing_reading.selecting
 
 pub returns : goal.returns
 returns g c =
     looked found_waiting (λ T has book. (
       keys_waiting T has.rising.challenges,
-      finds_as (c.text.ensures ∙ ap (λ t. (chall.SELECT_WITH_STATUS.now, text t)) c.as_str-waiting.ensures)
+      finds_as (c.text-query.ensures ∙ ap (λ t. (chall.SELECT_WITH_STATUS.now, text t)) c.as_str-waiting.ensures)
           (challenges_processing_find g.S.Store c.args.conn.now T has book),
     ))
     (λ T has book rows are. subst (λ l. AreWaiting T (map numbered l)) (sym are)

@@ -1,15 +1,18 @@
-use Rattle.std.proofs.Common.{◌++◌, [], ◌∷◌, ◌∙◌, ap, append-nil, append_assoc, arith, sym}
+use Rattle.std.proofs.Common.{◌++◌, [], ◌∷◌, ◌∙◌, ap, append-nil, append_assoc, arith, refl, sym}
 use Rattle.std.proofs.lemmas.List.{nil_from_length}
 use Rattle.std.specs.Vec.Iter.{into_iter_items}
 use Rattle.sqlite.specs.Held.{state}
 use Rattle.sql_schema.proofs.StaysLemmas.{asks_then}
-use Rattle.sql_read.proofs.Looking.{stopped}
+use Rattle.sqlite.specs.declared.{error.Error.TheVariants.SqliteFailure, error.ErrorCode.TheVariants.OutOfMemory}
+use Rattle.sql_read.specs.LookUpFaults.{IsOfMemory}
+use Rattle.sql_read.specs.declared.fault.ReadFault.TheVariants.{Engine}
+use Rattle.sql_read.proofs.{Looking.stopped, LookUpFaults.all_of_memory, Results.failed_as}
 use Rattle.sql_read.proofs.NestLemmas.{filled_failed, filled_first, filled_more, filled_on}
 use Rattle.sql_read.proofs.rows.complete_all.Goals as goal
 
 pub loop-head-init : goal.loop-head-init
 loop-head-init g c = record {
-  whole = sym c.into_iter.ensures.rest;
+  whole = sym c.into_iter-head-iterator.ensures.rest;
   filled = filled_first g.P.Parted.HasItsPart g.P.Parted.bare (state g.S.Store c.args.conn.now) _ c.new-rows.ensures.items;
 }
 
@@ -50,6 +53,13 @@ returns-in_err-whole-clause-looks g c is_open =
     (ap (λ l. c.loop-head.yielded ++ l) (sym c.in-Some.ensures.steps.0) ∙ sym loop.whole ∙ own.1) own.0
     c.from_residual.result c.in_err-whole.field-0.0 c.from_residual.ensures.1
     (λ has may whole part head. (after.looks may.is_open).caused clean T has book may whole (part, head))) (asks_then _ _ _ loop.filled.asks after.asks)
+
+pub returns-in_err-push-clause-looks : goal.returns-in_err-push-clause-looks
+returns-in_err-push-clause-looks g c is_open =
+    let r = c.from_residual-in_err-push.result in
+    stopped c.from_residual-in_err-push.ensures.0 (λ clean T has book may rows own.
+    all_of_memory r _ _ (failed_as r (Engine (SqliteFailure OutOfMemory)) IsOfMemory refl c.from_residual-in_err-push.ensures.1))
+    (asks_then _ _ _ c.loop-head.invariant.filled.asks c.in_ok-whole.ensures.asks)
 
 pub returns-in_err-whole-clause-asks : goal.returns-in_err-whole-clause-asks
 returns-in_err-whole-clause-asks g c = asks_then _ _ _ c.loop-head.invariant.filled.asks c.in_err-whole.ensures.asks

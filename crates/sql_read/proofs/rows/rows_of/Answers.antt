@@ -49,5 +49,5 @@ returns-in_err-found-clause-fault g c are =
     let it = (table_first g.C.Selected.spelled g.C.Selected.Fits g.C.Columns.write g.C.Columns.IsStored _ _
     (subst AreRows (one-more rows index _ c.loop-row-test.true) (c.loop-row.invariant.left are))).0 in
     failed_as c.from_residual.result c.in_err-found.field-0.0 IsOfMemory
-    (c.in_err-found.ensures.fault (subst g.C.Selected.Fits (sym c.row-item.is) it.0) it.1.0 it.1.1.0 (ap g.C.Selected.spelled c.row-item.is ∙ it.1.1.1))
+    (c.in_err-found.ensures.fault (subst g.C.Selected.Fits (sym c.row-item.is) it.0) it.1.0 it.1.1 (ap g.C.Selected.spelled c.row-item.is ∙ it.1.2))
     c.from_residual.ensures.1

@@ -18,7 +18,7 @@ returns-clause-looks g c is_open =
       finds_as c.number-query.ensures (challenges_of_find g.S.Store c.args.conn.now T has book n),
     ))
     c.in_ok-rows.ensures (λ T whole all found.
-    let challenges = c.new.ensures ∙ c.in_ok-without_owners.ensures.rows ∙ ap (map (λ r. r.row)) found
+    let challenges = c.new-challenges.ensures ∙ c.in_ok-without_owners.ensures.rows ∙ ap (map (λ r. r.row)) found
     ∙ ap (λ (a : AuthorizationRow). rows_under a.number (challenge_rows T.authorizations)) all.1 ∙ all.0 in
     ((λ i. record (all.1 i) { challenges = challenges i }), tt))
 

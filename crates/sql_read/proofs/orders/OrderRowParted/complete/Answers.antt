@@ -15,7 +15,7 @@ returns-clause-looks g c is_open =
     step_made (λ T whole. filter (λ l. l.owner == c.args.self.number) (listed_rows T.orders))
     (λ T has book whole all. finds_as c.number-query.ensures (listed_by_find g.S.Store c.args.conn.now T has book c.args.self.number))
     c.in_ok-rows.ensures (λ T whole all found.
-    let listed = c.new.ensures ∙ c.in_ok-without_owners.ensures.rows ∙ ap (map (λ r. r.row)) found
+    let listed = c.new-listed.ensures ∙ c.in_ok-without_owners.ensures.rows ∙ ap (map (λ r. r.row)) found
     ∙ ap (λ (o : OrderRow). rows_under o.number (listed_rows T.orders)) all.1 ∙ all.0 in
     ((λ i. record (all.1 i) { listed = listed i }), tt))
 

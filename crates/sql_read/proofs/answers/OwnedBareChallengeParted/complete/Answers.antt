@@ -1,7 +1,7 @@
 use Rattle.std.proofs.Common.{◌∙◌}
 use Rattle.store_columns.specs.Flat.{with_answer}
 use Rattle.sql_read.proofs.Looking.{step_failed, step_made}
-use Rattle.sql_read.proofs.answers.OwnedParted.complete.Goals as goal
+use Rattle.sql_read.proofs.answers.OwnedBareChallengeParted.complete.Goals as goal
 
 pub returns-clause-looks : goal.returns-clause-looks
 returns-clause-looks g c is_open =
