@@ -12,7 +12,7 @@ use Rattle.sql_read.proofs.rows.complete_all.Goals as goal
 
 pub loop-head-init : goal.loop-head-init
 loop-head-init g c = record {
-  whole = sym c.into_iter-head-iterator.ensures.rest;
+  whole = sym c.into_iter-head-iterator.ensures.into_iter_gives.0;
   filled = filled_first g.P.Parted.HasItsPart g.P.Parted.bare (state g.S.Store c.args.conn.now) _ c.new-rows.ensures.items;
 }
 
@@ -58,7 +58,7 @@ pub returns-in_err-push-clause-looks : goal.returns-in_err-push-clause-looks
 returns-in_err-push-clause-looks g c is_open =
     let r = c.from_residual-in_err-push.result in
     stopped c.from_residual-in_err-push.ensures.0 (λ clean T has book may rows own.
-    all_of_memory r _ _ (failed_as r (Engine (SqliteFailure OutOfMemory)) IsOfMemory refl c.from_residual-in_err-push.ensures.1))
+    all_of_memory r (state g.S.Store c.args.conn.now) (state g.S.Store c.complete.new.conn) (failed_as r (Engine (SqliteFailure OutOfMemory)) IsOfMemory refl c.from_residual-in_err-push.ensures.1))
     (asks_then _ _ _ c.loop-head.invariant.filled.asks c.in_ok-whole.ensures.asks)
 
 pub returns-in_err-whole-clause-asks : goal.returns-in_err-whole-clause-asks
