@@ -33,7 +33,7 @@ loop-row-preserved g c =
           ∙ ap (map g.C.Columns.write) (sym c.in_ok-push.ensures.items);
       left = λ are.
           (table_first g.C.Selected.spelled g.C.Selected.Fits g.C.Columns.write g.C.Columns.IsStored _ _
-          (subst AreRows (one-more rows index c.row-item.result.now c.loop-row-test.true) (before.left are))).1;
+          (subst AreRows (one-more rows index c.row-item.result c.loop-row-test.true) (before.left are))).1;
     }
 
 pub returns-clause-rows : goal.returns-clause-rows
