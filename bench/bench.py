@@ -557,15 +557,13 @@ def missed(run):
         small ones are mostly noise."""
 
 
-WHERE = """The program knows from the calls before what is past its end, the row of `meta` and the newest nonces, and it writes
-only the rows that differ. Most of a small call is the engine's: rows that are written, the commit, and tables of its page
-cache, which it clears some ten times. The program reads whole rows and writes all columns that calls move, where C reads
-and writes the columns that it needs. What an order lists, and each challenge that changes, is a statement each."""
+WHERE = """Most of a small call is the engine's: rows that are written, the commit, and tables of its page cache, which it clears
+some ten times. The program reads whole rows and writes all columns that calls move, where C reads and writes the columns
+that it needs. What an order lists, and each challenge that changes, is a statement each."""
 
 CAPACITY = """A public certificate authority issues some millions of certificates a day (Let's Encrypt's own statistics), an
-in-house one seldom more than thousands. A house that outgrows one desk runs several, each with a file and a base of its own
-(`https://ca1.example`, `https://ca2.example`). No desk knows of another: an account is one desk's, and the front sends a
-request on by its host name alone. A key has one account at each desk."""
+in-house one seldom more than thousands. A house that outgrows one desk runs several, each with a file, a base
+(`https://ca1.example`, `https://ca2.example`) and accounts of its own; the front sends a request on by its host name alone."""
 
 
 def say_how():
