@@ -1,5 +1,5 @@
 -- What a word does, by what its steps say.
-use Rattle.std.proofs.Common.{◌≡◌, ◌∙◌, ◌≤◌, ℕ, zero, suc, List, [], Option, Result, Ok, Err, IsErrAnd, arith, ap, inl, inr, refl, unwrap_or}
+use Rattle.std.proofs.Common.{◌≡◌, ◌≤◌, ℕ, zero, suc, List, [], Option, Result, Ok, Err, IsErrAnd, arith, ap, inl, inr, refl, unwrap_or}
 use Rattle.app_batch.specs.InTurn.{AnswersFirst, StopsBehind}
 use Rattle.app_words.specs.declared.command.{Revocation.Revocation, Serving.Serving}
 use Rattle.app_tasks.specs.Deeds.{AnswersLines, Revokes, Serves, TakesAny, ask_of, served, watch_at}

@@ -91,10 +91,7 @@ impl<'a, E: Write> ServeConnections<'a, E> {
         let Ok(files) = Files::at(self.rt, self.path) else {
             return Err(Fault::Serve(ServeFault::Replaced));
         };
-        let (mut listener, address) = match take(self.rt, self.serving.listening) {
-            Ok(taken) => taken,
-            Err(fault) => return Err(fault),
-        };
+        let (mut listener, address) = take(self.rt, self.serving.listening)?;
         if tell_listening(out, self.serving.listening, address).is_err() {
             return Err(Fault::Output);
         }

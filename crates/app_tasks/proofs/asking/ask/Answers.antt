@@ -1,5 +1,5 @@
 use Rattle.std.proofs.Common.{inr, take}
 use Rattle.app_tasks.proofs.asking.ask.Goals as goal
 
-pub returns-in-Ok : goal.returns-in-Ok
-returns-in-Ok c = inr (take c.in-Ok.count c.ask_by.new.reply, c.hear.ensures)
+pub returns-in-Ok-ask_by : goal.returns-in-Ok-ask_by
+returns-in-Ok-ask_by c = inr (take c.in-Ok-ask_by.count c.ask_by.new.reply, c.hear.ensures)

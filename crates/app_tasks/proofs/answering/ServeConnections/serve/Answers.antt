@@ -1,12 +1,9 @@
-use Rattle.std.proofs.Common.{Err, Ok, inl, refl, subst, unwrap_or}
-use Rattle.app_tasks.specs.Deeds.{TakesAny, served, unserved}
+use Rattle.std.proofs.Common.{Err, Ok, refl, subst, unwrap_or}
+use Rattle.app_tasks.specs.Deeds.{TakesAny, served}
 use Rattle.desk_http.specs.{InTurn.ServesConnections, declared.moment_bound.MomentBound.MomentBound}
 use Rattle.app_tasks.proofs.Done.{served_until}
 use Rattle.app_tasks.proofs.Watching.{over_all}
 use Rattle.app_tasks.proofs.answering.ServeConnections.serve.Goals as goal
-
-pub returns-in-Err : goal.returns-in-Err
-returns-in-Err g c = unserved refl (inl c.in-Err.ensures)
 
 pub returns-in_err-serve_connections : goal.returns-in_err-serve_connections
 returns-in_err-serve_connections g c =
