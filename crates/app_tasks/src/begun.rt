@@ -145,17 +145,17 @@ impl EmptyFile {
     ///
     /// # Errors
     ///
-    /// Those of making it and looking at it; `WouldBlock` where another program has it, or put something into it; `Unsupported` where
-    /// a journal of SQLite's stands beside it; `AlreadyExists` where a log does that holds something.
+    /// Those of making it and looking at it; `WouldBlock` where another program has it, put something into it, or took its place;
+    /// `Unsupported` where a journal of SQLite's stands beside it; `AlreadyExists` where a log does that holds something.
     pub fn hold(rt: &HostRuntime, path: &str) -> io::Result<EmptyFile> {
-        if has_full_log(rt, path) {
+        if has_full_log(rt, path)? {
             return Err(ErrorKind::AlreadyExists.into());
         }
         if has_journal(rt, path) {
             return Err(ErrorKind::Unsupported.into());
         }
         let begun = Begun::at(rt, path)?;
-        match lock_empty(rt, path, begun.is_new) {
+        match lock_empty(rt, path, &begun) {
             Ok(file) => Ok(EmptyFile { begun, _file: file }),
             Err(error) => {
                 begun.take_back(rt, path, Unfinished::Unreached);
@@ -170,13 +170,15 @@ impl EmptyFile {
     }
 }
 
-// Locks the file without bytes at a path; where it is new it gets the owner of its directory.
-fn lock_empty(rt: &HostRuntime, path: &str, is_new: bool) -> io::Result<fs::File> {
+// Locks the file without bytes that was begun at a path, where it still stands there; a new one gets the owner of its directory.
+fn lock_empty(rt: &HostRuntime, path: &str, begun: &Begun) -> io::Result<fs::File> {
     let file = open(rt, path)?;
-    if !take_lock(&file) || file.metadata()?.len() > 0 {
+    let has_lock = take_lock(&file);
+    let found = file.metadata()?;
+    if !has_lock || found.len() > 0 || Place::of(&found) != begun.file || !begun.is_at(rt, path) {
         return Err(ErrorKind::WouldBlock.into());
     }
-    if is_new {
+    if begun.is_new {
         give_to_owner_of_directory(rt, &file, path)?;
     }
     Ok(file)

@@ -36,14 +36,16 @@ pub(crate) fn has_log(rt: &HostRuntime, path: &str) -> bool {
     }
 }
 
-/// Whether the log beside the path holds something, or can't be looked at; not so where there is none.
-pub(crate) fn has_full_log(rt: &HostRuntime, path: &str) -> bool {
-    match named(rt, path, "-wal") {
-        Ok(log) => match fs::symlink_metadata(rt, log.as_str()) {
-            Ok(found) => !found.is_file() || found.len() > EMPTY_LOG,
-            Err(error) => error.kind() != ErrorKind::NotFound,
-        },
-        Err(_) => true,
+/// Whether the log beside the path holds something; not so where there is none.
+///
+/// # Errors
+///
+/// Those of looking at it, and of memory.
+pub(crate) fn has_full_log(rt: &HostRuntime, path: &str) -> io::Result<bool> {
+    match fs::symlink_metadata(rt, named(rt, path, "-wal")?.as_str()) {
+        Ok(found) => Ok(!found.is_file() || found.len() > EMPTY_LOG),
+        Err(error) if error.kind() == ErrorKind::NotFound => Ok(false),
+        Err(error) => Err(error),
     }
 }
 
@@ -77,9 +79,9 @@ pub fn remove_empty_log(rt: &HostRuntime, log: &str) {
 ///
 /// # Errors
 ///
-/// Those of removing and syncing, and `Unsupported` where the log holds something: it stays.
+/// Those of looking at it, removing and syncing, and `Unsupported` where the log holds something: it stays.
 pub(crate) fn take_log_away(rt: &HostRuntime, path: &str) -> io::Result<()> {
-    if has_full_log(rt, path) {
+    if has_full_log(rt, path)? {
         return Err(ErrorKind::Unsupported.into());
     }
     match fs::remove_file(rt, beside(rt, path, "-wal")?.as_str()) {

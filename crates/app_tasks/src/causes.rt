@@ -156,7 +156,8 @@ impl FileCause {
 
     /// Why no copy takes the place of the file at a path, which holds no desk.
     pub fn not_replaced(rt: &HostRuntime, path: &str) -> FileCause {
-        if has_full_log(rt, path) && !fs::metadata(rt, path).is_ok_and(|found| found.len() > 0) {
+        let is_alone = matches!(has_full_log(rt, path), Ok(true));
+        if is_alone && !fs::metadata(rt, path).is_ok_and(|found| found.len() > 0) {
             FileCause::LogAlone
         } else {
             FileCause::deskless(rt, path)
