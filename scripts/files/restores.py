@@ -194,9 +194,9 @@ def restorings_killed(program, folder):
 
 
 def backups_killed(program, folder):
-    """Whenever a backup is killed nothing stands at its path, or the whole copy, which no word opens while it has two names."""
+    """Whenever a backup is killed nothing stands at its path, or the whole copy, of whose two names the next word takes one away."""
     path, to, preload = desk_with_calls(program, folder, "backed-up", example("order")[0]), f"{folder}/killed-copy.db", library(folder)
-    tables, found = tables_of(path, folder), []
+    tables, found, pairs = tables_of(path, folder), [], 0
 
     def again():
         remove(to)
@@ -207,12 +207,23 @@ def backups_killed(program, folder):
             see(f"{said}: the whole copy", tables_of(to, folder), tables)
             if os.path.exists(f"{to}-part"):
                 see(f"{said}: its two names", os.path.samefile(to, f"{to}-part"), True)
-                os.remove(f"{to}-part")
+                pairs += 1
         else:
             see(f"{said}: again", run(program, "backup", path, to), COPIED)
         see(f"{said}: a check", checked(program, to), (0, b"no fault\n", b""))
         see(f"{said}: nothing else is left", os.path.exists(f"{to}-part"), False)
     see("kills before the link, and behind it", (found == sorted(found), set(found)), (True, {False, True}))
+    see("a kill between the link and the removal", pairs, 1)
+    to, other = f"{folder}/other-part.db", f"{folder}/other-part.db-part"
+    see("a copy beside another part", run(program, "backup", path, to), COPIED)
+    put(other, b"a part of another copy")
+    see("a check beside it", checked(program, to), (0, b"no fault\n", b""))
+    see("it stays", bytes_of(other), b"a part of another copy")
+    os.remove(other)
+    os.link(to, other)
+    with held(to):
+        see("a copy of two names that another program has", run(program, "check", to)[0], 1)
+    see("it keeps both", os.path.samefile(to, other), True)
 
 
 def backups_together(program, folder):

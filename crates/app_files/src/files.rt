@@ -6,7 +6,7 @@ ghost use Rattle.desk_store.specs.Making.{IsOfStorage};
 ghost use Rattle.app_files.specs.Endings.{EndsMaking, IsLeft, IsUnopened, IsUntouched};
 
 use crate::left::Left;
-use app_tasks::{Begun, Unfinished, missing_log, remove_empty_log};
+use app_tasks::{Begun, Unfinished, lose_part, missing_log, remove_empty_log};
 use desk_files::{close_from, make_from, open_from};
 use desk_model::{Clock, Policy};
 use desk_store::{OpenFault, Store};
@@ -121,7 +121,8 @@ fn take_back<D: Disk>(rt: &HostRuntime, path: &str, begun: &Begun, left: &Left<D
     }
 }
 
-/// Opens the desk that a file holds. Where it is refused, no log is left that was not there before.
+/// Opens the desk that a file holds, whose second name goes that a stop left a backup. Where it is refused, no log is left that was not
+/// there before.
 ///
 /// # Errors
 ///
@@ -141,6 +142,7 @@ pub(crate) fn open<S: Start>(
         Ok(false) => return Err((OpenFault::NotADesk, Left::Untouched)),
         Err(fault) => return Err((fault, Left::Untouched)),
     }
+    lose_part(rt, path);
     let log = missing_log(rt, path);
     match open_from(rt, path, start) {
         Ok(store) => Ok(store),

@@ -37,6 +37,7 @@ pub use fault::{Fault, Wrong, refuse, write_fault};
 pub use filters::{Unasked, authorization_filter, order_filter};
 pub use limits::{Limit, broken_limit};
 pub use locks::wait_for;
+pub use parts::lose_part;
 pub use ports::PortCause;
 pub use reports::{CheckStatuses, ListRows, ShowPage, TellAbout, form};
 pub use revoking::Revoke;

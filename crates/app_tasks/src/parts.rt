@@ -1,7 +1,7 @@
 //! A new file under a name of its own, beside the path that it gets once it is whole.
 
 use crate::beside::{named, sync_directory};
-use crate::copies::make_new;
+use crate::copies::{are_same, make_new};
 use crate::locks::{is_held, take_lock};
 use std::fs::{self, Metadata, OpenOptions, Permissions};
 use std::io::{self, ErrorKind};
@@ -68,7 +68,7 @@ impl Part {
         }
     }
 
-    // Takes its own name away, where it has another, and syncs the directory.
+    // Takes its own name away, now that it has another, and syncs the directory.
     fn lose_name(&self, rt: &HostRuntime, to: &str) -> io::Result<()> {
         fs::remove_file(rt, self.path.as_str())?;
         sync_directory(rt, to)
@@ -90,6 +90,16 @@ impl Part {
             Ok(()) => true,
             Err(error) => error.kind() == ErrorKind::NotFound,
         }
+    }
+}
+
+/// Takes the first name of the file at a path away, `-part` behind the path, where that is a name of this file: a copy that was stopped
+/// between its link and the removal of its part has both. While a program has the file it stays.
+pub fn lose_part(rt: &HostRuntime, path: &str) {
+    if let Ok(part) = named(rt, path, "-part")
+        && are_same(rt, path, part.as_str())
+    {
+        remove_left(rt, part.as_str());
     }
 }
 
