@@ -47,7 +47,7 @@ room_at() {
 look() {
     local folder fewer
     command -v rt >/dev/null ||
-        fail 'rt is not on PATH: this repository wants the Rattle kit rattle-kit-13f; link its bin/rt as /usr/local/bin/rt'
+        fail 'rt is not on PATH: this repository wants the Rattle kit, rattle-kit-13b or 13f; link its bin/rt as /usr/local/bin/rt'
     for folder in . bin crates .git crates/*; do
         [ ! -e "$folder" ] || [ -w "$folder" ] || fail "$(realpath "$folder") can't be written: make a clone of your own, on a disk that can"
     done

@@ -4,7 +4,8 @@
   python3 -m scripts.gate.warm NAME    those below NAME alone, and then names the crates that a check of it proves first, and why
 
 The gate (`rt ci`) keeps what it proved by the sums of all that it read, and puts no stamp beside a library; a check (`rt check`) takes a library by its stamp
-alone. This asks the kit's own rt for the first, and writes the second. No verdict rests on it: the gate looks at neither.
+alone. This asks the kit's own rt for the first, and writes the second. No verdict rests on it: the gate looks at neither. Where the kit's gate keeps nothing,
+as that of 13b, a check proves what stands below it, once for each clone.
 """
 import importlib.machinery
 import importlib.util
@@ -26,9 +27,17 @@ def kit():
 
 def warm(rt, name=None):
     """Gives each library that can be given, below a crate where one is named; returns these libraries, lowest first."""
+    keeps = hasattr(rt, "Kept")
     rt.Crate.allowed = rt.handles_of(ROOT)
-    every = rt.crates_of(ROOT)
+    every = rt.crates_of(ROOT) if keeps else rt.rtlib.crates_below(ROOT)
     crates = next((it.below() for it in every if it.name == name), [it for it in every if it.makes_rlib()])
+    if keeps:
+        give(rt, crates)
+    return crates
+
+
+def give(rt, crates):
+    """Gives each of these libraries that the gate kept, lowest first."""
     held, kept = rt.rtlib.lock(crates), rt.Kept(crates)
     for crate in crates:
         if not all(it.is_built() for it in crate.below()):
@@ -38,7 +47,6 @@ def warm(rt, name=None):
             write(f"{crate.folder}/out/rlib/stamp", crate.stamp())
     for it in held:
         os.close(it)
-    return crates
 
 
 def proved_first(crates):
