@@ -203,6 +203,7 @@ def backups(program, folder):
     for there in (to, path, folder, f"{folder}/link.db"):
         see(f"a backup over {there}", run(program, "backup", path, there), taken)
     see("what is there stays", (tables_of(to, folder), tables_of(path, folder), os.path.exists(f"{folder}/nowhere.db")), (tables, tables, False))
+    beside_logs(program, path, folder)
     none = f"{folder}/none/copy.db"
     see("a backup without a directory", run(program, "backup", path, none, "--verbose"),
         (1, b"no fault\n", b"desk: copy\n" + because(none, "its directory is missing")))
@@ -215,6 +216,21 @@ def backups(program, folder):
     wrong = (3, b"account 1: stored revoked, derived deactivated\n", b"")
     see("a backup of a wrong status", run(program, "backup", path, f"{folder}/wrong.db"), wrong)
     see("no copy of a wrong status", os.path.exists(f"{folder}/wrong.db"), False)
+
+
+def beside_logs(program, path, folder):
+    """No copy is made beside the log of another desk; one that holds nothing is no such log."""
+    alone, log = f"{folder}/alone.db", fresh(program, folder, "logged")
+    with subprocess.Popen([program, "batch", "--file", log], stdin=subprocess.PIPE, stdout=subprocess.PIPE) as batch:
+        answered(batch, example("order")[0][0])
+        batch.kill()
+    shutil.copy(f"{log}-wal", f"{alone}-wal")
+    taken, stands = b"desk: there is a file already\n", "the log of another desk stands there, the file -wal beside it"
+    see("a backup beside the log of another desk", run(program, "backup", path, alone, "--verbose"), (1, b"", taken + because(alone, stands)))
+    see("that log stays, alone", (bytes_of(f"{alone}-wal") == bytes_of(f"{log}-wal"), os.path.exists(alone)), (True, False))
+    put(f"{alone}-wal")
+    see("a backup beside an empty log", run(program, "backup", path, alone), (0, b"no fault\ncopied\n", b""))
+    see("its tables beside that", tables_of(alone, folder), tables_of(path, folder))
 
 
 def copies_by_hand(program, folder):

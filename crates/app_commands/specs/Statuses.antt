@@ -130,7 +130,7 @@ module _ {D : Type 0} (g : disk.Ghosts D) (image : Image) where
     pub told : IsToldCopied checked how
     pub silent : checked ≢ Ok 0 → is ≡ written
 
-  -- something stood where the copy was to be made, and no file was opened; or the desk was checked first
+  -- something stood where the copy was to be made, or a log beside, and no file was opened; or the desk was checked first
   abbrev pub EndsBackUp : (was is : Option (List ℕ)) → Result ℕ Fault → Left D g → Type 0
   EndsBackUp was is how left = ((how ≡ Err (fault.Copy copyfault.Taken)) × IsIdle was is left) ⊎ CopiesChecked was is how left
 

@@ -32,10 +32,10 @@ pub(crate) fn explain<D: Disk, E: Write>(
             let _ = writeln!(errors, "desk: {}", broken_limit(terms));
         }
         (Err(Fault::Copy(fault)), Command::BackUp { file, to }) => {
-            explain_copy(errors, fault, file, to)
+            explain_copy(rt, errors, fault, file, to)
         }
         (Err(Fault::Copy(fault)), Command::Restore { copy, file }) => {
-            explain_copy(errors, fault, copy, file)
+            explain_copy(rt, errors, fault, copy, file)
         }
         (Err(Fault::Place(fault)), Command::Restore { file, .. }) => {
             let _ = writeln!(
@@ -72,9 +72,20 @@ pub(crate) fn explain<D: Disk, E: Write>(
 }
 
 // Says which of its files a copy failed at, and why.
-fn explain_copy<E: Write>(errors: &mut E, fault: CopyFault, file: &str, to: &str) {
+fn explain_copy<E: Write>(
+    rt: &HostRuntime,
+    errors: &mut E,
+    fault: CopyFault,
+    file: &str,
+    to: &str,
+) {
     let _ = match fault {
-        CopyFault::Taken => writeln!(errors, "desk: {}: {}", Shown(to), FileCause::Taken),
+        CopyFault::Taken => writeln!(
+            errors,
+            "desk: {}: {}",
+            Shown(to),
+            FileCause::not_copied(rt, to)
+        ),
         CopyFault::Same => return,
         CopyFault::Unread(cause) => writeln!(errors, "desk: {}: {cause}", Shown(file)),
         CopyFault::Failed(cause) => writeln!(errors, "desk: {}: {cause}", Shown(to)),

@@ -28,10 +28,20 @@ pub(crate) fn named(rt: &HostRuntime, path: &str, ending: &str) -> io::Result<St
     }
 }
 
+/// Whether anything stands at a path, if only a link that leads nowhere.
+pub(crate) fn stands(rt: &HostRuntime, path: &str) -> bool {
+    fs::symlink_metadata(rt, path).is_ok()
+}
+
+/// Whether a log that can be looked at stands beside the path, and holds something.
+pub(crate) fn is_beside_log(rt: &HostRuntime, path: &str) -> bool {
+    matches!(has_full_log(rt, path), Ok(true))
+}
+
 /// Whether a log stands beside the path.
 pub(crate) fn has_log(rt: &HostRuntime, path: &str) -> bool {
     match named(rt, path, "-wal") {
-        Ok(log) => fs::symlink_metadata(rt, log.as_str()).is_ok(),
+        Ok(log) => stands(rt, log.as_str()),
         Err(_) => false,
     }
 }

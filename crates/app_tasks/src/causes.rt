@@ -1,6 +1,6 @@
 //! Why a file is not opened, made or copied, as looking at it tells.
 
-use crate::beside::{has_directory, has_full_log, has_log, named};
+use crate::beside::{has_directory, has_log, is_beside_log, named, stands};
 use crate::locks::is_held;
 use std::fs::{self, OpenOptions};
 use std::io::{self, ErrorKind};
@@ -112,6 +112,15 @@ impl FileCause {
         }
     }
 
+    /// Why no copy gets a path, at which something stands, or beside which a log does.
+    pub fn not_copied(rt: &HostRuntime, path: &str) -> FileCause {
+        if !stands(rt, path) && is_beside_log(rt, path) {
+            FileCause::LogAlone
+        } else {
+            FileCause::Taken
+        }
+    }
+
     /// Why a new file could not be made, by an error of the system.
     pub(crate) fn unmade(error: io::Error) -> FileCause {
         match FileCause::of(error) {
@@ -156,8 +165,7 @@ impl FileCause {
 
     /// Why no copy takes the place of the file at a path, which holds no desk.
     pub fn not_replaced(rt: &HostRuntime, path: &str) -> FileCause {
-        let is_alone = matches!(has_full_log(rt, path), Ok(true));
-        if is_alone && !fs::metadata(rt, path).is_ok_and(|found| found.len() > 0) {
+        if is_beside_log(rt, path) && !fs::metadata(rt, path).is_ok_and(|found| found.len() > 0) {
             FileCause::LogAlone
         } else {
             FileCause::deskless(rt, path)

@@ -2,7 +2,7 @@
 ghost use Rattle.std.specs.Prelude.{IsTrue};
 ghost use Rattle.std.specs.Fs.{asks_create_new};
 
-use crate::beside::take_log_away;
+use crate::beside::{is_beside_log, stands, take_log_away};
 use crate::causes::FileCause;
 use crate::parts::Part;
 use std::fs::{self, OpenOptions};
@@ -92,9 +92,9 @@ pub(crate) fn make_new(rt: &HostRuntime, path: &str) -> io::Result<fs::File> {
     as_new().open(rt, path)
 }
 
-/// Whether anything stands at a path, if only a link that leads nowhere.
+/// Whether anything stands at a path, if only a link that leads nowhere, or the log of another desk beside it.
 pub fn is_taken(rt: &HostRuntime, path: &str) -> bool {
-    fs::symlink_metadata(rt, path).is_ok()
+    stands(rt, path) || is_beside_log(rt, path)
 }
 
 /// Whether both paths lead to one file.

@@ -1,6 +1,6 @@
 //! A new file under a name of its own, beside the path that it gets once it is whole.
 
-use crate::beside::{named, sync_directory};
+use crate::beside::{is_beside_log, named, sync_directory};
 use crate::copies::{are_same, make_new};
 use crate::locks::{is_held, take_lock};
 use std::fs::{self, Metadata, OpenOptions, Permissions};
@@ -52,14 +52,15 @@ impl Part {
             .set_permissions(Permissions::from_mode(found.mode() & 0o777))
     }
 
-    /// Gives it a path at which nothing stands, and syncs the directory. Where this fails nothing of it stands there.
+    /// Gives it a path at which nothing stands, and syncs the directory. Where this fails nothing of it stands there. Its lock is held
+    /// until it is dropped, so no program that keeps to that makes it a log before.
     ///
     /// # Errors
     ///
-    /// Those of the system, and `AlreadyExists` where something stands there.
+    /// Those of the system, and `AlreadyExists` where something stands there, or the log of another desk beside it.
     pub(crate) fn link(&self, rt: &HostRuntime, to: &str) -> io::Result<()> {
         fs::hard_link(rt, self.path.as_str(), to)?;
-        match self.lose_name(rt, to) {
+        match self.settle(rt, to) {
             Ok(()) => Ok(()),
             Err(error) => {
                 let _ = fs::remove_file(rt, to);
@@ -68,7 +69,15 @@ impl Part {
         }
     }
 
-    // Takes its own name away, now that it has another, and syncs the directory.
+    // Takes its own name away, now that it has another, where no log stands beside that.
+    fn settle(&self, rt: &HostRuntime, to: &str) -> io::Result<()> {
+        if is_beside_log(rt, to) {
+            return Err(ErrorKind::AlreadyExists.into());
+        }
+        self.lose_name(rt, to)
+    }
+
+    // Takes its own name away, and syncs the directory.
     fn lose_name(&self, rt: &HostRuntime, to: &str) -> io::Result<()> {
         fs::remove_file(rt, self.path.as_str())?;
         sync_directory(rt, to)

@@ -141,10 +141,11 @@ pub(crate) const PAGE: &str = after!(
 pub(crate) const BACKUP: &str = after!(
     "Copies:
   The copy is the desk as it stands, in one file, which is its user's alone, and it is on the disk
-  once copied is printed. A file that stands at TO is left as it is. A desk with a wrong stored status
-  is listed, as check does, and not copied. While it is made the copy is TO-part, and a stop leaves
-  nothing else: the next backup to TO removes it. Its file system has to have hard links. A copy by
-  hand takes a desk that no program has: while one does, some of the desk is in FILE-wal alone.",
+  once copied is printed. A file that stands at TO is left as it is; so is the log of one, TO-wal, beside
+  which no copy is made. A desk with a wrong stored status is listed, as check does, and not copied.
+  While it is made the copy is TO-part, and a stop leaves nothing else: the next backup to TO removes
+  it. Its file system has to have hard links. A copy by hand takes a desk that no program has: while one
+  does, some of the desk is in FILE-wal alone.",
     Example: "desk backup /var/lib/desk/desk.db /var/backups/desk.db"
 );
 
