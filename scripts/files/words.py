@@ -535,6 +535,9 @@ def wrong_words(program, folder):
         see(f"{word} without a file", run(program, word), (2, b"", run(program, word)[2]))
         see(f"{word} of a missing file", run(program, word, f"{folder}/none.db"), NOT_A_DESK)
         see_wrong(program, (word, desk.path), ("1",))
+    no_text = (2, b"", b"error: a word is not UTF-8\n\nFor more information, try '--help'.\n")
+    for words in ((b"\xff",), ("status", b"x\xff.db"), ("make", b"x\xff.db", "--base", BASE), ("--help", b"\xc0\x80")):
+        see(f"{words}", run(program, *words), no_text)
     see("no file is made", os.path.exists(f"{folder}/none.db"), False)
 
 

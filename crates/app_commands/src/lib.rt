@@ -7,4 +7,4 @@ mod explaining;
 mod restoring;
 mod running;
 
-pub use running::{run_command, run_words, tell_no_memory};
+pub use running::{run_command, run_words, tell_no_memory, tell_not_text};

@@ -45,6 +45,9 @@ const TERMS: Terms<'static> = Terms {
     authz_life: AUTHZ_LIFE.seconds,
 };
 
+// What is said of a word that is not UTF-8.
+const NOT_TEXT: &str = "error: a word is not UTF-8\n\nFor more information, try '--help'.\n";
+
 /// Does what the words of a command line ask for, of which the first is the program's name, and gives the exit status: 0 where
 /// it is done, 1 after a fault or a refusal, 2 where the words are wrong or a limit is broken, 3 where a stored status is wrong.
 /// Where the words say nothing of the causes of faults, these are said if standard error is a terminal.
@@ -98,6 +101,21 @@ pub fn tell_no_memory<E: Write>(errors: &mut E) -> u8
     ensures { result ≡ 1 }
 {
     write_fault(errors, Fault::Desk(DeskFault::Memory))
+}
+
+/// Says that a word of a command line is not UTF-8, as wrong words are told, and gives the exit status.
+pub fn tell_not_text<E: Write>(errors: &mut E) -> u8
+    ensures { result ≡ 2 }
+{
+    write_wrong(errors, NOT_TEXT)
+}
+
+// Says what is wrong with the words, and gives the exit status.
+fn write_wrong<E: Write>(errors: &mut E, text: &str) -> u8
+    ensures { result ≡ 2 }
+{
+    let _ = write!(errors, "{text}");
+    2
 }
 
 // Does a command, gives up what is left of its files, and gives the exit status.
@@ -455,10 +473,7 @@ fn tell_words<W: Write, E: Write>(fault: &WordsFault, out: &mut W, errors: &mut 
             Ok(()) => 0,
             Err(_) => write_fault(errors, Fault::Output),
         },
-        WordsFault::Wrong(text) => {
-            let _ = write!(errors, "{text}");
-            2
-        }
+        WordsFault::Wrong(text) => write_wrong(errors, text.as_str()),
         WordsFault::Memory => tell_no_memory(errors),
     }
 }

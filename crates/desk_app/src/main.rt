@@ -1,8 +1,8 @@
 //! The program `desk`: it gives the words of its command line to `app_commands`, and ends by the exit status. Nothing stands on it.
 #![tactic(auto)]
 
-use app_commands::{run_words, tell_no_memory};
-use std::io::{self, IsTerminal};
+use app_commands::{run_words, tell_no_memory, tell_not_text};
+use std::io::{self, ErrorKind, IsTerminal};
 use std::process::ExitCode;
 
 fn main(rt: HostRuntime) -> ExitCode {
@@ -15,6 +15,7 @@ fn main(rt: HostRuntime) -> ExitCode {
             &mut io::writer(&rt),
             &mut rt.stderr(),
         ),
+        Err(error) if error.kind() == ErrorKind::InvalidData => tell_not_text(&mut rt.stderr()),
         Err(_) => tell_no_memory(&mut rt.stderr()),
     };
     ExitCode::from(status)
