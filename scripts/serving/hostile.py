@@ -17,8 +17,7 @@ import tempfile
 import time
 
 from scripts.model.texts import canonical
-from scripts.serving.serve import reset
-from scripts.serving.served import NEW_NONCE, Client, Reply, Server, envelope, received, request, serial_of
+from scripts.serving.served import NEW_NONCE, Client, Reply, Server, envelope, received, request, reset, serial_of
 from scripts.specification import BODY, HEAD, PHRASES, ROUTES
 from scripts.trying import BASE, begin, faults, finish, fresh, key_of, order_of, run, see, tables_of
 

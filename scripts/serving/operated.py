@@ -5,12 +5,16 @@ import re
 import shutil
 import time
 
-from scripts.serving.served import (DIRECTORY, NEW_NONCE, STOPPED, Client, Reply, Server, compact, directory_reply, refusal, reply, request,
+from scripts.serving.served import (DIRECTORY, NEW_NONCE, STOPPED, Client, Reply, Server, compact, directory_reply, refusal, reply, request, reset,
                                     stranger)
 from scripts.trying import DEVICE, fresh, run, run_on_full, see, tables_of
 
 # What is said of a file beside the port, and of what is no number in its place.
 BESIDE, PLACE = b"no FILE stands before N: desk WORD N --port P", b"with --port N stands in the place of FILE: a number, 1 to 2^62"
+# What is told of a client that broke off.
+BROKEN_OFF = b"desk: connection\ndesk: the client broke off, or did not send its request within 10 seconds\n"
+# So many nonces that the engine copies its log of 1000 pages into the file at least once.
+CALLS = 600
 LINE = re.compile(r"(\d{4}-\d\d-\d\dT\d\d:\d\d:\d\dZ) (\S+) (\S+) (\d+|-) (\d+|-) (\d+|-) (\d+|-)")
 
 
@@ -98,25 +102,52 @@ def replaced(program, folder):
     def cut(path):
         os.truncate(path, os.path.getsize(path) // 2)
 
+    def cut_log(path):
+        os.truncate(f"{path}-wal", 0)
+
     def unlink_log(path):
         unlink(f"{path}-wal")
 
     def replace_log(path):
         replace(f"{path}-wal")
 
-    for change in (unlink, replace, cut, unlink_log, replace_log):
+    for change in (unlink, replace, cut, unlink_log, replace_log, cut_log):
         server = Server(program, fresh(program, folder, change.__name__), "--verbose")
         see(f"{change.__name__}: before", server.ask(DIRECTORY), directory_reply())
         change(server.path)
-        see(f"{change.__name__}: no reply", server.ask(NEW_NONCE) in (b"", b"(reset)"), True)
-        cause = f"desk: {server.path}: it or its log was replaced, cut or removed while it was served\n".encode()
-        see(f"{change.__name__}: the end", server.ended(), (1, b"", DEVICE + cause))
+        see_ended(change.__name__, server)
     server = Server(program, fresh(program, folder, "beside"))
     shutil.copy(server.path, f"{server.path}.copy")
     os.rename(server.path, f"{server.path}.moved")
     os.rename(f"{server.path}.moved", server.path)
     see("a file that was copied, moved and moved back", server.ask(DIRECTORY), directory_reply())
     see("beside: the end", server.stop(), STOPPED)
+
+
+def see_ended(what, server, told=b""):
+    """The next call has no reply, and ends the program, which has told this before."""
+    see(f"{what}: no reply", server.ask(NEW_NONCE) in (b"", b"(reset)"), True)
+    cause = f"desk: {server.path}: it or its log was replaced, cut or removed while it was served\n".encode()
+    see(f"{what}: the end", server.ended(), (1, b"", told + DEVICE + cause))
+
+
+def shortened(program, folder):
+    """A log or a file that is shorter than the latest call left it ends the program, though it is longer than it was; the engine's own cut does not."""
+    server = Server(program, fresh(program, folder, "shortened-log"), "--verbose")
+    begun = os.path.getsize(f"{server.path}-wal")
+    see("shortened-log: a call", Reply(server.ask(NEW_NONCE)).status, 204)
+    os.truncate(f"{server.path}-wal", begun)
+    with server.connect() as gone:
+        reset(gone)
+    see_ended("shortened-log", server, BROKEN_OFF)
+    server = Server(program, fresh(program, folder, "shortened"), "--verbose")
+    begun, sizes = os.path.getsize(server.path), []
+    for _ in range(CALLS):
+        see("shortened: a call", Reply(server.ask(NEW_NONCE)).status, 204)
+        sizes.append(os.path.getsize(f"{server.path}-wal"))
+    see("the engine has cut its log, and made its file longer", (sizes != sorted(sizes), os.path.getsize(server.path) > begun), (True, True))
+    os.truncate(server.path, begun)
+    see_ended("shortened", server)
 
 
 def revocations_asked(program, server, place):
@@ -192,4 +223,4 @@ def ended_by(program, said, kind="account"):
     return found
 
 
-OPERATED = (logged, log_that_fails, replaced, revoked)
+OPERATED = (logged, log_that_fails, replaced, shortened, revoked)

@@ -9,7 +9,6 @@ tried.
 import os
 import signal
 import socket
-import struct
 import sys
 import tempfile
 import threading
@@ -19,7 +18,7 @@ from scripts.serving.bad_requests import bad_requests, limits, padded
 from scripts.serving.broken_connections import failing_reads, failing_writes
 from scripts.serving.operated import OPERATED
 from scripts.serving.served import (DIRECTORY, NEW_NONCE, STOPPED, Client, Reply, Server, compact, directory_reply, masked, nonce_reply, received,
-                                    refusal, reply, request, serial_of, signed)
+                                    refusal, reply, request, reset, serial_of, signed)
 from scripts.serving.sockets import AT_SOCKETS, silent_at_socket
 from scripts.serving.stories import max_ahead, max_step, set_machine, stories
 from scripts.specification import BODY, HEAD, ROUTES, WORKED
@@ -144,12 +143,6 @@ def pipelined(program, folder):
     for _ in range(5):
         see("a body above the limit that is sent whole", server.ask(large), refusal(16, "/new-account"))
     see("pipelined: the end", server.stop(), STOPPED)
-
-
-def reset(client):
-    """Closes a connection by a reset."""
-    client.setsockopt(socket.SOL_SOCKET, socket.SO_LINGER, struct.pack("ii", 1, 0))
-    client.close()
 
 
 def gone(program, folder):

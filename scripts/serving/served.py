@@ -7,6 +7,7 @@ import re
 import select
 import signal
 import socket
+import struct
 import subprocess
 import tempfile
 import threading
@@ -119,6 +120,12 @@ def serial_of(nonce):
 def masked(data):
     """A reply's bytes, with the random bytes of its nonce put to zero."""
     return NONCE.sub(lambda found: nonce_text(serial_of(found[1])).encode(), data)
+
+
+def reset(client):
+    """Closes a connection by a reset."""
+    client.setsockopt(socket.SOL_SOCKET, socket.SO_LINGER, struct.pack("ii", 1, 0))
+    client.close()
 
 
 # ---- the program

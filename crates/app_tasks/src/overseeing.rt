@@ -33,13 +33,20 @@ impl Identity {
         })
     }
 
-    // Whether this is the file that it was then.
-    fn is_same(self, then: Identity) -> bool {
-        self.device == then.device && self.number == then.number
+    // Whether this is the file that it was then, and no shorter.
+    fn is_whole(self, then: Identity) -> bool {
+        self.device == then.device && self.number == then.number && self.length >= then.length
+    }
+
+    // Takes the length of the file at a path, where it can be looked at.
+    fn keep_length(&mut self, rt: &HostRuntime, path: &str) {
+        if let Ok(found) = fs::metadata(rt, path) {
+            self.length = found.len();
+        }
     }
 }
 
-/// The file of a desk and its log beside it, as their paths led to them when it was opened.
+/// The file of a desk and its log beside it, as their paths led to them when it was opened, and as long as the latest call left them.
 #[derive(Drop)]
 pub(crate) struct Files<'a> {
     path: &'a str,
@@ -65,17 +72,21 @@ impl<'a> Files<'a> {
         })
     }
 
-    // Whether the paths lead to them still, and the file is no shorter. The engine cuts its log itself.
+    // Whether the paths lead to them still, and none is shorter.
     fn are_in_place(&self, rt: &HostRuntime) -> bool {
         match (
             Identity::of(rt, self.path),
             Identity::of(rt, self.log_path.as_str()),
         ) {
-            (Ok(file), Ok(log)) => {
-                file.is_same(self.file) && file.length >= self.file.length && log.is_same(self.log)
-            }
+            (Ok(file), Ok(log)) => file.is_whole(self.file) && log.is_whole(self.log),
             _ => false,
         }
+    }
+
+    // Keeps how long they are behind a call, in which the engine may have cut its log.
+    fn keep_lengths(&mut self, rt: &HostRuntime) {
+        self.file.keep_length(rt, self.path);
+        self.log.keep_length(rt, self.log_path.as_str());
     }
 }
 
@@ -96,7 +107,11 @@ impl<'a, W: Write> Overseer for FileOverseer<'a, W> {
         self.files.are_in_place(self.rt)
     }
 
+    // Where no request was read no call was made, and the entry has no time: what was cut meanwhile is seen at the next call.
     fn log_entry(&mut self, entry: Entry<'_>) -> bool {
+        if entry.micros.is_some() {
+            self.files.keep_lengths(self.rt);
+        }
         match self.log {
             Some(form) => {
                 write_entry(self.rt.alloc(), self.out, form, entry).is_ok()
