@@ -105,13 +105,18 @@ def replaced(program, folder):
     def cut_log(path):
         os.truncate(f"{path}-wal", 0)
 
+    def link_to_new_place(path):
+        os.mkdir(f"{path}.place")
+        os.rename(path, f"{path}.place/desk.db")
+        os.symlink(f"{path}.place/desk.db", path)
+
     def unlink_log(path):
         unlink(f"{path}-wal")
 
     def replace_log(path):
         replace(f"{path}-wal")
 
-    for change in (unlink, replace, cut, unlink_log, replace_log, cut_log):
+    for change in (unlink, replace, cut, unlink_log, replace_log, cut_log, link_to_new_place):
         server = Server(program, fresh(program, folder, change.__name__), "--verbose")
         see(f"{change.__name__}: before", server.ask(DIRECTORY), directory_reply())
         change(server.path)
@@ -122,6 +127,11 @@ def replaced(program, folder):
     os.rename(f"{server.path}.moved", server.path)
     see("a file that was copied, moved and moved back", server.ask(DIRECTORY), directory_reply())
     see("beside: the end", server.stop(), STOPPED)
+    os.mkdir(f"{folder}/linked")
+    os.symlink(fresh(program, folder, "linked/desk"), f"{folder}/linked.db")
+    server = Server(program, f"{folder}/linked.db")
+    see("a link that was there before", Reply(server.ask(NEW_NONCE)).status, 204)
+    see("a link that was there before: the end", server.stop(), STOPPED)
 
 
 def see_ended(what, server, told=b""):

@@ -6,7 +6,7 @@ use crate::beside::beside;
 use crate::call_log::write_entry;
 use app_words::LogForm;
 use desk_http::{Entry, Overseer};
-use std::fs;
+use std::fs::{self, Metadata};
 use std::io::{self, Write};
 use std::os::unix::fs::MetadataExt;
 
@@ -25,12 +25,20 @@ impl Identity {
     ///
     /// Where the path leads to none, or cannot be looked at.
     pub(crate) fn of(rt: &HostRuntime, path: &str) -> io::Result<Identity> {
-        let found = fs::metadata(rt, path)?;
-        Ok(Identity {
+        Ok(Identity::told_by(&fs::metadata(rt, path)?))
+    }
+
+    // That of what stands at a path itself, be it a link.
+    fn at(rt: &HostRuntime, path: &str) -> io::Result<Identity> {
+        Ok(Identity::told_by(&fs::symlink_metadata(rt, path)?))
+    }
+
+    fn told_by(found: &Metadata) -> Identity {
+        Identity {
             device: found.dev(),
             number: found.ino(),
             length: found.len(),
-        })
+        }
     }
 
     // Whether this is the file that it was then, and no shorter.
@@ -50,6 +58,8 @@ impl Identity {
 #[derive(Drop)]
 pub(crate) struct Files<'a> {
     path: &'a str,
+    // Where the links of the path led; the engine has its log beside that.
+    real_path: String,
     file: Identity,
     log_path: String,
     log: Identity,
@@ -66,19 +76,24 @@ impl<'a> Files<'a> {
         let log = Identity::of(rt, log_path.as_str())?;
         Ok(Files {
             path,
+            real_path: beside(rt, path, "")?,
             file: Identity::of(rt, path)?,
             log_path,
             log,
         })
     }
 
-    // Whether the paths lead to them still, and none is shorter.
+    // Whether the path leads to them still, and none is shorter. The file stands where it did, so an opening finds this log beside it.
+    // Nothing is allocated, since a call that finds no memory is to be told as such.
     fn are_in_place(&self, rt: &HostRuntime) -> bool {
         match (
             Identity::of(rt, self.path),
-            Identity::of(rt, self.log_path.as_str()),
+            Identity::at(rt, self.real_path.as_str()),
+            Identity::at(rt, self.log_path.as_str()),
         ) {
-            (Ok(file), Ok(log)) => file.is_whole(self.file) && log.is_whole(self.log),
+            (Ok(found), Ok(file), Ok(log)) => {
+                found.is_whole(self.file) && file.is_whole(self.file) && log.is_whole(self.log)
+            }
             _ => false,
         }
     }
