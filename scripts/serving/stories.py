@@ -242,11 +242,15 @@ def max_ahead(program, folder):
     server = Server(program, path, "--max-ahead", "1", env=machine.env)
     see("a new desk: a nonce", server.ask(NEW_NONCE), nonce_reply(1))
     see("a new desk: the end", server.stop(), STOPPED)
-    for moment, said in ((TODAY + STEP, b""), (TODAY + 2 * STEP, b""), (-1, b""), (TODAY, LEAD % STEP)):
+    for moment, said in ((TODAY + STEP, b""), (TODAY + 2 * STEP, b""), (TODAY, LEAD % STEP)):
         machine.set(moment)
         for words in ((), ("--max-ahead", str(STEP)), ("--max-ahead", "250000000000")):
             server = Server(program, path, *words, env=machine.env)
             see(f"a machine at {moment}, {words}: the end", server.stop(), (*STOPPED[:2], said))
+    machine.set(-1)
+    see("a machine before 1970: the end", Server(program, path, env=machine.env).stop(), STOPPED)
+    found = run(program, "serve", path, "--port", "0", "--max-ahead", "250000000000", env=machine.env)
+    see("a machine before 1970, --max-ahead", found, (1, b"", b"desk: clock\n"))
     before = tables_of(path, folder)
     for moment, most in ((TODAY, "1"), (TODAY, str(STEP - 1)), (TODAY + STEP - 2, "1"), (0, "86400")):
         machine.set(moment)

@@ -9,7 +9,7 @@ use Rattle.app_words.specs.declared.fault.WordsFault.{WordsFault}
 use Rattle.app_words.specs.declared.fault.WordsFault.TheVariants as wordsfault
 use Rattle.app_tasks.specs.Asked.{IsSaid, RevokesServed, refused, revoked, unheard}
 use Rattle.app_tasks.specs.Deeds.{AnswersReader, ChecksStatuses, ListsRows, RevokesTarget, ServesClients, TellsAbout, TellsPage, AnswersLines, ByDesk, IsTold}
-use Rattle.app_tasks.specs.Deeds.{Revokes, Serves, ServesUnlessAhead, adopted, clocked, clockless, served, unadopted, unserved}
+use Rattle.app_tasks.specs.Deeds.{Revokes, Serves, ServesByMoment, ServesUnlessAhead, adopted, clocked, clockless, served, unadopted, unserved}
 use Rattle.app_tasks.specs.Deeds.{IsUntaken, how_checked, how_listed, how_served}
 use Rattle.app_tasks.specs.{Faults.IsOfOpening, declared.fault.Fault.Fault}
 use Rattle.app_commands.specs.Statuses.{CopiesChecked, EndsBackUp, EndsRestore, IsToldCopied, IsToldWords}
@@ -131,15 +131,20 @@ small_client v causes s clock desk ended how (unserved same (inr (inl it))) = sm
 small_client v causes s clock desk ended how (unserved same (inr (inr it))) = small_as how _ it (omega arith)
 small_client v causes s clock desk ended how (served by bound seen all it) = small_as how _ it (small_served by)
 
-small_start : {S C : Type 0} (v : Sight S C) (causes : Causes S) (s : Serving) (now : Option ℕ) (clock : ℕ) (desk ended : DeskState S)
+small_unless_ahead : {S C : Type 0} (v : Sight S C) (causes : Causes S) (s : Serving) (now : Option ℕ) (clock : ℕ) (desk ended : DeskState S)
     (how : Result ℕ Fault) → ServesUnlessAhead v causes s now clock desk ended how → IsSmall how
+small_unless_ahead v causes s now clock desk ended how (inl it) = small_as how _ it.2 (omega arith)
+small_unless_ahead v causes s now clock desk ended how (inr it) = small_client v causes s clock desk ended how it.1
+
+small_start : {S C : Type 0} (v : Sight S C) (causes : Causes S) (s : Serving) (now : Option ℕ) (clock : ℕ) (desk ended : DeskState S)
+    (how : Result ℕ Fault) → ServesByMoment v causes s now clock desk ended how → IsSmall how
 small_start v causes s now clock desk ended how (inl it) = small_as how _ it.2 (omega arith)
-small_start v causes s now clock desk ended how (inr it) = small_client v causes s clock desk ended how it.1
+small_start v causes s now clock desk ended how (inr it) = small_unless_ahead v causes s now clock desk ended how it.1
 
 small_serves : (s : Serving) (now : Option ℕ) → AreSmall (ServesClients s now)
 small_serves s now was is S C D v causes rows old new how (clockless why fails same) = omega arith
 small_serves s now was is S C D v causes rows old new how (clocked end clock mid stands found it) =
-    small_by v was is (ServesUnlessAhead v causes s now clock) (small_start v causes s now clock) mid new end it
+    small_by v was is (ServesByMoment v causes s now clock) (small_start v causes s now clock) mid new end it
 
 -- a task by how the closing of its files ended
 small_end : (outcome : Result ℕ Fault) (closing : Result Unit OpenFault) (how : Result ℕ Fault) → IsSmall outcome

@@ -14,7 +14,7 @@ use Rattle.app_batch.specs.InTurn.{AnswersEach, AnswersFirst, AreLines, IsNextLi
 use Rattle.app_batch.specs.InTurn.{unwritten}
 use Rattle.app_words.specs.declared.command.{Revocation.Revocation, Serving.Serving}
 use Rattle.app_tasks.specs.Deeds.{Adopts, AnswersLines, AnswersReader, BehindClock, ByDesk, FailsToAdopt, IsTold, Revokes, RevokesTarget, Serves}
-use Rattle.app_tasks.specs.Deeds.{ServesClients, ServesUnlessAhead, TakesAny, adopted, ask_of, clocked, clockless, served, unadopted, unserved}
+use Rattle.app_tasks.specs.Deeds.{ServesByMoment, ServesClients, ServesUnlessAhead, TakesAny, adopted, ask_of, clocked, clockless, served, unadopted, unserved}
 use Rattle.app_tasks.specs.declared.fault.Fault.{Fault}
 use Rattle.desk_http.specs.InTurn.{ServesConnections, ServesFewer, ServesMany, ServesUntil}
 use Rattle.desk_http.specs.Logged.{LogEntry}
@@ -247,10 +247,15 @@ module _ {S C : Type 0} (v : Sight S C) where
   serve_calls causes s clock desk ended how (unserved same it) = no_call v (Any v) tt desk ended same
   serve_calls causes s clock desk ended how (served by bound seen all it) = all_calls causes TakesAny _ desk ended _ _ by all
 
-  start_calls : (causes : Causes S) (s : Serving) (now : Option ℕ) (clock : ℕ) (desk ended : DeskState S) (how : Result ℕ Fault)
+  unless_ahead_calls : (causes : Causes S) (s : Serving) (now : Option ℕ) (clock : ℕ) (desk ended : DeskState S) (how : Result ℕ Fault)
       → ServesUnlessAhead v causes s now clock desk ended how → AreCalls v (Any v) desk ended
+  unless_ahead_calls causes s now clock desk ended how (inl it) = no_call v (Any v) tt desk ended it.1
+  unless_ahead_calls causes s now clock desk ended how (inr it) = serve_calls causes s clock desk ended how it.1
+
+  start_calls : (causes : Causes S) (s : Serving) (now : Option ℕ) (clock : ℕ) (desk ended : DeskState S) (how : Result ℕ Fault)
+      → ServesByMoment v causes s now clock desk ended how → AreCalls v (Any v) desk ended
   start_calls causes s now clock desk ended how (inl it) = no_call v (Any v) tt desk ended it.1
-  start_calls causes s now clock desk ended how (inr it) = serve_calls causes s clock desk ended how it.1
+  start_calls causes s now clock desk ended how (inr it) = unless_ahead_calls causes s now clock desk ended how it.1
 
   -- ---- what is left behind a desk
 
@@ -390,9 +395,9 @@ module _ {D : Type 0} (g : disk.Ghosts D) where
   serve_leaves : (s : Serving) (now : Option ℕ) (was is : Option (List ℕ)) → LivesOn g (ServesClients s now was is) TellsAny
   serve_leaves s now was is bytes how done F over =
       left_over (TellsAny how) F done over
-      (by_desk stored TellsAny was is (λ why same. tt) (λ desk ended outcome. (clock : ℕ) × ServesUnlessAhead stored _ s now clock desk ended outcome)
+      (by_desk stored TellsAny was is (λ why same. tt) (λ desk ended outcome. (clock : ℕ) × ServesByMoment stored _ s now clock desk ended outcome)
       (λ desk ended outcome running it. start_calls stored _ s now it.0 desk ended outcome it.1) F over.legal done.opened done.ended how
-      (behind_clock stored was is (λ clock. ServesUnlessAhead stored _ s now clock) done.opened done.ended how done.did) over.honest)
+      (behind_clock stored was is (λ clock. ServesByMoment stored _ s now clock) done.opened done.ended how done.did) over.honest)
 
   pub words_leave : WordsLeave g
   words_leave = record {

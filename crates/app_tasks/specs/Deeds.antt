@@ -167,12 +167,24 @@ is_too_far (Some lead) (Some most) = nat_lt most lead
 is_too_far (Some lead) None = false
 is_too_far None most = false
 
+-- the greatest lead is given, and no moment of which it could be one
+abbrev pub lacks_moment : (now most : Option ℕ) → Bool
+lacks_moment None (Some most) = true
+lacks_moment None None = false
+lacks_moment (Some now) most = false
+
 module _ {S C : Type 0} (v : Sight S C) (causes : Causes S) where
   -- the clock of the desk is too far ahead of the machine's, and nothing was done; or it is not, and connections were served
   abbrev pub ServesUnlessAhead : (s : Serving) (now : Option ℕ) (clock : ℕ) (desk ended : DeskState S) (how : Result ℕ Fault) → Type 0
   ServesUnlessAhead s now clock desk ended how =
       ((is_too_far (ahead clock now) s.max_ahead ≡ true) × (ended ≡ desk) × (how ≡ Err fault.Ahead))
       ⊎ ((is_too_far (ahead clock now) s.max_ahead ≡ false) × Serves v causes s clock desk ended how)
+
+  -- the machine told no moment, of which the clock of the desk may be ahead so far alone, and nothing was done; or that is not so
+  abbrev pub ServesByMoment : (s : Serving) (now : Option ℕ) (clock : ℕ) (desk ended : DeskState S) (how : Result ℕ Fault) → Type 0
+  ServesByMoment s now clock desk ended how =
+      ((lacks_moment now s.max_ahead ≡ true) × (ended ≡ desk) × (how ≡ Err (fault.Serve servefault.Clock)))
+      ⊎ ((lacks_moment now s.max_ahead ≡ false) × ServesUnlessAhead s now clock desk ended how)
 
 module _ {S D : Type 0} (rows : Sight S D) where
   -- the clock of the desk was not to be read, and nothing written; or it was, which changed nothing, and then this was done
@@ -210,4 +222,4 @@ AnswersReader bytes was is _ _ _ v causes rows = ByDesk v was is (AnswersLines v
 
 -- connections are served, once the clock is read, unless it is too far ahead of this moment of the machine
 abbrev pub ServesClients : Serving → (now : Option ℕ) → Deed Fault
-ServesClients s now was is _ _ _ v causes rows = BehindClock rows was is (λ clock. ByDesk v was is (ServesUnlessAhead v causes s now clock))
+ServesClients s now was is _ _ _ v causes rows = BehindClock rows was is (λ clock. ByDesk v was is (ServesByMoment v causes s now clock))

@@ -1,7 +1,7 @@
 //! Lines and connections, answered by a desk.
-ghost use Rattle.app_tasks.specs.Deeds.{AnswersReader, Serves, ServesClients, ServesUnlessAhead};
+ghost use Rattle.app_tasks.specs.Deeds.{AnswersReader, Serves, ServesByMoment, ServesClients, ServesUnlessAhead};
 
-use crate::ahead::{is_too_far, tell_ahead};
+use crate::ahead::{is_too_far, lacks_moment, tell_ahead};
 use crate::desks::{adopt, clock_of};
 use crate::fault::Fault;
 use crate::listening::{take, tell_listening};
@@ -62,8 +62,24 @@ pub struct ServeConnections<'a, E: Write> {
 }
 
 impl<'a, E: Write> ServeConnections<'a, E> {
-    // Serves a desk whose clock stands so, unless that is too far ahead of the machine's; gives the exit status.
+    // Serves a desk whose clock stands so, unless the machine's tells no moment, and how far it is ahead of that is limited; gives the
+    // exit status.
     fn start<K: Storage + Drop, W: Write>(
+        &mut self,
+        desk: &mut Desk<K>,
+        clock: u64,
+        out: &mut W,
+    ) -> Result<u8, Fault>
+        ensures { ServesByMoment K.Storage.sight K.Storage.causes self.old.serving self.old.now clock desk.old desk.new result }
+    {
+        if lacks_moment(self.now, self.serving.max_ahead) {
+            return Err(Fault::Serve(ServeFault::Clock));
+        }
+        self.start_unless_ahead(desk, clock, out)
+    }
+
+    // Serves a desk whose clock stands so, unless that is too far ahead of the machine's; gives the exit status.
+    fn start_unless_ahead<K: Storage + Drop, W: Write>(
         &mut self,
         desk: &mut Desk<K>,
         clock: u64,

@@ -1,11 +1,5 @@
-use Rattle.std.proofs.Common.{ap, inr, sym, ◌∙◌}
-use Rattle.app_tasks.specs.Deeds.{is_too_far}
+use Rattle.std.proofs.Common.{inr, sym, ◌∙◌}
 use Rattle.app_tasks.proofs.answering.ServeConnections.start.Goals as goal
 
 pub returns : goal.returns
-returns g c =
-    let most = c.args.self.now.serving.max_ahead in
-    inr (
-      ap (λ lead. is_too_far lead most) (sym c.seconds_ahead-lead.ensures) ∙ sym c.is_too_far.ensures ∙ c.if-is_too_far.false,
-      c.serve.ensures,
-    )
+returns g c = inr (sym c.lacks_moment.ensures ∙ c.if-lacks_moment.false, c.start_unless_ahead.ensures)
