@@ -204,6 +204,7 @@ def revoked(program, folder):
     for said in (b"{}", compact({"identifier": {"type": "dns", "value": "a.example"}, "status": "revoked"}), compact(account_document(7))):
         see(f"an authorization: what says {said}", ended_by(program, reply(200, said, "application/json"), "authz"), gone)
     see("the document of the account", ended_by(program, reply(200, compact(account_document(7)), "application/json")), (0, b"account 7 revoked\n", b""))
+    see("the longest reply", ended_by(program, longest()), (0, b"account 7 revoked\n", b""))
     document = {"challenges": [], "expires": "1970-01-31T00:00:00Z", "identifier": {"type": "dns", "value": "a.example"}, "status": "revoked"}
     see("the document of an authorization", ended_by(program, reply(200, compact(document), "application/json"), "authz"), (0, b"authz 7 revoked\n", b""))
     see("a desk that could not act", ended_by(program, refusal(15, "/office/revoke-account/1")), (1, b"", b"desk: the desk could not act\n"))
@@ -214,14 +215,20 @@ def account_document(number, status="revoked", **members):
     return {"contact": [], "orders": f"https://ca.example/account/{number}/orders", "status": status, **members}
 
 
+def longest():
+    """The longest reply to a revocation of the account 7: 32768 bytes, of which the last are spaces."""
+    whole = reply(200, compact(account_document(7)), "application/json")
+    return whole + b" " * (32768 - len(whole))
+
+
 def strange():
     """Replies that no desk gives to a revocation of the account 7."""
     documents = ({}, [], "revoked", {"status": "revoked"}, account_document(7, "valid"), account_document(8), account_document(17), account_document(70),
                  account_document(7, orders=7), account_document(7, status=["revoked"]))
     whole = reply(200, compact(account_document(7)), "application/json")
-    longer = reply(200, compact(account_document(7, contact=["mailto:" + "a" * 32768])), "application/json")
+    longer = [reply(200, compact(account_document(7, contact=["mailto:" + "a" * 32768])), "application/json"), longest() + b" ", longest() + b"x" * 32768]
     return [*(reply(200, compact(it), "application/json") for it in documents), whole[:-1], whole.replace(b"\r\n\r\n", b"\r\n"),
-            whole.replace(b" 200 ", b" 201 "), whole[:-2] + b"\xff" + whole[-2:], longer,
+            whole.replace(b" 200 ", b" 201 "), whole[:-2] + b"\xff" + whole[-2:], *longer,
             *(refusal(number).replace(b"detail", b"Detail") for number in (2, 14, 15)), refusal(14).replace(b" 409 ", b" 404 ")]
 
 

@@ -1,5 +1,5 @@
 -- What a reply says of a revocation that a desk which is served was asked for.
-use Rattle.std.specs.Prelude.{ℕ, ◌++◌, ◌&&◌, Bool, false, List, [], ◌∷◌, Option, Some, None, bytes_eq, codes, decimal, drop, if◌then◌else◌, is_some, nat_eq}
+use Rattle.std.specs.Prelude.{ℕ, ◌++◌, ◌&&◌, Bool, false, List, [], ◌∷◌, Option, Some, None, bytes_eq, codes, decimal, drop, if◌then◌else◌, is_some, length, nat_eq, nat_lt}
 use Rattle.std.specs.Prelude.{option_and_then}
 use Rattle.std.specs.{List.ends_with, List.starts_with, Str.is_utf8}
 use Rattle.serde_json.specs.{Data.Data, Find.get, Read.read}
@@ -61,6 +61,14 @@ outcome_in what reply d =
     else (if begins reply (codes "HTTP/1.1 500 ") then refusal_in refusal.ServerInternal d
     else None)))
 
+-- what a reply of no more bytes than one of a desk says
+abbrev pub outcome_within : Revocation → List ℕ → Option (Option Refusal)
+outcome_within what reply = option_and_then (outcome_in what reply) (document_in (body_of reply))
+
+-- the longest reply of a desk
+abbrev pub longest_reply : ℕ
+longest_reply = 32768
+
 -- what a reply says
 abbrev pub outcome_of : Revocation → List ℕ → Option (Option Refusal)
-outcome_of what reply = option_and_then (outcome_in what reply) (document_in (body_of reply))
+outcome_of what reply = if nat_lt longest_reply (length reply) then None else outcome_within what reply

@@ -3,7 +3,7 @@ ghost use Rattle.std.specs.Prelude.{◌≡◌, IfOk, string_bytes};
 ghost use Rattle.app_tasks.specs.Asked.{Hears, IsHeard, RevokesServed, TellsReply, request_of};
 
 use crate::fault::Fault;
-use crate::outcomes::outcome_of;
+use crate::outcomes::{LONGEST, outcome_of};
 use crate::revoking::tell_revoked;
 use app_words::{Place, Revocation};
 use desk::DeskFault;
@@ -12,8 +12,8 @@ use desk_model::Refusal;
 use std::alloc::{AllocError, Global};
 use std::io::{self, Write};
 
-// The longest reply that is read: ten contacts take 20000 bytes at most.
-const LONGEST: usize = 32768;
+// How much of a reply is read: a byte more than one of a desk may have tells a longer one.
+const READ: usize = LONGEST + 1;
 
 /// Has the desk that is served at a place revoke an authorization or an account, and says so; gives the exit status.
 ///
@@ -78,7 +78,7 @@ fn ask(
     let Ok(connection) = connect(rt, place) else {
         return Err(Fault::Connection(Unheard::Unreached));
     };
-    let mut buffer = [0u8; LONGEST];
+    let mut buffer = [0u8; READ];
     match ask_by(rt, &connection, request, &mut buffer) {
         Ok(count) => hear(rt.alloc(), target, &buffer[..count]),
         Err(unheard) => Err(Fault::Connection(unheard)),

@@ -2,7 +2,7 @@
 ghost use Rattle.std.specs.Prelude.{◌≡◌, IfOk, option_map, string_bytes};
 ghost use Rattle.serde_json.specs.View.{view};
 ghost use Rattle.app_tasks.specs.Outcomes.{body_of, document_in, has_ending, is_authorization, is_of, is_revoked_in, is_text};
-ghost use Rattle.app_tasks.specs.Outcomes.{orders_path, outcome_in, outcome_of, refusal_in};
+ghost use Rattle.app_tasks.specs.Outcomes.{orders_path, outcome_in, outcome_of, outcome_within, refusal_in};
 
 use app_words::Revocation;
 use desk_model::{Refusal, is_same_text};
@@ -11,8 +11,11 @@ use serde_json::Value;
 use std::alloc::{AllocError, Global};
 use std::str;
 
+/// The longest reply of a desk to a revocation: ten contacts take 20000 bytes at most.
+pub(crate) const LONGEST: usize = 32768;
+
 /// What the bytes of a reply say of a revocation: that it is done, or why it is refused; `None` where they are no reply of a desk
-/// to that.
+/// to that, or more than one has.
 ///
 /// # Errors
 ///
@@ -23,6 +26,20 @@ pub(crate) fn outcome_of(
     reply: &[u8],
 ) -> Result<Option<Option<Refusal>>, AllocError>
     ensures { IfOk result (λ outcome. outcome ≡ outcome_of target reply.now) }
+{
+    if reply.len() > LONGEST {
+        return Ok(None);
+    }
+    outcome_within(alloc, target, reply)
+}
+
+// The same of bytes that are no more than a reply has.
+fn outcome_within(
+    alloc: Global,
+    target: Revocation,
+    reply: &[u8],
+) -> Result<Option<Option<Refusal>>, AllocError>
+    ensures { IfOk result (λ outcome. outcome ≡ outcome_within target reply.now) }
 {
     match document_in(alloc, body_of(reply))? {
         Some(document) => outcome_in(alloc, target, reply, &document),
