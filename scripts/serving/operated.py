@@ -204,6 +204,13 @@ def revoked(program, folder):
     for said in (b"{}", compact({"identifier": {"type": "dns", "value": "a.example"}, "status": "revoked"}), compact(account_document(7))):
         see(f"an authorization: what says {said}", ended_by(program, reply(200, said, "application/json"), "authz"), gone)
     see("the document of the account", ended_by(program, reply(200, compact(account_document(7)), "application/json")), (0, b"account 7 revoked\n", b""))
+    name = {"type": "dns", "value": "a.example"}
+    for identifier in (None, {}, "a.example", [name], {**name, "type": "ip"}, {**name, "type": None}, {**name, "value": 7}, {"type": "dns"}):
+        said = compact({"challenges": [], "expires": "1970-01-31T00:00:00Z", "identifier": identifier, "status": "revoked"})
+        see(f"an authorization: what says {said}", ended_by(program, reply(200, said, "application/json"), "authz"), gone)
+    for expires in (None, 7, ["1970-01-31T00:00:00Z"]):
+        said = compact({"challenges": [], "expires": expires, "identifier": name, "status": "revoked"})
+        see(f"an authorization: what says {said}", ended_by(program, reply(200, said, "application/json"), "authz"), gone)
     see("the longest reply", ended_by(program, longest()), (0, b"account 7 revoked\n", b""))
     document = {"challenges": [], "expires": "1970-01-31T00:00:00Z", "identifier": {"type": "dns", "value": "a.example"}, "status": "revoked"}
     see("the document of an authorization", ended_by(program, reply(200, compact(document), "application/json"), "authz"), (0, b"authz 7 revoked\n", b""))

@@ -31,9 +31,14 @@ has_ending None text = false
 abbrev pub orders_path : ℕ → List ℕ
 orders_path number = codes "/account/" ++ (decimal number ++ codes "/orders")
 
+-- an identifier is there, and is a DNS name (RFC 8555, 7.1.4 and 9.7.7)
+abbrev pub is_dns_name : Option Data → Bool
+is_dns_name (Some d) = is_text (text_member (codes "type") d) (codes "dns") && is_some (text_member (codes "value") d)
+is_dns_name None = false
+
 -- the document has what that of an authorization has (RFC 8555, 7.1.4), which does not have its number
 abbrev pub is_authorization : Data → Bool
-is_authorization d = is_some (text_member (codes "expires") d) && is_some (get (codes "identifier") d)
+is_authorization d = is_some (text_member (codes "expires") d) && is_dns_name (get (codes "identifier") d)
 
 -- the document is that of what is to be revoked, as far as it says
 abbrev pub is_of : Revocation → Data → Bool

@@ -1,7 +1,7 @@
 //! What a reply says of a revocation that a desk which is served was asked for.
 ghost use Rattle.std.specs.Prelude.{◌≡◌, IfOk, option_map, string_bytes};
 ghost use Rattle.serde_json.specs.View.{view};
-ghost use Rattle.app_tasks.specs.Outcomes.{body_of, document_in, has_ending, is_authorization, is_of, is_revoked_in, is_text};
+ghost use Rattle.app_tasks.specs.Outcomes.{body_of, document_in, has_ending, is_authorization, is_dns_name, is_of, is_revoked_in, is_text};
 ghost use Rattle.app_tasks.specs.Outcomes.{orders_path, outcome_in, outcome_of, outcome_within, refusal_in};
 
 use app_words::Revocation;
@@ -135,7 +135,17 @@ fn is_of(alloc: Global, target: Revocation, document: &Value) -> Result<bool, Al
 fn is_authorization(document: &Value) -> bool
     ensures { result ≡ is_authorization (view document.now) }
 {
-    text_of(document, "expires").is_some() && document.get("identifier").is_some()
+    text_of(document, "expires").is_some() && is_dns_name(document.get("identifier"))
+}
+
+// Whether an identifier is there, and is a DNS name (RFC 8555, 7.1.4 and 9.7.7).
+fn is_dns_name(identifier: Option<&Value>) -> bool
+    ensures { result ≡ is_dns_name (option_map (λ v. view v.now) identifier.entry) }
+{
+    match identifier {
+        Some(found) => is_text(text_of(found, "type"), "dns") && text_of(found, "value").is_some(),
+        None => false,
+    }
 }
 
 // How the URL of the orders of an account ends.
