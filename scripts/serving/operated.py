@@ -31,6 +31,8 @@ def asked(server):
         server.ask(request(method, path))
     server.ask(b'GET /a"b\\c HTTP/1.1\r\n\r\n')
     server.ask(b"\x00\xff\n\r\n")
+    server.ask(b"\r\n" + DIRECTORY)
+    server.ask(b"\r\n\n\r\n" + request("GET", "/nothing"))
     with server.connect() as gone:
         gone.sendall(b"GET /dir")
     server.ask(DIRECTORY)
@@ -40,7 +42,8 @@ def asked(server):
         ("GET", "/directory", 200, None, None), ("GET", "/nothing", 404, 2, None), ("PUT", "/new-order", 405, 3, None),
         ("GET", "/office/key/1", 200, None, 1), ("POST", "/office/revoke-authz/1", 200, None, 1),
         ("POST", "/office/revoke-authz/7", 404, 2, 7), ("HEAD", "/new-nonce", 200, None, None), ("GET", "/a?b?c", 404, 2, None),
-        ("??", "-", 400, 1, None), ("GET", "/dir", 400, 1, None), ("GET", "/directory", 200, None, None),
+        ("??", "-", 400, 1, None), ("GET", "/directory", 200, None, None), ("GET", "/nothing", 404, 2, None),
+        ("GET", "/dir", 400, 1, None), ("GET", "/directory", 200, None, None),
     ]
 
 

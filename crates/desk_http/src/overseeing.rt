@@ -127,9 +127,12 @@ impl<R: Read + Drop> LineKeeper<R> {
         }
     }
 
-    // Keeps the first of these bytes, as far as there is room.
+    // Keeps the first of these bytes, as far as there is room, but for the ends of lines before all others, which the parser passes over.
     fn keep(&mut self, bytes: &[u8]) {
         for byte in bytes {
+            if self.len == 0 && matches!(*byte, b'\r' | b'\n') {
+                continue;
+            }
             match self.line.get_mut(self.len) {
                 Some(place) => {
                     *place = shown(*byte);
