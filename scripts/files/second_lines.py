@@ -21,6 +21,8 @@ EMPTY = "; an empty file stands there, which may be removed"
 DISK = "its disk failed, or is full"
 UNREACHED = "nobody took a connection there, and nothing was asked"
 UNANSWERED = "no reply of a desk came within 60 seconds: it may be done or not, and asking again is safe"
+NO_LOG_FILE = "its log, the file -wal beside it, is no regular file"
+LINKED_LOG = "its log, the file -wal beside it, has a second name, by a hard link"
 ENDED = "it has ended already, otherwise than by being revoked"
 # How many bytes more a file may have at each try.
 STEP = 1000
@@ -284,11 +286,48 @@ def stood_there(program, folder):
     put(f"{room}/journal.db-journal", b"a journal")
     refused(f"{room}/journal.db", "SQLite's rollback journal stands beside it: open it by sqlite3 first", DEVICE)
     os.mkdir(f"{room}/log.db-wal")
-    refused(f"{room}/log.db", "this user may not read and write its log, the file -wal beside it", DEVICE)
+    refused(f"{room}/log.db", NO_LOG_FILE, DEVICE)
     refused(f"{room}/none/file.db", "its directory is missing", DEVICE)
     refused("", "its path leads to no file", DEVICE)
-    see("a path with control characters", run(program, "status", f"{room}/a\x1b[31m\nb.db", "--verbose"),
-        (1, b"", NOT_A_DESK[2] + because(f"{room}/a?[31m?b.db", "there is no such file")))
+    unseen = "a\x1b[31m\n\u2028\u202e\u009b\u00e9\U0001f511b.db"
+    escaped = r"a\u001b[31m\u000a\u2028\u202e\u009b\u00e9\ud83d\udd11b.db"
+    see("a path with characters that are not to be seen", run(program, "status", f"{room}/{unseen}", "--verbose"),
+        (1, b"", NOT_A_DESK[2] + because(f"{room}/{escaped}", "there is no such file")))
+    for words in ((unseen,), ("status", room, unseen), ("status", room, "--status", unseen), ("serve", room, "--port", unseen)):
+        ended, said, errors = run(program, *words)
+        shown = escaped.replace(r"\u000a", "\n").encode()
+        see(f"wrong words {words}", (ended, said, shown in errors, set(errors) <= {10, *range(32, 127)}), (2, b"", True, True))
+
+
+def logs_that_are_none(program, folder):
+    """What stands in the place of a log and is none is told as such, and stays."""
+    path, log = fresh(program, folder, "logs"), f"{folder}/logs.db-wal"
+    os.rename(log, f"{folder}/kept")
+
+    def link():
+        os.symlink(f"{folder}/kept", log)
+
+    def pipe():
+        os.mkfifo(log)
+
+    def directory():
+        os.mkdir(log)
+
+    def bound():
+        with socket.socket(socket.AF_UNIX) as server:
+            server.bind(log)
+
+    def hard_link():
+        os.link(f"{folder}/kept", log)
+
+    for stand, cause in ((link, NO_LOG_FILE), (pipe, NO_LOG_FILE), (directory, NO_LOG_FILE), (bound, NO_LOG_FILE), (hard_link, LINKED_LOG)):
+        stand()
+        before = os.lstat(log)[:6]
+        see(f"a log that is a {stand.__name__}", run(program, "check", path, "--verbose"), (1, b"", DEVICE + because(path, cause)))
+        see(f"it stays: {stand.__name__}", os.lstat(log)[:6], before)
+        (os.rmdir if stand is directory else os.remove)(log)
+    os.rename(f"{folder}/kept", log)
+    see("the log itself", run(program, "check", path), (0, b"no fault\n", b""))
 
 
 def log_alone(program, folder):
@@ -326,4 +365,4 @@ def together(program, folder):
             remove(path)
 
 
-TRIES = (terminals, ports, unheard, broken, ended, full_files, full_disks, kept, stood_there, log_alone, together)
+TRIES = (terminals, ports, unheard, broken, ended, full_files, full_disks, kept, stood_there, logs_that_are_none, log_alone, together)

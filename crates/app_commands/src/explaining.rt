@@ -2,7 +2,7 @@
 
 use app_files::Left;
 use app_tasks::{
-    CopyFault, Fault, FileCause, PortCause, Remains, Shown, SocketCause, broken_limit,
+    CopyFault, Fault, FileCause, PortCause, Remains, SocketCause, Visible, broken_limit,
 };
 use app_words::{Command, Listening, Place, Revocation};
 use desk::DeskFault;
@@ -41,7 +41,7 @@ pub(crate) fn explain<D: Disk, E: Write>(
             let _ = writeln!(
                 errors,
                 "desk: {}: {}",
-                Shown(file),
+                Visible(file),
                 place_cause(rt, file, fault)
             );
         }
@@ -83,17 +83,17 @@ fn explain_copy<E: Write>(
         CopyFault::Taken => writeln!(
             errors,
             "desk: {}: {}",
-            Shown(to),
+            Visible(to),
             FileCause::not_copied(rt, to)
         ),
         CopyFault::Same => return,
-        CopyFault::Unread(cause) => writeln!(errors, "desk: {}: {cause}", Shown(file)),
-        CopyFault::Failed(cause) => writeln!(errors, "desk: {}: {cause}", Shown(to)),
+        CopyFault::Unread(cause) => writeln!(errors, "desk: {}: {cause}", Visible(file)),
+        CopyFault::Failed(cause) => writeln!(errors, "desk: {}: {cause}", Visible(to)),
         CopyFault::Left(cause) => {
             writeln!(
                 errors,
                 "desk: {}: {cause}; a part of it is left: remove it, the file -part beside it",
-                Shown(to)
+                Visible(to)
             )
         }
     };
@@ -112,7 +112,7 @@ fn explain_serving<D: Disk, E: Write>(
     match fault {
         ServeFault::Bind => explain_port(rt, errors, listening),
         ServeFault::Replaced => {
-            let _ = writeln!(errors, "desk: {}: {}", Shown(file), FaultCause::Replaced);
+            let _ = writeln!(errors, "desk: {}: {}", Visible(file), FaultCause::Replaced);
         }
         ServeFault::Desk(fault) => explain_desk_fault(rt, errors, command, fault, left),
         ServeFault::Accept | ServeFault::Clock | ServeFault::Random | ServeFault::Output => {}
@@ -137,7 +137,7 @@ fn explain_port<E: Write>(rt: &HostRuntime, errors: &mut E, listening: Listening
 fn explain_socket<E: Write>(errors: &mut E, cause: SocketCause, listening: Listening<'_>) {
     match listening {
         Listening::At(Place::Socket(path)) | Listening::AtBoth { socket: path, .. } => {
-            let _ = writeln!(errors, "desk: {}: {cause}", Shown(path));
+            let _ = writeln!(errors, "desk: {}: {cause}", Visible(path));
         }
         Listening::At(Place::Port(_)) => {}
     }
@@ -147,7 +147,7 @@ fn explain_socket<E: Write>(errors: &mut E, cause: SocketCause, listening: Liste
 fn explain_unheard<E: Write>(errors: &mut E, unheard: Unheard, place: Place<'_>) {
     let _ = match place {
         Place::Port(port) => writeln!(errors, "desk: port {port}: {unheard}"),
-        Place::Socket(path) => writeln!(errors, "desk: {}: {unheard}", Shown(path)),
+        Place::Socket(path) => writeln!(errors, "desk: {}: {unheard}", Visible(path)),
     };
 }
 
@@ -184,7 +184,7 @@ fn explain_desk_fault<D: Disk, E: Write>(
             Command::Make { .. } if cause.is_of_machine() => remains(rt, file, left),
             _ => "",
         };
-        let _ = writeln!(errors, "desk: {}: {cause}{remains}", Shown(file));
+        let _ = writeln!(errors, "desk: {}: {cause}{remains}", Visible(file));
     }
 }
 

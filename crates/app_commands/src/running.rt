@@ -20,8 +20,8 @@ use app_files::{Left, Unknown, Wary, make_desk, run_in_memory, run_over_file};
 use app_reports::{AllAccounts, Beside, RowList};
 use app_tasks::{
     AnswerLines, CheckStatuses, Fault, ListRows, Revoke, ServeConnections, ShowPage, Task,
-    TellAbout, Unasked, Wrong, authorization_filter, form, order_filter, refuse, revoke_served,
-    wait_for, write_fault,
+    TellAbout, Unasked, VisibleLines, Wrong, authorization_filter, form, order_filter, refuse,
+    revoke_served, wait_for, write_fault,
 };
 use app_words::{
     AUTHZ_LIFE, Asked, AuthorizationListing, Command, NONCE_LIFE, ORDER_LIFE, OrderListing,
@@ -114,7 +114,7 @@ pub fn tell_not_text<E: Write>(errors: &mut E) -> u8
 fn write_wrong<E: Write>(errors: &mut E, text: &str) -> u8
     ensures { result ≡ 2 }
 {
-    let _ = write!(errors, "{text}");
+    let _ = write!(errors, "{}", VisibleLines(text));
     2
 }
 

@@ -49,7 +49,13 @@ pub enum FileCause {
     /// SQLite left a transaction that was cut off.
     #[error("SQLite's rollback journal stands beside it: open it by sqlite3 first")]
     Journal,
-    /// Its log is not for this user, or has another name.
+    /// A link, a directory, a pipe or a socket stands in the place of its log.
+    #[error("its log, the file -wal beside it, is no regular file")]
+    LogNotAFile,
+    /// Its log has more than one name.
+    #[error("its log, the file -wal beside it, has a second name, by a hard link")]
+    LogLinked,
+    /// Its log is not for this user.
     #[error("this user may not read and write its log, the file -wal beside it")]
     LogDenied,
     /// The name of its part is taken.
@@ -217,16 +223,20 @@ fn of_log(rt: &HostRuntime, path: &str) -> FileCause {
     let Ok(log) = named(rt, path, "-wal") else {
         return FileCause::Failed;
     };
-    match OpenOptions::new()
-        .read(true)
-        .write(true)
-        .open(rt, log.as_str())
-    {
-        Ok(file) if is_linked(&file) => FileCause::LogDenied,
+    match fs::symlink_metadata(rt, log.as_str()) {
+        Ok(found) if !found.is_file() => FileCause::LogNotAFile,
+        Ok(found) if found.nlink() != 1 => FileCause::LogLinked,
+        _ => of_lone_log(rt, log.as_str()),
+    }
+}
+
+// The same where its log, if there is one, is a regular file with this path alone.
+fn of_lone_log(rt: &HostRuntime, log: &str) -> FileCause {
+    match OpenOptions::new().read(true).write(true).open(rt, log) {
         Ok(_) => FileCause::Failed,
         Err(error) => match error.kind() {
             ErrorKind::NotFound => FileCause::NoRoom,
-            ErrorKind::PermissionDenied | ErrorKind::IsADirectory => FileCause::LogDenied,
+            ErrorKind::PermissionDenied => FileCause::LogDenied,
             _ => FileCause::of(error),
         },
     }

@@ -41,6 +41,6 @@ pub use parts::lose_part;
 pub use ports::PortCause;
 pub use reports::{CheckStatuses, ListRows, ShowPage, TellAbout, form};
 pub use revoking::Revoke;
-pub use shown::Shown;
+pub use shown::{Visible, VisibleLines};
 pub use sockets::SocketCause;
 pub use tasks::Task;

@@ -1,9 +1,9 @@
-//! How a path is shown.
+//! How what came from outside is shown.
 use std::fmt;
 
-/// A path as it is shown, so that no line ends in it and no terminal obeys it: each control character is `?`.
+/// A path as standard output has it, so that no line ends in it and no terminal obeys it: each control character is `?`.
 #[derive(Clone, Copy)]
-pub struct Shown<'a>(pub &'a str);
+pub(crate) struct Shown<'a>(pub(crate) &'a str);
 
 impl fmt::Display for Shown<'_> {
     fn fmt<W: fmt::Write>(&self, f: &mut fmt::Formatter<W>) -> fmt::Result {
@@ -16,4 +16,49 @@ impl fmt::Display for Shown<'_> {
         }
         Ok(())
     }
+}
+
+/// A path as standard error has it, so that no line ends in it, and no terminal obeys it or turns it round: in visible ASCII, each other
+/// character escaped as JSON does it (RFC 8259, 7).
+#[derive(Clone, Copy)]
+pub struct Visible<'a>(pub &'a str);
+
+impl fmt::Display for Visible<'_> {
+    fn fmt<W: fmt::Write>(&self, f: &mut fmt::Formatter<W>) -> fmt::Result {
+        for character in self.0.chars() {
+            write_visible(f, character)?;
+        }
+        Ok(())
+    }
+}
+
+/// A text of lines as standard error has it: as a path, but for the ends of its lines.
+#[derive(Clone, Copy)]
+pub struct VisibleLines<'a>(pub &'a str);
+
+impl fmt::Display for VisibleLines<'_> {
+    fn fmt<W: fmt::Write>(&self, f: &mut fmt::Formatter<W>) -> fmt::Result {
+        for character in self.0.chars() {
+            if character == '\n' {
+                f.write_char(character)?;
+            } else {
+                write_visible(f, character)?;
+            }
+        }
+        Ok(())
+    }
+}
+
+// Writes a character, or the escapes of its units in UTF-16.
+fn write_visible<W: fmt::Write>(f: &mut fmt::Formatter<W>, character: char) -> fmt::Result {
+    let code = character as u32;
+    if code > 31 && code < 127 {
+        return f.write_char(character);
+    }
+    if code < 0x1_0000 {
+        return write!(f, "\\u{code:04x}");
+    }
+    let over = code - 0x1_0000;
+    let (high, low) = (0xD800 + over / 0x400, 0xDC00 + over % 0x400);
+    write!(f, "\\u{high:04x}\\u{low:04x}")
 }

@@ -51,9 +51,9 @@ pub(crate) const DESK: &str = after!(
   20 memory        a growth of memory was refused
   21 device        another program has the file, as serve does while it runs; this user may not read
                    and write the file, its log or its directory; their file system is read-only; the
-                   directory is missing; the file has a second name, by a hard link; a rollback
-                   journal stands beside it; it or its log was replaced, cut or removed while it was
-                   served; the disk is full, or failed
+                   directory is missing; the file or its log has a second name, by a hard link, or is
+                   no regular file; a rollback journal stands beside it; it or its log was replaced,
+                   cut or removed while it was served; the disk is full, or failed
   22 reopen        an earlier fault closed the desk, and the next start opens it
   23 not a desk    there is no file, an empty one, or one of something else; for make, one with bytes
   24 moment        a moment is past the last one that a desk knows, or further above the latest than
