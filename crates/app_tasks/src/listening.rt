@@ -3,7 +3,7 @@ ghost use Rattle.std.specs.Prelude.{IfErr};
 ghost use Rattle.app_tasks.specs.Deeds.{IsOfBoth, IsUntaken};
 
 use crate::fault::Fault;
-use crate::shown::Shown;
+use crate::shown::Visible;
 use crate::sockets::take_socket;
 use app_words::{Listening, Place};
 use desk_http::{Listener, bind};
@@ -71,7 +71,7 @@ pub(crate) fn tell_listening<W: Write>(
     }
     match listening {
         Listening::At(Place::Socket(path)) | Listening::AtBoth { socket: path, .. } => {
-            writeln!(out, "listening on {}", Shown(path))?
+            writeln!(out, "listening on {}", Visible(path))?
         }
         Listening::At(Place::Port(_)) => {}
     }

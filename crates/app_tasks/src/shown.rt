@@ -1,25 +1,8 @@
 //! How what came from outside is shown.
 use std::fmt;
 
-/// A path as standard output has it, so that no line ends in it and no terminal obeys it: each control character is `?`.
-#[derive(Clone, Copy)]
-pub(crate) struct Shown<'a>(pub(crate) &'a str);
-
-impl fmt::Display for Shown<'_> {
-    fn fmt<W: fmt::Write>(&self, f: &mut fmt::Formatter<W>) -> fmt::Result {
-        for character in self.0.chars() {
-            f.write_char(if character.is_control() {
-                '?'
-            } else {
-                character
-            })?;
-        }
-        Ok(())
-    }
-}
-
-/// A path as standard error has it, so that no line ends in it, and no terminal obeys it or turns it round: in visible ASCII, each other
-/// character escaped as JSON does it (RFC 8259, 7).
+/// A path as a line has it, so that the line does not end in it, and no terminal obeys it or turns it round: in visible ASCII, each
+/// other character escaped as JSON does it (RFC 8259, 7). Nothing is allocated, since a refused growth is told so, too.
 #[derive(Clone, Copy)]
 pub struct Visible<'a>(pub &'a str);
 
@@ -32,7 +15,7 @@ impl fmt::Display for Visible<'_> {
     }
 }
 
-/// A text of lines as standard error has it: as a path, but for the ends of its lines.
+/// A text of lines so, but for their ends.
 #[derive(Clone, Copy)]
 pub struct VisibleLines<'a>(pub &'a str);
 
