@@ -144,6 +144,7 @@ unproved-house: ## the same, where all is set up
 
 bin/desk-unproved: $(SOURCES) ## compiles the program WITHOUT PROOF, in some minutes
 	@$(HAS_RT)
+	@mkdir -p bin
 	@python3 -B -m scripts.gate.unproved
 
 # Everything is on the loopback, in a folder that is removed, and ends by itself; house-serve ends by control C, and takes further words, as
