@@ -1,7 +1,9 @@
 """A desk that serves at a Unix socket, alone or beside a port: what stands in its place, and what is asked of it. A part of scripts/serving/serve.py."""
 import os
+import shutil
 import socket
 import stat
+import tempfile
 import time
 
 from scripts.serving.operated import revocations_asked
@@ -10,6 +12,7 @@ from scripts.trying import fresh, put, run, see
 
 # How long the desk waits for a client, in seconds, and how much later its end may be seen.
 LIMIT, LATER = 10, 4
+NOBODY = 65534
 
 
 def at_socket(program, folder):
@@ -91,6 +94,8 @@ def asked_at_socket(program, folder):
     for place in (server.at, f"{folder}/none"):
         ended = run(program, "revoke-account", "1", "--socket", place, "--verbose")
         see("nobody at the socket", ended, (1, b"", b"desk: connection\n" + cause.replace(server.at.encode(), place.encode())))
+    if os.getuid() == 0:
+        denied(program, folder)
     wrong = {"no FILE stands before N: desk WORD N --socket PATH": ("revoke-account", server.path, "1", "--socket", server.at),
              "with --socket N stands in the place of FILE: a number": ("revoke-authz", "one", "--socket", server.at),
              "by --port or by --socket": ("revoke-account", "1", "--port", "1", "--socket", server.at),
@@ -98,6 +103,16 @@ def asked_at_socket(program, folder):
     for text, words in wrong.items():
         ended, said, errors = run(program, *words)
         see(f"the words {words[:1]} that lack {text}", (ended, said, text in errors.decode()), (2, b"", True))
+
+
+def denied(program, folder):
+    """A user who may not write the socket is told so. Any user reaches the program here, and its folder."""
+    server = Server(program, fresh(program, folder, "denied"), at=f"{folder}/denied")
+    with tempfile.TemporaryDirectory() as place:
+        os.chmod(place, 0o755)
+        ended = run(shutil.copy(program, f"{place}/desk"), "revoke-account", "1", "--socket", server.at, "--verbose", user=NOBODY)
+    see("who may not ask", ended, (1, b"", f"desk: connection\ndesk: {server.at}: this user may not ask there, and nothing was asked\n".encode()))
+    see("denied: the end", server.stop(), STOPPED)
 
 
 def silent_at_socket(program, folder):

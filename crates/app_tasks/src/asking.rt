@@ -10,7 +10,7 @@ use desk::DeskFault;
 use desk_http::{Connection, Unheard, ask_by};
 use desk_model::Refusal;
 use std::alloc::{AllocError, Global};
-use std::io::{self, Write};
+use std::io::{self, ErrorKind, Write};
 
 // How much of a reply is read: a byte more than one of a desk may have tells a longer one.
 const READ: usize = LONGEST + 1;
@@ -75,13 +75,22 @@ fn ask(
 ) -> Result<Option<Refusal>, Fault>
     ensures { Hears target result }
 {
-    let Ok(connection) = connect(rt, place) else {
-        return Err(Fault::Connection(Unheard::Unreached));
+    let connection = match connect(rt, place) {
+        Ok(connection) => connection,
+        Err(error) => return Err(Fault::Connection(unheard(error.kind()))),
     };
     let mut buffer = [0u8; READ];
     match ask_by(rt, &connection, request, &mut buffer) {
         Ok(count) => hear(rt.alloc(), target, &buffer[..count]),
         Err(unheard) => Err(Fault::Connection(unheard)),
+    }
+}
+
+// Why nothing was asked, by an error of connecting.
+fn unheard(kind: ErrorKind) -> Unheard {
+    match kind {
+        ErrorKind::PermissionDenied => Unheard::Denied,
+        _ => Unheard::Unreached,
     }
 }
 

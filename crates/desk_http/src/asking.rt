@@ -16,9 +16,12 @@ const PATIENCE: u64 = 60;
 /// Why nobody knows what came of a request to a desk that is served; its text is said of the port or the socket.
 #[derive(Clone, Copy, Debug, Error)]
 pub enum Unheard {
-    /// It was not sent.
+    /// It was not sent: nobody took a connection.
     #[error("nobody took a connection there, and nothing was asked")]
     Unreached,
+    /// It was not sent: the socket is not for this user.
+    #[error("this user may not ask there, and nothing was asked")]
+    Denied,
     /// It was sent in part, or not at all.
     #[error("the request was not taken, or not all of it")]
     Unsent,
