@@ -10,6 +10,7 @@
                calls are counted from the first connection on.
    STEP_AT     the process is killed before the call of this number that changes a file, its name, its owner or its mode, or syncs it.
    UNLINK      no name of a file can be removed.
+   LOCK        a path: the first lock of a file makes a file of this path, and waits until that is gone, a minute at most.
    GROWTHS     a file, shared: the first growth of memory to refuse since a connection was accepted (0: none), the last one, how many there were, and how
                many were refused. GROWTHS_FROM says that they are counted from elsewhere: `start` from the program's start, `input` from its first read of
                standard input. */
@@ -19,6 +20,7 @@
 #include <fcntl.h>
 #include <limits.h>
 #include <signal.h>
+#include <stdarg.h>
 #include <stdint.h>
 #include <stdio.h>
 #include <stdlib.h>
@@ -88,7 +90,23 @@ static void step(void) {
         kill(getpid(), SIGKILL);
 }
 
-/* ---- Names, owners and modes of files. */
+/* ---- Names, locks, owners and modes of files. */
+
+int fcntl(int fd, int word, ...) {
+    static int waited;
+    const char *path = getenv("LOCK");
+    va_list more;
+    va_start(more, word);
+    void *argument = va_arg(more, void *);
+    va_end(more);
+    REAL(fcntl);
+    if (path && word == F_OFD_SETLK && !waited++) {
+        close(open(path, O_CREAT | O_WRONLY, 0600));
+        for (int waits = 0; waits < 60000 && access(path, F_OK) == 0; waits++)
+            usleep(1000);
+    }
+    return real(fd, word, argument);
+}
 
 int unlink(const char *path) {
     REAL(unlink);

@@ -1,6 +1,7 @@
 """What scripts/files/words.py tries of copies that take the place of a desk, and of kills at each step of that and of a backup."""
 import os
 import subprocess
+import time
 
 from scripts.files.backups import HELD, because, held, mode_of
 from scripts.serving.served import STOPPED, Server
@@ -240,4 +241,33 @@ def backups_together(program, folder):
         remove(to)
 
 
-TRIES = (restored, restored_to_nothing, not_restored, restorings_killed, backups_killed, backups_together)
+def until(is_so):
+    """Waits until something is so, for a minute at most."""
+    for _ in range(6000):
+        if is_so():
+            return
+        time.sleep(0.01)
+    raise RuntimeError("it is not so after a minute")
+
+
+def opened_meanwhile(program, folder):
+    """A word that found the desk before a restoring, and locks it behind that, has a file without a name: it ends, and does nothing."""
+    it, preload, lock = Restoring(program, folder, "meanwhile"), library(folder), f"{folder}/lock"
+    call = example("first")[0][0]
+    words = {"serve": ("serve", it.path, "--port", "0"), "check": ("check", it.path), "batch": ("batch", "--file", it.path),
+             "restore": ("restore", it.copy, it.path), "backup": ("backup", it.path, f"{folder}/meanwhile-backup.db")}
+    for name, word in words.items():
+        it.again()
+        remove(lock)
+        with subprocess.Popen([program, *word, "--verbose"], stdin=subprocess.PIPE, stdout=subprocess.PIPE, stderr=subprocess.PIPE,
+                              env={**os.environ, "LD_PRELOAD": preload, "LOCK": lock}) as waiting:
+            until(lambda: os.path.exists(lock))
+            see(f"{name}, and a restoring meanwhile", it.restore(), RESTORED)
+            os.remove(lock)
+            found = waiting.communicate(call)
+        see(f"{name}: how it ends", (waiting.returncode, found[0], found[1].startswith(DEVICE)), (1, b"", True))
+        see(f"{name}: no backup", os.path.exists(f"{folder}/meanwhile-backup.db"), False)
+        it.see_restored(name)
+
+
+TRIES = (restored, restored_to_nothing, not_restored, restorings_killed, opened_meanwhile, backups_killed, backups_together)

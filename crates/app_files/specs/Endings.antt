@@ -61,11 +61,28 @@ module _ {D : Type 0} {g : disk.Ghosts D} where
     pub by_engine : IfSome un.refused (RefusedBy bytes cause)
     pub by_store : IfSome un.conn (FailedOver bytes cause)
 
+  -- nothing was done with a store but to close its files, for this cause
+  pub record IsDisplaced (store : Store (FileStore D g)) (cause : OpenFault) (left : Left D g) : Type 0 where
+    pub fault : IsOfStorage cause
+    pub closing : Result Unit OpenFault
+    pub closed : IsLeft store closing left
+
+  -- the desk of files with these bytes was opened, which were at the path no more
+  pub record WasDisplaced (bytes : Image) (cause : OpenFault) (left : Left D g) : Type 0 where
+    pub store : Store (FileStore D g)
+    pub opens : OpensFiles bytes store
+    pub shows : OpensKnown bytes store
+    pub displaced : IsDisplaced store cause left
+
   -- no desk was opened in files with these bytes, for this cause, which left these
+  abbrev pub IsRefused : Image → OpenFault → Left D g → Type 0
+  IsRefused bytes cause rest.Untouched = IsUntouched cause
+  IsRefused bytes cause (rest.Unopened un) = FailsToOpen bytes cause un
+  IsRefused bytes cause _ = ⊥
+
+  -- no desk was opened, or one that was at the path no more
   abbrev pub IsUnopened : Image → OpenFault → Left D g → Type 0
-  IsUnopened bytes cause rest.Untouched = IsUntouched cause
-  IsUnopened bytes cause (rest.Unopened un) = FailsToOpen bytes cause un
-  IsUnopened bytes cause _ = ⊥
+  IsUnopened bytes cause left = IsRefused bytes cause left ⊎ WasDisplaced bytes cause left
 
   -- ---- files that are held
 

@@ -1,12 +1,12 @@
 //! The desk of the file at a path, and its log beside it.
-ghost use Rattle.std.specs.Prelude.{IfErr, IfOk};
+ghost use Rattle.std.specs.Prelude.{◌≡◌, IfErr, IfOk};
 ghost use Rattle.sqlite.specs.WalFiles.{image_at};
 ghost use Rattle.desk_files.specs.Opening.{OpensFiles, OpensKnown};
 ghost use Rattle.desk_store.specs.Making.{IsOfStorage};
-ghost use Rattle.app_files.specs.Endings.{EndsMaking, IsLeft, IsUnopened, IsUntouched};
+ghost use Rattle.app_files.specs.Endings.{EndsMaking, IsDisplaced, IsLeft, IsUnopened, IsUntouched};
 
 use crate::left::Left;
-use app_tasks::{Begun, Unfinished, lose_part, missing_log, remove_empty_log};
+use app_tasks::{Begun, Identity, Unfinished, lose_part, missing_log, remove_empty_log};
 use desk_files::{close_from, make_from, open_from};
 use desk_model::{Clock, Policy};
 use desk_store::{OpenFault, Store};
@@ -127,7 +127,7 @@ fn take_back<D: Disk>(rt: &HostRuntime, path: &str, begun: &Begun, left: &Left<D
 /// # Errors
 ///
 /// `NotADesk` where the file is missing or empty, or holds no desk, `NewerFormat` where it holds one of a later format,
-/// `Storage` where the file or its store failed; with what is left of the files.
+/// `Storage` where the file or its store failed, or where a copy took the place of the file meanwhile; with what is left of the files.
 pub(crate) fn open<S: Start>(
     rt: &HostRuntime,
     path: &str,
@@ -143,14 +143,36 @@ pub(crate) fn open<S: Start>(
         Err(fault) => return Err((fault, Left::Untouched)),
     }
     lose_part(rt, path);
+    let found = match Identity::of(rt, path) {
+        Ok(found) => found,
+        Err(error) => return Err((path_fault(error.kind()), Left::Untouched)),
+    };
     let log = missing_log(rt, path);
     match open_from(rt, path, start) {
-        Ok(store) => Ok(store),
+        Ok(store) => in_place(rt, path, found, store),
         Err(unopened) => {
             remove_log(rt, log, unopened.fault);
             Err((unopened.fault, Left::Unopened(unopened)))
         }
     }
+}
+
+// Gives the store of the file that was found at a path, if the path leads to that still. The engine looks at it before it takes its lock, and a
+// copy that was restored in between leaves it a file without a name: that is closed.
+fn in_place<S: Start>(
+    rt: &HostRuntime,
+    path: &str,
+    found: Identity,
+    store: Store<DeskFile<S>>,
+) -> Result<Store<DeskFile<S>>, (OpenFault, Left<FileFrom<S>>)>
+    ensures same { IfOk result (λ given. given ≡ store) }
+    ensures displaced { IfErr result (λ e. IsDisplaced store e.0 e.1) }
+{
+    if found.is_of(rt, path) {
+        return Ok(store);
+    }
+    let (_closed, left) = close(store);
+    Err((OpenFault::Storage(StorageFault::Device), left))
 }
 
 /// Closes the file, after its log was copied into it, and gives what is left of it.

@@ -3,6 +3,7 @@
 use crate::beside::{has_full_log, missing_log};
 use crate::causes::has_journal;
 use crate::copies::make_new;
+use crate::identity::Identity;
 use crate::locks::take_lock;
 use std::fs::{self, Metadata, OpenOptions};
 use std::io::{self, ErrorKind};
@@ -11,22 +12,6 @@ use std::os::unix::fs::{MetadataExt, fchown};
 // How many bytes a file may have that has no more than the first page, which the engine writes as it opens an empty one. A desk has
 // more once it is made and closed.
 const FIRST_PAGE: u64 = 4096;
-
-// Which file this is: its device, and its number there.
-#[derive(Clone, Copy, PartialEq, Eq)]
-struct Place {
-    device: u64,
-    number: u64,
-}
-
-impl Place {
-    fn of(found: &Metadata) -> Place {
-        Place {
-            device: found.dev(),
-            number: found.ino(),
-        }
-    }
-}
 
 /// How far a making came that failed.
 #[derive(Clone, Copy)]
@@ -43,7 +28,7 @@ pub enum Unfinished {
 #[derive(Drop)]
 pub struct Begun {
     // The file that it makes the desk in.
-    file: Place,
+    file: Identity,
     // Whether it made that, too; an empty one stood there otherwise.
     is_new: bool,
     // The path of the log that is to be made; `None` where one stood there.
@@ -64,7 +49,7 @@ impl Begun {
         };
         let found = fs::metadata(rt, path)?;
         Ok(Begun {
-            file: Place::of(&found),
+            file: Identity::told_by(&found),
             is_new,
             log: missing_log(rt, path),
         })
@@ -127,7 +112,7 @@ impl Begun {
         } else {
             fs::metadata(rt, path)
         };
-        found.is_ok_and(|found| found.is_file() && Place::of(&found) == self.file)
+        found.is_ok_and(|found| found.is_file() && Identity::told_by(&found) == self.file)
     }
 }
 
@@ -175,7 +160,11 @@ fn lock_empty(rt: &HostRuntime, path: &str, begun: &Begun) -> io::Result<fs::Fil
     let file = open(rt, path)?;
     let has_lock = take_lock(&file);
     let found = file.metadata()?;
-    if !has_lock || found.len() > 0 || Place::of(&found) != begun.file || !begun.is_at(rt, path) {
+    if !has_lock
+        || found.len() > 0
+        || Identity::told_by(&found) != begun.file
+        || !begun.is_at(rt, path)
+    {
         return Err(ErrorKind::WouldBlock.into());
     }
     if begun.is_new {

@@ -4,10 +4,11 @@ ghost use Rattle.std.specs.Fs.{asks_create_new};
 
 use crate::beside::{is_beside_log, stands, take_log_away};
 use crate::causes::FileCause;
+use crate::identity::Identity;
 use crate::parts::Part;
 use std::fs::{self, OpenOptions};
 use std::io::{self, ErrorKind};
-use std::os::unix::fs::{MetadataExt, OpenOptionsExt};
+use std::os::unix::fs::OpenOptionsExt;
 use thiserror::Error;
 
 /// Why a file is not copied.
@@ -99,10 +100,7 @@ pub fn is_taken(rt: &HostRuntime, path: &str) -> bool {
 
 /// Whether both paths lead to one file.
 pub fn are_same(rt: &HostRuntime, one: &str, other: &str) -> bool {
-    match (fs::metadata(rt, one), fs::metadata(rt, other)) {
-        (Ok(one), Ok(other)) => one.dev() == other.dev() && one.ino() == other.ino(),
-        _ => false,
-    }
+    Identity::of(rt, one).is_ok_and(|one| one.is_of(rt, other))
 }
 
 // The file at a path, to be read.

@@ -4,46 +4,40 @@ ghost use Rattle.app_tasks.specs.CallLog.{TakesLine};
 
 use crate::beside::beside;
 use crate::call_log::write_entry;
+use crate::identity::Identity;
 use app_words::LogForm;
 use desk_http::{Entry, Overseer};
 use std::fs::{self, Metadata};
 use std::io::{self, Write};
-use std::os::unix::fs::MetadataExt;
 
-/// Which file a path led to: its device and its number there, and how long it was.
+// What a path led to: which file, and how long it was.
 #[derive(Clone, Copy)]
-pub(crate) struct Identity {
-    device: u64,
-    number: u64,
+struct Found {
+    identity: Identity,
     length: u64,
 }
 
-impl Identity {
-    /// That of the file at a path.
-    ///
-    /// # Errors
-    ///
-    /// Where the path leads to none, or cannot be looked at.
-    pub(crate) fn of(rt: &HostRuntime, path: &str) -> io::Result<Identity> {
-        Ok(Identity::told_by(&fs::metadata(rt, path)?))
+impl Found {
+    // What a path leads to.
+    fn of(rt: &HostRuntime, path: &str) -> io::Result<Found> {
+        Ok(Found::told_by(&fs::metadata(rt, path)?))
     }
 
-    // That of what stands at a path itself, be it a link.
-    fn at(rt: &HostRuntime, path: &str) -> io::Result<Identity> {
-        Ok(Identity::told_by(&fs::symlink_metadata(rt, path)?))
+    // What stands at a path itself, be it a link.
+    fn at(rt: &HostRuntime, path: &str) -> io::Result<Found> {
+        Ok(Found::told_by(&fs::symlink_metadata(rt, path)?))
     }
 
-    fn told_by(found: &Metadata) -> Identity {
-        Identity {
-            device: found.dev(),
-            number: found.ino(),
+    fn told_by(found: &Metadata) -> Found {
+        Found {
+            identity: Identity::told_by(found),
             length: found.len(),
         }
     }
 
     // Whether this is the file that it was then, and no shorter.
-    fn is_whole(self, then: Identity) -> bool {
-        self.device == then.device && self.number == then.number && self.length >= then.length
+    fn is_whole(self, then: Found) -> bool {
+        self.identity == then.identity && self.length >= then.length
     }
 
     // Takes the length of the file at a path, where it can be looked at.
@@ -60,9 +54,9 @@ pub(crate) struct Files<'a> {
     path: &'a str,
     // Where the links of the path led; the engine has its log beside that.
     real_path: String,
-    file: Identity,
+    file: Found,
     log_path: String,
-    log: Identity,
+    log: Found,
 }
 
 impl<'a> Files<'a> {
@@ -73,11 +67,11 @@ impl<'a> Files<'a> {
     /// Where the path leads to none, one of them cannot be looked at, or there is no memory for the name of the log.
     pub(crate) fn at(rt: &HostRuntime, path: &'a str) -> io::Result<Files<'a>> {
         let log_path = beside(rt, path, "-wal")?;
-        let log = Identity::of(rt, log_path.as_str())?;
+        let log = Found::of(rt, log_path.as_str())?;
         Ok(Files {
             path,
             real_path: beside(rt, path, "")?,
-            file: Identity::of(rt, path)?,
+            file: Found::of(rt, path)?,
             log_path,
             log,
         })
@@ -87,9 +81,9 @@ impl<'a> Files<'a> {
     // Nothing is allocated, since a call that finds no memory is to be told as such.
     fn are_in_place(&self, rt: &HostRuntime) -> bool {
         match (
-            Identity::of(rt, self.path),
-            Identity::at(rt, self.real_path.as_str()),
-            Identity::at(rt, self.log_path.as_str()),
+            Found::of(rt, self.path),
+            Found::at(rt, self.real_path.as_str()),
+            Found::at(rt, self.log_path.as_str()),
         ) {
             (Ok(found), Ok(file), Ok(log)) => {
                 found.is_whole(self.file) && file.is_whole(self.file) && log.is_whole(self.log)

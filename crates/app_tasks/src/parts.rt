@@ -2,6 +2,7 @@
 
 use crate::beside::{is_beside_log, named, sync_directory};
 use crate::copies::{are_same, make_new};
+use crate::identity::Identity;
 use crate::locks::{is_held, take_lock};
 use std::fs::{self, Metadata, OpenOptions, Permissions};
 use std::io::{self, ErrorKind};
@@ -126,7 +127,7 @@ fn remove_left(rt: &HostRuntime, path: &str) {
 fn is_at(rt: &HostRuntime, file: &fs::File, path: &str) -> bool {
     match (file.metadata(), fs::symlink_metadata(rt, path)) {
         (Ok(file), Ok(found)) => {
-            found.is_file() && file.dev() == found.dev() && file.ino() == found.ino()
+            found.is_file() && Identity::told_by(&file) == Identity::told_by(&found)
         }
         _ => false,
     }
