@@ -1,1 +1,2 @@
+mod Displaced
 mod Ending
