@@ -199,6 +199,8 @@ bench: ## times the program for docs/PERFORMANCE.md, in minutes
 	@python3 bench/loopback.py >> bin/PERFORMANCE.md
 	@echo 'Timing the reports.'
 	@python3 bench/reports.py >> bin/PERFORMANCE.md
+	@echo 'Timing what an operator does with finished orders.'
+	@python3 bench/finished.py >> bin/PERFORMANCE.md
 	@echo 'Timing the opening of a file of format 1.'
 	@python3 bench/upgrade.py >> bin/PERFORMANCE.md
 	@echo 'Timing a file of a million orders.'

@@ -561,9 +561,8 @@ WHERE = """Most of a small call is the engine's: rows that are written, the comm
 some ten times. The program reads whole rows and writes all columns that calls move, where C reads and writes the columns
 that it needs. What an order lists, and each challenge that changes, is a statement each."""
 
-CAPACITY = """A public certificate authority issues some millions of certificates a day (Let's Encrypt's own statistics), an
-in-house one seldom more than thousands. A house that outgrows one desk runs several, each with a file, a base
-(`https://ca1.example`, `https://ca2.example`) and accounts of its own; the front sends a request on by its host name alone."""
+CAPACITY = """A house that outgrows one desk runs several, each with a file, a base (`https://ca1.example`, `https://ca2.example`)
+and accounts of its own; the front sends a request on by its host name alone."""
 
 
 def say_how():
@@ -631,17 +630,9 @@ def print_files(measured, who):
     print()
 
 
-def say_million(last, who):
-    """What a file of a million orders would be, by the largest one."""
-    csr = len(base64.urlsafe_b64decode(CSR + "=="))
-    times = 1e6 / last.size
-    size = 1e6 * (last.bytes / last.size + len(CERTIFICATE) + csr)
-    say(
-        f"""By these figures a file with a million orders, each with a CSR of {csr} bytes and a certificate of
-        {len(CERTIFICATE):,}, has {size / 1e9:,.1f} GB, and the desk opens it in {times * last.opening[who]:,.0f}
-        seconds or more, with {times * last.memory[who] / 1e9:,.1f} GB of memory or more. Old orders stay in the file: a house
-        puts it aside and makes a new one when opening takes too long for it."""
-    )
+def say_old():
+    say("""Old orders stay in the file: a house puts it aside and makes a new one when opening takes too long for it. Finished orders
+        take more, see below.""")
 
 
 def print_comparison(disk, memory):
@@ -668,7 +659,7 @@ def print_page(counts, disk, memory):
     if "desk" in counts:
         say_disk(disk.sizes, counts, disk.sync)
     print_files(disk.sizes, who)
-    say_million(disk.sizes[largest], who)
+    say_old()
     say(CAPACITY)
 
 
