@@ -222,7 +222,8 @@ def beside_logs(program, path, folder):
     """No copy is made beside the log of another desk; one that holds nothing is no such log."""
     alone, log = f"{folder}/alone.db", fresh(program, folder, "logged")
     with subprocess.Popen([program, "batch", "--file", log], stdin=subprocess.PIPE, stdout=subprocess.PIPE) as batch:
-        answered(batch, example("order")[0][0])
+        for call in example("order")[0][:3]:
+            answered(batch, call)
         batch.kill()
     shutil.copy(f"{log}-wal", f"{alone}-wal")
     taken, stands = b"desk: there is a file already\n", "the log of another desk stands there, the file -wal beside it"

@@ -302,10 +302,10 @@ def stood_there(program, folder):
 def logs_that_are_none(program, folder):
     """What stands in the place of a log and is none is told as such, and stays."""
     path, log = fresh(program, folder, "logs"), f"{folder}/logs.db-wal"
-    os.rename(log, f"{folder}/kept")
+    os.rename(log, f"{folder}/log-kept")
 
     def link():
-        os.symlink(f"{folder}/kept", log)
+        os.symlink(f"{folder}/log-kept", log)
 
     def pipe():
         os.mkfifo(log)
@@ -318,7 +318,7 @@ def logs_that_are_none(program, folder):
             server.bind(log)
 
     def hard_link():
-        os.link(f"{folder}/kept", log)
+        os.link(f"{folder}/log-kept", log)
 
     for stand, cause in ((link, NO_LOG_FILE), (pipe, NO_LOG_FILE), (directory, NO_LOG_FILE), (bound, NO_LOG_FILE), (hard_link, LINKED_LOG)):
         stand()
@@ -326,7 +326,7 @@ def logs_that_are_none(program, folder):
         see(f"a log that is a {stand.__name__}", run(program, "check", path, "--verbose"), (1, b"", DEVICE + because(path, cause)))
         see(f"it stays: {stand.__name__}", os.lstat(log)[:6], before)
         (os.rmdir if stand is directory else os.remove)(log)
-    os.rename(f"{folder}/kept", log)
+    os.rename(f"{folder}/log-kept", log)
     see("the log itself", run(program, "check", path), (0, b"no fault\n", b""))
 
 

@@ -80,8 +80,9 @@ def raised(kind, call, *given):
 
 
 def as_nobody(folder):
-    """A process of another user that serves a desk of its own at FOLDER/socket, and writes each call that it gets to FOLDER/calls."""
-    os.chown(folder, NOBODY, NOBODY)
+    """A process of another user that serves a desk of its own at FOLDER/socket, in a folder where any user may make files, and writes each
+    call that it gets to FOLDER/calls."""
+    os.chmod(folder, 0o1777)
     program = ("import os, socket, sys\n"
                f"os.setgroups([]); os.setgid({NOBODY}); os.setuid({NOBODY}); os.chdir({folder!r})\n"
                "s = socket.socket(socket.AF_UNIX); s.bind('socket'); os.chmod('socket', 0o666); s.listen(); print('there', flush=True)\n"
@@ -101,7 +102,6 @@ def impostors(_):
         return
     desk.PATIENCE = 0.3
     with tempfile.TemporaryDirectory(prefix="desk-house-") as folder:
-        os.chmod(folder, 0o755)
         run = as_nobody(folder)
         for method, path in (("GET", "/office/orders"), ("GET", "/office/key/1"), ("POST", "/office/certify/1")):
             why = raised(desk.Down, desk.Desk(f"{folder}/socket", "").call, method, path)
@@ -685,17 +685,24 @@ def limits(trial):
             tried(f"down: {request[:20]}", found, (b"503", True, True, f"{ERROR}serverInternal"))
 
 
+def connected():
+    """How many connections have a thread of a server."""
+    return sum("process_request_thread" in thread.name for thread in threading.enumerate())
+
+
 def crowded(address):
     """400 silent connections of one client, of which few are held, and of many clients; others are answered beside them."""
-    front.HANDSHAKE, threads = 60, threading.active_count()
+    front.HANDSHAKE = 60
+    wait_for(lambda: connected() == 0, 5)
+    threads = connected()
     held = [socket.create_connection(address, 5, ("127.0.0.1", 0)) for _ in range(400)]
-    is_few = wait_for(lambda: threading.active_count() - threads == front.OF_ONE and len(ended(held)) == 400 - front.OF_ONE)
+    is_few = wait_for(lambda: connected() - threads == front.OF_ONE and len(ended(held)) == 400 - front.OF_ONE)
     tried("connections of one client, 400 of them silent", is_few)
     start = time.monotonic()
     see("another client beside them", fetched(address, source="127.0.0.2")[:15], b"HTTP/1.1 200 OK")
     said = f"house: {len(ended(held))} of 400 connections of one client were refused, and another was answered in {time.monotonic() - start:.2f} s"
     held += [socket.create_connection(address, 5, (f"127.0.1.{number}", 0)) for number in range(1, 40)]
-    tried("connections at one time", wait_for(lambda: threading.active_count() - threads == front.CONNECTIONS))
+    tried("connections at one time", wait_for(lambda: connected() - threads == front.CONNECTIONS))
     front.HANDSHAKE = 1
     for connection in held:
         connection.close()

@@ -145,7 +145,7 @@ def see_ended(what, server, told=b""):
 
 
 def shortened(program, folder):
-    """A log or a file that is shorter than the latest call left it ends the program, though it is longer than it was; the engine's own cut does not."""
+    """A log or a file that is shorter than the latest call left it ends the program, though it is longer than it was; what the engine does with them does not."""
     server = Server(program, fresh(program, folder, "shortened-log"), "--verbose")
     begun = os.path.getsize(f"{server.path}-wal")
     see("shortened-log: a call", Reply(server.ask(NEW_NONCE)).status, 204)
@@ -158,7 +158,7 @@ def shortened(program, folder):
     for _ in range(CALLS):
         see("shortened: a call", Reply(server.ask(NEW_NONCE)).status, 204)
         sizes.append(os.path.getsize(f"{server.path}-wal"))
-    see("the engine has cut its log, and made its file longer", (sizes != sorted(sizes), os.path.getsize(server.path) > begun), (True, True))
+    see("the engine has made its file longer, and cut no log", (os.path.getsize(server.path) > begun, sizes == sorted(sizes)), (True, True))
     os.truncate(server.path, begun)
     see_ended("shortened", server)
 

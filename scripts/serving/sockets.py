@@ -69,6 +69,7 @@ def at_both(program, folder):
     server = Server(program, fresh(program, folder, "at-both"), "--socket", place, "--count", "9", "--log")
     see("the line of the socket", server.run.stdout.readline(), f"listening on {place}\n".encode())
     first, rest = server.connect(), []
+    time.sleep(0.5)
     for _ in range(4):
         for client, data in ((server.connect(), DIRECTORY), (reached(place), NEW_NONCE)):
             client.sendall(data)
