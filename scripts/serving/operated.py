@@ -154,11 +154,10 @@ def shortened(program, folder):
         reset(gone)
     see_ended("shortened-log", server, BROKEN_OFF)
     server = Server(program, fresh(program, folder, "shortened"), "--verbose")
-    begun, sizes = os.path.getsize(server.path), []
+    begun = os.path.getsize(server.path)
     for _ in range(CALLS):
         see("shortened: a call", Reply(server.ask(NEW_NONCE)).status, 204)
-        sizes.append(os.path.getsize(f"{server.path}-wal"))
-    see("the engine has made its file longer, and cut no log", (os.path.getsize(server.path) > begun, sizes == sorted(sizes)), (True, True))
+    see("the engine has made its file longer", os.path.getsize(server.path) > begun, True)
     os.truncate(server.path, begun)
     see_ended("shortened", server)
 
