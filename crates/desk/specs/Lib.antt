@@ -1,6 +1,7 @@
 pub mod Answers
 pub mod Causes
 pub mod Faults
+pub mod Looking
 pub mod Meets
 pub mod Office
 pub mod Runs

@@ -5,14 +5,19 @@ ghost use Rattle.store_api.specs.Storing.{Loads};
 ghost use Rattle.desk.specs.declared.fault.DeskFault.TheVariants as fault;
 ghost use Rattle.desk.specs.Answers.{Answers, is_closed_after};
 ghost use Rattle.desk.specs.Causes.{IsCaused};
+ghost use Rattle.desk.specs.Looking.{Looks, is_closed_by_look};
+ghost use Rattle.desk.specs.declared.looking.LookFault.TheVariants as lookfault;
+ghost use Rattle.store_api.specs.declared.fault.StorageFault.TheVariants as storagefault;
 ghost use Rattle.desk.specs.Runs.{EndsCaused, Runs, RunsAs, TellsLate, is_closed_behind};
 ghost use Rattle.desk_model.specs.{Limits.last_moment, Run.IsFormedCall};
 
 use crate::fault::DeskFault;
+use crate::looking::{Look, LookFault};
 use desk_book::Book;
 use desk_core::decide;
 use desk_model::{Call, Policy, Reply, keep_form};
 use std::alloc::Global;
+use std::io::Write;
 use std::marker::Model;
 use store_api::{ParsedCall, Storage, StorageFault};
 
@@ -164,6 +169,38 @@ impl<K: Storage + Drop> Desk<K> {
             Err(fault) => {
                 self.is_closed = fault.closes();
                 Err(fault)
+            }
+        }
+    }
+
+    /// Has the store looked at, which changes nothing. The desk is closed where the store is to be opened again.
+    ///
+    /// # Errors
+    ///
+    /// Those of the look; `Storage` of `Reopen` where the desk is closed, which is then not looked at.
+    pub fn look<A, L: Look<K, A>, W: Write>(
+        &mut self,
+        alloc: Global,
+        look: &L,
+        asked: &A,
+        out: &mut W,
+    ) -> Result<(), LookFault>
+        ensures closed { IsTrue self.old.is_closed → (result ≡ Err (lookfault.Storage storagefault.Reopen))
+            × ((self.new ≡ self.old) × (W.contents out.new ≡ W.contents out.old)) }
+        ensures shows { self.old.is_closed ≡ false
+            → L.shows look.now asked.now (W.contents out.old) (W.contents out.new) self.old.store self.new.store result }
+        ensures looks { self.old.is_closed ≡ false → Looks K.Storage.sight self.old.store self.new.store result }
+        ensures flag { self.old.is_closed ≡ false → self.new.is_closed ≡ is_closed_by_look result }
+        ensures policy { self.new.policy ≡ self.old.policy }
+    {
+        if self.is_closed {
+            return Err(LookFault::Storage(StorageFault::Reopen));
+        }
+        match look.look(alloc, asked, &mut self.store, out) {
+            Ok(()) => Ok(()),
+            Err(why) => {
+                self.is_closed = why.closes();
+                Err(why)
             }
         }
     }

@@ -4,10 +4,12 @@
 mod desk;
 mod fault;
 mod laws;
+mod looking;
 mod memory;
 mod office;
 
 pub use desk::{Desk, Unadopted};
 pub use fault::DeskFault;
 pub use laws::stores_live;
+pub use looking::{Blank, Look, LookFault};
 pub use memory::Memory;
