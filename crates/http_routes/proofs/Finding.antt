@@ -59,6 +59,8 @@ behind route.Certify = refl
 behind route.FailOrder = refl
 behind route.RevokeAuthz = refl
 behind route.RevokeAccount = refl
+behind route.Page = refl
+behind route.Look = refl
 
 -- ---- the number of a path
 
@@ -130,3 +132,5 @@ desk_routes_are_found path route.Certify n h = found_alone route.Certify (behind
 desk_routes_are_found path route.FailOrder n h = found_alone route.FailOrder (behind route.FailOrder) path n h
 desk_routes_are_found path route.RevokeAuthz n h = found_alone route.RevokeAuthz (behind route.RevokeAuthz) path n h
 desk_routes_are_found path route.RevokeAccount n h = found_alone route.RevokeAccount (behind route.RevokeAccount) path n h
+desk_routes_are_found path route.Page n h = rw (h.0) (behind route.Page)
+desk_routes_are_found path route.Look n h = rw (h.0) (behind route.Look)

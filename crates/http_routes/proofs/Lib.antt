@@ -4,6 +4,7 @@ pub mod Finding
 pub mod Resources
 pub mod Inserted
 pub mod Leads
+pub mod Naming
 pub mod Places
 pub mod Seeking
 pub mod Spelled

@@ -1,5 +1,5 @@
 -- What a request asks, by its method, its path and its body.
-use Rattle.std.specs.Prelude.{◌≡◌, ℕ, Bool, true, List, [], codes, bytes_eq, Option, Some, None, option_map, IsUtf8, ◌⊎◌}
+use Rattle.std.specs.Prelude.{◌≡◌, ℕ, Bool, true, false, List, [], codes, bytes_eq, Option, Some, None, option_map, IsUtf8, ◌⊎◌}
 use Rattle.desk_model.specs.declared.{refusal.Refusal.Refusal, call.Ask.Ask, call.Signed.Signed, call.Target.Target, reply.Allow.Allow, reply.Reply.Reply}
 use Rattle.desk_model.specs.declared.refusal.Refusal.TheVariants as refusal
 use Rattle.desk_model.specs.declared.call.Ask.TheVariants as ask
@@ -7,7 +7,9 @@ use Rattle.desk_model.specs.declared.call.OfficeAsk.TheVariants as asks
 use Rattle.desk_model.specs.declared.reply.Allow.TheVariants as allow
 use Rattle.json_texts.specs.{Problems.order_problem, RefusalReplies.refusal_reply}
 use Rattle.http_routes.specs.Envelopes.{Envelope, IsEnvelopeText, IsSigned}
-use Rattle.http_routes.specs.{Offices.finding, declared.request.Place.Place, declared.request.RequestRefusal.RequestRefusal}
+use Rattle.http_routes.specs.{Looked.report, Offices.finding, declared.request.Place.Place, declared.request.RequestRefusal.RequestRefusal}
+use Rattle.http_routes.specs.declared.looked.Looked.{Looked}
+use Rattle.http_routes.specs.declared.looked.Looked.TheVariants as looked
 use Rattle.http_routes.specs.declared.routes.{OfficeResource.OfficeResource, Resource.Resource}
 use Rattle.http_routes.specs.Routes.{IsResourceAt, has_index, methods_of, serves}
 use Rattle.http_routes.specs.declared.request.Place.TheVariants as place
@@ -34,7 +36,7 @@ abbrev pub IsFailAsk : ℕ → List ℕ → Option Ask → Type 0
 IsFailAsk order text asked = asked ≡ option_map (λ problem. ask.Office (asks.FailOrder order problem)) (order_problem text)
 
 -- what a body asks that is to be text: UTF-8, or it asks nothing
-abbrev pub IsOfText : (List ℕ → Option Ask → Type 0) → List ℕ → Option Ask → Type 0
+abbrev pub IsOfText : {X : Type 0} → (List ℕ → Option X → Type 0) → List ℕ → Option X → Type 0
 IsOfText IsAsked body asked = (IsUtf8 body × IsAsked body asked) ⊎ ((IsUtf8 body → ⊥) × (asked ≡ None))
 
 -- what the validator, the signing office and the operator ask; a certificate may be any bytes, and a revocation takes nothing from its body
@@ -47,6 +49,8 @@ IsOfficeAsk (office.Certify order) body asked = asked ≡ certify_ask order body
 IsOfficeAsk (office.FailOrder order) body asked = IsOfText (IsFailAsk order) body asked
 IsOfficeAsk (office.RevokeAuthz authz) body asked = asked ≡ Some (ask.Office (asks.RevokeAuthz authz))
 IsOfficeAsk (office.RevokeAccount account) body asked = asked ≡ Some (ask.Office (asks.RevokeAccount account))
+IsOfficeAsk office.Page body asked = asked ≡ None
+IsOfficeAsk office.Look body asked = asked ≡ None
 
 -- what a request of this method asks of a resource by the bytes of its body; None: the body is none for it
 abbrev pub IsAskIn : Resource → List ℕ → List ℕ → Option Ask → Type 0
@@ -55,11 +59,27 @@ IsAskIn resource.NewNonce method body asked = asked ≡ Some (ask.NewNonce (byte
 IsAskIn (resource.Signed target) method body asked = IsOfText (IsSignedAsk target) body asked
 IsAskIn (resource.Office o) method body asked = IsOfficeAsk o body asked
 
+-- ---- what is shown, which is no call
+
+-- the report that a text asks for
+abbrev pub IsReport : List ℕ → Option Looked → Type 0
+IsReport text asked = asked ≡ report text
+
+-- what a request asks of a resource to be shown, by the bytes of its body; None: it asks for nothing that is shown
+abbrev pub IsLookIn : Resource → List ℕ → Option Looked → Type 0
+IsLookIn (resource.Office office.Page) body asked = asked ≡ Some looked.Page
+IsLookIn (resource.Office office.Look) body asked = IsOfText IsReport body asked
+IsLookIn _ body asked = asked ≡ None
+
 -- ---- requests
 
 -- how a request that is no call is refused
 abbrev pub refused_request : Refusal → Allow → Bool → RequestRefusal
 refused_request why methods has_link = record { refusal = why; allow = methods; index = has_link }
+
+-- how a request is refused that asks for what is not shown
+abbrev pub unshown : RequestRefusal
+unshown = refused_request refusal.Malformed allow.No false
 
 -- the reply to it: nothing is recorded, and there is no nonce
 abbrev pub refused_reply : RequestRefusal → Reply

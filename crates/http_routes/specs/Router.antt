@@ -42,6 +42,6 @@ asked_routes =
     add_route (add_route (add_route (add_route (add_route (add_route client_routes
     route.Key) route.ChallengeWork) route.OrderWork) route.Report) route.Certify) route.FailOrder
 
--- all routes of the desk: and of what the operator ends
+-- all routes of the desk: and of what the operator ends, and is shown
 abbrev pub desk_routes : RowsOf (RouteOf Route)
-desk_routes = add_route (add_route asked_routes route.RevokeAuthz) route.RevokeAccount
+desk_routes = add_route (add_route (add_route (add_route asked_routes route.RevokeAuthz) route.RevokeAccount) route.Page) route.Look

@@ -47,6 +47,8 @@ prefix route.Certify = codes "/office/certify/"
 prefix route.FailOrder = codes "/office/fail/"
 prefix route.RevokeAuthz = codes "/office/revoke-authz/"
 prefix route.RevokeAccount = codes "/office/revoke-account/"
+prefix route.Page = codes "/office/page"
+prefix route.Look = codes "/office/look"
 
 -- and the text behind the number
 abbrev pub suffix : Route → List ℕ
@@ -63,6 +65,8 @@ is_numbered route.KeyChange = false
 is_numbered route.NewOrder = false
 is_numbered route.ChallengeWork = false
 is_numbered route.OrderWork = false
+is_numbered route.Page = false
+is_numbered route.Look = false
 is_numbered _ = true
 
 -- the text of a route: that of its paths, with `{n}` in the place of their number
@@ -100,6 +104,8 @@ resource_of route.Certify n = resource.Office (office.Certify n)
 resource_of route.FailOrder n = resource.Office (office.FailOrder n)
 resource_of route.RevokeAuthz n = resource.Office (office.RevokeAuthz n)
 resource_of route.RevokeAccount n = resource.Office (office.RevokeAccount n)
+resource_of route.Page n = resource.Office office.Page
+resource_of route.Look n = resource.Office office.Look
 
 -- the path leads to the resource: it is the text of a route that does
 pub record IsResourceAt (path : List ℕ) (x : Resource) : Type 0 where
@@ -134,6 +140,8 @@ office_methods (office.Certify n) = allow.Post
 office_methods (office.FailOrder n) = allow.Post
 office_methods (office.RevokeAuthz n) = allow.Post
 office_methods (office.RevokeAccount n) = allow.Post
+office_methods office.Page = allow.Get
+office_methods office.Look = allow.Post
 
 -- the methods that a resource serves: signed requests are posted (RFC 8555, 6.3), and a nonce is asked by GET or HEAD (7.2)
 abbrev pub methods_of : Resource → Allow

@@ -3,11 +3,13 @@
 #![tactic(auto)]
 
 mod lines;
+mod looked;
 mod request;
 mod routes;
 
 pub use lines::{Line, LineFault, read_line, reply_line};
-pub use request::{Place, Request, RequestRefusal, ask_in, place_of};
+pub use looked::{Looked, ReportForm};
+pub use request::{Place, Request, RequestRefusal, ask_in, look_in, place_of};
 pub use routes::{
     OfficeResource, Resource, Routes, has_index, is_visible, methods_of, number_between,
 };

@@ -1,12 +1,13 @@
 //! What requests ask, by method, path and body: an envelope of the front, or a word of the office.
 ghost use Rattle.std.specs.Prelude.{◌≡◌, ℕ, List, IfOk, MatchOption};
 ghost use Rattle.http_routes.specs.Request.{IsAskIn, IsFailAsk, IsOfText, IsOfficeAsk, IsPlace, IsReportAsk, IsSignedAsk, IsUnserved, certify_ask};
-ghost use Rattle.http_routes.specs.Request.{refused_reply};
+ghost use Rattle.http_routes.specs.Request.{IsLookIn, IsReport, refused_reply, unshown};
 ghost use Rattle.http_routes.specs.Routes.{IsResourceAt, has_index};
 ghost use Rattle.http_routes.specs.Envelopes.{IsKeyRead, IsSignedAskIn, formed_nonce, has_nonce_form, nonce_in};
 ghost use Rattle.serde_json.specs.View.{view};
 ghost use Rattle.http_routes.specs.Offices.{body_in, error_in, fetch_error, finding, finding_in, records_in};
 
+use crate::looked::{Looked, report};
 use crate::routes::{OfficeResource, Resource, Routes, methods_of, resource_at, serves};
 use desk_model::{
     Allow, Ask, BadKey, FetchError, Finding, Jwk, OfficeAsk, Refusal, Reply, Sequence, Signed,
@@ -23,6 +24,8 @@ use std::alloc::{AllocError, Global};
 pub enum Request {
     /// What a call would ask; its moment and random bytes come from elsewhere.
     Asks(Ask),
+    /// What it asks to be shown, which is no call.
+    Looks(Looked),
     /// The desk has no part in the reply.
     Refused(RequestRefusal),
 }
@@ -39,6 +42,17 @@ pub struct RequestRefusal {
 }
 
 impl RequestRefusal {
+    /// How a request is refused that asks for what is not shown.
+    pub fn unshown() -> RequestRefusal
+        ensures { result ≡ unshown }
+    {
+        RequestRefusal {
+            refusal: Refusal::Malformed,
+            allow: Allow::No,
+            index: false,
+        }
+    }
+
     /// The reply, which has no nonce.
     pub fn reply(self, alloc: Global) -> Reply
         ensures { result ≡ refused_reply self }
@@ -122,6 +136,33 @@ pub fn ask_in(
     }
 }
 
+/// What a request asks to be shown, by the bytes of its body, or `None` where it asks nothing of the kind: a report is asked for by
+/// a JSON object, which is UTF-8.
+///
+/// # Errors
+///
+/// Where there is no memory for it.
+pub fn look_in(alloc: Global, resource: Resource, body: &[u8]) -> Result<Option<Looked>, AllocError>
+    ensures { IfOk result (λ o. IsLookIn resource body.now o) }
+{
+    match resource {
+        Resource::Office(OfficeResource::Page) => Ok(Some(Looked::Page)),
+        Resource::Office(OfficeResource::Look) => report_look(alloc, body),
+        _ => Ok(None),
+    }
+}
+
+// The report that a body asks for, or `None` where it asks for none.
+fn report_look(alloc: Global, body: &[u8]) -> Result<Option<Looked>, AllocError>
+    ensures { IfOk result (λ o. IsOfText IsReport body.now o) }
+{
+    let Ok(text) = str::from_utf8(body) else {
+        return Ok(None);
+    };
+    let looked = report(alloc, text)?;
+    Ok(looked)
+}
+
 // What a signed request asks of its target, or `None` where its body is no envelope (RFC 8555, 6.2).
 fn signed_ask(alloc: Global, target: Target, body: &[u8]) -> Result<Option<Ask>, AllocError>
     ensures { IfOk result (λ o. IsOfText (IsSignedAsk target) body.now o) }
@@ -166,6 +207,8 @@ fn office_ask(
         OfficeResource::RevokeAccount(account) => Ok(Some(Ask::Office(OfficeAsk::RevokeAccount(
             account,
         )))),
+        OfficeResource::Page => Ok(None),
+        OfficeResource::Look => Ok(None),
     }
 }
 

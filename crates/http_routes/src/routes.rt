@@ -43,6 +43,10 @@ pub enum OfficeResource {
     RevokeAuthz(u64),
     /// The end of the account of this number, by POST, whatever its body.
     RevokeAccount(u64),
+    /// The page of the desk, by GET, which no call answers.
+    Page,
+    /// A report that a text asks for, by POST, which no call answers.
+    Look,
 }
 
 // A form of paths, whose number is left open where they have one.
@@ -68,6 +72,8 @@ enum Route {
     FailOrder,
     RevokeAuthz,
     RevokeAccount,
+    Page,
+    Look,
 }
 
 // The text of a route's paths, with `{n}` in the place of their number.
@@ -95,6 +101,8 @@ fn text_of(route: Route) -> &'static str
         Route::FailOrder => "/office/fail/{n}",
         Route::RevokeAuthz => "/office/revoke-authz/{n}",
         Route::RevokeAccount => "/office/revoke-account/{n}",
+        Route::Page => "/office/page",
+        Route::Look => "/office/look",
     }
 }
 
@@ -123,6 +131,8 @@ fn resource_of(route: Route, number: u64) -> Resource
         Route::FailOrder => Resource::Office(OfficeResource::FailOrder(number)),
         Route::RevokeAuthz => Resource::Office(OfficeResource::RevokeAuthz(number)),
         Route::RevokeAccount => Resource::Office(OfficeResource::RevokeAccount(number)),
+        Route::Page => Resource::Office(OfficeResource::Page),
+        Route::Look => Resource::Office(OfficeResource::Look),
     }
 }
 
@@ -135,7 +145,10 @@ pub fn methods_of(resource: Resource) -> Allow
         Resource::NewNonce => Allow::GetHead,
         Resource::Signed(_) => Allow::Post,
         Resource::Office(
-            OfficeResource::Key(_) | OfficeResource::ChallengeWork | OfficeResource::OrderWork,
+            OfficeResource::Key(_)
+            | OfficeResource::ChallengeWork
+            | OfficeResource::OrderWork
+            | OfficeResource::Page,
         ) => Allow::Get,
         Resource::Office(_) => Allow::Post,
     }
@@ -177,7 +190,7 @@ fn is_visible_byte(b: u8) -> bool
 // ---- the router
 
 // The routes of the desk.
-const ROUTES: [Route; 20] = [
+const ROUTES: [Route; 22] = [
     Route::Directory,
     Route::NewNonce,
     Route::NewAccount,
@@ -198,6 +211,8 @@ const ROUTES: [Route; 20] = [
     Route::FailOrder,
     Route::RevokeAuthz,
     Route::RevokeAccount,
+    Route::Page,
+    Route::Look,
 ];
 
 /// The routes of the desk, which are put into a router where the first path is looked up. Contracts see whether that was done.
