@@ -1,12 +1,12 @@
 -- From a plan and a body to the request.
 use Rattle.std.proofs.Common.{◌≡◌, ℕ, List, ◌++◌, Option, Some, None, Result, Ok, Err, sym, subst}
 use Rattle.std.specs.Prelude.{IfOk, IfSome, option_map}
-use Rattle.http_routes.specs.Request.{IsAskIn, IsServed}
+use Rattle.http_routes.specs.Request.{IsAskIn, IsLookIn, IsServed}
 use Rattle.http_routes.specs.{Routes.has_index, declared.request.Request.Request, declared.routes.Resource.Resource}
 use Rattle.http_routes.specs.declared.request.Request.TheVariants as request
 use Rattle.http_wire.specs.{Framing.framing_for, declared.call.ParsedRequest.ParsedRequest}
 use Rattle.http_wire.specs.ParsedRequest.{IsAnswerTo, IsBody}
-use Rattle.http_wire.specs.Spelled.{IsRequestWith, cut_short, unread, asked}
+use Rattle.http_wire.specs.Spelled.{IsRequestWith, asked, cut_short, looked, unread}
 use Rattle.http_wire.specs.declared.body.Framing.TheVariants as frame
 
 -- what a served request asks by its body
@@ -19,7 +19,9 @@ request_by_body method path fields rest r n None q s e b a =
 request_by_body method path fields rest r n (Some body) (request.Asks what) s e b a =
     asked r n what s e b.0 (subst (λ (x : List ℕ). IsAskIn r method x (Some what)) b.1 a)
 request_by_body method path fields rest r n (Some body) (request.Refused reply) s e b a =
-    rw (a.1) (unread r n s e b.0 (subst (λ (x : List ℕ). IsAskIn r method x None) b.1 a.0))
+    rw (a.1.1) (unread r n s e b.0 (subst (λ (x : List ℕ). IsLookIn r x None) b.1 a.0) (subst (λ (x : List ℕ). IsAskIn r method x None) b.1 a.1.0))
+request_by_body method path fields rest r n (Some body) (request.Looks l) s e b a =
+    looked r n l s e b.0 (subst (λ (x : List ℕ). IsLookIn r x (Some l)) b.1 a)
 
 -- the same of what the reader has left, where memory was found for what the body asks
 pub request_behind : {V E : Type 0} (items : V → List ℕ) (remaining : Option (List ℕ)) (method path : List ℕ) (fields : List (List ℕ × List ℕ))

@@ -4,7 +4,7 @@ use Rattle.httparse.specs.Spans.{header_bytes, span_bytes}
 use Rattle.httparse.specs.declared.spans.{HeaderSpan.HeaderSpan, RequestSpans.RequestSpans}
 use Rattle.desk_model.specs.declared.refusal.Refusal.TheVariants as refusal
 use Rattle.desk_model.specs.declared.reply.Allow.TheVariants as allow
-use Rattle.http_routes.specs.Request.{IsAskIn, IsServed, refused_request}
+use Rattle.http_routes.specs.Request.{IsAskIn, IsLookIn, IsServed, refused_request}
 use Rattle.http_routes.specs.declared.{request.Request.Request, routes.Resource.Resource}
 use Rattle.http_routes.specs.declared.request.Request.TheVariants as request
 use Rattle.http_wire.specs.{Framing.framing_for, declared.call.ParsedRequest.ParsedRequest, declared.call.Plan.Plan}
@@ -33,8 +33,9 @@ IsBody rest n (Some body) = (n ≤ length rest) × (body ≡ take n rest)
 abbrev pub IsAnswerTo : Resource → List ℕ → Bool → Option (List ℕ) → Request → Type 0
 IsAnswerTo r method index None q = q ≡ request.Refused (refused_request refusal.Malformed allow.No index)
 IsAnswerTo r method index (Some body) (request.Asks what) = IsAskIn r method body (Some what)
+IsAnswerTo r method index (Some body) (request.Looks l) = IsLookIn r body (Some l)
 IsAnswerTo r method index (Some body) (request.Refused why) =
-    IsAskIn r method body None × (why ≡ refused_request refusal.Malformed allow.No index)
+    IsLookIn r body None × (IsAskIn r method body None × (why ≡ refused_request refusal.Malformed allow.No index))
 
 -- the request whose head lies at these spans, with what the reader has left behind the bytes
 abbrev pub IsRequestAt : List ℕ → List HeaderSpan → RequestSpans → List ℕ → Request → Type 0

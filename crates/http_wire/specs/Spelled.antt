@@ -4,9 +4,9 @@ use Rattle.httparse.specs.{Grammar.RequestHead, Spans.name_and_value}
 use Rattle.desk_model.specs.declared.call.Ask.{Ask}
 use Rattle.desk_model.specs.declared.refusal.Refusal.TheVariants as refusal
 use Rattle.desk_model.specs.declared.reply.Allow.TheVariants as allow
-use Rattle.http_routes.specs.Request.{IsAskIn, IsServed, IsUnserved, refused_request}
+use Rattle.http_routes.specs.Request.{IsAskIn, IsLookIn, IsServed, IsUnserved, refused_request}
 use Rattle.http_routes.specs.Routes.{has_index}
-use Rattle.http_routes.specs.declared.{request.Request.Request, request.RequestRefusal.RequestRefusal, routes.Resource.Resource}
+use Rattle.http_routes.specs.declared.{looked.Looked.Looked, request.Request.Request, request.RequestRefusal.RequestRefusal, routes.Resource.Resource}
 use Rattle.http_routes.specs.declared.request.Request.TheVariants as request
 use Rattle.http_wire.specs.{Framing.framing_for, declared.call.ReplyForm.ReplyForm}
 use Rattle.http_wire.specs.Head.{BeginsWith, HasNoHead, IsMalformed, IsTooLarge}
@@ -24,11 +24,14 @@ pub data IsRequestWith (method path : List ℕ) (fields : List (List ℕ × List
   cut_short : (r : Resource) (n : ℕ) → IsServed method path r → framing_for r fields ≡ frame.Takes n → length rest < n
       → IsRequestWith method path fields rest (request.Refused (refused_request refusal.Malformed allow.No (has_index path)))
   unread : (r : Resource) (n : ℕ) → IsServed method path r → framing_for r fields ≡ frame.Takes n → n ≤ length rest
-      → IsAskIn r method (take n rest) None
+      → IsLookIn r (take n rest) None → IsAskIn r method (take n rest) None
       → IsRequestWith method path fields rest (request.Refused (refused_request refusal.Malformed allow.No (has_index path)))
   asked : (r : Resource) (n : ℕ) (what : Ask) → IsServed method path r → framing_for r fields ≡ frame.Takes n → n ≤ length rest
       → IsAskIn r method (take n rest) (Some what)
       → IsRequestWith method path fields rest (request.Asks what)
+  looked : (r : Resource) (n : ℕ) (l : Looked) → IsServed method path r → framing_for r fields ≡ frame.Takes n → n ≤ length rest
+      → IsLookIn r (take n rest) (Some l)
+      → IsRequestWith method path fields rest (request.Looks l)
 
 -- what the input asks, or how it is refused
 pub data Spells (input : List ℕ) : Request → Type 0 where

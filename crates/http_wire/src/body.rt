@@ -6,10 +6,12 @@ ghost use Rattle.http_wire.specs.ParsedRequest.{IsAnswerTo, IsBody};
 ghost use Rattle.httparse.specs.Spans.{IsHeaderWithin, header_bytes};
 ghost use Rattle.http_wire.specs.Framing.{FoundIs, framing, framing_by, framing_for, is_posted, length_in, limit_of, same_name, saturated, values_of};
 ghost use Rattle.desk_model.specs.Limits.{longest_body};
+ghost use Rattle.desk_model.specs.declared.{refusal.Refusal.TheVariants.{Malformed as malformed}, reply.Allow.TheVariants.{No}};
+ghost use Rattle.http_routes.specs.Request.{refused_request};
 ghost use Rattle.std.specs.Io.KnownBytes.{Consumes, IsAtEnd, Keeps};
 
 use desk_model::{Allow, LONGEST_BODY, LONGEST_CERTIFICATE, Refusal};
-use http_routes::{OfficeResource, Request, RequestRefusal, Resource, ask_in, methods_of};
+use http_routes::{OfficeResource, Request, RequestRefusal, Resource, ask_in, look_in, methods_of};
 use httparse::spans::HeaderSpan;
 use std::alloc::{AllocError, Global};
 use std::error::Error;
@@ -61,7 +63,7 @@ fn room_for(alloc: Global, begun: &[u8], count: usize) -> Result<Vec<u8>, AllocE
     Ok(body)
 }
 
-/// What a body that was read asks of a resource, or its refusal; `None` is a body that ends early.
+/// What a body that was read asks of a resource, as a call or to be shown, or its refusal; `None` is a body that ends early.
 ///
 /// # Errors
 ///
@@ -75,18 +77,40 @@ pub(crate) fn answer_to(
 ) -> Result<Request, AllocError>
     ensures { IfOk result (λ q. IsAnswerTo resource method.now index (option_map (λ v. v.items) body) q) }
 {
-    let asked = match body {
-        Some(body) => ask_in(alloc, resource, method, body.as_slice())?,
-        None => None,
-    };
-    match asked {
-        Some(ask) => Ok(Request::Asks(ask)),
-        None => Ok(Request::Refused(RequestRefusal {
-            refusal: Refusal::Malformed,
-            allow: Allow::No,
-            index,
-        })),
+    match body {
+        Some(body) => asked_by(alloc, resource, method, index, body.as_slice()),
+        None => Ok(malformed(index)),
     }
+}
+
+// What a whole body asks of a resource, or its refusal.
+fn asked_by(
+    alloc: Global,
+    resource: Resource,
+    method: &str,
+    index: bool,
+    body: &[u8],
+) -> Result<Request, AllocError>
+    ensures { IfOk result (λ q. IsAnswerTo resource method.now index (Some body.now) q) }
+{
+    if let Some(looked) = look_in(alloc, resource, body)? {
+        return Ok(Request::Looks(looked));
+    }
+    match ask_in(alloc, resource, method, body)? {
+        Some(ask) => Ok(Request::Asks(ask)),
+        None => Ok(malformed(index)),
+    }
+}
+
+// The refusal of a body that asks nothing.
+fn malformed(index: bool) -> Request
+    ensures { result ≡ Request.Refused (refused_request malformed No index) }
+{
+    Request::Refused(RequestRefusal {
+        refusal: Refusal::Malformed,
+        allow: Allow::No,
+        index,
+    })
 }
 
 // ---- how long the body behind a head is, by its fields (RFC 9112, 6)
