@@ -25,6 +25,7 @@ module _ {S C : Type 0} (v : Sight S C) (causes : Causes S) where
         → ActsOnce v old new
     responds_acts (request.Asks what) result old new r =
         inr (record { call = call_of at random what; result = result; meets = meets (call_of at random what) old new result r })
+    responds_acts (request.Looks l) result old new r = inl (r.1)
     responds_acts (request.Refused reply) result old new r = inl (r.1)
 
     answer_acts : (result : Result Reply DeskFault) (old new : DeskState S) → HasAnswer v causes at random None old new result

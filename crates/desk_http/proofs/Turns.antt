@@ -4,26 +4,27 @@ use Rattle.store_api.specs.{Sight.Sight, Storing.Causes}
 use Rattle.desk.specs.{State.DeskState, declared.fault.DeskFault.DeskFault}
 use Rattle.desk_http.specs.InTurn.{IsOfMachine, ServesConnections, ServesFewer, ServesMany, ServesNext, ServesOne, ended_by}
 use Rattle.desk_http.specs.Logged.{LogEntry}
+use Rattle.desk_http.specs.Showing.{Shower}
 use Rattle.desk_http.specs.declared.{overseeing.Watch.Watch, serve_fault.ServeFault.ServeFault}
 use Rattle.desk_http.specs.declared.serve_fault.ServeFault.TheVariants as servefault
 
-module _ {S C : Type 0} (v : Sight S C) (causes : Causes S) {O : Type 0} (takes : O → LogEntry → O → Type 0) where
+module _ {S C : Type 0} (v : Sight S C) (causes : Causes S) (hook : Shower S) {O : Type 0} (takes : O → LogEntry → O → Type 0) where
   -- one more connection is served
-  pub serves_more : (n : ℕ) (old mid new : DeskState S) (was between is : Watch O) → ServesMany v causes takes n old was mid between
-      → ServesOne v causes takes None true mid between new is → ServesMany v causes takes (n + 1) old was new is
+  pub serves_more : (n : ℕ) (old mid new : DeskState S) (was between is : Watch O) → ServesMany v causes hook takes n old was mid between
+      → ServesOne v causes hook takes None true mid between new is → ServesMany v causes hook takes (n + 1) old was new is
   serves_more n old mid new was between is many one = rw add-one (mid, between, many, one)
 
   -- the machine fails behind some
   pub fewer_served : (n most : ℕ) (old mid new : DeskState S) (was between is : Watch O) → n < most
-      → ServesMany v causes takes n old was mid between → (new ≡ mid) × (is.overseer ≡ between.overseer)
-      → ServesFewer v causes takes most old was new is
+      → ServesMany v causes hook takes n old was mid between → (new ≡ mid) × (is.overseer ≡ between.overseer)
+      → ServesFewer v causes hook takes most old was new is
   fewer_served n most old mid new was between is le many same =
       record { count = n; fewer = le; between = between; many = rw same.0 many; overseer = same.1 }
 
   -- the serving ends at a connection
   pub serves_last : (why : ServeFault) (n most : ℕ) (old mid new : DeskState S) (was between is : Watch O) → n < most
-      → ServesMany v causes takes n old was mid between → ServesNext v causes takes mid between new is (Err why)
-      → ServesConnections v causes takes most old was new is (Err why)
+      → ServesMany v causes hook takes n old was mid between → ServesNext v causes hook takes mid between new is (Err why)
+      → ServesConnections v causes hook takes most old was new is (Err why)
   serves_last (servefault.Desk why) n most old mid new was between is le many one = record {
     count = n;
     fewer = le;
@@ -51,15 +52,15 @@ module _ {S C : Type 0} (v : Sight S C) (causes : Causes S) {O : Type 0} (takes 
   serves_last servefault.Replaced n most old mid new was between is le many same = fewer_served n most old mid new was between is le many same
 
   -- one connection was served, by how that ended
-  pub serves_next : (why : Option DeskFault) (kept : Bool) (old new : DeskState S) (was is : Watch O) → ServesOne v causes takes why kept old was new is
-      → ServesNext v causes takes old was new is (ended_by why kept)
+  pub serves_next : (why : Option DeskFault) (kept : Bool) (old new : DeskState S) (was is : Watch O) → ServesOne v causes hook takes why kept old was new is
+      → ServesNext v causes hook takes old was new is (ended_by why kept)
   serves_next (Some why) kept old new was is one = (kept, one)
   serves_next None true old new was is one = one
   serves_next None false old new was is one = one
 
   -- where the machine failed nothing was done
   pub machine_fails : (e : ServeFault) (old new : DeskState S) (was is : Watch O) → IsOfMachine e → new ≡ old → is.overseer ≡ was.overseer
-      → ServesNext v causes takes old was new is (Err e)
+      → ServesNext v causes hook takes old was new is (Err e)
   machine_fails e old new was is (inl it) same kept = rw it (same, kept)
   machine_fails e old new was is (inr (inl it)) same kept = rw it (same, kept)
   machine_fails e old new was is (inr (inr it)) same kept = rw it (same, kept)

@@ -7,12 +7,13 @@ use Rattle.desk.specs.declared.fault.DeskFault.TheVariants as deskfault
 use Rattle.desk_model.specs.declared.call.{Ask.Ask, Target.Target}
 use Rattle.desk_model.specs.declared.call.Ask.TheVariants as ask
 use Rattle.desk_model.specs.declared.call.Target.TheVariants as to
-use Rattle.http_routes.specs.declared.request.Request.{Request}
+use Rattle.http_routes.specs.declared.{looked.Looked.Looked, request.Request.Request}
 use Rattle.http_routes.specs.declared.request.Request.TheVariants as request
 use Rattle.http_wire.specs.declared.call.ParsedRequest.{ParsedRequest}
 use Rattle.desk_http.specs.MomentBounds.{followed, moment_for}
 use Rattle.desk_http.specs.Logged.{IsLogEntryOf, LogEntry, object_asked}
 use Rattle.desk_http.specs.Serving.{Breaks, IsParsedOf, Serves}
+use Rattle.desk_http.specs.Showing.{Shower, ShowsTo, looked_in}
 use Rattle.desk_http.specs.declared.{moment_bound.MomentBound.MomentBound, overseeing.Watch.Watch}
 use Rattle.desk_http.specs.declared.{serving.Unanswered.Unanswered, serving.IoFault.IoFault, serving.Served.Served, serve_fault.ServeFault.ServeFault}
 use Rattle.desk_http.specs.declared.serving.Unanswered.TheVariants as cause
@@ -79,16 +80,32 @@ module _ {S C : Type 0} (v : Sight S C) (causes : Causes S) where
   ServesRead at parsed remaining before after old new served =
       (it : ServesParsed remaining before after old new served) × (it.at ≡ at) × (it.parsed ≡ parsed)
 
+-- ---- clients, who are answered or shown what they ask for
+
+module _ {S C : Type 0} (v : Sight S C) (causes : Causes S) (hook : Shower S) where
+  -- what a client was shown that sends these bytes
+  pub record ServesLook (remaining before after : Option (List ℕ)) (old new : DeskState S) (served : Result Served IoFault) : Type 0 where
+    pub parsed : ParsedRequest
+    pub is_heard : IsParsedOf remaining parsed
+    pub looked : Looked
+    pub asks : looked_in parsed.request ≡ Some looked
+    pub shows : ShowsTo v hook looked before after old new served
+
   -- a client that came at a moment of the machine, by what is then known of the moment: its request could not be read, and then nothing was
-  -- done; or it was served at the moment that the bound gives, and the bound follows. What it asked about is told, too
+  -- done; or it was answered at the moment that the bound gives, and the bound follows; or it was shown what it asked for, at no moment. What
+  -- it asked about is told, too
   pub data ServesClient (bound : MomentBound) (came : ℕ) (remaining before after : Option (List ℕ)) (old new : DeskState S) (asked : Option ℕ)
       (served : Result Served IoFault) (next : MomentBound) : Type 0 where
     unread :
         new ≡ old → Keeps before after → asked ≡ None → served ≡ Err iofault.Read → next ≡ bound
         → ServesClient bound came remaining before after old new asked served next
     parsed :
-        (s : ServesParsed remaining before after old new served) → s.at ≡ moment_for bound came → asked ≡ object_asked s.parsed.request
-        → next ≡ followed bound came → ServesClient bound came remaining before after old new asked served next
+        (s : ServesParsed v causes remaining before after old new served) → looked_in s.parsed.request ≡ None → s.at ≡ moment_for bound came
+        → asked ≡ object_asked s.parsed.request → next ≡ followed bound came
+        → ServesClient bound came remaining before after old new asked served next
+    looked :
+        (s : ServesLook remaining before after old new served) → asked ≡ object_asked s.parsed.request → next ≡ bound
+        → ServesClient bound came remaining before after old new asked served next
 
   module _ {O : Type 0} (takes : O → LogEntry → O → Type 0) where
     -- one connection, by the watch before and after: the fault by which the desk is closed after it, if it is, and whether its entry was kept,

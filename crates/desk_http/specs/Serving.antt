@@ -9,7 +9,7 @@ use Rattle.store_api.specs.{Sight.Sight, Storing.Causes}
 use Rattle.desk.specs.Answers.{Answers, is_closed_after}
 use Rattle.desk.specs.{Causes.IsCaused, State.DeskState, declared.fault.DeskFault.DeskFault}
 use Rattle.desk.specs.declared.fault.DeskFault.TheVariants as deskfault
-use Rattle.http_routes.specs.Request.{refused_reply, refused_request}
+use Rattle.http_routes.specs.Request.{refused_reply, refused_request, unshown}
 use Rattle.http_routes.specs.declared.request.Request.{Request}
 use Rattle.http_routes.specs.declared.request.Request.TheVariants as request
 use Rattle.http_wire.specs.{Replies.reply_bytes, ParsedRequest.Parses, declared.call.ParsedRequest.ParsedRequest, declared.call.ReplyForm.ReplyForm}
@@ -73,6 +73,7 @@ module _ {S C : Type 0} (v : Sight S C) (causes : Causes S) where
     -- the answer to a request: the desk's to its call, or its refusal, and then nothing changed
     abbrev pub Responds : DeskState S → Request → Result Reply DeskFault → DeskState S → Type 0
     Responds old (request.Asks what) result new = IsAnswer (call_of at random what) old new result
+    Responds old (request.Looks l) result new = (result ≡ Ok (refused_reply unshown)) × (new ≡ old)
     Responds old (request.Refused why) result new = (result ≡ Ok (refused_reply why)) × (new ≡ old)
 
     -- ---- one request, of a reader whose bytes may be known

@@ -1,11 +1,12 @@
 //! The connection of one client, which is not waited for without end.
 use crate::connection::Connection;
 use desk_model::LONGEST_BODY;
-use std::io::{self, ErrorKind, Read, Write};
+use std::alloc::Global;
+use std::io::{self, BufWriter, ErrorKind, Read, Write};
 use std::time::{Clock, Duration, Instant};
 
-/// How long a client may take to send its request, in seconds; as long again to take the reply, and for what it sends
-/// after that.
+/// How long a client may take to send its request, in seconds; as long again to take each part of what it is given, and for what it
+/// sends after that.
 pub(crate) const PATIENCE: u64 = 10;
 
 // How many bytes are read away after the reply, at most: two times the largest body.
@@ -14,7 +15,7 @@ const READ_AWAY: usize = 2 * LONGEST_BODY;
 // How many bytes are read away at once.
 const PIECE: usize = 4096;
 
-/// A client's connection, whose reads and writes have their time in all, from the first of them on.
+/// A client's connection, whose reads have their time in all, from the first of them on, and whose writes have theirs each.
 #[derive(Drop)]
 pub(crate) struct Patient<'a, C: Clock> {
     connection: &'a Connection,
@@ -24,7 +25,7 @@ pub(crate) struct Patient<'a, C: Clock> {
 }
 
 impl<'a, C: Clock> Patient<'a, C> {
-    /// The connection, before its first read or write, with so many seconds for all of them.
+    /// The connection, before its first read or write, with so many seconds for all reads, or for each write.
     pub(crate) fn new(connection: &'a Connection, clock: &'a C, seconds: u64) -> Patient<'a, C> {
         Patient {
             connection,
@@ -58,13 +59,33 @@ impl<'a, C: Clock> Read for Patient<'a, C> {
 impl<'a, C: Clock> Write for Patient<'a, C> {
     fn write(&mut self, buf: &[u8]) -> io::Result<usize> {
         let left = self.left()?;
-        self.connection.write_within(left, buf)
+        let count = self.connection.write_within(left, buf)?;
+        if count == buf.len() {
+            self.until = None;
+        }
+        Ok(count)
     }
 
     // A socket keeps nothing back.
     fn flush(&mut self) -> io::Result<()> {
         Ok(())
     }
+}
+
+/// The connection to write to, which takes small writes together; each alone where there is no memory for that.
+pub(crate) fn gathering<'a, C: Clock>(
+    alloc: Global,
+    connection: &'a Connection,
+    clock: &'a C,
+) -> BufWriter<Patient<'a, C>> {
+    if let Ok(writer) = BufWriter::new(alloc, Patient::new(connection, clock, PATIENCE)) {
+        return writer;
+    }
+    let Ok(writer) = BufWriter::with_capacity(alloc, 0, Patient::new(connection, clock, PATIENCE))
+    else {
+        unreachable!()
+    };
+    writer
 }
 
 /// Ends the reply, and reads away what the client still sends, within limits: a connection that is closed over bytes

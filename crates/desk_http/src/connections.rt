@@ -2,19 +2,22 @@
 ghost use Rattle.std.specs.Prelude.{◌≡◌, ℕ, List, None, Option, false, IfErr, IfOk, unwrap_or};
 ghost use Rattle.desk_http.specs.declared.serve_fault.ServeFault.TheVariants as fault;
 ghost use Rattle.desk_http.specs.InTurn.{Ends, IsOfMachine, ServesConnections, ServesClient, ServesNext, ServesRead, ended_by, fault_after, random_for};
-ghost use Rattle.desk_http.specs.MomentBounds.{admits, followed};
+ghost use Rattle.desk_http.specs.MomentBounds.{admits, followed, moment_for};
 ghost use Rattle.desk_http.specs.Logged.{IsLogEntryOf, as_log_entry, first_of, object_asked, object_of};
 ghost use Rattle.desk_http.specs.Serving.{IsParsedOf};
+ghost use Rattle.desk_http.specs.Showing.{shower};
 ghost use Rattle.desk.specs.SeenDesks.{IsSeenOn};
 
-use crate::clients::{PATIENCE, Patient, end};
+use crate::clients::{PATIENCE, Patient, end, gathering};
 use crate::connection::Connection;
 use crate::listener::Listener;
+use crate::moment_bound::MomentBound;
 use crate::overseeing::{
     Entry, LineKeeper, Overseer, Watch, number_of_ask, outcome_number, outcome_status,
 };
 use crate::serve_fault::ServeFault;
 use crate::serving::{IoFault, Served, Unanswered, respond};
+use crate::showing::{Hook, looked_in, show};
 use crate::{ParsedRequest, Request, Routes, read_call_by};
 use desk::{Desk, DeskFault};
 use desk_model::{Ask, MOST_NAMES, Target};
@@ -34,16 +37,24 @@ const MOST_RANDOM: usize = NONCE_RANDOM * (1 + 2 * MOST_NAMES);
 
 /// Serves so many connections, or 2^64 - 1 without a count, one request of each (RFC 9112, 9.6). A connection that fails is
 /// told on `errors`, with its cause where that is asked for, and the next is taken. The overseer is asked before each call, and
-/// gets an entry of each connection that was served. A call whose moment is out of the watch's bound is refused by fault 24.
+/// gets an entry of each connection that was served. A call whose moment is out of the watch's bound is refused by fault 24. What is
+/// asked to be shown is no call: the hook shows it.
 ///
 /// # Errors
 ///
 /// `Accept`, `Clock` or `Random` where the machine failed; `Replaced` where the desk is not in its place, `Output` where an entry
 /// is not kept; `Desk` where the desk is closed, and only there.
-pub fn serve_connections<M: Clock + RandomSource, K: Storage + Drop, O: Overseer, E: Write>(
+pub fn serve_connections<
+    M: Clock + RandomSource,
+    K: Storage + Drop,
+    H: Hook<K>,
+    O: Overseer,
+    E: Write,
+>(
     alloc: Global,
     machine: &M,
     listener: &mut Listener,
+    hook: &H,
     desk: &mut Desk<K>,
     count: Option<u64>,
     watch: &mut Watch<O>,
@@ -51,8 +62,8 @@ pub fn serve_connections<M: Clock + RandomSource, K: Storage + Drop, O: Overseer
     is_verbose: bool,
 ) -> Result<(), ServeFault>
     ensures policy { desk.new.policy ≡ desk.old.policy }
-    ensures served { ServesConnections K.Storage.sight K.Storage.causes O.takes (unwrap_or count 18446744073709551615) desk.old watch.old desk.new watch.new
-        result }
+    ensures served { ServesConnections K.Storage.sight K.Storage.causes (shower H.kind H.last (H.shows hook.now)) O.takes
+        (unwrap_or count 18446744073709551615) desk.old watch.old desk.new watch.new result }
     ensures seen { IsSeenOn K.Storage.sight desk.old desk.new }
     ensures ends { desk.old.is_closed ≡ false → Ends result desk.new }
 {
@@ -67,6 +78,7 @@ pub fn serve_connections<M: Clock + RandomSource, K: Storage + Drop, O: Overseer
             machine,
             &mut routes,
             &connection,
+            hook,
             desk,
             watch,
             errors,
@@ -80,28 +92,31 @@ pub fn serve_connections<M: Clock + RandomSource, K: Storage + Drop, O: Overseer
 }
 
 // Serves the client at the other end of a connection, and tells on `errors` where its connection failed.
-fn serve_connection<M: Clock + RandomSource, K: Storage + Drop, O: Overseer, E: Write>(
+fn serve_connection<M: Clock + RandomSource, K: Storage + Drop, H: Hook<K>, O: Overseer, E: Write>(
     alloc: Global,
     machine: &M,
     routes: &mut Routes,
     connection: &Connection,
+    hook: &H,
     desk: &mut Desk<K>,
     watch: &mut Watch<O>,
     errors: &mut E,
     is_verbose: bool,
 ) -> Result<(), ServeFault>
     ensures policy { desk.new.policy ≡ desk.old.policy }
-    ensures served { ServesNext K.Storage.sight K.Storage.causes O.takes desk.old watch.old desk.new watch.new result }
+    ensures served { ServesNext K.Storage.sight K.Storage.causes (shower H.kind H.last (H.shows hook.now)) O.takes
+        desk.old watch.old desk.new watch.new result }
     ensures ends { desk.old.is_closed ≡ false → Ends result desk.new }
 {
     let at = moment(machine)?;
     let mut reader = LineKeeper::new(Patient::new(connection, machine, PATIENCE));
-    let mut writer = Patient::new(connection, machine, PATIENCE);
+    let mut writer = gathering(alloc, connection, machine);
     let (served, call) = serve_client(
         alloc,
         machine,
         routes,
         watch,
+        hook,
         at,
         &mut reader,
         &mut writer,
@@ -213,35 +228,45 @@ fn micros_since<M: Clock>(machine: &M, begun: Option<Instant>) -> Option<u64> {
     )
 }
 
-// Serves a client that came at a moment of the machine: it reads one request, and writes the reply, if the desk is in its place.
-fn serve_client<M: Clock + RandomSource, O: Overseer, R: Read, W: Write, K: Storage + Drop>(
+// Serves a client that came at a moment of the machine: it reads one request, and writes the reply or shows what is asked for, if the
+// desk is in its place.
+fn serve_client<
+    M: Clock + RandomSource,
+    O: Overseer,
+    R: Read,
+    W: Write,
+    K: Storage + Drop,
+    H: Hook<K>,
+>(
     alloc: Global,
     machine: &M,
     routes: &mut Routes,
     watch: &mut Watch<O>,
+    hook: &H,
     at: u64,
     reader: &mut R,
     writer: &mut W,
     desk: &mut Desk<K>,
 ) -> Result<(Result<Served, IoFault>, CallSummary), ServeFault>
     ensures policy { desk.new.policy ≡ desk.old.policy }
-    ensures served { IfOk result (λ r. ServesClient K.Storage.sight K.Storage.causes watch.old.bound at
+    ensures served { IfOk result (λ r. ServesClient K.Storage.sight K.Storage.causes (shower H.kind H.last (H.shows hook.now)) watch.old.bound at
         (R.remaining reader.old) (W.contents writer.old) (W.contents writer.new) desk.old desk.new r.1.object r.0 watch.new.bound) }
     ensures at { IfOk result (λ r. r.1.at ≡ at) }
     ensures overseer { watch.new.overseer ≡ watch.old.overseer }
     ensures failed { IfErr result (λ e. IsOfMachine e × (desk.new ≡ desk.old)) }
 {
     match read_call_by(alloc, routes, reader) {
-        Ok(parsed) => respond_in_place(alloc, machine, watch, writer, desk, at, parsed),
+        Ok(parsed) => serve_in_place(alloc, machine, watch, hook, writer, desk, at, parsed),
         Err(_) => Ok((Err(IoFault::Read), nothing_read(at))),
     }
 }
 
-// Responds to a request that was read and came at a moment of the machine, if the desk is in its place.
-fn respond_in_place<M: Clock + RandomSource, O: Overseer, W: Write, K: Storage + Drop>(
+// Responds to a request that was read and came at a moment of the machine, or shows what it asks for, if the desk is in its place.
+fn serve_in_place<M: Clock + RandomSource, O: Overseer, W: Write, K: Storage + Drop, H: Hook<K>>(
     alloc: Global,
     machine: &M,
     watch: &mut Watch<O>,
+    hook: &H,
     writer: &mut W,
     desk: &mut Desk<K>,
     at: u64,
@@ -249,21 +274,45 @@ fn respond_in_place<M: Clock + RandomSource, O: Overseer, W: Write, K: Storage +
 ) -> Result<(Result<Served, IoFault>, CallSummary), ServeFault>
     ensures policy { desk.new.policy ≡ desk.old.policy }
     ensures served { (remaining : Option (List ℕ)) → IsParsedOf remaining parsed
-        → IfOk result (λ r. ServesClient K.Storage.sight K.Storage.causes watch.old.bound at
+        → IfOk result (λ r. ServesClient K.Storage.sight K.Storage.causes (shower H.kind H.last (H.shows hook.now)) watch.old.bound at
         remaining (W.contents writer.old) (W.contents writer.new) desk.old desk.new r.1.object r.0 watch.new.bound) }
     ensures at { IfOk result (λ r. r.1.at ≡ at) }
     ensures overseer { watch.new.overseer ≡ watch.old.overseer }
-    ensures followed { IfOk result (λ r. watch.new.bound ≡ followed watch.old.bound at) }
-    ensures refused { admits watch.old.bound.latest watch.old.bound.step at ≡ false → desk.new ≡ desk.old }
     ensures failed { IfErr result (λ e. IsOfMachine e × (desk.new ≡ desk.old)) }
 {
     if !watch.overseer.is_in_place() {
         return Err(ServeFault::Replaced);
     }
     let call = call_summary(machine, at, &parsed);
-    let acting = watch.bound.moment_for(at);
+    match looked_in(&parsed) {
+        Some(looked) => Ok((show(alloc, hook, writer, desk, looked), call)),
+        None => match respond_at(alloc, machine, &mut watch.bound, writer, desk, at, parsed) {
+            Ok(served) => Ok((served, call)),
+            Err(fault) => Err(fault),
+        },
+    }
+}
+
+// Responds to a request that was read and came at a moment of the machine, at the moment that the bound gives.
+fn respond_at<M: RandomSource, W: Write, K: Storage + Drop>(
+    alloc: Global,
+    machine: &M,
+    bound: &mut MomentBound,
+    writer: &mut W,
+    desk: &mut Desk<K>,
+    at: u64,
+    parsed: ParsedRequest,
+) -> Result<Result<Served, IoFault>, ServeFault>
+    ensures policy { desk.new.policy ≡ desk.old.policy }
+    ensures served { (remaining : Option (List ℕ)) → IsParsedOf remaining parsed → IfOk result (ServesRead K.Storage.sight K.Storage.causes
+        (moment_for bound.old at) parsed remaining (W.contents writer.old) (W.contents writer.new) desk.old desk.new) }
+    ensures followed { bound.new ≡ followed bound.old at }
+    ensures refused { admits bound.old.latest bound.old.step at ≡ false → desk.new ≡ desk.old }
+    ensures failed { IfErr result (λ e. (e ≡ fault.Random) × (desk.new ≡ desk.old)) }
+{
+    let acting = bound.moment_for(at);
     match respond_with_random(alloc, machine, writer, desk, acting, parsed) {
-        Ok(served) => Ok((served, call)),
+        Ok(served) => Ok(served),
         Err(fault) => Err(fault),
     }
 }

@@ -11,11 +11,12 @@ mod moment_bound;
 mod overseeing;
 mod serve_fault;
 mod serving;
+mod showing;
 
 pub use asking::{Unheard, ask, ask_by};
 pub use connection::Connection;
 pub use connections::{moment, serve_connections};
-pub use http_routes::{Request, Routes};
+pub use http_routes::{Looked, ReportForm, Request, Routes};
 pub use http_wire::{ParsedRequest, ReadFailed, ReplyForm, read_call, read_call_by, reply_text};
 pub use json_texts::problem_document;
 pub use listener::{Both, Listener, bind};
@@ -23,3 +24,4 @@ pub use moment_bound::{MomentBound, admits};
 pub use overseeing::{Entry, Overseer, ReplySummary, Watch};
 pub use serve_fault::ServeFault;
 pub use serving::{IoFault, Served, Unanswered, respond, serve_request, serve_request_by};
+pub use showing::Hook;

@@ -223,6 +223,7 @@ fn reply_to<K: Storage + Drop>(
                 Err(fault) => Err(Unanswered::Desk(fault)),
             }
         }
+        Request::Looks(_) => Ok(RequestRefusal::unshown().reply(alloc)),
         Request::Refused(why) => Ok(why.reply(alloc)),
     }
 }

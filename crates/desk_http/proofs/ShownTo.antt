@@ -1,0 +1,14 @@
+-- What showing something of a desk does to it: nothing, or what a call does that is declined.
+use Rattle.std.proofs.Common.{◌≡◌, ℕ, List, Option, Result, inl}
+use Rattle.store_api.specs.Sight.{Sight}
+use Rattle.desk.specs.{State.DeskState, Meets.ActsOnce}
+use Rattle.desk.proofs.LookedAt.{look_acts}
+use Rattle.http_routes.specs.declared.looked.Looked.{Looked}
+use Rattle.desk_http.specs.Showing.{Shower, ShowsTo, begun, headless}
+use Rattle.desk_http.specs.declared.{serving.IoFault.IoFault, serving.Served.Served}
+
+module _ {S C : Type 0} (v : Sight S C) (hook : Shower S) (asked : Looked) where
+  pub shows_acts : (before after : Option (List ℕ)) (old new : DeskState S) (served : Result Served IoFault) → ShowsTo v hook asked before after old new served
+      → ActsOnce v old new
+  shows_acts before after old new served (headless same failed) = inl same
+  shows_acts before after old new served (begun mid head it) = look_acts v old new it.looked (hook.Shows asked) mid it.mid it.looks
