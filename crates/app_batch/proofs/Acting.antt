@@ -13,11 +13,13 @@ module _ {S C : Type 0} (v : Sight S C) where
   -- what it asks was replied to
   replies_act : (old new : DeskState S) (l : Line) (q : Request) (reply : Reply) → RepliesTo v old l q reply new → ActsOnce v old new
   replies_act old new l (request.Asks what) reply is = inr (record { call = call_of l what; result = Ok reply; meets = is })
+  replies_act old new l (request.Looks asked) reply is = inl (is.1)
   replies_act old new l (request.Refused refusal) reply is = inl (is.1)
 
   -- the desk declined it
   declines_act : (old new : DeskState S) (l : Line) (q : Request) (why : DeskFault) → DeclinesTo v old l q why new → ActsOnce v old new
   declines_act old new l (request.Asks what) why is = inr (record { call = call_of l what; result = Err why; meets = is })
+  declines_act old new l (request.Looks asked) why is = absurd is
   declines_act old new l (request.Refused refusal) why is = absurd is
 
   -- memory was refused, before the desk answered or after

@@ -2,7 +2,7 @@
 use Rattle.std.specs.Prelude.{◌≡◌, ◌⊎◌, ℕ, List, Result, Ok, Err, MatchResult}
 use Rattle.desk_model.specs.declared.reply.Reply.{Reply}
 use Rattle.http_routes.specs.Lines.{Spells, line_text}
-use Rattle.http_routes.specs.{Request.refused_reply, declared.lines.Line.Line, declared.request.Request.Request}
+use Rattle.http_routes.specs.{Request.refused_reply, Request.unshown, declared.lines.Line.Line, declared.request.Request.Request}
 use Rattle.http_routes.specs.declared.request.Request.TheVariants as request
 use Rattle.app_batch.specs.LineRequests.{IsRequestOf, call_of}
 use Rattle.app_batch.specs.declared.fault.AnswerFault.{AnswerFault}
@@ -14,11 +14,13 @@ module _ {S C : Type 0} (v : Sight S C) where
   -- the reply to a line with this request: the desk's to its call, or the refusal of a request that is none
   abbrev pub RepliesTo : DeskState S → Line → Request → Reply → DeskState S → Type 0
   RepliesTo old l (request.Asks what) reply new = Meets v (call_of l what) old new (Ok reply)
+  RepliesTo old l (request.Looks asked) reply new = (reply ≡ refused_reply unshown) × (new ≡ old)
   RepliesTo old l (request.Refused why) reply new = (reply ≡ refused_reply why) × (new ≡ old)
 
   -- the desk has no reply to the call of a line
   abbrev pub DeclinesTo : DeskState S → Line → Request → DeskFault → DeskState S → Type 0
   DeclinesTo old l (request.Asks what) why new = Meets v (call_of l what) old new (Err why)
+  DeclinesTo old l (request.Looks asked) why new = ⊥
   DeclinesTo old l (request.Refused refusal) why new = ⊥
 
   -- the bytes spell a line, and what it asks is replied to so

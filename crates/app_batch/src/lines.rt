@@ -11,7 +11,7 @@ use crate::fault::{AnswerFault, BatchFault};
 use crate::line_requests::request_of;
 use desk::{Desk, DeskFault};
 use desk_model::{Ask, Call, Reply};
-use http_routes::{Line, LineFault, Request, Routes, read_line, reply_line};
+use http_routes::{Line, LineFault, Request, RequestRefusal, Routes, read_line, reply_line};
 use std::alloc::Global;
 use std::io::{self, BufRead, BufReader, ErrorKind, Read, Write};
 use store_api::Storage;
@@ -81,6 +81,7 @@ fn reply_to<K: Storage + Drop>(
             drop(call);
             answered
         }
+        Request::Looks(_) => Ok(RequestRefusal::unshown().reply(alloc)),
         Request::Refused(why) => Ok(why.reply(alloc)),
     }
 }
