@@ -7,7 +7,7 @@ use Rattle.std.proofs.lemmas.Slice.Eq.{bytes_eq-Decides}
 use Rattle.serde_json.specs.{View.members_view, declared.value.Value.Value}
 use Rattle.desk_model.specs.{Document.order_status_text, Lookup.IsValueOf, declared.status.OrderStatus.OrderStatus}
 use Rattle.desk_model.specs.declared.status.OrderStatus.TheVariants as order
-use Rattle.http_routes.specs.Looked.{names, status_named}
+use Rattle.http_routes.specs.Looked.{names, status_named, statuses}
 
 -- texts that are not the same are told apart
 told_apart : (a b : List ℕ) (r : Bool) → bytes_eq a b ≡ r → a ≢ b → bytes_eq a b ≡ false
@@ -21,7 +21,10 @@ nothing_found test (x ∷ xs) fails = ap (λ b. cond b (Some x) (find test xs)) 
 
 -- the status whose text this is, is the one that is found
 pub status_found : (text : List ℕ) (o : Option OrderStatus) → IsValueOf order_status_text text o → o ≡ status_named text
-status_found text None none = sym (nothing_found _ _ (λ s. told_apart text (order_status_text s) _ refl (none s)))
+status_found text None none =
+    let fails : (s : OrderStatus) → bytes_eq text (order_status_text s) ≡ false
+    = λ s. told_apart text (order_status_text s) (bytes_eq text (order_status_text s)) refl (none s) in
+    sym (nothing_found (λ s. bytes_eq text (order_status_text s)) statuses fails)
 status_found text (Some order.Pending) is = subst (λ (t : List ℕ). Some order.Pending ≡ status_named t) (sym is) refl
 status_found text (Some order.Ready) is = subst (λ (t : List ℕ). Some order.Ready ≡ status_named t) (sym is) refl
 status_found text (Some order.Processing) is = subst (λ (t : List ℕ). Some order.Processing ≡ status_named t) (sym is) refl

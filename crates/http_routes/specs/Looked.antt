@@ -79,10 +79,13 @@ object_number n = if nat_le 1 n && nat_le n last_number then Some n else None
 abbrev pub account_in : Data → Option ℕ
 account_in d = option_and_then object_number (option_and_then as_u64 (as_number d))
 
--- a status of orders by its text (RFC 8555, 7.1.6)
+-- the statuses of orders (RFC 8555, 7.1.6)
+abbrev pub statuses : List OrderStatus
+statuses = order.Pending ∷ order.Ready ∷ order.Processing ∷ order.Valid ∷ order.Invalid ∷ []
+
+-- the one of this text
 abbrev pub status_named : List ℕ → Option OrderStatus
-status_named text =
-    find (λ s. bytes_eq text (order_status_text s)) (order.Pending ∷ order.Ready ∷ order.Processing ∷ order.Valid ∷ order.Invalid ∷ [])
+status_named text = find (λ s. bytes_eq text (order_status_text s)) statuses
 
 abbrev pub status_in : Data → Option OrderStatus
 status_in d = option_and_then status_named (as_str d)

@@ -1,9 +1,9 @@
 //! What a request asks to be shown of a desk: its page, or the report that a JSON object names.
-ghost use Rattle.std.specs.Prelude.{◌≡◌, codes, IfOk, Some, option_map};
-ghost use Rattle.std.specs.List.{list_all};
-ghost use Rattle.serde_json.specs.{Find.get, View.members_view, View.view};
+ghost use Rattle.std.specs.Prelude.{◌≡◌, codes, IfOk, Some, option_map, string_bytes};
+ghost use Rattle.std.specs.{BTreeMap.keys, List.list_all};
+ghost use Rattle.serde_json.specs.{Find.get, View.view};
 ghost use Rattle.http_routes.specs.Looked.{account_in, authorizations_in, form_in, form_named, form_of, has_only, if_there, kind_in, kind_named};
-ghost use Rattle.http_routes.specs.Looked.{name_in, names, object_number, orders_in, report, report_in, report_of, status_in, status_named, takes};
+ghost use Rattle.http_routes.specs.Looked.{name_in, object_number, orders_in, report, report_in, report_of, status_in, status_named, takes};
 
 use desk_model::{DnsName, LAST_NUMBER, OrderStatus};
 use identifiers::{NameFault, read_name};
@@ -191,7 +191,7 @@ fn has_only_members_of(kind: Kind, value: &Value) -> bool
 
 // Whether a report of this kind takes each of these members.
 fn are_taken(kind: Kind, members: &Map<String, Value>) -> bool
-    ensures { result ≡ list_all (takes kind) (names (members_view members.now.entries)) }
+    ensures { result ≡ list_all (λ name. takes kind (string_bytes name)) (keys members.now) }
 {
     members.keys().all(|name| takes(kind, name.as_str()))
 }
