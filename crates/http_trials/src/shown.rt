@@ -60,7 +60,8 @@ fn words_of(looked: &Looked) -> &'static str {
             status: Some(OrderStatus::Valid),
             name: Some(name),
             ..
-        } if name.base() == "www.example.org" => "the valid orders of account 7 for www.example.org",
+        } if name.base() == "www.example.org" =>
+            "the valid orders of account 7 for www.example.org",
         Looked::Orders { .. } => "orders",
         Looked::Accounts { .. } => "accounts",
         Looked::Authorizations { .. } => "authorizations",
@@ -95,18 +96,12 @@ const SHOWN: [(&str, &str); 7] = [
         "the valid orders of account 7 for www.example.org\nend\n",
     ),
     (r#"{"report":"orders"}"#, "orders\nend\n"),
-    (
-        r#"{"form":"text","report":"accounts"}"#,
-        "accounts\nend\n",
-    ),
+    (r#"{"form":"text","report":"accounts"}"#, "accounts\nend\n"),
     (
         r#"{"report":"authorizations","account":1}"#,
         "authorizations\nend\n",
     ),
-    (
-        r#"{"report":"check","form":"json"}"#,
-        "check\nend\n",
-    ),
+    (r#"{"report":"check","form":"json"}"#, "check\nend\n"),
     (r#"{"report":"about"}"#, "about\nend\n"),
     (
         r#"{"report":"authorizations","name":"*.example.org"}"#,
@@ -171,9 +166,7 @@ fn replied<N: Net<Stream = TcpStream, Listener = TcpListener> + Clock + RandomSo
 // The request that asks for a report.
 fn asks(alloc: Global, body: &str) -> Result<String, Fail> {
     let len = body.len();
-    Ok(
-        format!(in alloc; "POST /office/look HTTP/1.1\r\nContent-Length: {len}\r\n\r\n{body}")?,
-    )
+    Ok(format!(in alloc; "POST /office/look HTTP/1.1\r\nContent-Length: {len}\r\n\r\n{body}")?)
 }
 
 #[test]
@@ -203,7 +196,11 @@ fn what_names_no_report_is_malformed(rt: HostRuntime) -> Result<(), Fail> {
     for body in REFUSED {
         let asked = asks(alloc, body)?;
         let reply = replied(&rt, alloc, &listener, &mut desk, asked.as_str())?;
-        assert!(rt; reply.as_slice().starts_with(b"HTTP/1.1 400 Bad Request\r\n"));
+        assert!(rt;
+            reply
+                .as_slice()
+                .starts_with(b"HTTP/1.1 400 Bad Request\r\n")
+        );
     }
     drop(desk);
     Ok(())
