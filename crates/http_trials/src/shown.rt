@@ -4,11 +4,13 @@ ghost use Rattle.std.specs.Io.KnownBytes.{Appends};
 
 use crate::first_nonce::new_desk;
 use desk::{Desk, Look, LookFault, Memory};
-use desk_http::{Entry, Hook, Looked, MomentBound, Overseer, Watch, serve_connections};
+use desk_http::{
+    Entry, Hook, Listener, Looked, MomentBound, Overseer, Watch, bind, serve_connections,
+};
 use desk_model::OrderStatus;
 use std::alloc::Global;
 use std::io::{Read, Write};
-use std::net::{Ipv4Addr, Net, Shutdown, SocketAddr, TcpListener, TcpStream};
+use std::net::{Net, Shutdown, SocketAddr, TcpListener, TcpStream};
 use std::process::Abort;
 use std::random::RandomSource;
 use std::test::Fail;
@@ -129,11 +131,11 @@ const REFUSED: [&str; 12] = [
 fn replied<N: Net<Stream = TcpStream, Listener = TcpListener> + Clock + RandomSource + Abort>(
     rt: &N,
     alloc: Global,
-    listener: &TcpListener,
+    listener: &mut Listener,
+    address: SocketAddr,
     desk: &mut Desk<Memory>,
     asked: &str,
 ) -> Result<Vec<u8>, Fail> {
-    let address = listener.local_addr().ok().expect(rt, "an address");
     let mut stream = rt.connect(address).ok().expect(rt, "a connection");
     stream
         .write_all(asked.as_bytes())
@@ -172,15 +174,22 @@ fn asks(alloc: Global, body: &str) -> Result<String, Fail> {
 #[test]
 fn a_hook_shows_what_is_asked_for(rt: HostRuntime) -> Result<(), Fail> {
     let alloc = rt.alloc();
-    let address = SocketAddr::from((Ipv4Addr::LOCALHOST, 0));
-    let listener = rt.bind(address).ok().expect(&rt, "a port");
+    let (port, address) = bind(&rt, 0).ok().expect(&rt, "a port");
+    let mut listener = Listener::Tcp(port);
     let mut desk = new_desk(&rt, alloc)?;
     let page = "GET /office/page HTTP/1.1\r\n\r\n";
-    let reply = replied(&rt, alloc, &listener, &mut desk, page)?;
+    let reply = replied(&rt, alloc, &mut listener, address, &mut desk, page)?;
     assert!(rt; reply.as_slice() == format!(in alloc; "{HEAD}page\nend\n")?.as_bytes());
     for (body, shown) in SHOWN {
         let asked = asks(alloc, body)?;
-        let reply = replied(&rt, alloc, &listener, &mut desk, asked.as_str())?;
+        let reply = replied(
+            &rt,
+            alloc,
+            &mut listener,
+            address,
+            &mut desk,
+            asked.as_str(),
+        )?;
         assert!(rt; reply.as_slice() == format!(in alloc; "{HEAD}{shown}")?.as_bytes());
     }
     drop(desk);
@@ -190,12 +199,19 @@ fn a_hook_shows_what_is_asked_for(rt: HostRuntime) -> Result<(), Fail> {
 #[test]
 fn what_names_no_report_is_malformed(rt: HostRuntime) -> Result<(), Fail> {
     let alloc = rt.alloc();
-    let address = SocketAddr::from((Ipv4Addr::LOCALHOST, 0));
-    let listener = rt.bind(address).ok().expect(&rt, "a port");
+    let (port, address) = bind(&rt, 0).ok().expect(&rt, "a port");
+    let mut listener = Listener::Tcp(port);
     let mut desk = new_desk(&rt, alloc)?;
     for body in REFUSED {
         let asked = asks(alloc, body)?;
-        let reply = replied(&rt, alloc, &listener, &mut desk, asked.as_str())?;
+        let reply = replied(
+            &rt,
+            alloc,
+            &mut listener,
+            address,
+            &mut desk,
+            asked.as_str(),
+        )?;
         assert!(rt;
             reply
                 .as_slice()
