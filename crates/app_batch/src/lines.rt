@@ -27,7 +27,7 @@ pub fn batch_line<K: Storage + Drop>(
     desk: &mut Desk<K>,
     line: &[u8],
 ) -> Result<Vec<u8>, AnswerFault>
-    ensures { Answered K.Storage.sight (λ text. text.items) desk.old line.now result desk.new }
+    ensures { Answered K.Kept.sight (λ text. text.items) desk.old line.now result desk.new }
 {
     let mut routes = Routes::new();
     batch_line_by(alloc, &mut routes, desk, line)
@@ -40,7 +40,7 @@ fn batch_line_by<K: Storage + Drop>(
     desk: &mut Desk<K>,
     line: &[u8],
 ) -> Result<Vec<u8>, AnswerFault>
-    ensures { Answered K.Storage.sight (λ text. text.items) desk.old line.now result desk.new }
+    ensures { Answered K.Kept.sight (λ text. text.items) desk.old line.now result desk.new }
 {
     let line = match read_line(alloc, line) {
         Ok(line) => line,
@@ -71,8 +71,8 @@ fn reply_to<K: Storage + Drop>(
     request: Request,
 ) -> Result<Reply, DeskFault>
     ensures { MatchResult result
-        (λ reply. RepliesTo K.Storage.sight desk.old line request reply desk.new)
-        (λ fault. DeclinesTo K.Storage.sight desk.old line request fault desk.new) }
+        (λ reply. RepliesTo K.Kept.sight desk.old line request reply desk.new)
+        (λ fault. DeclinesTo K.Kept.sight desk.old line request fault desk.new) }
 {
     match request {
         Request::Asks(ask) => {
@@ -108,10 +108,10 @@ pub fn batch<K: Storage + Drop, R: Read + Drop, W: Write, E: Write>(
 ) -> u8
     ensures status { result ≤ 1 }
     ensures answered { result ≡ 0
-        → AnswersFirst K.Storage.sight (R.remaining reader) (W.contents writer.old) [] (W.contents writer.new) desk.old desk.new }
+        → AnswersFirst K.Kept.sight (R.remaining reader) (W.contents writer.old) [] (W.contents writer.new) desk.old desk.new }
     ensures stopped { result ≡ 1
-        → StopsBehind K.Storage.sight (R.remaining reader) (W.contents writer.old) (W.contents writer.new) desk.old desk.new }
-    ensures seen { IsSeenOn K.Storage.sight desk.old desk.new }
+        → StopsBehind K.Kept.sight (R.remaining reader) (W.contents writer.old) (W.contents writer.new) desk.old desk.new }
+    ensures seen { IsSeenOn K.Kept.sight desk.old desk.new }
     ensures policy { desk.new.policy ≡ desk.old.policy }
 {
     match answer_lines(alloc, reader, writer, desk) {
@@ -130,8 +130,8 @@ fn answer_lines<K: Storage + Drop, R: Read + Drop, W: Write>(
     writer: &mut W,
     desk: &mut Desk<K>,
 ) -> Result<(), BatchFault>
-    ensures answered { AnswersLines K.Storage.sight (R.remaining reader) (W.contents writer.old) (W.contents writer.new) desk.old desk.new result }
-    ensures seen { IsSeenOn K.Storage.sight desk.old desk.new }
+    ensures answered { AnswersLines K.Kept.sight (R.remaining reader) (W.contents writer.old) (W.contents writer.new) desk.old desk.new result }
+    ensures seen { IsSeenOn K.Kept.sight desk.old desk.new }
     ensures policy { desk.new.policy ≡ desk.old.policy }
 {
     let Ok(mut reader) = BufReader::new(alloc, reader) else {
@@ -188,8 +188,8 @@ fn answer_line<K: Storage + Drop, W: Write>(
     line: &[u8],
     writer: &mut W,
 ) -> Result<(), BatchFault>
-    ensures answered { AnswersLine K.Storage.sight line.now (W.contents writer.old) (W.contents writer.new) desk.old desk.new result }
-    ensures acts { ActsOnce K.Storage.sight desk.old desk.new }
+    ensures answered { AnswersLine K.Kept.sight line.now (W.contents writer.old) (W.contents writer.new) desk.old desk.new result }
+    ensures acts { ActsOnce K.Kept.sight desk.old desk.new }
 {
     let answered = batch_line_by(alloc, routes, desk, line);
     write_answer(number, answered, writer)

@@ -70,7 +70,7 @@ impl<'a, E: Write> ServeConnections<'a, E> {
         clock: u64,
         out: &mut W,
     ) -> Result<u8, Fault>
-        ensures { ServesByMoment K.Storage.sight K.Storage.causes self.old.serving self.old.now clock desk.old desk.new result }
+        ensures { ServesByMoment K.Kept.sight K.Storage.causes self.old.serving self.old.now clock desk.old desk.new result }
     {
         if lacks_moment(self.now, self.serving.max_ahead) {
             return Err(Fault::Serve(ServeFault::Clock));
@@ -85,7 +85,7 @@ impl<'a, E: Write> ServeConnections<'a, E> {
         clock: u64,
         out: &mut W,
     ) -> Result<u8, Fault>
-        ensures { ServesUnlessAhead K.Storage.sight K.Storage.causes self.old.serving self.old.now clock desk.old desk.new result }
+        ensures { ServesUnlessAhead K.Kept.sight K.Storage.causes self.old.serving self.old.now clock desk.old desk.new result }
     {
         let lead = seconds_ahead(clock, self.now);
         tell_ahead(self.errors, lead);
@@ -102,7 +102,7 @@ impl<'a, E: Write> ServeConnections<'a, E> {
         clock: u64,
         out: &mut W,
     ) -> Result<u8, Fault>
-        ensures { Serves K.Storage.sight K.Storage.causes self.old.serving clock desk.old desk.new result }
+        ensures { Serves K.Kept.sight K.Storage.causes self.old.serving clock desk.old desk.new result }
     {
         let Ok(files) = Files::at(self.rt, self.path) else {
             return Err(Fault::Serve(ServeFault::Replaced));

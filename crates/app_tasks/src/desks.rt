@@ -14,7 +14,7 @@ use store_api::{LookUps, Storage};
 ///
 /// `Desk` with the fault of the store, which comes back with it.
 pub(crate) fn adopt<K: Storage + Drop>(alloc: Global, store: K) -> Result<Desk<K>, (K, Fault)>
-    ensures { MatchResult result (Adopts K.Storage.sight store) (λ un. FailsToAdopt K.Storage.sight store un.0 un.1) }
+    ensures { MatchResult result (Adopts K.Kept.sight store) (λ un. FailsToAdopt K.Kept.sight store un.0 un.1) }
 {
     match Desk::adopt(alloc, store) {
         Ok(desk) => Ok(desk),
@@ -32,9 +32,9 @@ pub(crate) fn adopt<K: Storage + Drop>(alloc: Global, store: K) -> Result<Desk<K
 /// `Desk` with the fault of the store.
 pub(crate) fn clock_of<K: LookUps>(alloc: Global, store: &mut K) -> Result<u64, Fault>
     ensures reads { MatchResult result
-        (λ clock. Unchanged K.LookUps.sight store.old store.new)
-        (λ f. FailsToAdopt K.LookUps.sight store.old store.new f) }
-    ensures found { ForTables K.LookUps.sight store.old store.new (λ T. IfOk result (λ clock. clock ≡ T.meta.counters.clock)) }
+        (λ clock. Unchanged K.Kept.sight store.old store.new)
+        (λ f. FailsToAdopt K.Kept.sight store.old store.new f) }
+    ensures found { ForTables K.Kept.sight store.old store.new (λ T. IfOk result (λ clock. clock ≡ T.meta.counters.clock)) }
 {
     match store.meta_row(alloc) {
         Ok(meta) => Ok(meta.counters.clock.moment()),

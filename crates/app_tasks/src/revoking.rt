@@ -33,7 +33,7 @@ impl Revoke {
         out: &mut W,
     ) -> Result<u8, Fault>
         requires opened { desk.old.is_closed ≡ false }
-        ensures { Revokes K.Storage.sight self.old.target self.old.at desk.old desk.new result }
+        ensures { Revokes K.Kept.sight self.old.target self.old.at desk.old desk.new result }
     {
         match desk.answer_office(self.alloc, self.at, ask_of(self.target))? {
             Some(refusal) => Err(Fault::Refused(refusal)),

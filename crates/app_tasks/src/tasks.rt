@@ -23,5 +23,5 @@ pub trait Task {
         store: K,
         out: &mut W,
     ) -> (K, Result<u8, Self::Fault>)
-        ensures { does self.old (W.contents out.old) (W.contents out.new) _ _ _ K.Storage.sight K.Storage.causes K.LookUps.sight store result.0 result.1 };
+        ensures { does self.old (W.contents out.old) (W.contents out.new) _ _ _ K.Kept.sight K.Storage.causes K.Kept.sight store result.0 result.1 };
 }

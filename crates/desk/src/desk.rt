@@ -55,8 +55,8 @@ fn attempt_by<K: Storage + Drop>(
 ) -> Result<Reply, DeskFault>
     requires { IsFormedCall call.now }
     ensures in_time { result ≢ Err fault.Moment }
-    ensures caused { (was : K) → Unchanged K.Storage.sight was store.old → IfErr result (IsCaused K.Storage.sight K.Storage.causes was store.new) }
-    ensures exit { (was : K) → Loads K.Storage.sight call.now was store.old (Ok part.now) → Answers K.Storage.sight call.now was store.new result }
+    ensures caused { (was : K) → Unchanged K.Kept.sight was store.old → IfErr result (IsCaused K.Kept.sight K.Storage.causes was store.new) }
+    ensures exit { (was : K) → Loads K.Kept.sight call.now was store.old (Ok part.now) → Answers K.Kept.sight call.now was store.new result }
 {
     let decision = decide(alloc, part, call)?;
     let changes = decision.changes.as_slice();
@@ -75,8 +75,8 @@ fn attempt<K: Storage + Drop>(
 ) -> Result<Reply, DeskFault>
     requires { IsFormedCall call.now }
     ensures in_time { result ≢ Err fault.Moment }
-    ensures caused { IfErr result (IsCaused K.Storage.sight K.Storage.causes store.old store.new) }
-    ensures exit { Answers K.Storage.sight call.now store.old store.new result }
+    ensures caused { IfErr result (IsCaused K.Kept.sight K.Storage.causes store.old store.new) }
+    ensures exit { Answers K.Kept.sight call.now store.old store.new result }
 {
     let part = store.load_part(alloc, call)?;
     let attempted = attempt_by(alloc, store, &part, call);
@@ -92,9 +92,9 @@ impl<K: Storage + Drop> Desk<K> {
     /// The fault of the store, which comes back with it.
     pub fn adopt(alloc: Global, store: K) -> Result<Desk<K>, Unadopted<K>>
         ensures reads { MatchResult result
-            (λ desk. Unchanged K.Storage.sight store desk.store)
-            (λ un. FailsToRead K.Storage.sight store un.store un.fault) }
-        ensures policy { IfOk result (λ desk. ForTables K.Storage.sight store desk.store (λ T. desk.policy ≡ T.meta.policy)) }
+            (λ desk. Unchanged K.Kept.sight store desk.store)
+            (λ un. FailsToRead K.Kept.sight store un.store un.fault) }
+        ensures policy { IfOk result (λ desk. ForTables K.Kept.sight store desk.store (λ T. desk.policy ≡ T.meta.policy)) }
         ensures opened { IfOk result (λ desk. desk.is_closed ≡ false) }
         ensures caused { IfErr result (λ un. K.Storage.causes None store un.store un.fault) }
     {
@@ -155,8 +155,8 @@ impl<K: Storage + Drop> Desk<K> {
         ensures late { self.old.is_closed ≡ false → (result ≡ Err fault.Moment) ↔ (last_moment < call.now.at) }
         ensures unmade { last_moment < call.now.at → self.new ≡ self.old }
         ensures caused { self.old.is_closed ≡ false
-            → IfErr result (IsCaused K.Storage.sight K.Storage.causes self.old.store self.new.store) }
-        ensures exit { self.old.is_closed ≡ false → Answers K.Storage.sight call.now self.old.store self.new.store result }
+            → IfErr result (IsCaused K.Kept.sight K.Storage.causes self.old.store self.new.store) }
+        ensures exit { self.old.is_closed ≡ false → Answers K.Kept.sight call.now self.old.store self.new.store result }
         ensures flag { self.old.is_closed ≡ false → self.new.is_closed ≡ is_closed_after result }
         ensures policy { self.new.policy ≡ self.old.policy }
     {
@@ -189,7 +189,7 @@ impl<K: Storage + Drop> Desk<K> {
             × ((self.new ≡ self.old) × (W.contents out.new ≡ W.contents out.old)) }
         ensures shows { self.old.is_closed ≡ false
             → L.shows look.now asked.now (W.contents out.old) (W.contents out.new) self.old.store self.new.store result }
-        ensures looks { self.old.is_closed ≡ false → Looks K.Storage.sight self.old.store self.new.store result }
+        ensures looks { self.old.is_closed ≡ false → Looks K.Kept.sight self.old.store self.new.store result }
         ensures flag { self.old.is_closed ≡ false → self.new.is_closed ≡ is_closed_by_look result }
         ensures policy { self.new.policy ≡ self.old.policy }
     {
@@ -209,10 +209,10 @@ impl<K: Storage + Drop> Desk<K> {
     /// place, the call is not made.
     pub fn run(&mut self, alloc: Global, calls: &[Call]) -> (Vec<Reply>, Option<DeskFault>)
         ensures closed { IsTrue self.old.is_closed → (result.0.items ≡ []) × (result.1 ≡ Some fault.Reopen) × (self.new ≡ self.old) }
-        ensures exit { self.old.is_closed ≡ false → Runs K.Storage.sight calls.now self.old.store self.new.store result.0.items result.1 }
-        ensures chain { self.old.is_closed ≡ false → RunsAs K.Storage.sight self.old.store calls.now result.0.items result.1 self.new.store }
+        ensures exit { self.old.is_closed ≡ false → Runs K.Kept.sight calls.now self.old.store self.new.store result.0.items result.1 }
+        ensures chain { self.old.is_closed ≡ false → RunsAs K.Kept.sight self.old.store calls.now result.0.items result.1 self.new.store }
         ensures caused { self.old.is_closed ≡ false
-            → IfSome result.1 (EndsCaused K.Storage.sight K.Storage.causes self.old.store self.new.store calls.now result.0.items) }
+            → IfSome result.1 (EndsCaused K.Kept.sight K.Storage.causes self.old.store self.new.store calls.now result.0.items) }
         ensures late { self.old.is_closed ≡ false → IfSome result.1 (TellsLate (drop (length result.0.items) calls.now)) }
         ensures flag { self.old.is_closed ≡ false → self.new.is_closed ≡ is_closed_behind result.1 }
         ensures policy { self.new.policy ≡ self.old.policy }
@@ -226,8 +226,8 @@ impl<K: Storage + Drop> Desk<K> {
     // The replies to the calls before the first fault, and the fault.
     fn answer_all(&mut self, alloc: Global, calls: &[Call]) -> (Vec<Reply>, Option<DeskFault>)
         requires { self.old.is_closed ≡ false }
-        ensures chain { RunsAs K.Storage.sight self.old.store calls.now result.0.items result.1 self.new.store }
-        ensures caused { IfSome result.1 (EndsCaused K.Storage.sight K.Storage.causes self.old.store self.new.store calls.now result.0.items) }
+        ensures chain { RunsAs K.Kept.sight self.old.store calls.now result.0.items result.1 self.new.store }
+        ensures caused { IfSome result.1 (EndsCaused K.Kept.sight K.Storage.causes self.old.store self.new.store calls.now result.0.items) }
         ensures late { IfSome result.1 (TellsLate (drop (length result.0.items) calls.now)) }
         ensures flag { self.new.is_closed ≡ is_closed_behind result.1 }
         ensures policy { self.new.policy ≡ self.old.policy }

@@ -47,7 +47,7 @@ pub trait Look<K: Storage, A> {
         out: &mut W,
     ) -> Result<(), LookFault>
         ensures shows { shows self.now asked.now (W.contents out.old) (W.contents out.new) store.old store.new result }
-        ensures looks { Looks K.Storage.sight store.old store.new result };
+        ensures looks { Looks K.Kept.sight store.old store.new result };
 }
 
 /// A look that shows nothing.

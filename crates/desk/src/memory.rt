@@ -6,7 +6,7 @@ use desk_book::Book;
 use desk_model::{Change, Clock, Policy};
 use std::alloc::Global;
 use std::marker::Model;
-use store_api::{ParsedCall, Storage, StorageFault};
+use store_api::{Kept, ParsedCall, Storage, StorageFault};
 
 /// The tables of a desk in memory, which contracts see as these tables.
 #[derive(Drop)]
@@ -48,14 +48,19 @@ impl Memory {
     }
 }
 
-impl Storage for Memory {
-    ghost use Rattle.std.specs.Prelude.{◌≡◌};
+impl Kept for Memory {
     ghost use Rattle.desk_model.specs.Tables.{Tables};
-    ghost use Rattle.store_api.specs.{InMemory.in_memory, declared.fault.StorageFault.TheVariants.Memory as memory_fault};
+    ghost use Rattle.store_api.specs.InMemory.{in_memory};
 
     ghost Content = { Tables };
 
     ghost sight = { in_memory };
+}
+
+impl Storage for Memory {
+    ghost use Rattle.std.specs.Prelude.{◌≡◌};
+    ghost use Rattle.desk_model.specs.Tables.{Tables};
+    ghost use Rattle.store_api.specs.{InMemory.in_memory, declared.fault.StorageFault.TheVariants.Memory as memory_fault};
 
     ghost causes = { λ saving old new why. why ≡ memory_fault };
 

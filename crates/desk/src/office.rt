@@ -38,8 +38,8 @@ impl<K: Storage + Drop> Desk<K> {
         ensures late { self.old.is_closed ≡ false → (result ≡ Err fault.Moment) ↔ (last_moment < at) }
         ensures unmade { last_moment < at → self.new ≡ self.old }
         ensures caused { self.old.is_closed ≡ false
-            → IfErr result (IsCaused K.Storage.sight K.Storage.causes self.old.store self.new.store) }
-        ensures exit { self.old.is_closed ≡ false → AnswersOffice K.Storage.sight at ask self.old.store self.new.store result }
+            → IfErr result (IsCaused K.Kept.sight K.Storage.causes self.old.store self.new.store) }
+        ensures exit { self.old.is_closed ≡ false → AnswersOffice K.Kept.sight at ask self.old.store self.new.store result }
         ensures flag { self.old.is_closed ≡ false → self.new.is_closed ≡ is_closed_after result }
         ensures policy { self.new.policy ≡ self.old.policy }
     {

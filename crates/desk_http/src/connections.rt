@@ -62,9 +62,9 @@ pub fn serve_connections<
     is_verbose: bool,
 ) -> Result<(), ServeFault>
     ensures policy { desk.new.policy ≡ desk.old.policy }
-    ensures served { ServesConnections K.Storage.sight K.Storage.causes (shower H.kind H.last (H.shows hook.now)) O.takes
+    ensures served { ServesConnections K.Kept.sight K.Storage.causes (shower H.kind H.last (H.shows hook.now)) O.takes
         (unwrap_or count 18446744073709551615) desk.old watch.old desk.new watch.new result }
-    ensures seen { IsSeenOn K.Storage.sight desk.old desk.new }
+    ensures seen { IsSeenOn K.Kept.sight desk.old desk.new }
     ensures ends { desk.old.is_closed ≡ false → Ends result desk.new }
 {
     let most = count.unwrap_or(u64::MAX);
@@ -104,7 +104,7 @@ fn serve_connection<M: Clock + RandomSource, K: Storage + Drop, H: Hook<K>, O: O
     is_verbose: bool,
 ) -> Result<(), ServeFault>
     ensures policy { desk.new.policy ≡ desk.old.policy }
-    ensures served { ServesNext K.Storage.sight K.Storage.causes (shower H.kind H.last (H.shows hook.now)) O.takes
+    ensures served { ServesNext K.Kept.sight K.Storage.causes (shower H.kind H.last (H.shows hook.now)) O.takes
         desk.old watch.old desk.new watch.new result }
     ensures ends { desk.old.is_closed ≡ false → Ends result desk.new }
 {
@@ -249,7 +249,7 @@ fn serve_client<
     desk: &mut Desk<K>,
 ) -> Result<(Result<Served, IoFault>, CallSummary), ServeFault>
     ensures policy { desk.new.policy ≡ desk.old.policy }
-    ensures served { IfOk result (λ r. ServesClient K.Storage.sight K.Storage.causes (shower H.kind H.last (H.shows hook.now)) watch.old.bound at
+    ensures served { IfOk result (λ r. ServesClient K.Kept.sight K.Storage.causes (shower H.kind H.last (H.shows hook.now)) watch.old.bound at
         (R.remaining reader.old) (W.contents writer.old) (W.contents writer.new) desk.old desk.new r.1.object r.0 watch.new.bound) }
     ensures at { IfOk result (λ r. r.1.at ≡ at) }
     ensures overseer { watch.new.overseer ≡ watch.old.overseer }
@@ -274,7 +274,7 @@ fn serve_in_place<M: Clock + RandomSource, O: Overseer, W: Write, K: Storage + D
 ) -> Result<(Result<Served, IoFault>, CallSummary), ServeFault>
     ensures policy { desk.new.policy ≡ desk.old.policy }
     ensures served { (remaining : Option (List ℕ)) → IsParsedOf remaining parsed
-        → IfOk result (λ r. ServesClient K.Storage.sight K.Storage.causes (shower H.kind H.last (H.shows hook.now)) watch.old.bound at
+        → IfOk result (λ r. ServesClient K.Kept.sight K.Storage.causes (shower H.kind H.last (H.shows hook.now)) watch.old.bound at
         remaining (W.contents writer.old) (W.contents writer.new) desk.old desk.new r.1.object r.0 watch.new.bound) }
     ensures at { IfOk result (λ r. r.1.at ≡ at) }
     ensures overseer { watch.new.overseer ≡ watch.old.overseer }
@@ -304,7 +304,7 @@ fn respond_at<M: RandomSource, W: Write, K: Storage + Drop>(
     parsed: ParsedRequest,
 ) -> Result<Result<Served, IoFault>, ServeFault>
     ensures policy { desk.new.policy ≡ desk.old.policy }
-    ensures served { (remaining : Option (List ℕ)) → IsParsedOf remaining parsed → IfOk result (ServesRead K.Storage.sight K.Storage.causes
+    ensures served { (remaining : Option (List ℕ)) → IsParsedOf remaining parsed → IfOk result (ServesRead K.Kept.sight K.Storage.causes
         (moment_for bound.old at) parsed remaining (W.contents writer.old) (W.contents writer.new) desk.old desk.new) }
     ensures followed { bound.new ≡ followed bound.old at }
     ensures refused { admits bound.old.latest bound.old.step at ≡ false → desk.new ≡ desk.old }
@@ -364,7 +364,7 @@ fn respond_with_random<M: RandomSource, W: Write, K: Storage + Drop>(
     parsed: ParsedRequest,
 ) -> Result<Result<Served, IoFault>, ServeFault>
     ensures policy { desk.new.policy ≡ desk.old.policy }
-    ensures served { (remaining : Option (List ℕ)) → IsParsedOf remaining parsed → IfOk result (ServesRead K.Storage.sight K.Storage.causes
+    ensures served { (remaining : Option (List ℕ)) → IsParsedOf remaining parsed → IfOk result (ServesRead K.Kept.sight K.Storage.causes
         at parsed remaining (W.contents writer.old) (W.contents writer.new) desk.old desk.new) }
     ensures failed { IfErr result (λ e. (e ≡ fault.Random) × (desk.new ≡ desk.old)) }
 {

@@ -45,10 +45,10 @@ pub fn serve_request<R: Read, W: Write, K: Storage + Drop>(
 ) -> Result<Served, IoFault>
     ensures policy { desk.new.policy ≡ desk.old.policy }
     ensures served { IfOk result (λ s.
-        Serves K.Storage.sight K.Storage.causes at random.now desk.new.policy.base
+        Serves K.Kept.sight K.Storage.causes at random.now desk.new.policy.base
         (R.remaining reader.old) (W.contents writer.old) (W.contents writer.new) desk.old desk.new s) }
     ensures failed { IfErr result (λ e.
-        Breaks K.Storage.sight K.Storage.causes at random.now desk.new.policy.base
+        Breaks K.Kept.sight K.Storage.causes at random.now desk.new.policy.base
         (R.remaining reader.old) (W.contents writer.old) (W.contents writer.new) desk.old desk.new e) }
     ensures taken { TakesAtMost (R.remaining reader.old) (R.remaining reader.new) (longest_head + longest_body) }
 {
@@ -72,10 +72,10 @@ pub fn serve_request_by<R: Read, W: Write, K: Storage + Drop>(
 ) -> Result<Served, IoFault>
     ensures policy { desk.new.policy ≡ desk.old.policy }
     ensures served { IfOk result (λ s.
-        Serves K.Storage.sight K.Storage.causes at random.now desk.new.policy.base
+        Serves K.Kept.sight K.Storage.causes at random.now desk.new.policy.base
         (R.remaining reader.old) (W.contents writer.old) (W.contents writer.new) desk.old desk.new s) }
     ensures failed { IfErr result (λ e.
-        Breaks K.Storage.sight K.Storage.causes at random.now desk.new.policy.base
+        Breaks K.Kept.sight K.Storage.causes at random.now desk.new.policy.base
         (R.remaining reader.old) (W.contents writer.old) (W.contents writer.new) desk.old desk.new e) }
     ensures taken { TakesAtMost (R.remaining reader.old) (R.remaining reader.new) (longest_head + longest_body) }
 {
@@ -100,10 +100,10 @@ pub fn respond<W: Write, K: Storage + Drop>(
 ) -> Result<Served, IoFault>
     ensures policy { desk.new.policy ≡ desk.old.policy }
     ensures served { (remaining : Option (List ℕ)) → IsParsedOf remaining parsed → IfOk result (λ s.
-        Serves K.Storage.sight K.Storage.causes at random.now desk.new.policy.base
+        Serves K.Kept.sight K.Storage.causes at random.now desk.new.policy.base
         remaining (W.contents writer.old) (W.contents writer.new) desk.old desk.new s) }
     ensures failed { (remaining : Option (List ℕ)) → IsParsedOf remaining parsed → IfErr result (λ e.
-        Breaks K.Storage.sight K.Storage.causes at random.now desk.new.policy.base
+        Breaks K.Kept.sight K.Storage.causes at random.now desk.new.policy.base
         remaining (W.contents writer.old) (W.contents writer.new) desk.old desk.new e) }
 {
     let form = parsed.form;
@@ -178,9 +178,9 @@ fn reply_bytes<K: Storage + Drop>(
 ) -> Result<ReplyBytes, Unanswered>
     ensures policy { desk.new.policy ≡ desk.old.policy }
     ensures reply { MatchResult result
-        (λ reply. IsReplyTo K.Storage.sight K.Storage.causes at random.now desk.new.policy.base request head_only
+        (λ reply. IsReplyTo K.Kept.sight K.Storage.causes at random.now desk.new.policy.base request head_only
         reply.bytes.items reply.summary desk.old desk.new)
-        (λ cause. LacksText K.Storage.sight K.Storage.causes at random.now request cause desk.old desk.new) }
+        (λ cause. LacksText K.Kept.sight K.Storage.causes at random.now request cause desk.old desk.new) }
 {
     let Ok(request) = request else {
         return Err(Unanswered::Reading);
@@ -208,8 +208,8 @@ fn reply_to<K: Storage + Drop>(
 ) -> Result<Reply, Unanswered>
     ensures policy { desk.new.policy ≡ desk.old.policy }
     ensures reply { MatchResult result
-        (λ reply. Responds K.Storage.sight K.Storage.causes at random.now desk.old request (Ok reply) desk.new)
-        (λ cause. LacksReply K.Storage.sight K.Storage.causes at random.now request cause desk.old desk.new) }
+        (λ reply. Responds K.Kept.sight K.Storage.causes at random.now desk.old request (Ok reply) desk.new)
+        (λ cause. LacksReply K.Kept.sight K.Storage.causes at random.now request cause desk.old desk.new) }
 {
     match request {
         Request::Asks(ask) => {
@@ -234,7 +234,7 @@ fn answer<K: Storage + Drop>(
     desk: &mut Desk<K>,
     call: &Call,
 ) -> Result<Reply, DeskFault>
-    ensures { IsAnswer K.Storage.sight K.Storage.causes call.now desk.old desk.new result }
+    ensures { IsAnswer K.Kept.sight K.Storage.causes call.now desk.old desk.new result }
 {
     desk.answer(alloc, call)
 }

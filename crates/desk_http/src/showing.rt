@@ -54,7 +54,7 @@ pub(crate) fn show<W: Write, K: Storage + Drop, H: Hook<K>>(
     looked: &Looked,
 ) -> Result<Served, IoFault>
     ensures policy { desk.new.policy ≡ desk.old.policy }
-    ensures shows { ShowsTo K.Storage.sight (shower H.kind H.last (H.shows hook.now)) looked.now
+    ensures shows { ShowsTo K.Kept.sight (shower H.kind H.last (H.shows hook.now)) looked.now
         (W.contents writer.old) (W.contents writer.new) desk.old desk.new result }
 {
     match write_head(writer, H::kind(looked)) {
@@ -86,7 +86,7 @@ fn show_behind<W: Write, K: Storage + Drop, H: Hook<K>>(
     looked: &Looked,
 ) -> Result<Served, IoFault>
     ensures policy { desk.new.policy ≡ desk.old.policy }
-    ensures shows { ShowsBehind K.Storage.sight (shower H.kind H.last (H.shows hook.now)) looked.now
+    ensures shows { ShowsBehind K.Kept.sight (shower H.kind H.last (H.shows hook.now)) looked.now
         (W.contents writer.old) (W.contents writer.new) desk.old desk.new result }
 {
     match look(alloc, hook, writer, desk, looked) {
@@ -110,7 +110,7 @@ fn look<W: Write, K: Storage + Drop, H: Hook<K>>(
     desk: &mut Desk<K>,
     looked: &Looked,
 ) -> Result<(), LookFault>
-    ensures { LooksAt K.Storage.sight (H.shows hook.now looked.now)
+    ensures { LooksAt K.Kept.sight (H.shows hook.now looked.now)
         (W.contents writer.old) (W.contents writer.new) desk.old desk.new result }
 {
     desk.look(alloc, hook, looked, writer)

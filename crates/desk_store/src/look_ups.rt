@@ -21,10 +21,6 @@ use store_columns::Owned;
 use store_passes::{FaultKind, Orders, StatusFaults};
 
 impl<S: Alter> LookUps for Store<S> {
-    ghost Content = { Trees };
-
-    ghost sight = { store_sight S.Store };
-
     fn meta_row(&mut self, alloc: Global) -> Result<Meta, StorageFault> {
         match self.known.meta()? {
             Some(meta) => Ok(meta),

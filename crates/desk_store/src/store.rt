@@ -31,7 +31,7 @@ use sql_read::{ReadFault, meta_row};
 use sql_write::save_all;
 use sqlite::{Alter, Connection};
 use std::alloc::Global;
-use store_api::{ParsedCall, Storage, StorageFault, load_enough, whole_book};
+use store_api::{Kept, ParsedCall, Storage, StorageFault, load_enough, whole_book};
 
 /// The tables of a desk over a connection, which is in no transaction between two calls.
 #[derive(Drop)]
@@ -248,11 +248,13 @@ impl<S: Alter> Store<S> {
 
 // ---- as a desk asks for it
 
-impl<S: Alter> Storage for Store<S> {
+impl<S: Alter> Kept for Store<S> {
     ghost Content = { Trees };
 
     ghost sight = { store_sight S.Store };
+}
 
+impl<S: Alter> Storage for Store<S> {
     ghost causes = { λ changes old new why. Failed S.Store changes old.conn new.conn why };
 
     fn policy(&mut self, alloc: Global) -> Result<Policy, StorageFault> {

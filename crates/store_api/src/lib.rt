@@ -5,6 +5,7 @@
 mod all_rows;
 mod enough;
 mod fault;
+mod kept;
 mod laws;
 mod links;
 mod look_ups;
@@ -17,6 +18,7 @@ pub use all_rows::whole_book;
 pub use enough::load_enough;
 pub use fault::StorageFault;
 pub use identifiers::{CallFault, ParsedCall};
+pub use kept::Kept;
 pub use laws::touched_rows_are_a_book;
 pub use look_ups::{Found, LookUps, RowsAbove};
 pub use storage::Storage;

@@ -3,12 +3,13 @@ ghost use Rattle.std.specs.Prelude.{◌≡◌, map};
 ghost use Rattle.model_lives.specs.LookUps.{accounts_where, authorizations_where, nonces_where, orders_where, AreWaiting, bare_authorizations, bare_orders_of};
 ghost use Rattle.model_lives.specs.LookUps.{orders_listing, owners_of};
 ghost use Rattle.model_laws.specs.Ordered.{IsOrdered};
-ghost use Rattle.store_api.specs.Sight.{Gives, Sight};
+ghost use Rattle.store_api.specs.Sight.{Gives};
 ghost use Rattle.model_lives.specs.Above.{accounts_above, authorizations_above, challenges_above, first_of, orders_above};
 ghost use Rattle.desk_model.specs.Tables.{Tables};
 ghost use Rattle.store_book.specs.IsBook.{IsBook};
 
 use crate::fault::StorageFault;
+use crate::kept::Kept;
 use desk_model::{AccountRow, AuthorizationRow, ChallengeRow, Meta, Nonce, OrderRow};
 use model_lives::{AccountsWhere, AuthorizationsWhere, NoncesWhere, OrdersWhere};
 use std::alloc::Global;
@@ -21,28 +22,22 @@ pub type Found<R> = Result<Vec<R>, StorageFault>;
 ///
 /// A look-up changes nothing, and may fail by `Memory`, where a growth was refused, or by `Device` or `Reopen`, where the
 /// tables could not be read.
-pub trait LookUps {
-    // What a stop leaves.
-    ghost Content: { Type 0 };
-
-    // What may be said of the source.
-    ghost sight: { Sight Self Content };
-
+pub trait LookUps: Kept {
     /// The row of the desk.
     fn meta_row(&mut self, alloc: Global) -> Result<Meta, StorageFault>
-        ensures { Gives sight self.old self.new (λ T meta. meta ≡ T.meta) result };
+        ensures { Gives Self.sight self.old self.new (λ T meta. meta ≡ T.meta) result };
 
     /// The nonces of a query, by serial.
     fn find_nonces(&mut self, alloc: Global, which: NoncesWhere) -> Found<Nonce>
-        ensures { Gives sight self.old self.new (λ T rows. rows.items ≡ nonces_where T which) result };
+        ensures { Gives Self.sight self.old self.new (λ T rows. rows.items ≡ nonces_where T which) result };
 
     /// The accounts of a query, by number.
     fn find_accounts(&mut self, alloc: Global, which: AccountsWhere<'_>) -> Found<AccountRow>
-        ensures { Gives sight self.old self.new (λ T rows. rows.items ≡ accounts_where T which.entry) result };
+        ensures { Gives Self.sight self.old self.new (λ T rows. rows.items ≡ accounts_where T which.entry) result };
 
     /// The orders of a query, by number.
     fn find_orders(&mut self, alloc: Global, which: OrdersWhere) -> Found<OrderRow>
-        ensures { Gives sight self.old self.new (λ T rows. rows.items ≡ orders_where T which) result };
+        ensures { Gives Self.sight self.old self.new (λ T rows. rows.items ≡ orders_where T which) result };
 
     /// The authorizations of a query, by number.
     fn find_authorizations(
@@ -50,28 +45,28 @@ pub trait LookUps {
         alloc: Global,
         which: AuthorizationsWhere<'_>,
     ) -> Found<AuthorizationRow>
-        ensures { Gives sight self.old self.new (λ T rows. rows.items ≡ authorizations_where T which.entry) result };
+        ensures { Gives Self.sight self.old self.new (λ T rows. rows.items ≡ authorizations_where T which.entry) result };
 
     /// The orders of an account, by number, without what they list.
     fn bare_orders_of(&mut self, alloc: Global, account: u64) -> Found<OrderRow>
-        ensures { Gives sight self.old self.new (λ T rows. rows.items ≡ bare_orders_of T account) result };
+        ensures { Gives Self.sight self.old self.new (λ T rows. rows.items ≡ bare_orders_of T account) result };
 
     /// The authorization of a number, without its challenges.
     fn bare_authorizations(&mut self, alloc: Global, number: u64) -> Found<AuthorizationRow>
-        ensures { Gives sight self.old self.new (λ T rows. rows.items ≡ bare_authorizations T number) result };
+        ensures { Gives Self.sight self.old self.new (λ T rows. rows.items ≡ bare_authorizations T number) result };
 
     /// The numbers of the orders that list an authorization.
     fn orders_listing(&mut self, alloc: Global, authorization: u64) -> Found<u64>
-        ensures { Gives sight self.old self.new (λ T numbers. numbers.items ≡ orders_listing T authorization) result };
+        ensures { Gives Self.sight self.old self.new (λ T numbers. numbers.items ≡ orders_listing T authorization) result };
 
     /// The number of the authorization of a challenge.
     fn owners_of(&mut self, alloc: Global, challenge: u64) -> Found<u64>
-        ensures { Gives sight self.old self.new (λ T numbers. numbers.items ≡ owners_of T challenge) result };
+        ensures { Gives Self.sight self.old self.new (λ T numbers. numbers.items ≡ owners_of T challenge) result };
 
     /// The challenges that are stored as waiting for the validator, each with the number of its authorization; those of one
     /// authorization by number.
     fn waiting_challenges(&mut self, alloc: Global) -> Found<Owned<ChallengeRow>>
-        ensures { Gives sight self.old self.new (λ T rows. IsOrdered T → AreWaiting T (map (λ c. (c.owner, c.row)) rows.items)) result };
+        ensures { Gives Self.sight self.old self.new (λ T rows. IsOrdered T → AreWaiting T (map (λ c. (c.owner, c.row)) rows.items)) result };
 }
 
 // ---- rows one by one, by number

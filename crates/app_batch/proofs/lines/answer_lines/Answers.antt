@@ -6,14 +6,14 @@ use Rattle.desk.proofs.SeeingDesks.{same_policy, seen_once_more, seen_untouched}
 use Rattle.app_batch.proofs.lines.answer_lines.Goals as goal
 
 pub returns-in_default-clause-seen : goal.returns-in_default-clause-seen
-returns-in_default-clause-seen g c = seen_untouched g.K.Storage.sight c.args.desk.now c.args.desk.now refl
+returns-in_default-clause-seen g c = seen_untouched g.K.Kept.sight c.args.desk.now c.args.desk.now refl
 
 pub loop-number-init : goal.loop-number-init
 loop-number-init g c = record {
-  seen = seen_untouched g.K.Storage.sight c.args.desk.now c.args.desk.now refl;
+  seen = seen_untouched g.K.Kept.sight c.args.desk.now c.args.desk.now refl;
   policy = refl;
   answered =
-      answered_none g.K.Storage.sight (g.R.Read.remaining c.args.reader) (reader_remaining g.R.Read.remaining c.in-Ok.reader)
+      answered_none g.K.Kept.sight (g.R.Read.remaining c.args.reader) (reader_remaining g.R.Read.remaining c.in-Ok.reader)
       (g.W.Write.contents c.args.writer.now) c.args.desk.now
       (remaining_anew g.R.Read.remaining c.in-Ok.reader c.args.reader c.in-Ok.ensures.inner c.in-Ok.ensures.empty c.in-Ok.ensures.capacity);
 }
@@ -22,11 +22,11 @@ pub loop-number-preserved : goal.loop-number-preserved
 loop-number-preserved g c =
     record {
       seen =
-          seen_once_more g.K.Storage.sight c.args.desk.now c.loop-number.desk c.answer_line.new.desk c.loop-number.invariant.seen
+          seen_once_more g.K.Kept.sight c.args.desk.now c.loop-number.desk c.answer_line.new.desk c.loop-number.invariant.seen
           c.in_ok-answer_line.ensures.acts;
-      policy = same_policy g.K.Storage.sight c.loop-number.desk c.answer_line.new.desk c.in_ok-answer_line.ensures.acts ∙ c.loop-number.invariant.policy;
+      policy = same_policy g.K.Kept.sight c.loop-number.desk c.answer_line.new.desk c.in_ok-answer_line.ensures.acts ∙ c.loop-number.invariant.policy;
       answered =
-          answered_more g.K.Storage.sight (g.R.Read.remaining c.args.reader) (reader_remaining g.R.Read.remaining c.loop-number.reader)
+          answered_more g.K.Kept.sight (g.R.Read.remaining c.args.reader) (reader_remaining g.R.Read.remaining c.loop-number.reader)
           (reader_remaining g.R.Read.remaining c.next_line.new.reader) (g.W.Write.contents c.args.writer.now) (g.W.Write.contents c.loop-number.writer)
           (g.W.Write.contents c.answer_line.new.writer) c.as_slice.result.now c.args.desk.now c.loop-number.desk c.answer_line.new.desk
           c.loop-number.invariant.answered (rw (c.as_slice.ensures.value) (c.in_ok-next_line.ensures.line (search rules)))
@@ -35,31 +35,31 @@ loop-number-preserved g c =
 
 pub returns-in_err-answer_line-clause-seen : goal.returns-in_err-answer_line-clause-seen
 returns-in_err-answer_line-clause-seen g c =
-    seen_once_more g.K.Storage.sight c.args.desk.now c.loop-number.desk c.answer_line.new.desk c.loop-number.invariant.seen c.in_err-answer_line.ensures.acts
+    seen_once_more g.K.Kept.sight c.args.desk.now c.loop-number.desk c.answer_line.new.desk c.loop-number.invariant.seen c.in_err-answer_line.ensures.acts
 
 pub returns-in_err-answer_line-clause-policy : goal.returns-in_err-answer_line-clause-policy
 returns-in_err-answer_line-clause-policy g c =
-    same_policy g.K.Storage.sight c.loop-number.desk c.answer_line.new.desk c.in_err-answer_line.ensures.acts ∙ c.loop-number.invariant.policy
+    same_policy g.K.Kept.sight c.loop-number.desk c.answer_line.new.desk c.in_err-answer_line.ensures.acts ∙ c.loop-number.invariant.policy
 
 pub returns-in_default-clause-answered : goal.returns-in_default-clause-answered
 returns-in_default-clause-answered g c =
     let bytes = g.R.Read.remaining c.args.reader in
     let was = g.W.Write.contents c.args.writer.now in
-    stops_behind g.K.Storage.sight bytes bytes was was was c.args.desk.now c.args.desk.now c.args.desk.now
-    (answered_none g.K.Storage.sight bytes bytes was c.args.desk.now refl) (unread refl refl)
+    stops_behind g.K.Kept.sight bytes bytes was was was c.args.desk.now c.args.desk.now c.args.desk.now
+    (answered_none g.K.Kept.sight bytes bytes was c.args.desk.now refl) (unread refl refl)
 
 pub returns-in_err-next_line-clause-answered : goal.returns-in_err-next_line-clause-answered
 returns-in_err-next_line-clause-answered g c =
     let bytes = g.R.Read.remaining c.args.reader in
     let was = g.W.Write.contents c.args.writer.now in
     let is = g.W.Write.contents c.loop-number.writer in
-    told_stop g.K.Storage.sight bytes was is c.args.desk.now c.loop-number.desk c.from_residual.result c.from_residual.ensures.0
-    (stops_behind g.K.Storage.sight bytes (reader_remaining g.R.Read.remaining c.loop-number.reader) was is is c.args.desk.now c.loop-number.desk
+    told_stop g.K.Kept.sight bytes was is c.args.desk.now c.loop-number.desk c.from_residual.result c.from_residual.ensures.0
+    (stops_behind g.K.Kept.sight bytes (reader_remaining g.R.Read.remaining c.loop-number.reader) was is is c.args.desk.now c.loop-number.desk
     c.loop-number.desk c.loop-number.invariant.answered (unread refl refl))
 
 pub returns-then-not-branch-clause-answered : goal.returns-then-not-branch-clause-answered
 returns-then-not-branch-clause-answered g c =
-    answered_all g.K.Storage.sight (g.R.Read.remaining c.args.reader) (reader_remaining g.R.Read.remaining c.loop-number.reader)
+    answered_all g.K.Kept.sight (g.R.Read.remaining c.args.reader) (reader_remaining g.R.Read.remaining c.loop-number.reader)
     (g.W.Write.contents c.args.writer.now) (g.W.Write.contents c.loop-number.writer) c.args.desk.now c.loop-number.desk
     c.loop-number.invariant.answered (c.in_ok-next_line.ensures.none (search rules))
 
@@ -71,9 +71,9 @@ returns-in_err-answer_line-clause-answered g c =
     let is = g.W.Write.contents c.answer_line.new.writer in
     let now = reader_remaining g.R.Read.remaining c.loop-number.reader in
     let so_far = c.loop-number.invariant.answered in
-    told_stop g.K.Storage.sight bytes was is c.args.desk.now c.answer_line.new.desk c.from_residual-in_err-answer_line.result
+    told_stop g.K.Kept.sight bytes was is c.args.desk.now c.answer_line.new.desk c.from_residual-in_err-answer_line.result
     c.from_residual-in_err-answer_line.ensures.0
-    (stops_behind g.K.Storage.sight bytes now was mid is c.args.desk.now c.loop-number.desk c.answer_line.new.desk c.loop-number.invariant.answered
+    (stops_behind g.K.Kept.sight bytes now was mid is c.args.desk.now c.loop-number.desk c.answer_line.new.desk c.loop-number.invariant.answered
     (untold c.as_slice.result.now
     (read_next bytes now so_far.lines so_far.left c.as_slice.result.now so_far.read
     (rw (c.as_slice.ensures.value) (c.in_ok-next_line.ensures.line (search rules)))) c.in_err-answer_line.ensures.answered))
@@ -81,6 +81,6 @@ returns-in_err-answer_line-clause-answered g c =
 pub returns-clause-answered : goal.returns-clause-answered
 returns-clause-answered g c =
     let is = g.W.Write.contents c.loop-number.writer in
-    stops_behind g.K.Storage.sight (g.R.Read.remaining c.args.reader) (reader_remaining g.R.Read.remaining c.loop-number.reader)
+    stops_behind g.K.Kept.sight (g.R.Read.remaining c.args.reader) (reader_remaining g.R.Read.remaining c.loop-number.reader)
     (g.W.Write.contents c.args.writer.now) is is c.args.desk.now c.loop-number.desk c.loop-number.desk c.loop-number.invariant.answered
     (unread refl refl)

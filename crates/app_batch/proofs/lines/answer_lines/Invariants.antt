@@ -6,9 +6,9 @@ use Rattle.app_batch.proofs.lines.answer_lines.Given as goal
 
 abbrev pub invariant-loop-number : goal.invariant-loop-number
 invariant-loop-number g l = record {
-  seen : IsSeenOn g.K.Storage.sight l.fn.desk l.desk;
+  seen : IsSeenOn g.K.Kept.sight l.fn.desk l.desk;
   policy : l.desk.policy ≡ l.fn.desk.policy;
   answered :
-      IsAnsweredTo g.K.Storage.sight (g.R.Read.remaining l.fn.reader) (reader_remaining g.R.Read.remaining l.reader) (g.W.Write.contents l.fn.writer)
+      IsAnsweredTo g.K.Kept.sight (g.R.Read.remaining l.fn.reader) (reader_remaining g.R.Read.remaining l.reader) (g.W.Write.contents l.fn.writer)
       (g.W.Write.contents l.writer) l.fn.desk l.desk;
 }

@@ -6,8 +6,8 @@ use Rattle.app_page.proofs.tables.write_rows.Given as goal
 
 abbrev pub invariant-loop-row : goal.invariant-loop-row
 invariant-loop-row g l = record {
-  unchanged : Unchanged g.K.LookUps.sight l.fn.source l.source;
-  printed : ForTables g.K.LookUps.sight l.fn.source l.source (λ T.
+  unchanged : Unchanged g.K.Kept.sight l.fn.source l.source;
+  printed : ForTables g.K.Kept.sight l.fn.source l.source (λ T.
       ShowsSoFar (g.Q.Query.wanted l.fn.which) (g.R.PageRow.html T) (g.W.Write.contents l.fn.out) (g.W.Write.contents l.out)
       (above g.R.Row.number l.fn.above (g.R.PassedRow.rows T)) (above g.R.Row.number l.above (g.R.PassedRow.rows T)) l.count);
 }

@@ -25,7 +25,7 @@ loop-fault-preserved g c = record {
 
 pub returns-in_err-fault-clause-reads : goal.returns-in_err-fault-clause-reads
 returns-in_err-fault-clause-reads g c =
-    let whole : Reports g.K.LookUps.sight c.args.source.now c.next.new.self.source.now c.from_residual.result =
+    let whole : Reports g.K.Kept.sight c.args.source.now c.next.new.self.source.now c.from_residual.result =
     look_up_failed c.from_residual.result c.loop-fault.invariant.unchanged
     (reads_caused (Err c.in_err-fault.field-0.0) c.in_err-fault.ensures.reads (c.in_err-fault.ensures.caused c.loop-fault.invariant.unfailed))
     c.from_residual.ensures.1 in

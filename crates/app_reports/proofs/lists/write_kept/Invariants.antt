@@ -6,8 +6,8 @@ use Rattle.app_reports.proofs.lists.write_kept.Given as goal
 
 abbrev pub invariant-loop-row : goal.invariant-loop-row
 invariant-loop-row g l = record {
-  unchanged : Unchanged g.K.LookUps.sight l.fn.source l.source;
-  printed : ForTables g.K.LookUps.sight l.fn.source l.source (λ T.
+  unchanged : Unchanged g.K.Kept.sight l.fn.source l.source;
+  printed : ForTables g.K.Kept.sight l.fn.source l.source (λ T.
       ListsSoFar (g.L.RowList.keeps l.fn.list T) (g.L.RowList.line l.fn.form) (g.W.Write.contents l.fn.out) (g.W.Write.contents l.out)
       (g.L.Item.PassedRow.rows T) (above g.L.Item.Row.number l.above (g.L.Item.PassedRow.rows T)) l.count);
 }

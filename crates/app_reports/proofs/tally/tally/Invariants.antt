@@ -6,8 +6,8 @@ use Rattle.app_reports.proofs.tally.tally.Given as goal
 
 abbrev pub invariant-loop-row : goal.invariant-loop-row
 invariant-loop-row g l = record {
-  unchanged : Unchanged g.K.LookUps.sight l.fn.source l.source;
-  counted : ForTables g.K.LookUps.sight l.fn.source l.source (λ T.
+  unchanged : Unchanged g.K.Kept.sight l.fn.source l.source;
+  counted : ForTables g.K.Kept.sight l.fn.source l.source (λ T.
       CountsSoFar g.R.Stated.place (g.R.PassedRow.rows T) (above g.R.Row.number l.above (g.R.PassedRow.rows T)) l.counts);
 }
 

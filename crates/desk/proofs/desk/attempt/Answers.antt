@@ -8,7 +8,7 @@ returns-in_err-part-clause-in_time g c = storage_result_in_time c.in_err-part.fi
 
 pub returns-in_err-part-clause-caused : goal.returns-in_err-part-clause-caused
 returns-in_err-part-clause-caused g c =
-    storage_result_caused g.K.Storage.sight g.K.Storage.causes c.args.store.now c.args.store.now c.load_part.new.self None c.in_err-part.field-0.0 _
+    storage_result_caused g.K.Kept.sight g.K.Storage.causes c.args.store.now c.args.store.now c.load_part.new.self None c.in_err-part.field-0.0 _
     unchanged_here c.in_err-part.ensures.caused c.from_residual.ensures.1
 
 pub returns-clause-caused : goal.returns-clause-caused

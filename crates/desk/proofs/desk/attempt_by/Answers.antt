@@ -6,12 +6,12 @@ use Rattle.desk.proofs.desk.attempt_by.Goals as goal
 
 pub returns-in_err-decision-clause-caused : goal.returns-in_err-decision-clause-caused
 returns-in_err-decision-clause-caused g c was unchanged =
-    result_caused g.K.Storage.sight g.K.Storage.causes was c.args.store.now (core_fault c.in_err-decision.field-0.0) _
-    (core_caused g.K.Storage.sight g.K.Storage.causes was c.args.store.now c.in_err-decision.field-0.0) c.from_residual.ensures.1
+    result_caused g.K.Kept.sight g.K.Storage.causes was c.args.store.now (core_fault c.in_err-decision.field-0.0) _
+    (core_caused g.K.Kept.sight g.K.Storage.causes was c.args.store.now c.in_err-decision.field-0.0) c.from_residual.ensures.1
 
 pub returns-in_err-decision-clause-exit : goal.returns-in_err-decision-clause-exit
 returns-in_err-decision-clause-exit g c was loads =
-    refused g.K.Storage.sight c.args.call.now was c.args.store.now c.args.part.now c.in_err-decision.field-0.0 _
+    refused g.K.Kept.sight c.args.call.now was c.args.store.now c.args.part.now c.in_err-decision.field-0.0 _
     c.requires loads c.in_err-decision.ensures.faulty c.from_residual.ensures.1
 
 pub returns-then-is_empty-clause-exit : goal.returns-then-is_empty-clause-exit
@@ -19,7 +19,7 @@ returns-then-is_empty-clause-exit g c was loads =
     let decision = c.in_ok-decision.decision in
     let none : decision.changes.items ≡ [] = nothing decision.changes.items
     (ap (λ l. nat_eq (length l) 0) (sym c.as_slice-changes.ensures.value) ∙ sym c.is_empty.ensures ∙ c.if-is_empty.true) in
-    answered_alone g.K.Storage.sight c.args.call.now was c.args.store.now c.args.part.now decision.changes.items decision.reply
+    answered_alone g.K.Kept.sight c.args.call.now was c.args.store.now c.args.part.now decision.changes.items decision.reply
     c.requires loads c.in_ok-decision.ensures.decided none
 
 pub returns-in_err-decision-clause-in_time : goal.returns-in_err-decision-clause-in_time
@@ -30,14 +30,14 @@ returns-in_err-save-clause-in_time g c = storage_result_in_time c.in_err-save.fi
 
 pub returns-in_err-save-clause-caused : goal.returns-in_err-save-clause-caused
 returns-in_err-save-clause-caused g c was unchanged =
-    storage_result_caused g.K.Storage.sight g.K.Storage.causes was c.args.store.now c.save.new.self
+    storage_result_caused g.K.Kept.sight g.K.Storage.causes was c.args.store.now c.save.new.self
     (Some (record { part = c.args.part.now; changes = c.in_ok-decision.decision.changes.items })) c.in_err-save.field-0.0 _ unchanged
     c.in_err-save.ensures.caused c.from_residual-in_err-save.ensures.1
 
 pub returns-in_err-save-clause-exit : goal.returns-in_err-save-clause-exit
 returns-in_err-save-clause-exit g c was loads =
     let decision = c.in_ok-decision.decision in
-    unsaved g.K.Storage.sight _ c.args.call.now was c.args.store.now c.save.new.self c.args.part.now decision.changes.items decision.reply
+    unsaved g.K.Kept.sight _ c.args.call.now was c.args.store.now c.save.new.self c.args.part.now decision.changes.items decision.reply
     c.in_err-save.field-0.0 _
     c.requires loads c.in_ok-decision.ensures.decided c.in_err-save.ensures.saves
     c.from_residual-in_err-save.ensures.1
@@ -45,6 +45,6 @@ returns-in_err-save-clause-exit g c was loads =
 pub returns-clause-exit : goal.returns-clause-exit
 returns-clause-exit g c was loads =
     let decision = c.in_ok-decision.decision in
-    saved g.K.Storage.sight c.args.call.now was c.args.store.now c.save.new.self c.args.part.now decision.changes.items decision.reply
+    saved g.K.Kept.sight c.args.call.now was c.args.store.now c.save.new.self c.args.part.now decision.changes.items decision.reply
     c.in_ok-save.field-0
     c.requires loads c.in_ok-decision.ensures.decided c.in_ok-save.ensures.saves

@@ -9,5 +9,5 @@ returns-in-Ok-clause-served g c remaining is =
 pub returns-in-Ok-clause-refused : goal.returns-in-Ok-clause-refused
 returns-in-Ok-clause-refused g c is =
     let s = c.in-Ok.ensures.served None tt in
-    late_changes_nothing g.K.Storage.sight g.K.Storage.causes c.args.desk.now c.respond_with_random.new.desk _ None _ _ c.in-Ok.served
+    late_changes_nothing g.K.Kept.sight g.K.Storage.causes c.args.desk.now c.respond_with_random.new.desk _ None _ _ c.in-Ok.served
     (refused_late c.args.bound.now c.args.at is) (s.0, s.1 ∙ c.moment_for-acting.ensures.moment)

@@ -7,7 +7,7 @@ use Rattle.desk_http.proofs.connections.serve_connection.Goals as goal
 
 pub returns-clause-served : goal.returns-clause-served
 returns-clause-served g c =
-    let v = g.K.Storage.sight in
+    let v = g.K.Kept.sight in
     let hook = shower g.H.Hook.kind g.H.Hook.last (g.H.Look.shows c.args.hook.now) in
     let served = c.in_ok-served.served in
     let after = fault_after served c.serve_client.new.desk.is_closed in
@@ -29,7 +29,7 @@ returns-clause-served g c =
 
 pub returns-clause-ends : goal.returns-clause-ends
 returns-clause-ends g c opened =
-    let v = g.K.Storage.sight in
+    let v = g.K.Kept.sight in
     let hook = shower g.H.Hook.kind g.H.Hook.last (g.H.Look.shows c.args.hook.now) in
     let after = fault_after c.in_ok-served.served c.serve_client.new.desk.is_closed in
     rw (c.ended_by.ensures, c.closing_fault-closed_by.ensures)

@@ -6,7 +6,7 @@ abbrev pub invariant-loop-served : goal.invariant-loop-served
 invariant-loop-served g l = record {
   policy : l.desk.policy ≡ l.fn.desk.policy;
   served :
-      ServesMany g.K.Storage.sight g.K.Storage.causes (shower g.H.Hook.kind g.H.Hook.last (g.H.Look.shows l.fn.hook)) g.O.Overseer.takes l.served
+      ServesMany g.K.Kept.sight g.K.Storage.causes (shower g.H.Hook.kind g.H.Hook.last (g.H.Look.shows l.fn.hook)) g.O.Overseer.takes l.served
       l.fn.desk l.fn.watch l.desk l.watch;
   opened : l.fn.desk.is_closed ≡ false → l.desk.is_closed ≡ false;
 }

@@ -9,7 +9,7 @@ returns-in-Ok-send-clause-served g c remaining is =
       form_parsed remaining c.args.parsed is,
       (
         reply.0,
-        answered g.K.Storage.sight g.K.Storage.causes c.args.at c.args.random.now remaining c.args.parsed c.args.desk.now c.reply_bytes.new.desk
+        answered g.K.Kept.sight g.K.Storage.causes c.args.at c.args.random.now remaining c.args.parsed c.args.desk.now c.reply_bytes.new.desk
             (Ok reply.0) is reply.1,
         rw (c.as_slice.ensures.value ∙ reply.2) at c.in-Ok-send.ensures.took,
         refl,
@@ -28,7 +28,7 @@ returns-in-Ok-clause-failed g c remaining is =
       cause = None;
       by = (
         reply.0,
-        answered g.K.Storage.sight g.K.Storage.causes c.args.at c.args.random.now remaining c.args.parsed c.args.desk.now c.reply_bytes.new.desk
+        answered g.K.Kept.sight g.K.Storage.causes c.args.at c.args.random.now remaining c.args.parsed c.args.desk.now c.reply_bytes.new.desk
             (Ok reply.0) is reply.1,
         rw (c.as_slice.ensures.value ∙ reply.2) at failed.1,
       );
@@ -39,7 +39,7 @@ returns-in-Ok-write_fault-clause-served g c remaining is = (
   c.args.parsed.form,
   form_parsed remaining c.args.parsed is,
   (
-    fails g.K.Storage.sight g.K.Storage.causes c.args.at c.args.random.now remaining c.args.parsed c.args.desk.now c.reply_bytes.new.desk c.in-Err.cause is
+    fails g.K.Kept.sight g.K.Storage.causes c.args.at c.args.random.now remaining c.args.parsed c.args.desk.now c.reply_bytes.new.desk c.in-Err.cause is
         c.in-Err.ensures.reply,
     rw (c.index_for-index.ensures, c.base.ensures) at c.in-Ok-write_fault.ensures.written,
     refl,
@@ -55,7 +55,7 @@ returns-clause-failed g c remaining is =
       formed = form_parsed remaining c.args.parsed is;
       cause = Some c.in-Err.cause;
       by = (
-        fails g.K.Storage.sight g.K.Storage.causes c.args.at c.args.random.now remaining c.args.parsed c.args.desk.now c.reply_bytes.new.desk c.in-Err.cause is
+        fails g.K.Kept.sight g.K.Storage.causes c.args.at c.args.random.now remaining c.args.parsed c.args.desk.now c.reply_bytes.new.desk c.in-Err.cause is
             c.in-Err.ensures.reply,
         rw (c.index_for-index.ensures, c.base.ensures) at failed.1,
       );

@@ -8,7 +8,7 @@ use Rattle.store_api.proofs.links.add_bare_listed.Given as goal
 
 abbrev pub invariant-loop-order : goal.invariant-loop-order
 invariant-loop-order g l =
-    Finds g.S.LookUps.sight {A = Unit {0}} l.fn.source l.source (Ok tt) (λ T.
+    Finds g.S.Kept.sight {A = Unit {0}} l.fn.source l.source (Ok tt) (λ T.
     missings (λ (r : AuthorizationRow). r.number) (bare_authorizations T) (flat_map (λ (o : OrderRow). numbers_of o.listed) l.order-iterator)
     l.authorizations
     ≡ missings (λ (r : AuthorizationRow). r.number) (bare_authorizations T) (flat_map (λ (o : OrderRow). numbers_of o.listed) l.orders)

@@ -7,6 +7,6 @@ use Rattle.store_api.proofs.minimal_part.add_bare_orders.Given as goal
 
 abbrev pub invariant-loop-account : goal.invariant-loop-account
 invariant-loop-account g l =
-    Finds g.S.LookUps.sight {A = Unit {0}} l.fn.source l.source (Ok tt) (λ T.
+    Finds g.S.Kept.sight {A = Unit {0}} l.fn.source l.source (Ok tt) (λ T.
     lacking (λ (o : OrderRow). o.number) (flat_map (λ (x : AccountRow). bare_orders_of T x.number) l.account-iterator) l.orders
     ≡ lacking (λ (o : OrderRow). o.number) (flat_map (λ (x : AccountRow). bare_orders_of T x.number) l.accounts) l.fn.orders)

@@ -7,6 +7,6 @@ use Rattle.store_api.proofs.minimal_part.add_missing_holders.Given as goal
 
 abbrev pub invariant-loop-row : goal.invariant-loop-row
 invariant-loop-row g l =
-    Finds g.S.LookUps.sight {A = Unit {0}} l.fn.source l.source (Ok tt) (λ T.
+    Finds g.S.Kept.sight {A = Unit {0}} l.fn.source l.source (Ok tt) (λ T.
     missings (λ (x : AccountRow). x.number) (accounts_numbered T) (map (λ (r : AuthorizationRow). r.account) l.row-iterator) l.accounts
     ≡ missings (λ (x : AccountRow). x.number) (accounts_numbered T) (map (λ (r : AuthorizationRow). r.account) l.rows) l.fn.accounts)

@@ -7,6 +7,6 @@ use Rattle.store_api.proofs.named.add_each_named.Given as goal
 
 abbrev pub invariant-loop-account : goal.invariant-loop-account
 invariant-loop-account g l =
-    Finds g.S.LookUps.sight {A = Unit {0}} l.fn.source l.source (Ok tt) (λ T.
+    Finds g.S.Kept.sight {A = Unit {0}} l.fn.source l.source (Ok tt) (λ T.
     puts (λ r. r.number) (flat_map (λ x. flat_map (authorizations_for T x.number) l.names) l.account-iterator) l.authorizations
     ≡ puts (λ r. r.number) (flat_map (λ x. flat_map (authorizations_for T x.number) l.names) l.accounts) l.fn.authorizations)

@@ -7,6 +7,6 @@ use Rattle.store_api.proofs.named.add_named.Given as goal
 
 abbrev pub invariant-loop-name : goal.invariant-loop-name
 invariant-loop-name g l =
-    Finds g.S.LookUps.sight {A = Unit {0}} l.fn.source l.source (Ok tt) (λ T.
+    Finds g.S.Kept.sight {A = Unit {0}} l.fn.source l.source (Ok tt) (λ T.
     puts (λ r. r.number) (flat_map (authorizations_for T l.account) (drop l.name-index l.names)) l.authorizations
     ≡ puts (λ r. r.number) (flat_map (authorizations_for T l.account) l.names) l.fn.authorizations)

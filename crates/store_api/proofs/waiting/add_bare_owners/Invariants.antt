@@ -8,7 +8,7 @@ use Rattle.store_api.proofs.waiting.add_bare_owners.Given as goal
 
 abbrev pub invariant-loop-challenge : goal.invariant-loop-challenge
 invariant-loop-challenge g l =
-    Finds g.S.LookUps.sight {A = Unit {0}} l.fn.source l.source (Ok tt) (λ T.
+    Finds g.S.Kept.sight {A = Unit {0}} l.fn.source l.source (Ok tt) (λ T.
     missings (λ (r : AuthorizationRow). r.number) (bare_authorizations T) (map (λ (c : Owned ChallengeRow). c.owner) (drop l.challenge-index l.waiting))
     l.authorizations
     ≡ missings (λ (r : AuthorizationRow). r.number) (bare_authorizations T) (map (λ (c : Owned ChallengeRow). c.owner) l.waiting) l.fn.authorizations)

@@ -10,5 +10,5 @@ pub returns : goal.returns
 returns g c =
     let batch = c.batch-status.ensures in
     adopted (Ok c.batch-status.result) c.in-Ok.desk c.batch-status.new.desk c.in-Ok.ensures
-    (lines_answered g.K.Storage.sight _ _ _ c.in-Ok.desk c.batch-status.new.desk c.batch-status.result batch.status batch.seen batch.answered
+    (lines_answered g.K.Kept.sight _ _ _ c.in-Ok.desk c.batch-status.new.desk c.batch-status.result batch.status batch.seen batch.answered
     batch.stopped) c.into_store.ensures

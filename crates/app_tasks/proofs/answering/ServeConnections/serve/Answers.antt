@@ -7,7 +7,7 @@ use Rattle.app_tasks.proofs.answering.ServeConnections.serve.Goals as goal
 
 pub returns-in_err-serve_connections : goal.returns-in_err-serve_connections
 returns-in_err-serve_connections g c =
-    let v = g.K.Storage.sight in
+    let v = g.K.Kept.sight in
     let s = c.args.self.now.serving in
     let ended = c.in_err-serve_connections.ensures in
     let bounded : MomentBound → Type 0 = λ b. ServesConnections v g.K.Storage.causes TakesAny (unwrap_or s.count 18446744073709551615) c.args.desk.now
@@ -23,7 +23,7 @@ returns-in_err-serve_connections g c =
 
 pub returns : goal.returns
 returns g c =
-    let v = g.K.Storage.sight in
+    let v = g.K.Kept.sight in
     let s = c.args.self.now.serving in
     let ended = c.in_ok-serve_connections.ensures in
     let bounded : MomentBound → Type 0 = λ b. ServesConnections v g.K.Storage.causes TakesAny (unwrap_or s.count 18446744073709551615) c.args.desk.now

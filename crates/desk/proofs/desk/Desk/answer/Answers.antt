@@ -16,12 +16,12 @@ returns-in_err-parsed-clause-late g c = λ opened.
 
 pub returns-in_err-parsed-clause-caused : goal.returns-in_err-parsed-clause-caused
 returns-in_err-parsed-clause-caused g c = λ opened.
-    result_caused g.K.Storage.sight g.K.Storage.causes c.args.self.now.store c.args.self.now.store (call_fault c.in_err-parsed.field-0.0) _
-    (call_caused g.K.Storage.sight g.K.Storage.causes c.args.self.now.store c.args.self.now.store c.in_err-parsed.field-0.0) c.from_residual.ensures.1
+    result_caused g.K.Kept.sight g.K.Storage.causes c.args.self.now.store c.args.self.now.store (call_fault c.in_err-parsed.field-0.0) _
+    (call_caused g.K.Kept.sight g.K.Storage.causes c.args.self.now.store c.args.self.now.store c.in_err-parsed.field-0.0) c.from_residual.ensures.1
 
 pub returns-in_err-parsed-clause-exit : goal.returns-in_err-parsed-clause-exit
 returns-in_err-parsed-clause-exit g c = λ opened.
-    unread g.K.Storage.sight c.args.call.now c.args.self.now.store c.in_err-parsed.field-0.0 _ c.in_err-parsed.ensures.formed
+    unread g.K.Kept.sight c.args.call.now c.args.self.now.store c.in_err-parsed.field-0.0 _ c.in_err-parsed.ensures.formed
     (λ is. c.in_err-parsed.ensures.late.0 (ap (λ e. Err e) is)) c.from_residual.ensures.1
 
 pub returns-in_err-parsed-clause-flag : goal.returns-in_err-parsed-clause-flag
@@ -37,6 +37,6 @@ returns-in-Ok-clause-unmade g c = λ past. absurd (read_in_time _ c.args.call.no
 
 pub returns-in-Ok-clause-exit : goal.returns-in-Ok-clause-exit
 returns-in-Ok-clause-exit g c = λ opened.
-    subst (λ (d : DeskState g.row.K.Denot). Answers g.K.Storage.sight c.args.call.now d.store c.attempt.new.store (Ok c.in-Ok.reply)) c.self.view_is
-    (subst (λ call. Answers g.K.Storage.sight call c.self.inside.store c.attempt.new.store (Ok c.in-Ok.reply)) c.in_ok-parsed.ensures.read
+    subst (λ (d : DeskState g.row.K.Denot). Answers g.K.Kept.sight c.args.call.now d.store c.attempt.new.store (Ok c.in-Ok.reply)) c.self.view_is
+    (subst (λ call. Answers g.K.Kept.sight call c.self.inside.store c.attempt.new.store (Ok c.in-Ok.reply)) c.in_ok-parsed.ensures.read
     c.in-Ok.ensures.exit)

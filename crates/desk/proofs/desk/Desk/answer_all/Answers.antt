@@ -17,36 +17,36 @@ loop-call-preserved g c =
       opened = c.in-Ok.ensures.flag opened;
       policy = c.answer.ensures.policy ∙ c.loop-call.invariant.policy;
       answered =
-          rw (taken, pushed) (answers_more g.K.Storage.sight c.args.self.now.store c.loop-call.self.store c.answer.new.self.store _
+          rw (taken, pushed) (answers_more g.K.Kept.sight c.args.self.now.store c.loop-call.self.store c.answer.new.self.store _
           c.loop-call.replies.items c.call-item.result c.in-Ok.reply c.loop-call.invariant.answered (c.in-Ok.ensures.exit opened));
     }
 
 pub returns-then-is_err-clause-chain : goal.returns-then-is_err-clause-chain
 returns-then-is_err-clause-chain g c =
-    subst (λ replies. RunsAs g.K.Storage.sight c.args.self.now.store c.args.calls.now replies (Some deskfault.Memory) c.loop-call.self.store)
+    subst (λ replies. RunsAs g.K.Kept.sight c.args.self.now.store c.args.calls.now replies (Some deskfault.Memory) c.loop-call.self.store)
     (sym c.reserve.ensures.items)
-    (ends_at g.K.Storage.sight c.args.self.now.store c.loop-call.self.store c.loop-call.self.store c.args.calls.now c.loop-call.replies.items
+    (ends_at g.K.Kept.sight c.args.self.now.store c.loop-call.self.store c.loop-call.self.store c.args.calls.now c.loop-call.replies.items
     c.loop-call.call-index c.call-item.result deskfault.Memory c.loop-call.invariant.counted c.loop-call-test.true c.call-item.is
-    c.loop-call.invariant.answered (declines g.K.Storage.sight c.call-item.result c.loop-call.self.store c.keep_form.ensures))
+    c.loop-call.invariant.answered (declines g.K.Kept.sight c.call-item.result c.loop-call.self.store c.keep_form.ensures))
 
 pub returns-in-Err-clause-chain : goal.returns-in-Err-clause-chain
 returns-in-Err-clause-chain g c =
-    subst (λ replies. RunsAs g.K.Storage.sight c.args.self.now.store c.args.calls.now replies (Some c.in-Err.fault) c.answer.new.self.store)
+    subst (λ replies. RunsAs g.K.Kept.sight c.args.self.now.store c.args.calls.now replies (Some c.in-Err.fault) c.answer.new.self.store)
     (sym c.reserve.ensures.items)
-    (ends_at g.K.Storage.sight c.args.self.now.store c.loop-call.self.store c.answer.new.self.store c.args.calls.now c.loop-call.replies.items
+    (ends_at g.K.Kept.sight c.args.self.now.store c.loop-call.self.store c.answer.new.self.store c.args.calls.now c.loop-call.replies.items
     c.loop-call.call-index c.call-item.result c.in-Err.fault c.loop-call.invariant.counted c.loop-call-test.true c.call-item.is
     c.loop-call.invariant.answered (c.in-Err.ensures.exit c.loop-call.invariant.opened))
 
 pub returns-clause-chain : goal.returns-clause-chain
 returns-clause-chain g c =
-    ends_with_all g.K.Storage.sight c.args.self.now.store c.loop-call.self.store c.args.calls.now c.loop-call.replies.items c.loop-call.call-index
+    ends_with_all g.K.Kept.sight c.args.self.now.store c.loop-call.self.store c.args.calls.now c.loop-call.replies.items c.loop-call.call-index
     c.loop-call.invariant.counted c.loop-call-test.false c.loop-call.invariant.answered
 
 pub returns-then-is_err-clause-caused : goal.returns-then-is_err-clause-caused
 returns-then-is_err-clause-caused g c =
-    subst (λ replies. EndsCaused g.K.Storage.sight g.K.Storage.causes c.args.self.now.store c.loop-call.self.store c.args.calls.now replies deskfault.Memory)
+    subst (λ replies. EndsCaused g.K.Kept.sight g.K.Storage.causes c.args.self.now.store c.loop-call.self.store c.args.calls.now replies deskfault.Memory)
     (sym c.reserve.ensures.items)
-    (caused_at g.K.Storage.sight g.K.Storage.causes c.args.self.now.store c.loop-call.self.store c.loop-call.self.store c.args.calls.now
+    (caused_at g.K.Kept.sight g.K.Storage.causes c.args.self.now.store c.loop-call.self.store c.loop-call.self.store c.args.calls.now
     c.loop-call.replies.items c.loop-call.call-index deskfault.Memory c.loop-call.invariant.counted c.loop-call.invariant.answered tt)
 
 pub returns-then-is_err-clause-late : goal.returns-then-is_err-clause-late
@@ -54,9 +54,9 @@ returns-then-is_err-clause-late g c = tells_memory _
 
 pub returns-in-Err-clause-caused : goal.returns-in-Err-clause-caused
 returns-in-Err-clause-caused g c =
-    subst (λ replies. EndsCaused g.K.Storage.sight g.K.Storage.causes c.args.self.now.store c.answer.new.self.store c.args.calls.now replies c.in-Err.fault)
+    subst (λ replies. EndsCaused g.K.Kept.sight g.K.Storage.causes c.args.self.now.store c.answer.new.self.store c.args.calls.now replies c.in-Err.fault)
     (sym c.reserve.ensures.items)
-    (caused_at g.K.Storage.sight g.K.Storage.causes c.args.self.now.store c.loop-call.self.store c.answer.new.self.store c.args.calls.now
+    (caused_at g.K.Kept.sight g.K.Storage.causes c.args.self.now.store c.loop-call.self.store c.answer.new.self.store c.args.calls.now
     c.loop-call.replies.items c.loop-call.call-index c.in-Err.fault c.loop-call.invariant.counted c.loop-call.invariant.answered
     (c.in-Err.ensures.caused c.loop-call.invariant.opened))
 

@@ -7,5 +7,5 @@ invariant-loop-call g l = record {
   counted : length l.replies.items ≡ l.call-index;
   opened : l.self.is_closed ≡ false;
   policy : l.self.policy ≡ l.initial.self.policy;
-  answered : AnswersAll g.K.Storage.sight l.initial.self.store (take l.call-index l.calls) l.replies.items l.self.store;
+  answered : AnswersAll g.K.Kept.sight l.initial.self.store (take l.call-index l.calls) l.replies.items l.self.store;
 }

@@ -10,8 +10,8 @@ invariant-loop-checked g l = record {
   moment : l.self.moment ≡ l.fn.self.moment;
   unfailed : l.self.fault ≡ l.fn.self.fault;
   onward : l.fn.self.above ≤ l.self.above;
-  unchanged : Unchanged g.S.LookUps.sight l.fn.self.source.now l.self.source.now;
-  found : ForTables g.S.LookUps.sight l.fn.self.source.now l.self.source.now (λ T. IsInOrder T
+  unchanged : Unchanged g.S.Kept.sight l.fn.self.source.now l.self.source.now;
+  found : ForTables g.S.Kept.sight l.fn.self.source.now l.self.source.now (λ T. IsInOrder T
       → faults_above T l.fn.self.kind l.fn.self.moment l.fn.self.above ≡ faults_above T l.fn.self.kind l.fn.self.moment l.self.above);
 }
 
