@@ -61,6 +61,8 @@ behind route.RevokeAuthz = refl
 behind route.RevokeAccount = refl
 behind route.Page = refl
 behind route.Look = refl
+behind route.Metrics = refl
+behind route.Backup = refl
 
 -- ---- the number of a path
 
@@ -134,3 +136,5 @@ desk_routes_are_found path route.RevokeAuthz n h = found_alone route.RevokeAuthz
 desk_routes_are_found path route.RevokeAccount n h = found_alone route.RevokeAccount (behind route.RevokeAccount) path n h
 desk_routes_are_found path route.Page n h = rw (h.0) (behind route.Page)
 desk_routes_are_found path route.Look n h = rw (h.0) (behind route.Look)
+desk_routes_are_found path route.Metrics n h = rw (h.0) (behind route.Metrics)
+desk_routes_are_found path route.Backup n h = rw (h.0) (behind route.Backup)

@@ -72,6 +72,8 @@ free route.RevokeAuthz = (refl, refl)
 free route.RevokeAccount = (refl, refl)
 free route.Page = (refl, refl)
 free route.Look = (refl, refl)
+free route.Metrics = (refl, refl)
+free route.Backup = (refl, refl)
 
 -- the number of a path of a route whose text has a mark stands between what is before it and behind it
 pub between_parts : (path : List ℕ) (r : Route) (before after : List ℕ) (o : Option ℕ) → text_of r ≡ before ++ (codes "{n}" ++ after)

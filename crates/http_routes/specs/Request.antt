@@ -51,6 +51,8 @@ IsOfficeAsk (office.RevokeAuthz authz) body asked = asked ≡ Some (ask.Office (
 IsOfficeAsk (office.RevokeAccount account) body asked = asked ≡ Some (ask.Office (asks.RevokeAccount account))
 IsOfficeAsk office.Page body asked = asked ≡ None
 IsOfficeAsk office.Look body asked = asked ≡ None
+IsOfficeAsk office.Metrics body asked = asked ≡ None
+IsOfficeAsk office.Backup body asked = asked ≡ None
 
 -- what a request of this method asks of a resource by the bytes of its body; None: the body is none for it
 abbrev pub IsAskIn : Resource → List ℕ → List ℕ → Option Ask → Type 0
@@ -69,6 +71,8 @@ IsReport text asked = asked ≡ report text
 abbrev pub IsLookIn : Resource → List ℕ → Option Looked → Type 0
 IsLookIn (resource.Office office.Page) body asked = asked ≡ Some looked.Page
 IsLookIn (resource.Office office.Look) body asked = IsOfText IsReport body asked
+IsLookIn (resource.Office office.Metrics) body asked = asked ≡ Some looked.Metrics
+IsLookIn (resource.Office office.Backup) body asked = asked ≡ Some looked.Backup
 IsLookIn _ body asked = asked ≡ None
 
 -- ---- requests

@@ -44,4 +44,6 @@ asked_routes =
 
 -- all routes of the desk: and of what the operator ends, and is shown
 abbrev pub desk_routes : RowsOf (RouteOf Route)
-desk_routes = add_route (add_route (add_route (add_route asked_routes route.RevokeAuthz) route.RevokeAccount) route.Page) route.Look
+desk_routes =
+    add_route (add_route (add_route (add_route (add_route (add_route asked_routes
+    route.RevokeAuthz) route.RevokeAccount) route.Page) route.Look) route.Metrics) route.Backup

@@ -49,6 +49,8 @@ prefix route.RevokeAuthz = codes "/office/revoke-authz/"
 prefix route.RevokeAccount = codes "/office/revoke-account/"
 prefix route.Page = codes "/office/page"
 prefix route.Look = codes "/office/look"
+prefix route.Metrics = codes "/office/metrics"
+prefix route.Backup = codes "/office/backup"
 
 -- and the text behind the number
 abbrev pub suffix : Route → List ℕ
@@ -67,6 +69,8 @@ is_numbered route.ChallengeWork = false
 is_numbered route.OrderWork = false
 is_numbered route.Page = false
 is_numbered route.Look = false
+is_numbered route.Metrics = false
+is_numbered route.Backup = false
 is_numbered _ = true
 
 -- the text of a route: that of its paths, with `{n}` in the place of their number
@@ -106,6 +110,8 @@ resource_of route.RevokeAuthz n = resource.Office (office.RevokeAuthz n)
 resource_of route.RevokeAccount n = resource.Office (office.RevokeAccount n)
 resource_of route.Page n = resource.Office office.Page
 resource_of route.Look n = resource.Office office.Look
+resource_of route.Metrics n = resource.Office office.Metrics
+resource_of route.Backup n = resource.Office office.Backup
 
 -- the path leads to the resource: it is the text of a route that does
 pub record IsResourceAt (path : List ℕ) (x : Resource) : Type 0 where
@@ -142,6 +148,8 @@ office_methods (office.RevokeAuthz n) = allow.Post
 office_methods (office.RevokeAccount n) = allow.Post
 office_methods office.Page = allow.Get
 office_methods office.Look = allow.Post
+office_methods office.Metrics = allow.Get
+office_methods office.Backup = allow.Get
 
 -- the methods that a resource serves: signed requests are posted (RFC 8555, 6.3), and a nonce is asked by GET or HEAD (7.2)
 abbrev pub methods_of : Resource → Allow

@@ -1,4 +1,4 @@
-//! What a request asks to be shown of a desk: its page, or the report that a JSON object names.
+//! What a request asks to be shown of a desk: its page, its metrics, its backup, or the report that a JSON object names.
 ghost use Rattle.std.specs.Prelude.{◌≡◌, codes, IfOk, Some, option_map, string_bytes};
 ghost use Rattle.std.specs.{BTreeMap.keys, List.list_all};
 ghost use Rattle.serde_json.specs.{Find.get, View.view};
@@ -39,6 +39,10 @@ pub enum Looked {
     },
     /// What the desk was made with, its clock, and its objects by status.
     About,
+    /// The numbers by which it is watched.
+    Metrics,
+    /// A copy of its file and of the file's log.
+    Backup,
 }
 
 /// How a report is written.

@@ -148,6 +148,8 @@ pub fn look_in(alloc: Global, resource: Resource, body: &[u8]) -> Result<Option<
     match resource {
         Resource::Office(OfficeResource::Page) => Ok(Some(Looked::Page)),
         Resource::Office(OfficeResource::Look) => report_look(alloc, body),
+        Resource::Office(OfficeResource::Metrics) => Ok(Some(Looked::Metrics)),
+        Resource::Office(OfficeResource::Backup) => Ok(Some(Looked::Backup)),
         _ => Ok(None),
     }
 }
@@ -209,6 +211,8 @@ fn office_ask(
         )))),
         OfficeResource::Page => Ok(None),
         OfficeResource::Look => Ok(None),
+        OfficeResource::Metrics => Ok(None),
+        OfficeResource::Backup => Ok(None),
     }
 }
 

@@ -47,6 +47,10 @@ pub enum OfficeResource {
     Page,
     /// A report that a text asks for, by POST, which no call answers.
     Look,
+    /// The numbers by which the desk is watched, by GET, which no call answers.
+    Metrics,
+    /// A copy of the file of the desk and of its log, by GET, which no call answers.
+    Backup,
 }
 
 // A form of paths, whose number is left open where they have one.
@@ -74,6 +78,8 @@ enum Route {
     RevokeAccount,
     Page,
     Look,
+    Metrics,
+    Backup,
 }
 
 // The text of a route's paths, with `{n}` in the place of their number.
@@ -103,6 +109,8 @@ fn text_of(route: Route) -> &'static str
         Route::RevokeAccount => "/office/revoke-account/{n}",
         Route::Page => "/office/page",
         Route::Look => "/office/look",
+        Route::Metrics => "/office/metrics",
+        Route::Backup => "/office/backup",
     }
 }
 
@@ -133,6 +141,8 @@ fn resource_of(route: Route, number: u64) -> Resource
         Route::RevokeAccount => Resource::Office(OfficeResource::RevokeAccount(number)),
         Route::Page => Resource::Office(OfficeResource::Page),
         Route::Look => Resource::Office(OfficeResource::Look),
+        Route::Metrics => Resource::Office(OfficeResource::Metrics),
+        Route::Backup => Resource::Office(OfficeResource::Backup),
     }
 }
 
@@ -148,7 +158,9 @@ pub fn methods_of(resource: Resource) -> Allow
             OfficeResource::Key(_)
             | OfficeResource::ChallengeWork
             | OfficeResource::OrderWork
-            | OfficeResource::Page,
+            | OfficeResource::Page
+            | OfficeResource::Metrics
+            | OfficeResource::Backup,
         ) => Allow::Get,
         Resource::Office(_) => Allow::Post,
     }
@@ -190,7 +202,7 @@ fn is_visible_byte(b: u8) -> bool
 // ---- the router
 
 // The routes of the desk.
-const ROUTES: [Route; 22] = [
+const ROUTES: [Route; 24] = [
     Route::Directory,
     Route::NewNonce,
     Route::NewAccount,
@@ -213,6 +225,8 @@ const ROUTES: [Route; 22] = [
     Route::RevokeAccount,
     Route::Page,
     Route::Look,
+    Route::Metrics,
+    Route::Backup,
 ];
 
 /// The routes of the desk, which are put into a router where the first path is looked up. Contracts see whether that was done.

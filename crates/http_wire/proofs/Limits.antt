@@ -44,6 +44,8 @@ office_limit (office.RevokeAuthz n) = omega arith
 office_limit (office.RevokeAccount n) = omega arith
 office_limit office.Page = omega arith
 office_limit office.Look = omega arith
+office_limit office.Metrics = omega arith
+office_limit office.Backup = omega arith
 
 limit_within : (r : Resource) → limit_of r ≤ longest_body
 limit_within resource.Directory = omega arith

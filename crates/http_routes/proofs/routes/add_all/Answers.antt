@@ -9,7 +9,7 @@ abbrev routes : List Route
 routes =
     route.Directory ∷ route.NewNonce ∷ route.NewAccount ∷ route.KeyChange ∷ route.NewOrder ∷ route.Account ∷ route.Orders ∷ route.Order ∷ route.Finalize ∷
     route.Cert ∷ route.Authz ∷ route.Chall ∷ route.Key ∷ route.ChallengeWork ∷ route.OrderWork ∷ route.Report ∷ route.Certify ∷ route.FailOrder ∷
-    route.RevokeAuthz ∷ route.RevokeAccount ∷ route.Page ∷ route.Look ∷ []
+    route.RevokeAuthz ∷ route.RevokeAccount ∷ route.Page ∷ route.Look ∷ route.Metrics ∷ route.Backup ∷ []
 
 pub loop-route-init : goal.loop-route-init
 loop-route-init c = ap (λ rows. with_routes rows (drop 0 routes)) c.requires
