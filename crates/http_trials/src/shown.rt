@@ -69,6 +69,8 @@ fn words_of(looked: &Looked) -> &'static str {
         Looked::Authorizations { .. } => "authorizations",
         Looked::Check { .. } => "check",
         Looked::About => "about",
+        Looked::Metrics => "metrics",
+        Looked::Backup => "backup",
     }
 }
 
@@ -177,9 +179,18 @@ fn a_hook_shows_what_is_asked_for(rt: HostRuntime) -> Result<(), Fail> {
     let (port, address) = bind(&rt, 0).ok().expect(&rt, "a port");
     let mut listener = Listener::Tcp(port);
     let mut desk = new_desk(&rt, alloc)?;
-    let page = "GET /office/page HTTP/1.1\r\n\r\n";
-    let reply = replied(&rt, alloc, &mut listener, address, &mut desk, page)?;
-    assert!(rt; reply.as_slice() == format!(in alloc; "{HEAD}page\nend\n")?.as_bytes());
+    for shown in ["page", "metrics", "backup"] {
+        let asked = format!(in alloc; "GET /office/{shown} HTTP/1.1\r\n\r\n")?;
+        let reply = replied(
+            &rt,
+            alloc,
+            &mut listener,
+            address,
+            &mut desk,
+            asked.as_str(),
+        )?;
+        assert!(rt; reply.as_slice() == format!(in alloc; "{HEAD}{shown}\nend\n")?.as_bytes());
+    }
     for (body, shown) in SHOWN {
         let asked = asks(alloc, body)?;
         let reply = replied(
