@@ -81,9 +81,9 @@ IsLookIn _ body asked = asked ≡ None
 abbrev pub refused_request : Refusal → Allow → Bool → RequestRefusal
 refused_request why methods has_link = record { refusal = why; allow = methods; index = has_link }
 
--- how a request is refused that asks for what is not shown
+-- how a request is refused that asks for what is not shown: as one for a path that leads nowhere
 abbrev pub unshown : RequestRefusal
-unshown = refused_request refusal.Malformed allow.No false
+unshown = refused_request refusal.NotFound allow.No false
 
 -- the reply to it: nothing is recorded, and there is no nonce
 abbrev pub refused_reply : RequestRefusal → Reply

@@ -42,12 +42,12 @@ pub struct RequestRefusal {
 }
 
 impl RequestRefusal {
-    /// How a request is refused that asks for what is not shown.
+    /// How a request is refused that asks for what is not shown: as one for a path that leads nowhere.
     pub fn unshown() -> RequestRefusal
         ensures { result ≡ unshown }
     {
         RequestRefusal {
-            refusal: Refusal::Malformed,
+            refusal: Refusal::NotFound,
             allow: Allow::No,
             index: false,
         }
