@@ -11,5 +11,5 @@ mod office;
 pub use desk::{Desk, Unadopted};
 pub use fault::DeskFault;
 pub use laws::stores_live;
-pub use looking::{Blank, Look, LookFault};
+pub use looking::{Look, LookFault};
 pub use memory::Memory;

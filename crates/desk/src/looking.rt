@@ -49,23 +49,3 @@ pub trait Look<K: Storage, A> {
         ensures shows { shows self.now asked.now (W.contents out.old) (W.contents out.new) store.old store.new result }
         ensures looks { Looks K.Kept.sight store.old store.new result };
 }
-
-/// A look that shows nothing.
-#[derive(Clone, Copy)]
-pub struct Blank;
-
-impl<K: Storage, A> Look<K, A> for Blank {
-    ghost use Rattle.std.specs.Prelude.{◌≡◌, Ok};
-
-    ghost shows = { λ blank asked was is old new result. (result ≡ Ok tt) × ((is ≡ was) × (new ≡ old)) };
-
-    fn look<W: Write>(
-        &self,
-        _alloc: Global,
-        _asked: &A,
-        _store: &mut K,
-        _out: &mut W,
-    ) -> Result<(), LookFault> {
-        Ok(())
-    }
-}

@@ -22,10 +22,6 @@ pub record Shower (S : Type 0) : Type 1 where
 abbrev pub shower : {S : Type 0} → (kind last : Looked → List ℕ) (Shows : Looked → Shown S) → Shower S
 shower kind last Shows = record { kind = kind; last = last; Shows = Shows }
 
--- nothing is shown, whatever is asked for
-abbrev pub nothing_shown : {S : Type 0} → Shower S
-nothing_shown = shower (λ looked. codes "text/plain") (λ looked. []) (λ looked was is old new result. (result ≡ Ok tt) × ((is ≡ was) × (new ≡ old)))
-
 -- what was read asks to be shown, where it asks for that
 abbrev pub looked_in : Result Request AllocError → Option Looked
 looked_in (Ok (request.Looks looked)) = Some looked

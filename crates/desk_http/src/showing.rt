@@ -7,7 +7,7 @@ ghost use Rattle.desk_http.specs.Showing.{ShowsBehind, ShowsTo, cut_short, looke
 
 use crate::overseeing::ReplySummary;
 use crate::serving::{IoFault, Served, Unanswered, send};
-use desk::{Blank, Desk, DeskFault, Look, LookFault};
+use desk::{Desk, DeskFault, Look, LookFault};
 use http_routes::{Looked, Request};
 use http_wire::ParsedRequest;
 use std::alloc::Global;
@@ -142,22 +142,5 @@ fn cut_short(fault: StorageFault) -> Served
         cause: Some(Unanswered::Desk(DeskFault::from(fault))),
         written: true,
         summary: Some(SHOWN),
-    }
-}
-
-// Nothing is shown, whatever is asked for.
-impl<K: Storage> Hook<K> for Blank {
-    ghost use Rattle.std.specs.Prelude.{[], codes};
-
-    ghost kind = { λ looked. codes "text/plain" };
-
-    ghost last = { λ looked. [] };
-
-    fn kind(_looked: &Looked) -> &'static str {
-        "text/plain"
-    }
-
-    fn last(_looked: &Looked) -> &'static str {
-        ""
     }
 }
