@@ -14,7 +14,7 @@ use Rattle.app_words.specs.declared.fault.WordsFault.TheVariants as wordsfault
 use Rattle.app_tasks.specs.{Asked.RevokesServed, declared.filters.Unasked.Unasked, declared.fault.Fault.Fault}
 use Rattle.app_tasks.specs.Filters.{AreRight, AsksForAuthorizations, AsksForOrders, StandsForName}
 use Rattle.app_tasks.specs.Deeds.{AnswersReader, ChecksStatuses, ListsRows, RevokesTarget, ServesClients, TellsAbout, TellsPage, form_of}
-use Rattle.app_tasks.specs.{Faults.IsOfOpening, Faults.open_fault, GivenTerms.terms_of}
+use Rattle.app_tasks.specs.{Faults.IsOfLog, Faults.IsOfOpening, Faults.open_fault, GivenTerms.terms_of}
 use Rattle.app_tasks.specs.declared.filters.Unasked.TheVariants as unasked
 use Rattle.app_tasks.specs.declared.fault.Fault.TheVariants as fault
 use Rattle.desk_model.specs.Terms.{Terms, are_terms}
@@ -59,10 +59,6 @@ pub record IsToldCopied (checked how : Result ℕ Fault) : Type 0 where
 -- a file whose place a copy is to take could not be held, by the fault of its desk, or is the copy
 abbrev pub IsOfPlace : Fault → Type 0
 IsOfPlace why = ((cause : OpenFault) × (why ≡ fault.Place (open_fault cause))) ⊎ (why ≡ fault.Copy copyfault.Same)
-
--- memory was refused, or the size of a file not to be had
-abbrev pub IsOfLog : DeskFault → Type 0
-IsOfLog why = (why ≡ deskfault.Memory) ⊎ (why ≡ deskfault.Device)
 
 module _ {D : Type 0} {g : disk.Ghosts D} where
   -- no file was opened, and nothing written

@@ -5,7 +5,7 @@ ghost use Rattle.desk_model.specs.Terms.{are_terms};
 ghost use Rattle.desk.specs.declared.fault.DeskFault.TheVariants as deskfault;
 ghost use Rattle.app_tasks.specs.Deeds.{ChecksStatuses, ListsRows, TellsPage, form_of};
 ghost use Rattle.app_tasks.specs.{Faults.IsOfOpening, GivenTerms.terms_of};
-ghost use Rattle.app_commands.specs.Statuses.{Ends, EndsAbout, EndsBy, EndsMake, EndsOverFiles, EndsRevoke, EndsServe, EndsUnasked, IsOfLog, IsToldMade};
+ghost use Rattle.app_commands.specs.Statuses.{Ends, EndsAbout, EndsBy, EndsMake, EndsOverFiles, EndsRevoke, EndsServe, EndsUnasked, IsToldMade};
 ghost use Rattle.app_commands.specs.Statuses.{BySyncs, EndsSo, IsToldWords, status_of, supposes, syncs_of, terms_in_memory};
 ghost use Rattle.app_words.specs.declared.command.Command.{Command as CommandValue};
 ghost use Rattle.app_words.specs.declared.fault.WordsFault.{WordsFault as WordsFaultValue};
@@ -17,11 +17,11 @@ use crate::backing_up::back_up;
 use crate::explaining::explain;
 use crate::restoring::restore;
 use app_files::{Left, Unknown, Wary, make_desk, run_in_memory, run_over_file};
-use app_reports::{AllAccounts, Beside, RowList};
+use app_reports::{AllAccounts, RowList};
 use app_tasks::{
     AnswerLines, CheckStatuses, Fault, ListRows, Revoke, ServeConnections, ShowPage, Task,
-    TellAbout, Unasked, VisibleLines, Wrong, authorization_filter, form, order_filter, refuse,
-    revoke_served, wait_for, write_fault,
+    TellAbout, Unasked, VisibleLines, Wrong, authorization_filter, form, known_beside,
+    order_filter, refuse, revoke_served, wait_for, write_fault,
 };
 use app_words::{
     AUTHZ_LIFE, Asked, AuthorizationListing, Command, NONCE_LIFE, ORDER_LIFE, OrderListing,
@@ -34,8 +34,7 @@ use desk_store::OpenFault;
 use sqlite::{FileFrom, Start};
 use sqlite_disk::Disk;
 use std::alloc::Global;
-use std::fs;
-use std::io::{ErrorKind, Read, Write};
+use std::io::{Read, Write};
 
 // The terms of a desk that is made in memory.
 const TERMS: Terms<'static> = Terms {
@@ -278,35 +277,15 @@ fn about_file<S: Start, W: Write>(
 ) -> (Result<u8, Fault>, Left<FileFrom<S>>)
     ensures { EndsAbout ⟦<FileFrom<S> as Disk>⟧ (image_at S.Start) (W.contents out.old) (W.contents out.new) result.0 result.1 }
 {
-    let log = match log_len(rt, file) {
-        Ok(log) => log,
+    let beside = match known_beside(rt, file) {
+        Ok(beside) => beside,
         Err(fault) => return (Err(Fault::Desk(fault)), Left::Untouched),
     };
     let task = TellAbout {
         alloc: rt.alloc(),
-        beside: Beside {
-            now: moment(rt).ok(),
-            log,
-        },
+        beside,
     };
     run_over_file(rt, file, start, task, out)
-}
-
-// How many bytes the log beside a file has, 0 where there is none.
-fn log_len(rt: &HostRuntime, file: &str) -> Result<u64, DeskFault>
-    ensures { IfErr result IsOfLog }
-{
-    let Ok(path) = format!(in rt.alloc(); "{file}-wal") else {
-        return Err(DeskFault::Memory);
-    };
-    match fs::metadata(rt, path.as_str()) {
-        Ok(found) => Ok(found.len()),
-        Err(error) => match error.kind() {
-            ErrorKind::NotFound => Ok(0),
-            ErrorKind::OutOfMemory => Err(DeskFault::Memory),
-            _ => Err(DeskFault::Device),
-        },
-    }
 }
 
 // Revokes an authorization or an account of the desk in a file, at the machine's clock, which is read once.

@@ -15,9 +15,9 @@ use Rattle.app_batch.specs.InTurn.{unwritten}
 use Rattle.app_words.specs.declared.command.{Revocation.Revocation, Serving.Serving}
 use Rattle.app_tasks.specs.Deeds.{Adopts, AnswersLines, AnswersReader, BehindClock, ByDesk, FailsToAdopt, IsTold, Revokes, RevokesTarget, Serves}
 use Rattle.app_tasks.specs.Deeds.{ServesByMoment, ServesClients, ServesUnlessAhead, TakesAny, adopted, ask_of, clocked, clockless, served, unadopted, unserved}
-use Rattle.app_tasks.specs.declared.fault.Fault.{Fault}
+use Rattle.app_tasks.specs.{Showing.desk_shower, declared.fault.Fault.Fault}
 use Rattle.desk_http.specs.InTurn.{ServesConnections, ServesFewer, ServesMany, ServesUntil}
-use Rattle.desk_http.specs.Logged.{LogEntry}
+use Rattle.desk_http.specs.{Logged.LogEntry, Showing.Shower}
 use Rattle.desk_http.specs.declared.{overseeing.Watch.Watch, serve_fault.ServeFault.ServeFault}
 use Rattle.desk_http.specs.declared.serve_fault.ServeFault.TheVariants as servefault
 use Rattle.desk.specs.{Answers.is_closed_after, Meets.ActsOnce, Seen.Told, State.DeskState, declared.fault.DeskFault.DeskFault}
@@ -214,25 +214,25 @@ module _ {S C : Type 0} (v : Sight S C) where
   calls_on : (old mid new : DeskState S) → AreCalls v (Any v) old mid → ActsOnce v mid new → AreCalls v (Any v) old new
   calls_on old mid new before acts = of_calls v (Any v) (once_more v (Any v) old mid new before acts) tt
 
-  module _ (causes : Causes S) {O : Type 0} (takes : O → LogEntry → O → Type 0) where
+  module _ (causes : Causes S) (hook : Shower S) {O : Type 0} (takes : O → LogEntry → O → Type 0) where
     -- so many of them
-    many_calls : (n : ℕ) (old new : DeskState S) (was is : Watch O) → ServesMany v causes takes n old was new is → AreCalls v (Any v) old new
+    many_calls : (n : ℕ) (old new : DeskState S) (was is : Watch O) → ServesMany v causes hook takes n old was new is → AreCalls v (Any v) old new
     many_calls zero old new was is same = no_call v (Any v) tt old new same.0
     many_calls (suc n) old new was is many =
-        calls_on old many.0 new (many_calls n old many.0 was many.1 many.2) (one_acts v causes takes None true many.0 new many.1 is many.3)
+        calls_on old many.0 new (many_calls n old many.0 was many.1 many.2) (one_acts v causes hook takes None true many.0 new many.1 is many.3)
 
     -- up to one that ended the serving
-    until_calls : (most : ℕ) (why : Option DeskFault) (old new : DeskState S) (was is : Watch O) → ServesUntil v causes takes most why old was new is
+    until_calls : (most : ℕ) (why : Option DeskFault) (old new : DeskState S) (was is : Watch O) → ServesUntil v causes hook takes most why old was new is
         → AreCalls v (Any v) old new
     until_calls most why old new was is it =
-        calls_on old it.mid new (many_calls it.count old it.mid was it.between it.many) (one_acts v causes takes why it.kept it.mid new it.between is it.last)
+        calls_on old it.mid new (many_calls it.count old it.mid was it.between it.many) (one_acts v causes hook takes why it.kept it.mid new it.between is it.last)
 
-    fewer_calls : (most : ℕ) (old new : DeskState S) (was is : Watch O) → ServesFewer v causes takes most old was new is → AreCalls v (Any v) old new
+    fewer_calls : (most : ℕ) (old new : DeskState S) (was is : Watch O) → ServesFewer v causes hook takes most old was new is → AreCalls v (Any v) old new
     fewer_calls most old new was is it = many_calls it.count old new was it.between it.many
 
     -- all, or up to one that ended the serving
     all_calls : (most : ℕ) (old new : DeskState S) (was is : Watch O) (ended : Result Unit ServeFault)
-        → ServesConnections v causes takes most old was new is ended → AreCalls v (Any v) old new
+        → ServesConnections v causes hook takes most old was new is ended → AreCalls v (Any v) old new
     all_calls most old new was is (Ok all) it = many_calls most old new was is it
     all_calls most old new was is (Err (servefault.Desk why)) it = until_calls most (Some why) old new was is it
     all_calls most old new was is (Err servefault.Output) it = until_calls most None old new was is it
@@ -245,7 +245,7 @@ module _ {S C : Type 0} (v : Sight S C) where
   serve_calls : (causes : Causes S) (s : Serving) (clock : ℕ) (desk ended : DeskState S) (how : Result ℕ Fault)
       → Serves v causes s clock desk ended how → AreCalls v (Any v) desk ended
   serve_calls causes s clock desk ended how (unserved same it) = no_call v (Any v) tt desk ended same
-  serve_calls causes s clock desk ended how (served by bound seen all it) = all_calls causes TakesAny _ desk ended _ _ by all
+  serve_calls causes s clock desk ended how (served by bound seen all it) = all_calls causes (desk_shower v) TakesAny _ desk ended _ _ by all
 
   unless_ahead_calls : (causes : Causes S) (s : Serving) (now : Option ℕ) (clock : ℕ) (desk ended : DeskState S) (how : Result ℕ Fault)
       → ServesUnlessAhead v causes s now clock desk ended how → AreCalls v (Any v) desk ended

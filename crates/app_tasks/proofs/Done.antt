@@ -3,7 +3,7 @@ use Rattle.std.proofs.Common.{◌≡◌, ◌≤◌, ℕ, zero, suc, List, [], Op
 use Rattle.app_batch.specs.InTurn.{AnswersFirst, StopsBehind}
 use Rattle.app_words.specs.declared.command.{Revocation.Revocation, Serving.Serving}
 use Rattle.app_tasks.specs.Deeds.{AnswersLines, Revokes, Serves, TakesAny, ask_of, served, watch_at}
-use Rattle.app_tasks.specs.declared.fault.Fault.{Fault}
+use Rattle.app_tasks.specs.{Showing.desk_shower, declared.fault.Fault.Fault}
 use Rattle.app_tasks.specs.declared.fault.Fault.TheVariants as fault
 use Rattle.desk_http.specs.{InTurn.ServesConnections, declared.serve_fault.ServeFault.ServeFault}
 use Rattle.desk_http.specs.declared.moment_bound.MomentBound.{MomentBound}
@@ -34,7 +34,7 @@ module _ {S C : Type 0} (v : Sight S C) where
   module _ (causes : Causes S) (s : Serving) (clock : ℕ) where
     -- serving was ended by a fault
     pub served_until : (desk ended : DeskState S) (bound : MomentBound) (cause : ServeFault) (how : Result ℕ Fault) → IsSeenOn v desk ended
-        → ServesConnections v causes TakesAny (unwrap_or s.count 18446744073709551615) desk (watch_at s.max_step clock) ended
+        → ServesConnections v causes (desk_shower v) TakesAny (unwrap_or s.count 18446744073709551615) desk (watch_at s.max_step clock) ended
         (record { overseer = tt; bound = bound }) (Err cause)
         → Fails how (fault.Serve cause) → Serves v causes s clock desk ended how
     served_until desk ended bound cause (Ok status) seen all told = absurd told

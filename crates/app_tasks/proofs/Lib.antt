@@ -2,5 +2,6 @@ mod Bases
 mod Behind
 mod Done
 mod Entries
+mod Looked
 mod Replied
 mod Watching

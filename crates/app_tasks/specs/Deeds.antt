@@ -7,7 +7,7 @@ use Rattle.app_words.specs.declared.command.{Listening.Listening, Revocation.Rev
 use Rattle.app_words.specs.declared.command.Listening.TheVariants as listening
 use Rattle.app_words.specs.declared.command.Place.TheVariants as place
 use Rattle.app_words.specs.declared.command.Revocation.TheVariants as revocation
-use Rattle.app_tasks.specs.{Faults.report_fault, declared.fault.Fault.Fault}
+use Rattle.app_tasks.specs.{Faults.report_fault, Showing.desk_shower, declared.fault.Fault.Fault}
 use Rattle.app_tasks.specs.declared.fault.Fault.TheVariants as fault
 use Rattle.app_tasks.specs.declared.sockets.SocketCause.{SocketCause}
 use Rattle.desk_http.specs.{InTurn.ServesConnections, Logged.LogEntry, declared.serve_fault.ServeFault.ServeFault}
@@ -157,7 +157,7 @@ module _ {S C : Type 0} (v : Sight S C) (causes : Causes S) where
     unserved : ended ≡ desk → IsUnserved s.listening how → Serves s clock desk ended how
     served :
         (served : Result Unit ServeFault) (bound : MomentBound) → IsSeenOn v desk ended
-        → ServesConnections v causes TakesAny (unwrap_or s.count 18446744073709551615) desk (watch_at s.max_step clock) ended
+        → ServesConnections v causes (desk_shower v) TakesAny (unwrap_or s.count 18446744073709551615) desk (watch_at s.max_step clock) ended
         (record { overseer = tt; bound = bound }) served
         → how ≡ how_served served → Serves s clock desk ended how
 

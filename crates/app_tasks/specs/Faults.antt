@@ -1,5 +1,5 @@
 -- The faults of commands, by what they come from.
-use Rattle.std.specs.Prelude.{◌≡◌}
+use Rattle.std.specs.Prelude.{◌≡◌, ◌⊎◌}
 use Rattle.app_tasks.specs.declared.fault.Fault.{Fault}
 use Rattle.app_tasks.specs.declared.fault.Fault.TheVariants as fault
 use Rattle.desk.specs.{Faults.storage_fault, declared.fault.DeskFault.DeskFault}
@@ -18,6 +18,10 @@ open_fault openfault.NewerFormat = deskfault.NewerFormat
 -- the fault of a command that has no desk
 abbrev pub IsOfOpening : OpenFault → Fault → Type 0
 IsOfOpening cause f = f ≡ fault.Desk (open_fault cause)
+
+-- what a look at the log of a desk fails by
+abbrev pub IsOfLog : DeskFault → Type 0
+IsOfLog why = (why ≡ deskfault.Memory) ⊎ (why ≡ deskfault.Device)
 
 -- the fault of a report
 abbrev pub report_fault : ReportFault → Fault

@@ -6,3 +6,4 @@ pub mod Faults
 pub mod Filters
 pub mod GivenTerms
 pub mod Outcomes
+pub mod Showing

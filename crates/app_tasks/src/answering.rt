@@ -6,6 +6,7 @@ use crate::desks::{adopt, clock_of};
 use crate::fault::Fault;
 use crate::listening::{take, tell_listening};
 use crate::overseeing::{FileOverseer, Files};
+use crate::showing::Reports;
 use crate::tasks::Task;
 use app_batch::batch;
 use app_reports::seconds_ahead;
@@ -64,7 +65,7 @@ pub struct ServeConnections<'a, E: Write> {
 impl<'a, E: Write> ServeConnections<'a, E> {
     // Serves a desk whose clock stands so, unless the machine's tells no moment, and how far it is ahead of that is limited; gives the
     // exit status.
-    fn start<K: Storage + Drop, W: Write>(
+    fn start<K: Storage + RowsAbove + Drop, W: Write>(
         &mut self,
         desk: &mut Desk<K>,
         clock: u64,
@@ -79,7 +80,7 @@ impl<'a, E: Write> ServeConnections<'a, E> {
     }
 
     // Serves a desk whose clock stands so, unless that is too far ahead of the machine's; gives the exit status.
-    fn start_unless_ahead<K: Storage + Drop, W: Write>(
+    fn start_unless_ahead<K: Storage + RowsAbove + Drop, W: Write>(
         &mut self,
         desk: &mut Desk<K>,
         clock: u64,
@@ -96,7 +97,7 @@ impl<'a, E: Write> ServeConnections<'a, E> {
     }
 
     // Takes where connections are to be taken, says so, and serves a desk whose clock stands so; gives the exit status.
-    fn serve<K: Storage + Drop, W: Write>(
+    fn serve<K: Storage + RowsAbove + Drop, W: Write>(
         &mut self,
         desk: &mut Desk<K>,
         clock: u64,
@@ -120,10 +121,15 @@ impl<'a, E: Write> ServeConnections<'a, E> {
             },
             bound: MomentBound::new(self.serving.max_step, clock),
         };
+        let reports = Reports {
+            rt: self.rt,
+            path: self.path,
+        };
         serve_connections(
             self.rt.alloc(),
             self.rt,
             &mut listener,
+            &reports,
             desk,
             self.serving.count,
             &mut watch,

@@ -1,5 +1,10 @@
-//! What stands beside the file of a desk, under its name.
+//! What stands beside the file of a desk, under its name, and what is known beside its rows.
+ghost use Rattle.std.specs.Prelude.{IfErr};
+ghost use Rattle.app_tasks.specs.Faults.{IsOfLog};
 
+use app_reports::Beside;
+use desk::DeskFault;
+use desk_http::moment;
 use std::fs;
 use std::io::{self, ErrorKind};
 
@@ -25,6 +30,40 @@ pub(crate) fn named(rt: &HostRuntime, path: &str, ending: &str) -> io::Result<St
     match beside(rt, path, ending) {
         Ok(found) => Ok(found),
         Err(_) => Ok(format!(in rt.alloc(); "{path}{ending}")?),
+    }
+}
+
+/// What is known of a desk beside the rows of its file: the machine's moment, and how many bytes the log beside the file has.
+///
+/// # Errors
+///
+/// `Memory` where memory was refused, `Device` where the size of the log is not to be had.
+pub fn known_beside(rt: &HostRuntime, file: &str) -> Result<Beside, DeskFault>
+    ensures { IfErr result IsOfLog }
+{
+    match log_len(rt, file) {
+        Ok(log) => Ok(Beside {
+            now: moment(rt).ok(),
+            log,
+        }),
+        Err(fault) => Err(fault),
+    }
+}
+
+// How many bytes the log beside a file has, 0 where there is none.
+fn log_len(rt: &HostRuntime, file: &str) -> Result<u64, DeskFault>
+    ensures { IfErr result IsOfLog }
+{
+    let Ok(path) = format!(in rt.alloc(); "{file}-wal") else {
+        return Err(DeskFault::Memory);
+    };
+    match fs::metadata(rt, path.as_str()) {
+        Ok(found) => Ok(found.len()),
+        Err(error) => match error.kind() {
+            ErrorKind::NotFound => Ok(0),
+            ErrorKind::OutOfMemory => Err(DeskFault::Memory),
+            _ => Err(DeskFault::Device),
+        },
     }
 }
 

@@ -1,0 +1,8 @@
+use Rattle.app_tasks.proofs.Looked.{looks_by, shown_by}
+use Rattle.app_tasks.proofs.showing.show_page.Goals as goal
+
+pub returns-clause-shows : goal.returns-clause-shows
+returns-clause-shows g c = shown_by g.K.Kept.sight _ _ c.write_page-page.result c.ended.result c.ended.ensures _ c.write_page-page.ensures.printed
+
+pub returns-clause-looks : goal.returns-clause-looks
+returns-clause-looks g c = looks_by g.K.Kept.sight _ _ c.write_page-page.result c.ended.result c.ended.ensures c.write_page-page.ensures.reads
