@@ -68,11 +68,15 @@ impl<'a, K: Storage + RowsAbove> Hook<K> for Reports<'a> {
 
     ghost last = { last_of };
 
-    fn kind(looked: &Looked) -> &'static str {
+    fn kind(looked: &Looked) -> &'static str
+        ensures { result.now ≡ kind_of looked.now }
+    {
         kind_of(looked)
     }
 
-    fn last(looked: &Looked) -> &'static str {
+    fn last(looked: &Looked) -> &'static str
+        ensures { result.now ≡ last_of looked.now }
+    {
         last_of(looked)
     }
 }
