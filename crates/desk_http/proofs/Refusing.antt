@@ -20,6 +20,7 @@ module _ {S C : Type 0} (v : Sight S C) (causes : Causes S) (old new : DeskState
     -- by what a request is answered
     responds_late : (q : Request) (result : Result Reply _) → Responds v causes at random old q result new → new ≡ old
     responds_late (request.Asks what) result r = r.unmade late
+    responds_late (request.Looks asked) result r = r.1
     responds_late (request.Refused why) result r = r.1
 
     answer_late : (result : Result Reply _) → HasAnswer v causes at random remaining old new result → new ≡ old
