@@ -10,8 +10,8 @@ use std::io::{Read, Write};
 use std::time::Clock;
 use thiserror::Error;
 
-// How long a desk that is served may take to reply, in seconds: it may have other clients before.
-const PATIENCE: u64 = 60;
+/// How long a desk that is served may take to reply, in seconds: it may have other clients before.
+pub(crate) const PATIENCE: u64 = 60;
 
 /// Why nobody knows what came of a request to a desk that is served; its text is said of the port or the socket.
 #[derive(Clone, Copy, Debug, Error)]
@@ -28,6 +28,12 @@ pub enum Unheard {
     /// It was sent, and no reply of a desk came.
     #[error("no reply of a desk came within 60 seconds: it may be done or not, and asking again is safe")]
     Unanswered,
+    /// It was sent, and what replies does not show what a desk would.
+    #[error("what replies there does not show this: an older program, another one, or a desk that met a fault")]
+    Unshown,
+    /// It was sent, and its reply has no end.
+    #[error("the reply broke off, or no more of it came for 60 seconds: what was written is not all of it")]
+    Cut,
 }
 
 /// Sends the bytes of a request to the desk that is served at the other end of a connection, reads its reply up to its end, or until the

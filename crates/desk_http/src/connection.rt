@@ -1,10 +1,20 @@
 //! A connection, by whatever way it came.
 ghost use Rattle.std.specs.Io.{ReadsAtMost, WritesAtMost};
 
-use std::io::{self, Read, Write};
+use mio::net as nonblocking;
+use std::io::{self, ErrorKind, Read, Write};
 use std::net::{Ipv4Addr, Net, Shutdown, SocketAddr, TcpListener, TcpStream};
 use std::os::unix::net::UnixStream;
-use std::time::Duration;
+use std::thread;
+use std::time::{Clock, Duration};
+
+// How long a connection waits to be taken, in seconds: others may wait before, as many as the system has room for.
+const TAKEN_WITHIN: u64 = 10;
+
+// How often a second a socket without room is tried, and for how many milliseconds a try waits for the next.
+const TRIES: u64 = 20;
+
+const SLEEP: u64 = 50;
 
 /// A connection. The system holds what it carries, so nothing is known of that.
 #[derive(Drop)]
@@ -20,12 +30,13 @@ impl Connection {
     ///
     /// # Errors
     ///
-    /// Those of connecting.
+    /// Those of connecting; `TimedOut` where there was no room for it for ten seconds.
     pub fn to_port<N: Net<Stream = TcpStream, Listener = TcpListener>>(
         net: &N,
         port: u16,
     ) -> io::Result<Connection> {
-        let stream = net.connect(SocketAddr::from((Ipv4Addr::LOCALHOST, port)))?;
+        let address = SocketAddr::from((Ipv4Addr::LOCALHOST, port));
+        let stream = net.connect_timeout(address, Duration::from_secs(TAKEN_WITHIN))?;
         Ok(Connection::Tcp(stream))
     }
 
@@ -33,9 +44,24 @@ impl Connection {
     ///
     /// # Errors
     ///
-    /// Those of connecting; `InvalidInput` where no socket can have the path.
-    pub fn to_socket<N: Net>(net: &N, path: &str) -> io::Result<Connection> {
-        let stream = UnixStream::connect(net, path)?;
+    /// Those of connecting; `InvalidInput` where no socket can have the path, `TimedOut` where there was no room for it for ten seconds.
+    pub fn to_socket<N: Net + Clock>(net: &N, path: &str) -> io::Result<Connection> {
+        for _ in 0..TAKEN_WITHIN * TRIES {
+            match nonblocking::UnixStream::connect(net, path) {
+                Ok(stream) => return Connection::waiting(UnixStream::from(stream)),
+                Err(error) if error.kind() == ErrorKind::WouldBlock => thread::sleep(
+                    net,
+                    Duration::from_millis(SLEEP),
+                ),
+                Err(error) => return Err(error),
+            }
+        }
+        Err(io::Error::from(ErrorKind::TimedOut))
+    }
+
+    // One by a stream that then waits for what it reads and writes.
+    fn waiting(stream: UnixStream) -> io::Result<Connection> {
+        stream.set_nonblocking(false)?;
         Ok(Connection::Unix(stream))
     }
 

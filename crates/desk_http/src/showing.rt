@@ -1,5 +1,5 @@
 //! What a program shows of the store of a desk that is served, in the place of a reply.
-ghost use Rattle.std.specs.Prelude.{◌≡◌, ℕ, List, IfErr, OnOk, option_map};
+ghost use Rattle.std.specs.Prelude.{◌≡◌, ℕ, List, IfErr, IfOk, OnOk, option_map, string_bytes};
 ghost use Rattle.std.specs.Io.KnownBytes.{Appends};
 ghost use Rattle.desk.specs.Looking.{LooksAt};
 ghost use Rattle.http_routes.specs.declared.looked.Looked.{Looked as Asked};
@@ -10,7 +10,7 @@ use crate::serving::{IoFault, Served, Unanswered, send};
 use desk::{Desk, DeskFault, Look, LookFault};
 use http_routes::{Looked, Request};
 use http_wire::ParsedRequest;
-use std::alloc::Global;
+use std::alloc::{AllocError, Global};
 use std::io::Write;
 use store_api::{Storage, StorageFault};
 
@@ -75,6 +75,17 @@ fn write_head<W: Write>(writer: &mut W, kind: &str) -> Result<(), IoFault>
         Ok(()) => Ok(()),
         Err(_) => Err(IoFault::Write),
     }
+}
+
+/// The head before what is shown, by its type.
+///
+/// # Errors
+///
+/// Where there is no memory for it.
+pub fn shown_head(alloc: Global, kind: &str) -> Result<String, AllocError>
+    ensures { IfOk result (λ head. string_bytes head ≡ shown_head kind.now) }
+{
+    format!(in alloc; "HTTP/1.1 200 OK\r\nConnection: close\r\nContent-Type: {kind}\r\n\r\n")
 }
 
 // Shows what stands behind the head. Where the store fails, what was shown goes to the client without the last line.
