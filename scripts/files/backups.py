@@ -1,6 +1,7 @@
 """What scripts/files/words.py tries of files that other programs have, of what faults say, of first starts, and of copies of a desk."""
 import fcntl
 import os
+import random
 import shutil
 import sqlite3
 import stat
@@ -9,7 +10,8 @@ import threading
 import time
 from contextlib import contextmanager
 
-from scripts.serving.served import STOPPED, Server
+from scripts.serving.kills import Stream, look
+from scripts.serving.served import DIRECTORY, STOPPED, Server, directory_reply, stranger
 from scripts.trying import (BASE, DEVICE, NOT_A_DESK, answered, bytes_of, change, desk_with_calls, example, fresh, put, run, run_on_full, see,
                             see_wrong, tables_of)
 
@@ -20,6 +22,10 @@ NO_ROOM = "no file can be made in its directory: this user may not, or that is r
 TAKEN = "there is a file already, and it stays as it is"
 # How late a word may be that waits, in seconds.
 LATE = 20
+# How often a desk that serves is copied at a random moment.
+COPIES = 24
+COPIED = (0, b"no fault\ncopied\n", b"")
+BACKUP_HEAD = b"HTTP/1.1 200 OK\r\nConnection: close\r\nContent-Type: application/octet-stream\r\n\r\n"
 
 
 @contextmanager
@@ -259,4 +265,92 @@ def small_disk(program, folder):
         see("a backup to a disk that is full", said, (1, b"no fault\n", b"desk: copy\n" + because(f"{disk}/copy.db", "its disk is full")))
 
 
-TRIES = (waits, served, causes, rights, limits, first_starts, backups, copies_by_hand, small_disk)
+def parts_of(to):
+    """What stands under the names of the part of a copy."""
+    return [name for name in (f"{to}-part", f"{to}-part-wal", f"{to}-wal") if os.path.exists(name)]
+
+
+def of_served(program, folder):
+    """A copy of a desk that serves is the desk as it is between two calls, in one file that its user alone may read; nothing is written over."""
+    path, to = desk_with_calls(program, folder, "asked", example("order")[0]), f"{folder}/given.db"
+    tables = tables_of(path, folder)
+    server = Server(program, path, "--socket", f"{folder}/asked.socket")
+    places = (("--port", str(server.port)), ("--socket", f"{folder}/asked.socket"))
+    for place in places:
+        see(f"a backup by {place[0]}", run(program, "backup", to, *place, preexec_fn=lambda: os.umask(0)), COPIED)
+        see("its mode, and nothing beside it", (mode_of(to), parts_of(to)), (0o600, []))
+        see("its tables", tables_of(to, folder), tables)
+        see("a backup over it", run(program, "backup", to, *place), (1, b"", b"desk: there is a file already\n"))
+        os.remove(to)
+    put(f"{to}-part", b"what a stop left")
+    put(f"{to}-part-wal", b"and its log")
+    see("a backup where a stop left its part", run(program, "backup", to, *places[0]), COPIED)
+    see("that part", parts_of(to), [])
+    none = f"{folder}/none/given.db"
+    see("a backup without a directory", run(program, "backup", none, *places[0], "--verbose"),
+        (1, b"", b"desk: copy\n" + because(none, "its directory is missing")))
+    see("the desk behind that", server.ask(DIRECTORY), directory_reply())
+    server.stop()
+    gone = f"{folder}/gone.db"
+    see("a backup of nobody", run(program, "backup", gone, *places[0]), (1, b"", b"desk: connection\n"))
+    whole = BACKUP_HEAD + b"5 3\n" + b"bytes" + b"log" + b"end\n"
+    for said in (b"", BACKUP_HEAD, whole[:-1], whole + b"end\n", whole.replace(b"5 3", b"5 4"), whole.replace(b"5 3", b"4 3"), whole.replace(b"5 3", b"05 3"),
+                 whole.replace(b"5 3", b"5  3"), whole.replace(b"5 3", b"-5 3"), whole.replace(b"5 3\n", b"5" * 60), BACKUP_HEAD + b"end\n"):
+        with stranger(said) as (port, heard):
+            see(f"a backup of {said!r}", run(program, "backup", gone, "--port", str(port)), (1, b"", b"desk: connection\n"))
+        see("what was asked", heard[0].split(b"\r\n")[0], b"GET /office/backup HTTP/1.1")
+        see("nothing of it", (os.path.exists(gone), parts_of(gone)), (False, []))
+    with stranger(whole) as (port, _):
+        see("a backup of what is no desk", run(program, "backup", gone, "--port", str(port)), NOT_A_DESK)
+    see("nothing of that", (os.path.exists(gone), parts_of(gone)), (False, []))
+
+
+def at_random_moments(program, folder):
+    """A desk is copied while a client asks it, and the word or the desk is killed in the middle of that: a copy that is there opens, has no wrong
+    status, and holds each order that was acknowledged before the word began; what a killed word leaves is in no later word's way."""
+    chance = random.Random(7)
+    path, stream = fresh(program, folder, "busy"), Stream(chance)
+    stream.begin(Server(program, path))
+    for turn in range(COPIES):
+        name, to, killed = f"copy {turn}", f"{folder}/busy-{turn}.db", (None, "word", "desk")[turn % 3]
+        server = Server(program, path)
+        client = threading.Thread(target=stream.run, args=(server,))
+        client.start()
+        time.sleep(chance.uniform(0, 0.08))
+        known = set(stream.orders)
+        with subprocess.Popen([program, "backup", to, "--port", str(server.port)], stdout=subprocess.PIPE, stderr=subprocess.PIPE) as word:
+            if killed:
+                time.sleep(chance.uniform(0, 0.05))
+                (word.kill if killed == "word" else server.kill)()
+            said = word.communicate()
+        if killed != "desk":
+            see(f"{name}: {killed} is killed, and behind it", run(program, "backup", f"{to}-again", "--port", str(server.port)), COPIED)
+        server.kill()
+        client.join()
+        look(name, stream, path, folder)
+        if not killed:
+            see(name, (word.returncode, *said), COPIED)
+        if killed != "word":
+            see(f"{name}: what is beside it", parts_of(to), [])
+            see(f"{name}: it is there where the word says so", os.path.exists(to), word.returncode == 0)
+        for copy in (to, f"{to}-again"):
+            if os.path.exists(copy):
+                see(f"{copy}: its statuses", run(program, "check", copy)[:2], (0, b"no fault\n"))
+                see(f"{copy}: orders that it lacks", known - {row[0] for row in tables_of(copy, folder)["ord"]}, set())
+
+
+def side_files(program, folder):
+    """No copy gets the name of a journal, a log or a part of a file that is there, which would keep words from that file."""
+    path = desk_with_calls(program, folder, "beside", example("order")[0])
+    server = Server(program, fresh(program, folder, "giving"))
+    os.remove(f"{path}-wal")
+    said = b"desk: a file that is there has its journal, its log or its part under this name\n"
+    for ending in ("-journal", "-wal", "-part"):
+        for words in ((path, f"{path}{ending}"), (f"{path}{ending}", "--port", str(server.port))):
+            see(f"a backup to {words}", run(program, "backup", *words), (1, b"", said))
+        see(f"nothing at {ending}", os.path.exists(f"{path}{ending}"), False)
+    server.stop()
+    see("the desk beside them", run(program, "check", path), (0, b"no fault\n", b""))
+
+
+TRIES = (waits, served, causes, rights, limits, first_starts, backups, copies_by_hand, small_disk, of_served, at_random_moments, side_files)

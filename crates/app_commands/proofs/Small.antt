@@ -215,7 +215,7 @@ module _ {D : Type 0} (g : disk.Ghosts D) (image : Image) where
       small_copied it.checked how (small_over (ChecksStatuses form.Text) (small_checks form.Text) was it.written it.checked left it.ends) it.told
 
   small_back_up : (was is : Option (List ℕ)) (how : Result ℕ Fault) (left : Left D g) → EndsBackUp g image was is how left → IsSmall how
-  small_back_up was is how left (inl it) = small_as how _ it.0 (omega arith)
+  small_back_up was is how left (inl it) = small_as how _ it.2 (omega arith)
   small_back_up was is how left (inr it) = small_checked_copy was is how left it
 
   -- copies that take the place of a desk

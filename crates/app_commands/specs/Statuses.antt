@@ -56,6 +56,10 @@ pub record IsToldCopied (checked how : Result ℕ Fault) : Type 0 where
   pub copied : checked ≡ Ok 0 → (how ≡ Ok 0) ⊎ (((why : CopyFault) × (how ≡ Err (fault.Copy why))) ⊎ (how ≡ Err fault.Output))
   pub otherwise : checked ≢ Ok 0 → how ≡ checked
 
+-- why no file is opened for a copy: something stands at its path, or that is the name of what stands beside another file
+abbrev pub IsOfCopyPath : CopyFault → Type 0
+IsOfCopyPath why = (why ≡ copyfault.Taken) ⊎ (why ≡ copyfault.Beside)
+
 -- a file whose place a copy is to take could not be held, by the fault of its desk, or is the copy
 abbrev pub IsOfPlace : Fault → Type 0
 IsOfPlace why = ((cause : OpenFault) × (why ≡ fault.Place (open_fault cause))) ⊎ (why ≡ fault.Copy copyfault.Same)
@@ -126,9 +130,11 @@ module _ {D : Type 0} (g : disk.Ghosts D) (image : Image) where
     pub told : IsToldCopied checked how
     pub silent : checked ≢ Ok 0 → is ≡ written
 
-  -- something stood where the copy was to be made, or a log beside, and no file was opened; or the desk was checked first
+  -- something stood where the copy was to be made, or a log beside, or the path was of what stands beside another file, and no file was opened;
+  -- or the desk was checked first
   abbrev pub EndsBackUp : (was is : Option (List ℕ)) → Result ℕ Fault → Left D g → Type 0
-  EndsBackUp was is how left = ((how ≡ Err (fault.Copy copyfault.Taken)) × IsIdle was is left) ⊎ CopiesChecked was is how left
+  EndsBackUp was is how left =
+      ((why : CopyFault) × IsOfCopyPath why × (how ≡ Err (fault.Copy why)) × IsIdle was is left) ⊎ CopiesChecked was is how left
 
   -- the file whose place a copy is to take could not be held, or is the copy, and that was not opened; or the copy was checked first
   abbrev pub EndsRestore : (was is : Option (List ℕ)) → Result ℕ Fault → Left D g → Type 0

@@ -1,11 +1,11 @@
 //! A desk that is checked, and copied.
-ghost use Rattle.std.specs.Prelude.{◌≡◌, ◌≢◌, Ok};
+ghost use Rattle.std.specs.Prelude.{◌≡◌, ◌≢◌, Ok, IfErr};
 ghost use Rattle.sqlite.specs.WalFiles.{image_at};
-ghost use Rattle.app_commands.specs.Statuses.{EndsBackUp, IsToldCopied};
+ghost use Rattle.app_commands.specs.Statuses.{EndsBackUp, IsOfCopyPath, IsToldCopied};
 
 use app_files::{Left, run_over_file};
 use app_reports::Form;
-use app_tasks::{CheckStatuses, CopyFault, Copying, Fault, is_taken};
+use app_tasks::{CheckStatuses, CopyFault, Copying, Fault, is_beside_file, is_taken};
 use desk_http::moment;
 use sqlite::{FileFrom, Start};
 use sqlite_disk::Disk;
@@ -22,8 +22,8 @@ pub(crate) fn back_up<S: Start, W: Write, E: Write>(
 ) -> (Result<u8, Fault>, Left<FileFrom<S>>)
     ensures { EndsBackUp ⟦<FileFrom<S> as Disk>⟧ (image_at S.Start) (W.contents out.old) (W.contents out.new) result.0 result.1 }
 {
-    if is_taken(rt, to) {
-        return (Err(Fault::Copy(CopyFault::Taken)), Left::Untouched);
+    if let Err(fault) = may_be_made(rt, to) {
+        return (Err(Fault::Copy(fault)), Left::Untouched);
     }
     let task = CheckStatuses {
         alloc: rt.alloc(),
@@ -34,6 +34,19 @@ pub(crate) fn back_up<S: Start, W: Write, E: Write>(
     let (checked, left) = run_over_file(rt, file, start, task, out);
     let copying = Copying::New { from: file, to };
     (copied(rt, checked, copying, out), left)
+}
+
+// Whether a copy may get a path: nothing stands there, and it is not the name of what stands beside another file.
+fn may_be_made(rt: &HostRuntime, to: &str) -> Result<(), CopyFault>
+    ensures { IfErr result IsOfCopyPath }
+{
+    if is_taken(rt, to) {
+        return Err(CopyFault::Taken);
+    }
+    if is_beside_file(rt, to) {
+        return Err(CopyFault::Beside);
+    }
+    Ok(())
 }
 
 /// Copies the file of a desk that is closed and has no wrong status, says so, and gives the exit status. It takes the result of the

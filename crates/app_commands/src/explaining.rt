@@ -86,7 +86,7 @@ fn explain_copy<E: Write>(
             Visible(to),
             FileCause::not_copied(rt, to)
         ),
-        CopyFault::Same => return,
+        CopyFault::Same | CopyFault::Beside => return,
         CopyFault::Unread(cause) => writeln!(errors, "desk: {}: {cause}", Visible(file)),
         CopyFault::Failed(cause) => writeln!(errors, "desk: {}: {cause}", Visible(to)),
         CopyFault::Left(cause) => {

@@ -87,7 +87,7 @@ module _ {D : Type 0} (g : disk.Ghosts D) where
       (subst (λ how. EndsOverFiles g image (ChecksStatuses form.Text) was it.written how left) (checked_well it.checked it.told) it.ends)
 
   pub copies_hold_desk : CopiesHoldDesk g (EndsBackUp g)
-  copies_hold_desk image was is left (inl it) F files same has = absurd (let e = it.0 in cc e)
+  copies_hold_desk image was is left (inl it) F files same has = absurd (let e = it.2 in cc e)
   copies_hold_desk image was is left (inr it) F files same has = of_copy image was is left it F files same has
 
   pub restored_hold_desk : CopiesHoldDesk g (EndsRestore g)

@@ -4,4 +4,5 @@ mod Done
 mod Entries
 mod Looked
 mod Replied
+mod Sent
 mod Watching

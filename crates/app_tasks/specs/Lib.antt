@@ -5,5 +5,8 @@ pub mod Doing
 pub mod Faults
 pub mod Filters
 pub mod GivenTerms
+pub mod Metrics
 pub mod Outcomes
+pub mod Sending
 pub mod Showing
+pub mod Totals

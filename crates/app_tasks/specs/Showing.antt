@@ -1,5 +1,5 @@
 -- What a desk that is served shows of itself: the text that a word writes over its file, by what is asked for.
-use Rattle.std.specs.Prelude.{ℕ, List, [], Option, Result, Ok, Err, OnOk, codes}
+use Rattle.std.specs.Prelude.{◌≡◌, ℕ, List, Option, Result, Ok, Err, OnOk, codes}
 use Rattle.std.specs.Io.KnownBytes.{Appends}
 use Rattle.app_page.specs.Page.{page_html}
 use Rattle.app_reports.specs.{About.about_text, Printed.faults_text}
@@ -8,6 +8,7 @@ use Rattle.app_reports.specs.declared.{asked.AuthorizationFilter.AuthorizationFi
 use Rattle.app_reports.specs.declared.{beside.Beside.Beside, fault.ReportFault.ReportFault, form.Form.Form}
 use Rattle.app_reports.specs.declared.fault.ReportFault.TheVariants as reportfault
 use Rattle.app_reports.specs.declared.form.Form.TheVariants as form
+use Rattle.app_tasks.specs.{Metrics.TellsMetrics, Sending.SendsBackup, declared.metrics.Reading.Reading}
 use Rattle.desk.specs.{Looking.Shown, declared.looking.LookFault.LookFault}
 use Rattle.desk.specs.declared.looking.LookFault.TheVariants as lookfault
 use Rattle.desk_http.specs.Showing.{Shower, shower}
@@ -77,6 +78,14 @@ module _ {S C : Type 0} (v : Sight S C) where
   abbrev pub ShowsAbout : Shown S
   ShowsAbout was is old new result = (b : Beside) × ShowsText (about_text b) was is old new result
 
+  -- or the numbers by which the desk is watched, beside what was counted and measured
+  abbrev pub ShowsMetrics : Shown S
+  ShowsMetrics was is old new result = (r : Reading) × ForTables v old new (λ T. OnOk result (TellsMetrics r T was is))
+
+  -- or a backup of some file and log; the store was left alone
+  abbrev pub ShowsBackup : Shown S
+  ShowsBackup was is old new result = (new ≡ old) × OnOk result (SendsBackup was is)
+
   -- what is shown to whoever asks for this
   abbrev pub ShowsOf : Looked → Shown S
   ShowsOf looked.Page = ShowsText page_html
@@ -85,8 +94,8 @@ module _ {S C : Type 0} (v : Sight S C) where
   ShowsOf (looked.Authorizations account name f) = ShowsRows (authorizations_roster (authorizations_by account name) (report_form f))
   ShowsOf (looked.Check f) = ShowsText (λ T. faults_text (report_form f) (status_faults T))
   ShowsOf looked.About = ShowsAbout
-  ShowsOf looked.Metrics = ShowsText (λ T. [])
-  ShowsOf looked.Backup = ShowsText (λ T. [])
+  ShowsOf looked.Metrics = ShowsMetrics
+  ShowsOf looked.Backup = ShowsBackup
 
   -- that, with what stands before and behind it
   abbrev pub desk_shower : Shower S

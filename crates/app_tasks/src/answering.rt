@@ -8,11 +8,12 @@ use crate::listening::{take, tell_listening};
 use crate::overseeing::{FileOverseer, Files};
 use crate::showing::Reports;
 use crate::tasks::Task;
+use crate::totals::Counted;
 use app_batch::batch;
 use app_reports::seconds_ahead;
 use app_words::Serving;
 use desk::Desk;
-use desk_http::{MomentBound, ServeFault, Watch, serve_connections};
+use desk_http::{MomentBound, Routes, ServeFault, Watch, serve_connections};
 use std::alloc::Global;
 use std::io::{Read, Write};
 use store_api::{RowsAbove, Storage};
@@ -112,10 +113,13 @@ impl<'a, E: Write> ServeConnections<'a, E> {
         if tell_listening(out, self.serving.listening, address).is_err() {
             return Err(Fault::Output);
         }
+        let counted = Counted::new();
         let mut watch = Watch {
             overseer: FileOverseer {
                 rt: self.rt,
                 files,
+                routes: Routes::new(),
+                counted: &counted,
                 log: self.serving.log,
                 out,
             },
@@ -124,6 +128,7 @@ impl<'a, E: Write> ServeConnections<'a, E> {
         let reports = Reports {
             rt: self.rt,
             path: self.path,
+            counted: &counted,
         };
         serve_connections(
             self.rt.alloc(),

@@ -75,14 +75,26 @@ fn ask(
 ) -> Result<Option<Refusal>, Fault>
     ensures { Hears target result }
 {
-    let connection = match connect(rt, place) {
+    let connection = match connected(rt, place) {
         Ok(connection) => connection,
-        Err(error) => return Err(Fault::Connection(unheard(error.kind()))),
+        Err(unheard) => return Err(Fault::Connection(unheard)),
     };
     let mut buffer = [0u8; READ];
     match ask_by(rt, &connection, request, &mut buffer) {
         Ok(count) => hear(rt.alloc(), target, &buffer[..count]),
         Err(unheard) => Err(Fault::Connection(unheard)),
+    }
+}
+
+/// A connection to the desk that is served at a place.
+///
+/// # Errors
+///
+/// `Denied` where it is not for this user, `Unreached` where nobody took it.
+pub(crate) fn connected(rt: &HostRuntime, place: Place<'_>) -> Result<Connection, Unheard> {
+    match connect(rt, place) {
+        Ok(connection) => Ok(connection),
+        Err(error) => Err(unheard(error.kind())),
     }
 }
 

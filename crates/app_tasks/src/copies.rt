@@ -17,6 +17,9 @@ pub enum CopyFault {
     /// There is something at the new path, which stays as it is.
     #[error("there is a file already")]
     Taken,
+    /// The new path is that of a journal, a log or a part of the file of this name without the ending.
+    #[error("a file that is there has its journal, its log or its part under this name")]
+    Beside,
     /// The copy is the file whose place it is to take.
     #[error("the copy is the file itself")]
     Same,
@@ -48,13 +51,20 @@ pub enum Copying<'a> {
         /// The path of the one whose place it takes.
         to: &'a str,
     },
+    /// A new file that a desk which is served gave, and that stands under the name of its part until here. The caller holds it.
+    Received {
+        /// The path of the part.
+        part: &'a str,
+        /// The path of the new file.
+        to: &'a str,
+    },
 }
 
 impl Copying<'_> {
     /// The word that says that it is made.
     pub fn done(self) -> &'static str {
         match self {
-            Copying::New { .. } => "copied",
+            Copying::New { .. } | Copying::Received { .. } => "copied",
             Copying::Replacing { .. } => "restored",
         }
     }
@@ -70,6 +80,7 @@ impl Copying<'_> {
         match self {
             Copying::New { from, to } => copy_file(rt, from, to),
             Copying::Replacing { from, to } => replace_file(rt, from, to),
+            Copying::Received { part, to } => keep_received(rt, part, to),
         }
     }
 }
@@ -98,6 +109,22 @@ pub fn is_taken(rt: &HostRuntime, path: &str) -> bool {
     stands(rt, path) || is_beside_log(rt, path)
 }
 
+// How the files are named that stand beside a desk: SQLite's journal, its log, and what becomes a copy.
+const BESIDE: [&str; 3] = ["-journal", "-wal", "-part"];
+
+/// Whether a path is the name of what stands beside a file that is there: of its journal, its log or its part.
+pub fn is_beside_file(rt: &HostRuntime, path: &str) -> bool {
+    for ending in BESIDE {
+        if path
+            .strip_suffix(ending)
+            .is_some_and(|file| stands(rt, file))
+        {
+            return true;
+        }
+    }
+    false
+}
+
 /// Whether both paths lead to one file.
 pub fn are_same(rt: &HostRuntime, one: &str, other: &str) -> bool {
     Identity::of(rt, one).is_ok_and(|one| one.is_of(rt, other))
@@ -111,8 +138,12 @@ fn open(rt: &HostRuntime, from: &str) -> Result<fs::File, CopyFault> {
     }
 }
 
-// The part of the copy that gets a path.
-fn begin(rt: &HostRuntime, to: &str) -> Result<Part, CopyFault> {
+/// The part of the copy that gets a path.
+///
+/// # Errors
+///
+/// `Failed` where it can't be made.
+pub(crate) fn begin(rt: &HostRuntime, to: &str) -> Result<Part, CopyFault> {
     match Part::of(rt, to) {
         Ok(part) => Ok(part),
         Err(error) => Err(CopyFault::Failed(FileCause::of_part(error))),
@@ -135,13 +166,36 @@ fn copy_file(rt: &HostRuntime, from: &str, to: &str) -> Result<(), CopyFault> {
     if let Err(error) = part.fill(&mut file) {
         return Err(given_up(rt, &part, FileCause::of(error)));
     }
+    link_part(rt, &part, to)
+}
+
+// Gives the part of a copy its path.
+fn link_part(rt: &HostRuntime, part: &Part, to: &str) -> Result<(), CopyFault> {
     match part.link(rt, to) {
         Ok(()) => Ok(()),
-        Err(error) => match given_up(rt, &part, FileCause::of_link(error)) {
+        Err(error) => match given_up(rt, part, FileCause::of_link(error)) {
             CopyFault::Failed(FileCause::Taken) => Err(CopyFault::Taken),
             fault => Err(fault),
         },
     }
+}
+
+// Gives what a desk that is served gave its path, without its log, which is in it.
+fn keep_received(rt: &HostRuntime, path: &str, to: &str) -> Result<(), CopyFault> {
+    let part = match Part::at(rt, path) {
+        Ok(part) => part,
+        Err(error) => return Err(CopyFault::Failed(FileCause::of(error))),
+    };
+    match settle(rt, &part) {
+        Ok(()) => link_part(rt, &part, to),
+        Err(error) => Err(given_up(rt, &part, FileCause::of(error))),
+    }
+}
+
+// Takes the log of a part away, and syncs the part.
+fn settle(rt: &HostRuntime, part: &Part) -> io::Result<()> {
+    take_log_away(rt, part.path())?;
+    part.file().sync_all()
 }
 
 // Copies a file into the place of another.

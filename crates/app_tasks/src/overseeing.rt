@@ -5,8 +5,10 @@ ghost use Rattle.app_tasks.specs.CallLog.{TakesLine};
 use crate::beside::beside;
 use crate::call_log::write_entry;
 use crate::identity::Identity;
+use crate::totals::Counted;
 use app_words::LogForm;
-use desk_http::{Entry, Overseer};
+use desk_http::{Entry, Overseer, Routes};
+use http_routes::route_at;
 use std::fs::{self, Metadata};
 use std::io::{self, Write};
 
@@ -99,12 +101,14 @@ impl<'a> Files<'a> {
     }
 }
 
-/// Sees to it that the file of a desk and its log are those that were opened, and writes a line for each connection, where a log
-/// of the calls is asked for.
+/// Sees to it that the file of a desk and its log are those that were opened, counts the connections and their calls, and writes a line for
+/// each connection, where a log of the calls is asked for.
 #[derive(Drop)]
 pub(crate) struct FileOverseer<'a, W: Write> {
     pub(crate) rt: &'a HostRuntime,
     pub(crate) files: Files<'a>,
+    pub(crate) routes: Routes,
+    pub(crate) counted: &'a Counted,
     pub(crate) log: Option<LogForm>,
     pub(crate) out: &'a mut W,
 }
@@ -121,6 +125,8 @@ impl<'a, W: Write> Overseer for FileOverseer<'a, W> {
         if entry.micros.is_some() {
             self.files.keep_lengths(self.rt);
         }
+        let route = route_at(self.rt.alloc(), &mut self.routes, entry.path);
+        self.counted.note(route.unwrap_or(None), entry);
         match self.log {
             Some(form) => {
                 write_entry(self.rt.alloc(), self.out, form, entry).is_ok()

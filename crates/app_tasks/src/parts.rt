@@ -32,6 +32,37 @@ impl Part {
         Ok(Part { path, file })
     }
 
+    /// The file of this path, which another holds meanwhile.
+    ///
+    /// # Errors
+    ///
+    /// Those of opening it, and `NotFound` where no regular file stands at the path itself.
+    pub(crate) fn at(rt: &HostRuntime, path: &str) -> io::Result<Part> {
+        let file = OpenOptions::new().read(true).write(true).open(rt, path)?;
+        if !is_at(rt, &file, path) {
+            return Err(ErrorKind::NotFound.into());
+        }
+        let path = String::from_str(rt.alloc(), path)?;
+        Ok(Part { path, file })
+    }
+
+    /// Its own path.
+    pub(crate) fn path(&self) -> &str {
+        self.path.as_str()
+    }
+
+    /// The file, to be written.
+    pub(crate) fn file(&self) -> &fs::File {
+        &self.file
+    }
+
+    /// Gives its lock back, and leaves it under its own name.
+    pub(crate) fn leave(self) -> String {
+        let Part { path, file } = self;
+        drop(file);
+        path
+    }
+
     /// Copies a file into it, and syncs it.
     ///
     /// # Errors
@@ -113,14 +144,23 @@ pub fn lose_part(rt: &HostRuntime, path: &str) {
     }
 }
 
-// Removes the part at a path that a stop left there: no program has its lock. Whoever removes one has that, so that no other is removed.
-fn remove_left(rt: &HostRuntime, path: &str) {
+/// Removes the part at a path that a stop left there, after its log: no program has its lock. Whoever removes one has that, so that no
+/// other is removed.
+pub(crate) fn remove_left(rt: &HostRuntime, path: &str) {
     if let Ok(file) = OpenOptions::new().read(true).write(true).open(rt, path)
         && take_lock(&file)
         && is_at(rt, &file, path)
     {
-        let _ = fs::remove_file(rt, path);
+        remove_with_log(rt, path);
     }
+}
+
+/// Removes the log of a part, and then the part; whoever calls it has the lock of that.
+pub(crate) fn remove_with_log(rt: &HostRuntime, path: &str) {
+    if let Ok(log) = format!(in rt.alloc(); "{path}-wal") {
+        let _ = fs::remove_file(rt, log.as_str());
+    }
+    let _ = fs::remove_file(rt, path);
 }
 
 // Whether a regular file stands at a path itself.

@@ -2,14 +2,15 @@
 ghost use Rattle.std.specs.Prelude.{◌≡◌, IfOk};
 ghost use Rattle.app_page.specs.Page.{page_html};
 ghost use Rattle.app_reports.specs.{Listed.authorizations_roster, Listed.orders_roster, Listed.roster, Printed.faults_text};
-ghost use Rattle.app_tasks.specs.Showing.{ShowsAbout, ShowsOf, ShowsRows, ShowsText, authorizations_by, kind_of, kind_of_form, last_of, look_ended};
+ghost use Rattle.app_tasks.specs.Showing.{ShowsAbout, ShowsMetrics, ShowsOf, ShowsRows, ShowsText, authorizations_by, kind_of, kind_of_form, last_of, look_ended};
 ghost use Rattle.app_tasks.specs.Showing.{look_fault, orders_by, report_form};
 ghost use Rattle.desk.specs.Looking.{Looks};
 ghost use Rattle.desk_model.specs.Derived.{status_faults};
 
 use crate::beside::known_beside;
-use crate::metrics::write_metrics;
+use crate::metrics::{Reading, tell_metrics};
 use crate::sending::send_backup;
+use crate::totals::Counted;
 use app_page::write_page;
 use app_reports::{
     AllAccounts, AuthorizationFilter, Form, OrderFilter, ReportFault, RowList, list_faults,
@@ -19,6 +20,7 @@ use desk::{Look, LookFault};
 use desk_http::{Hook, Looked, ReportForm};
 use desk_model::{DnsName, OrderStatus};
 use std::alloc::{AllocError, Global};
+use std::fs;
 use std::io::Write;
 use store_api::{RowsAbove, Storage, StorageFault};
 
@@ -29,6 +31,8 @@ pub(crate) struct Reports<'a> {
     pub rt: &'a HostRuntime,
     /// The path of the desk's file.
     pub path: &'a str,
+    /// What is counted of it.
+    pub counted: &'a Counted,
 }
 
 impl<'a, K: Storage + RowsAbove> Look<K, Looked> for Reports<'a> {
@@ -57,8 +61,8 @@ impl<'a, K: Storage + RowsAbove> Look<K, Looked> for Reports<'a> {
             } => show_authorizations(alloc, store, out, *account, name, *form),
             Looked::Check { form } => show_faults(alloc, store, out, *form),
             Looked::About => show_about(alloc, self.rt, self.path, store, out),
-            Looked::Metrics => write_metrics(store, out),
-            Looked::Backup => send_backup(store, out),
+            Looked::Metrics => { show_metrics(alloc, self.rt, self.path, self.counted, store, out) }
+            Looked::Backup => send_backup(self.rt, self.path, out),
         }
     }
 }
@@ -227,8 +231,32 @@ fn show_about<K: RowsAbove, W: Write>(
     ended(about)
 }
 
-// What is beside the store was not to be had, which says nothing of the store: as where there is no memory, the desk stays open.
-const UNSEEN: LookFault = LookFault::Storage(StorageFault::Memory);
+// Shows the numbers by which the desk is watched, whose file is at this path.
+fn show_metrics<K: RowsAbove, W: Write>(
+    alloc: Global,
+    rt: &HostRuntime,
+    path: &str,
+    counted: &Counted,
+    store: &mut K,
+    out: &mut W,
+) -> Result<(), LookFault>
+    ensures shows { ShowsMetrics K.sight (W.contents out.old) (W.contents out.new) store.old store.new result }
+    ensures looks { Looks K.sight store.old store.new result }
+{
+    let (Ok(beside), Ok(file)) = (known_beside(rt, path), fs::metadata(rt, path)) else {
+        return Err(UNSEEN);
+    };
+    let reading = Reading {
+        served: counted.read(),
+        beside,
+        file: file.len(),
+    };
+    let told = tell_metrics(alloc, store, out, &reading);
+    ended(told)
+}
+
+/// What is beside the store was not to be had, which says nothing of the store: as where there is no memory, the desk stays open.
+pub(crate) const UNSEEN: LookFault = LookFault::Storage(StorageFault::Memory);
 
 // A copy of a name, where there is one.
 fn copy_of(name: &Option<DnsName>) -> Result<Option<DnsName>, AllocError>

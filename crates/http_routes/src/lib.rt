@@ -11,5 +11,6 @@ pub use lines::{Line, LineFault, read_line, reply_line};
 pub use looked::{Looked, ReportForm};
 pub use request::{Place, Request, RequestRefusal, ask_in, look_in, place_of};
 pub use routes::{
-    OfficeResource, Resource, Routes, has_index, is_visible, methods_of, number_between,
+    OfficeResource, Resource, Route, Routes, has_index, is_visible, methods_of, number_between,
+    route_at,
 };

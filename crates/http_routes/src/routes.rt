@@ -53,32 +53,56 @@ pub enum OfficeResource {
     Backup,
 }
 
-// A form of paths, whose number is left open where they have one.
+/// A form of paths, whose number is left open where they have one.
 #[derive(Clone, Copy)]
-enum Route {
+pub enum Route {
+    /// The directory.
     Directory,
+    /// Fresh nonces.
     NewNonce,
+    /// New accounts.
     NewAccount,
+    /// New keys of accounts.
     KeyChange,
+    /// New orders.
     NewOrder,
+    /// An account.
     Account,
+    /// The orders of an account.
     Orders,
+    /// An order.
     Order,
+    /// The finalization of an order.
     Finalize,
+    /// The certificate of an order.
     Cert,
+    /// An authorization.
     Authz,
+    /// A challenge.
     Chall,
+    /// The key of an account.
     Key,
+    /// The challenges that wait for the validator.
     ChallengeWork,
+    /// The orders that wait for the signing office.
     OrderWork,
+    /// What was found for a challenge.
     Report,
+    /// The certificate for an order.
     Certify,
+    /// Why an order is given up.
     FailOrder,
+    /// The end of an authorization.
     RevokeAuthz,
+    /// The end of an account.
     RevokeAccount,
+    /// The page of the desk.
     Page,
+    /// A report on the desk.
     Look,
+    /// The numbers by which the desk is watched.
     Metrics,
+    /// A copy of the desk.
     Backup,
 }
 
@@ -255,12 +279,12 @@ impl Routes {
     }
 }
 
-// The route that the router finds for a path.
-//
-// # Errors
-//
-// Where there is no memory for the router, which is then made for the next path.
-fn route_at(alloc: Global, routes: &mut Routes, path: &str) -> Result<Option<Route>, AllocError>
+/// The route that the router finds for a path, whatever stands in the place of its number.
+///
+/// # Errors
+///
+/// Where there is no memory for the router, which is then made for the next path.
+pub fn route_at(alloc: Global, routes: &mut Routes, path: &str) -> Result<Option<Route>, AllocError>
     ensures { IfOk result (λ o. o ≡ option_map value_of (first desk_routes path.now)) }
 {
     if let Some(router) = &routes.router {

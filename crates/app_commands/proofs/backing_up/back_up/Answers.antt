@@ -1,8 +1,8 @@
 use Rattle.std.proofs.Common.{inl, inr, refl}
 use Rattle.app_commands.proofs.backing_up.back_up.Goals as goal
 
-pub returns-then-is_taken : goal.returns-then-is_taken
-returns-then-is_taken g c = inl (refl, (refl, refl))
+pub returns-in-Err : goal.returns-in-Err
+returns-in-Err g c = inl (c.in-Err.fault, (c.in-Err.ensures, (refl, (refl, refl))))
 
 pub returns : goal.returns
 returns g c =
