@@ -84,6 +84,8 @@ trials: ## what the gate tries of the program bin/desk
 	@python3 -B bench/instructions.py --against docs/PERFORMANCE.md
 	@echo 'Killing the program at random moments while it serves, 20 times (make kills: 200).'
 	@python3 -B -m scripts.serving.kills bin/desk --times 20
+	@echo 'Watching a desk that serves: each number of its metrics, beside its log, its files and the lists of work.'
+	@python3 -B -m scripts.serving.watched bin/desk
 	@echo 'Refusing memory to calls of the library, each seventh growth, without proof.'
 	@python3 -B -m scripts.gate.library_growths --step 7
 	@echo 'Trying a house around the desk, where the packages for it are there.'

@@ -187,9 +187,13 @@ def restorings_killed(program, folder):
         it.again()
         remove(it.path)
 
+    if os.getuid() == 0:
+        os.chown(it.room, NOBODY, NOBODY)
+    owner = os.stat(it.room).st_uid
     for said in killed_at_each_step("restore to nothing", preload, words, nothing):
         whole = os.path.exists(it.path) and os.path.getsize(it.path) > 0
         see(f"{said}: nothing, or the copy", not whole or it.tables() == it.new, True)
+        see(f"{said}: what is there has the owner of its directory", os.path.exists(it.path) and os.stat(it.path).st_uid, os.path.exists(it.path) and owner)
         see(f"{said}: again", it.restore(), RESTORED)
         it.see_restored(said)
 
@@ -225,6 +229,29 @@ def backups_killed(program, folder):
     with held(to):
         see("a copy of two names that another program has", run(program, "check", to)[0], 1)
     see("it keeps both", os.path.samefile(to, other), True)
+
+
+def served_backups_killed(program, folder):
+    """The same of a desk that serves: what a kill leaves of the part and of its log is in no later word's way."""
+    path, to, preload = desk_with_calls(program, folder, "given", example("order")[0]), f"{folder}/given-copy.db", library(folder)
+    tables, server, found = tables_of(path, folder), Server(program, path), []
+    words, parts = [program, "backup", to, "--port", str(server.port)], (f"{to}-part", f"{to}-part-wal")
+
+    def again():
+        remove(to)
+
+    for said in killed_at_each_step("backup of a desk that serves", preload, words, again):
+        found.append(os.path.exists(to))
+        if os.path.exists(to):
+            see(f"{said}: the whole copy", tables_of(to, folder), tables)
+        else:
+            see(f"{said}: again", run(*words), COPIED)
+        see(f"{said}: a check", checked(program, to), (0, b"no fault\n", b""))
+        see(f"{said}: nothing else is left", [part for part in parts if os.path.exists(part)], [])
+        remove(f"{to}-wal")
+    see("kills before the link, and behind it", (found == sorted(found), set(found)), (True, {False, True}))
+    see("the desk behind them", server.stop(), STOPPED)
+    see("its tables", tables_of(path, folder), tables)
 
 
 def backups_together(program, folder):
@@ -270,4 +297,4 @@ def opened_meanwhile(program, folder):
         it.see_restored(name)
 
 
-TRIES = (restored, restored_to_nothing, not_restored, restorings_killed, opened_meanwhile, backups_killed, backups_together)
+TRIES = (restored, restored_to_nothing, not_restored, restorings_killed, opened_meanwhile, backups_killed, served_backups_killed, backups_together)

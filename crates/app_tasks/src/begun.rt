@@ -1,10 +1,11 @@
 //! What a making or a restoring begins at a path, and what is taken back of it where it fails.
 
-use crate::beside::{has_full_log, missing_log};
+use crate::beside::{has_full_log, missing_log, stands};
 use crate::causes::has_journal;
 use crate::copies::make_new;
 use crate::identity::Identity;
 use crate::locks::take_lock;
+use crate::parts::Part;
 use std::fs::{self, Metadata, OpenOptions};
 use std::io::{self, ErrorKind};
 use std::os::unix::fs::{MetadataExt, fchown};
@@ -126,7 +127,7 @@ pub struct EmptyFile {
 
 impl EmptyFile {
     /// That at a path, which is made where there is none: its user alone may read and write it, and its owner is that of the directory,
-    /// where this user may give it that.
+    /// where this user may give it that, from the moment on at which it has the path.
     ///
     /// # Errors
     ///
@@ -139,7 +140,7 @@ impl EmptyFile {
         if has_journal(rt, path) {
             return Err(ErrorKind::Unsupported.into());
         }
-        let begun = Begun::at(rt, path)?;
+        let begun = begin_owned(rt, path)?;
         match lock_empty(rt, path, &begun) {
             Ok(file) => Ok(EmptyFile { begun, _file: file }),
             Err(error) => {
@@ -153,6 +154,40 @@ impl EmptyFile {
     pub fn give_up(&self, rt: &HostRuntime, path: &str) {
         self.begun.take_back(rt, path, Unfinished::Unmade);
     }
+}
+
+// Makes a file at a path where there is none; where the system allows that, it gets the path once it has the owner of its directory, so
+// that a stop leaves none that is not for that owner.
+fn begin_owned(rt: &HostRuntime, path: &str) -> io::Result<Begun> {
+    if !stands(rt, path)
+        && let Ok(file) = make_owned(rt, path)
+    {
+        return Ok(Begun {
+            file,
+            is_new: true,
+            log: missing_log(rt, path),
+        });
+    }
+    Begun::at(rt, path)
+}
+
+// Makes a file with the owner of its directory at a path where nothing stands.
+fn make_owned(rt: &HostRuntime, path: &str) -> io::Result<Identity> {
+    let part = Part::of(rt, path)?;
+    match link_owned(rt, &part, path) {
+        Ok(file) => Ok(file),
+        Err(error) => {
+            part.remove(rt);
+            Err(error)
+        }
+    }
+}
+
+// Gives the part of a file the owner of its directory, and then its path.
+fn link_owned(rt: &HostRuntime, part: &Part, path: &str) -> io::Result<Identity> {
+    give_to_owner_of_directory(rt, part.file(), part.path())?;
+    part.link(rt, path)?;
+    Ok(Identity::told_by(&part.file().metadata()?))
 }
 
 // Locks the file without bytes that was begun at a path, where it still stands there; a new one gets the owner of its directory.

@@ -50,9 +50,13 @@ impl Received {
         self.path.as_str()
     }
 
-    /// Removes what is left of them, unless another program has it.
-    pub fn give_up(self, rt: &HostRuntime) {
-        remove_left(rt, self.path.as_str());
+    /// Removes them. Where the caller does not hold the file, it stays if another program does.
+    pub fn give_up(&self, rt: &HostRuntime, is_held: bool) {
+        if is_held {
+            remove_with_log(rt, self.path());
+        } else {
+            remove_left(rt, self.path());
+        }
     }
 }
 
