@@ -44,8 +44,3 @@ module _ {S C : Type 0} (v : Sight S C) (old : S) where
   -- without one
   pub unlooked : Looks v old old (Ok tt)
   unlooked = record { honest = λ h. h; left = λ h c may. may; tables = λ h T has. has; after_fault = tt }
-
-  -- while it was left alone
-  pub left_alone : (look : Result Unit LookFault) → Looks v old old look
-  left_alone (Ok done) = record { honest = λ h. h; left = λ h c may. may; tables = λ h T has. has; after_fault = tt }
-  left_alone (Err why) = record { honest = λ h. h; left = λ h c may. may; tables = tt; after_fault = λ opens h T has. has }

@@ -1,3 +1,5 @@
+use Rattle.std.proofs.Common.{None}
+use Rattle.app_tasks.specs.{Totals.no_totals, declared.metrics.Reading.Reading}
 use Rattle.app_tasks.proofs.Looked.{looks_by, shown_by}
 use Rattle.app_tasks.proofs.showing.show_metrics.Goals as goal
 
@@ -7,3 +9,13 @@ returns-clause-shows g c =
 
 pub returns-clause-looks : goal.returns-clause-looks
 returns-clause-looks g c = looks_by g.K.Kept.sight _ _ c.tell_metrics-told.result c.ended.result c.ended.ensures c.tell_metrics-told.ensures.reads
+
+-- no metrics were shown, beside whatever
+unread : Reading
+unread = record { served = no_totals; beside = record { now = None; log = 0 }; file = 0 }
+
+pub returns-in_default-clause-shows : goal.returns-in_default-clause-shows
+returns-in_default-clause-shows g c = (unread, λ h T has. tt)
+
+pub returns-in_default-2-clause-shows : goal.returns-in_default-2-clause-shows
+returns-in_default-2-clause-shows g c = (unread, λ h T has. tt)
