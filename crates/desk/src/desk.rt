@@ -1,5 +1,5 @@
 //! One desk, which answers calls one after the other.
-ghost use Rattle.std.specs.Prelude.{◌≡◌, ◌≢◌, ◌<◌, ◌↔◌, IsTrue, true, false, drop, length, Err, IfErr, IfOk, IfSome, MatchResult, Ok, Some, []};
+ghost use Rattle.std.specs.Prelude.{◌≡◌, ◌≢◌, ◌<◌, ◌↔◌, IsTrue, false, drop, length, Err, IfErr, IfOk, IfSome, MatchResult, Ok, Some, []};
 ghost use Rattle.store_api.specs.Sight.{FailsToRead, ForTables, Unchanged};
 ghost use Rattle.store_api.specs.Storing.{Loads};
 ghost use Rattle.desk.specs.declared.fault.DeskFault.TheVariants as fault;

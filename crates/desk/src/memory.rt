@@ -59,8 +59,7 @@ impl Kept for Memory {
 
 impl Storage for Memory {
     ghost use Rattle.std.specs.Prelude.{◌≡◌};
-    ghost use Rattle.desk_model.specs.Tables.{Tables};
-    ghost use Rattle.store_api.specs.{InMemory.in_memory, declared.fault.StorageFault.TheVariants.Memory as memory_fault};
+    ghost use Rattle.store_api.specs.declared.fault.StorageFault.TheVariants.{Memory as memory_fault};
 
     ghost causes = { λ saving old new why. why ≡ memory_fault };
 

@@ -1,5 +1,4 @@
 //! The store as a source of rows: one statement a look-up, and one more for the children of each row; none for what it knows.
-ghost use Rattle.sqlite.specs.Tree.{Trees};
 ghost use Rattle.desk_store.specs.Desks.{store_sight, HasTables};
 ghost use Rattle.std.specs.Prelude.{◌≡◌, [], None, IfOk, IsTrue};
 ghost use Rattle.desk_model.specs.Tables.{Tables};
