@@ -140,6 +140,10 @@ module _ {D : Type 0} (g : disk.Ghosts D) (image : Image) where
   abbrev pub EndsRestore : (was is : Option (List ℕ)) → Result ℕ Fault → Left D g → Type 0
   EndsRestore was is how left = ((why : Fault) × IsOfPlace why × (how ≡ Err why) × IsIdle was is left) ⊎ CopiesChecked was is how left
 
+  -- the desk that is served did not give its files, and no file was opened; or what it gave was checked first
+  abbrev pub EndsBackUpServed : (was is : Option (List ℕ)) → Result ℕ Fault → Left D g → Type 0
+  EndsBackUpServed was is how left = ((why : Fault) × (how ≡ Err why) × IsIdle was is left) ⊎ CopiesChecked was is how left
+
   -- how a command over files with these bytes ends, and what it leaves; its reader has these bytes, and its writer was given these and has
   -- these in the end, where that is known
   abbrev pub Ends : (bytes was is : Option (List ℕ)) → Command → Result ℕ Fault → Left D g → Type 0

@@ -1,11 +1,12 @@
 //! A desk that is checked, and copied.
 ghost use Rattle.std.specs.Prelude.{◌≡◌, ◌≢◌, Ok, IfErr};
 ghost use Rattle.sqlite.specs.WalFiles.{image_at};
-ghost use Rattle.app_commands.specs.Statuses.{EndsBackUp, IsOfCopyPath, IsToldCopied};
+ghost use Rattle.app_commands.specs.Statuses.{EndsBackUp, EndsBackUpServed, IsOfCopyPath, IsToldCopied};
 
 use app_files::{Left, run_over_file};
 use app_reports::Form;
-use app_tasks::{CheckStatuses, CopyFault, Copying, Fault, is_beside_file, is_taken};
+use app_tasks::{CheckStatuses, CopyFault, Copying, Fault, Received, is_beside_file, is_taken};
+use app_words::Place;
 use desk_http::moment;
 use sqlite::{FileFrom, Start};
 use sqlite_disk::Disk;
@@ -34,6 +35,46 @@ pub(crate) fn back_up<S: Start, W: Write, E: Write>(
     let (checked, left) = run_over_file(rt, file, start, task, out);
     let copying = Copying::New { from: file, to };
     (copied(rt, checked, copying, out), left)
+}
+
+/// Has the desk that is served at a place give its files, checks and closes the desk in them, and keeps that in a new file.
+pub(crate) fn back_up_served<S: Start, W: Write, E: Write>(
+    rt: &HostRuntime,
+    place: Place<'_>,
+    to: &str,
+    start: S,
+    out: &mut W,
+    errors: &mut E,
+) -> (Result<u8, Fault>, Left<FileFrom<S>>)
+    ensures { EndsBackUpServed ⟦<FileFrom<S> as Disk>⟧ (image_at S.Start) (W.contents out.old) (W.contents out.new) result.0 result.1 }
+{
+    let received = match receive(rt, place, to) {
+        Ok(received) => received,
+        Err(fault) => return (Err(fault), Left::Untouched),
+    };
+    let task = CheckStatuses {
+        alloc: rt.alloc(),
+        form: Form::Text,
+        now: moment(rt).ok(),
+        errors,
+    };
+    let (checked, left) = run_over_file(rt, received.path(), start, task, out);
+    if !matches!(checked, Ok(0)) {
+        received.give_up(rt, !left.is_unreached());
+    }
+    let copying = Copying::Received {
+        part: received.path(),
+        to,
+    };
+    (copied(rt, checked, copying, out), left)
+}
+
+// What the desk that is served at a place gives, for a copy that may get a path.
+fn receive(rt: &HostRuntime, place: Place<'_>, to: &str) -> Result<Received, Fault> {
+    match may_be_made(rt, to) {
+        Ok(()) => Received::of(rt, place, to),
+        Err(fault) => Err(Fault::Copy(fault)),
+    }
 }
 
 // Whether a copy may get a path: nothing stands there, and it is not the name of what stands beside another file.

@@ -1,0 +1,15 @@
+use Rattle.std.proofs.Common.{inl, inr, refl}
+use Rattle.app_commands.proofs.backing_up.back_up_served.Goals as goal
+
+pub returns-in-Err : goal.returns-in-Err
+returns-in-Err g c = inl (_, (refl, (refl, refl)))
+
+pub returns : goal.returns
+returns g c =
+    inr (record {
+      checked = c.run_over_file-checked.result.0;
+      written = _;
+      ends = c.run_over_file-checked.ensures;
+      told = c.copied.ensures.told;
+      silent = c.copied.ensures.silent;
+    })
