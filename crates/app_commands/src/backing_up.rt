@@ -71,10 +71,10 @@ pub(crate) fn back_up_served<S: Start, W: Write, E: Write>(
 
 // What the desk that is served at a place gives, for a copy that may get a path.
 fn receive(rt: &HostRuntime, place: Place<'_>, to: &str) -> Result<Received, Fault> {
-    match may_be_made(rt, to) {
-        Ok(()) => Received::of(rt, place, to),
-        Err(fault) => Err(Fault::Copy(fault)),
+    if let Err(fault) = may_be_made(rt, to) {
+        return Err(Fault::Copy(fault));
     }
+    Received::of(rt, place, to)
 }
 
 // Whether a copy may get a path: nothing stands there, and it is not the name of what stands beside another file.
