@@ -28,48 +28,31 @@ pub enum Command<'a> {
         /// How they are served.
         serving: Serving<'a>,
     },
-    /// To tell about a desk.
-    About {
+    /// To report on the desk in a file.
+    Report {
         /// The path of the file that holds the desk.
         file: &'a str,
+        /// What is reported.
+        report: Report<'a>,
     },
-    /// To show a desk as a page.
-    Page {
-        /// The path of the file that holds the desk.
-        file: &'a str,
-    },
-    /// To list the orders.
-    Status {
-        /// The path of the file that holds the desk.
-        file: &'a str,
-        /// Which of them, and how.
-        listing: OrderListing<'a>,
-    },
-    /// To list the accounts.
-    Accounts {
-        /// The path of the file that holds the desk.
-        file: &'a str,
-        /// Whether as JSON.
-        json: bool,
-    },
-    /// To list the authorizations.
-    Authorizations {
-        /// The path of the file that holds the desk.
-        file: &'a str,
-        /// Which of them, and how.
-        listing: AuthorizationListing<'a>,
-    },
-    /// To list the stored statuses that are wrong.
-    Check {
-        /// The path of the file that holds the desk.
-        file: &'a str,
-        /// Whether as JSON.
-        json: bool,
+    /// To have a desk that is served report on itself.
+    Look {
+        /// Where it is served.
+        place: Place<'a>,
+        /// What is reported.
+        report: Report<'a>,
     },
     /// To check the desk in a file, and to copy it into a new one.
     BackUp {
         /// The path of the file that holds the desk.
         file: &'a str,
+        /// The path of the new file.
+        to: &'a str,
+    },
+    /// To have a desk that is served give its files, and to check and keep them as a copy in a new one.
+    BackUpServed {
+        /// Where it is served.
+        place: Place<'a>,
         /// The path of the new file.
         to: &'a str,
     },
@@ -108,13 +91,10 @@ impl<'a> Command<'a> {
         match self {
             Command::Make { file, .. } => Some(file),
             Command::Serve { file, .. } => Some(file.path),
-            Command::Status { file, .. } => Some(file),
-            Command::About { file } => Some(file),
-            Command::Page { file } => Some(file),
-            Command::Accounts { file, .. } => Some(file),
-            Command::Authorizations { file, .. } => Some(file),
-            Command::Check { file, .. } => Some(file),
+            Command::Report { file, .. } => Some(file),
+            Command::Look { .. } => None,
             Command::BackUp { file, .. } => Some(file),
+            Command::BackUpServed { .. } => None,
             Command::Restore { copy, .. } => Some(copy),
             Command::Revoke { file, .. } => Some(file),
             Command::RevokeServed { .. } => None,
@@ -130,6 +110,29 @@ impl<'a> Command<'a> {
             command => command.file(),
         }
     }
+}
+
+/// What is reported on a desk.
+#[derive(Clone, Copy)]
+pub enum Report<'a> {
+    /// What it was made with, its clock, and its objects by status.
+    About,
+    /// Its page.
+    Page,
+    /// The orders.
+    Orders(OrderListing<'a>),
+    /// The accounts.
+    Accounts {
+        /// Whether as JSON.
+        json: bool,
+    },
+    /// The authorizations.
+    Authorizations(AuthorizationListing<'a>),
+    /// The stored statuses that are wrong.
+    Check {
+        /// Whether as JSON.
+        json: bool,
+    },
 }
 
 /// Where a desk is served.

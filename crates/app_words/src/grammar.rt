@@ -1,6 +1,6 @@
 //! The command that knows the words, made from their table.
 use crate::words::{
-    Argument, LONGEST_WAIT, Need, SYNC_TWICE, SYNCS, Word, desk_words, operator_words,
+    Argument, LONGEST_WAIT, Need, SYNC_TWICE, SYNCS, Word, desk_words, operator_words, report_words,
 };
 use crate::{arguments, help};
 use clap::builder::ValueParser;
@@ -62,9 +62,15 @@ fn arg<'a>(alloc: Global, argument: Argument) -> Result<Arg<'a>, AllocError> {
         Argument::Seconds { id, default, help } => option(alloc, id, "N", help)
             .value_parser(clap::value_parser!(u64))
             .default_value(default.text),
-        Argument::Wait { of } => option(alloc, arguments::WAIT, "SECONDS", help::WAITS)
-            .value_parser(ValueParser::unsigned(0, LONGEST_WAIT))
-            .requires_arg(of)?,
+        Argument::Wait { of } => {
+            let wait = option(alloc, arguments::WAIT, "SECONDS", help::WAITS).value_parser(
+                ValueParser::unsigned(0, LONGEST_WAIT),
+            );
+            match of {
+                Some(file) => wait.requires_arg(file)?,
+                None => wait,
+            }
+        }
         Argument::Sync { of } => option(alloc, arguments::SYNC, "WORD", help::SYNCS)
             .value_parser(ValueParser::Names(SYNCS))
             .default_value(SYNC_TWICE)
@@ -122,5 +128,6 @@ pub(crate) fn desk<'a>(alloc: Global) -> Result<Command<'a>, AllocError> {
         .version(help::VERSION)
         .subcommand_required(true);
     let desk = with_words(alloc, desk, desk_words())?;
+    let desk = with_words(alloc, desk, report_words())?;
     with_words(alloc, desk, operator_words())
 }

@@ -126,11 +126,57 @@ pub(crate) const SERVE_USAGE: &str =
 /// Below the options of `batch`.
 pub(crate) const BATCH: &str = synced!("desk batch --file /var/lib/desk/desk.db < calls.jsonl");
 
+// How a desk is reported on: that in a file, or one that is served.
+macro_rules! reported_on {
+    ($word:literal) => {
+        concat!("desk ", $word, " [OPTIONS] <FILE>\n       desk ", $word, " [OPTIONS] --port <N>\n       desk ", $word, " [OPTIONS] --socket <PATH>")
+    };
+}
+
+/// How `about` is used.
+pub(crate) const ABOUT_USAGE: &str = reported_on!("about");
+
+/// How `page` is used.
+pub(crate) const PAGE_USAGE: &str = reported_on!("page");
+
+/// How `status` is used.
+pub(crate) const STATUS_USAGE: &str = reported_on!("status");
+
+/// How `accounts` is used.
+pub(crate) const ACCOUNTS_USAGE: &str = reported_on!("accounts");
+
+/// How `authorizations` is used.
+pub(crate) const AUTHORIZATIONS_USAGE: &str = reported_on!("authorizations");
+
+/// How `check` is used.
+pub(crate) const CHECK_USAGE: &str = reported_on!("check");
+
+/// How `backup` is used: of the desk in a file, or of one that is served.
+pub(crate) const BACKUP_USAGE: &str =
+    "desk backup [OPTIONS] <FILE> <TO>\n       desk backup [OPTIONS] <TO> --port <N>\n       desk backup [OPTIONS] <TO> --socket <PATH>";
+
+// What a desk that is served reports.
+macro_rules! reported {
+    ($example:literal) => {
+        reported!(Example: $example)
+    };
+    ($($before:literal,)* Example: $example:literal) => {
+        after!(
+            $($before,)*
+            "While it is served:
+  A desk that serve has is asked by --port or by --socket, without its file, and what is written is
+  the same. Where the desk does not begin its reply within a minute, stops in it for as long, or
+  breaks it off, the word ends with desk: connection: what was written is then not all of it.",
+            Example: $example
+        )
+    };
+}
+
 /// Below the arguments of `about`.
-pub(crate) const ABOUT: &str = after!("desk about /var/lib/desk/desk.db");
+pub(crate) const ABOUT: &str = reported!("desk about /var/lib/desk/desk.db");
 
 /// Below the arguments of `page`.
-pub(crate) const PAGE: &str = after!(
+pub(crate) const PAGE: &str = reported!(
     "Page:
   One document without scripts, and with nothing from elsewhere. What clients gave stands in it as
   text. A table shows the first 50 rows, by number, and says how many there are in all.",
@@ -146,6 +192,10 @@ pub(crate) const BACKUP: &str = after!(
   While it is made the copy is TO-part, and a stop leaves nothing else: the next backup to TO removes
   it. Its file system has to have hard links. A copy by hand takes a desk that no program has: while one
   does, some of the desk is in FILE-wal alone.",
+    "While it is served:
+  A desk that serve has is asked by --port or by --socket, without its file, and gives what its file
+  and its log hold between two requests. That is checked as a copy is, and is then at TO. Where the
+  desk does not give all of it, the word ends with desk: connection, and nothing is left at TO.",
     Example: "desk backup /var/lib/desk/desk.db /var/backups/desk.db"
 );
 
@@ -163,18 +213,18 @@ pub(crate) const RESTORE: &str = after!(
 );
 
 /// Below the options of `status`.
-pub(crate) const STATUS: &str = after!("desk status /var/lib/desk/desk.db --status pending");
+pub(crate) const STATUS: &str = reported!("desk status /var/lib/desk/desk.db --status pending");
 
 /// Below the options of `accounts`.
-pub(crate) const ACCOUNTS: &str = after!("desk accounts /var/lib/desk/desk.db");
+pub(crate) const ACCOUNTS: &str = reported!("desk accounts /var/lib/desk/desk.db");
 
 /// Below the options of `authorizations`.
-pub(crate) const AUTHORIZATIONS: &str = after!(
+pub(crate) const AUTHORIZATIONS: &str = reported!(
     "desk authorizations /var/lib/desk/desk.db --name www.example.org"
 );
 
 /// Below the options of `check`.
-pub(crate) const CHECK: &str = after!("desk check /var/lib/desk/desk.db --json");
+pub(crate) const CHECK: &str = reported!("desk check /var/lib/desk/desk.db --json");
 
 // How a desk is asked that is served.
 macro_rules! revoked {

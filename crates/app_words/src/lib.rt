@@ -9,12 +9,13 @@ mod help;
 mod lives;
 mod numbers;
 mod reading;
+mod served;
 mod subcommand;
 mod words;
 
 pub use command::{
-    Asked, AuthorizationListing, Command, Listening, LogForm, OrderListing, Place, Revocation,
-    Serving, SyncedFile, Syncs, Terms,
+    Asked, AuthorizationListing, Command, Listening, LogForm, OrderListing, Place, Report,
+    Revocation, Serving, SyncedFile, Syncs, Terms,
 };
 pub use fault::WordsFault;
 pub use lives::{AUTHZ_LIFE, Life, NONCE_LIFE, ORDER_LIFE};

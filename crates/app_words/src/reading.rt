@@ -3,12 +3,13 @@ ghost use Rattle.std.specs.Prelude.{◌≡◌, if◌then◌else◌, true, false}
 
 use crate::arguments;
 use crate::command::{
-    Asked, AuthorizationListing, Command, Listening, LogForm, OrderListing, Place, Revocation,
-    Serving, SyncedFile, Syncs, Terms,
+    Asked, AuthorizationListing, Command, Listening, LogForm, OrderListing, Place, Report,
+    Revocation, Serving, SyncedFile, Syncs, Terms,
 };
 use crate::fault::WordsFault;
 use crate::grammar::desk;
 use crate::numbers::number_in;
+use crate::served::Served;
 use crate::subcommand::Subcommand;
 use crate::words::{Argument, LAST_NUMBER, LOG_JSON, SYNC_ONCE, word_named};
 use clap::ArgMatches;
@@ -19,25 +20,13 @@ use std::alloc::Global;
 const NOT_DECIMAL: &str =
     "a number is written in decimal, without a sign and without a zero in front";
 
-// What is said of a revocation whose words have both the port of a desk that is served and a file.
-const FILE_BESIDE_PORT: &str =
-    "with --port the desk that is served there is asked, and no FILE stands before N: desk WORD N --port P";
-
-// What is said of one whose words have both the socket of such a desk and a file.
-const FILE_BESIDE_SOCKET: &str =
-    "with --socket the desk that is served there is asked, and no FILE stands before N: desk WORD N --socket PATH";
-
-// What is said of one that has a port, and neither a file nor a number.
+// What is said of a revocation that has a port, and neither a file nor a number.
 const NO_NUMBER_AT_PORT: &str =
     "with --port N stands in the place of FILE: a number, 1 to 2^62, without a sign and without a zero in front";
 
 // What is said of one that has a socket, and neither a file nor a number.
 const NO_NUMBER_AT_SOCKET: &str =
     "with --socket N stands in the place of FILE: a number, 1 to 2^62, without a sign and without a zero in front";
-
-// What is said of one that has both a port and a socket.
-const TWO_PLACES: &str =
-    "one desk is asked, by --port or by --socket: desk WORD N --port P, or desk WORD N --socket PATH";
 
 // What the matches ask for, and how.
 fn asked<'a>(matches: &ArgMatches<'a>, is_terminal: bool) -> Option<Asked<'a>> {
@@ -67,6 +56,9 @@ fn command<'a>(
     given: &ArgMatches<'a>,
     is_verbose: bool,
 ) -> Option<Command<'a>> {
+    if let Some(report) = report(subcommand, given) {
+        return reporting(report, given);
+    }
     match subcommand {
         Subcommand::Batch => Some(batch(given)),
         _ => with_file(
@@ -78,24 +70,41 @@ fn command<'a>(
     }
 }
 
-// What a word asks for that names the file of a desk, as all do but `batch`.
+// The report that a word asks for, if it asks for one.
+fn report<'a>(subcommand: Subcommand, given: &ArgMatches<'a>) -> Option<Report<'a>> {
+    let json = given.get_flag(arguments::JSON);
+    match subcommand {
+        Subcommand::About => Some(Report::About),
+        Subcommand::Page => Some(Report::Page),
+        Subcommand::Status => Some(Report::Orders(orders(given))),
+        Subcommand::Accounts => Some(Report::Accounts { json }),
+        Subcommand::Authorizations => Some(Report::Authorizations(authorizations(given))),
+        Subcommand::Check => Some(Report::Check { json }),
+        _ => None,
+    }
+}
+
+// By the desk that is served at a place, where one is given, else of that in the file.
+fn reporting<'a>(report: Report<'a>, given: &ArgMatches<'a>) -> Option<Command<'a>> {
+    match place(given) {
+        Some(place) => Some(Command::Look { place, report }),
+        None => {
+            let file = given.get_str(arguments::FILE)?;
+            Some(Command::Report { file, report })
+        }
+    }
+}
+
+// What a word asks for that names the file of a desk in any case, or what stands in its place.
 fn with_file<'a>(
     subcommand: Subcommand,
     file: &'a str,
     given: &ArgMatches<'a>,
     is_verbose: bool,
 ) -> Option<Command<'a>> {
-    let json = given.get_flag(arguments::JSON);
     match subcommand {
         Subcommand::Make => make(file, given),
         Subcommand::Serve => serve(file, given, is_verbose),
-        Subcommand::Batch => None,
-        Subcommand::About => Some(Command::About { file }),
-        Subcommand::Page => Some(Command::Page { file }),
-        Subcommand::Status => Some(status(file, given)),
-        Subcommand::Accounts => Some(Command::Accounts { file, json }),
-        Subcommand::Authorizations => Some(authorizations(file, given)),
-        Subcommand::Check => Some(Command::Check { file, json }),
         Subcommand::BackUp => back_up(file, given),
         Subcommand::Restore => restore(file, given),
         Subcommand::RevokeAuthorization => {
@@ -106,6 +115,7 @@ fn with_file<'a>(
             let account = Revocation::Account(revoked(file, given)?);
             Some(revoke(file, given, account))
         }
+        _ => None,
     }
 }
 
@@ -114,28 +124,32 @@ fn make<'a>(file: &'a str, given: &ArgMatches<'a>) -> Option<Command<'a>> {
     Some(Command::Make { file, terms })
 }
 
-fn status<'a>(file: &'a str, given: &ArgMatches<'a>) -> Command<'a> {
-    let listing = OrderListing {
+fn orders<'a>(given: &ArgMatches<'a>) -> OrderListing<'a> {
+    OrderListing {
         account: given.get_one::<u64>(arguments::ACCOUNT),
         status: given.get_str(arguments::STATUS),
         name: given.get_str(arguments::NAME),
         json: given.get_flag(arguments::JSON),
-    };
-    Command::Status { file, listing }
+    }
 }
 
-fn authorizations<'a>(file: &'a str, given: &ArgMatches<'a>) -> Command<'a> {
-    let listing = AuthorizationListing {
+fn authorizations<'a>(given: &ArgMatches<'a>) -> AuthorizationListing<'a> {
+    AuthorizationListing {
         account: given.get_one::<u64>(arguments::ACCOUNT),
         name: given.get_str(arguments::NAME),
         json: given.get_flag(arguments::JSON),
-    };
-    Command::Authorizations { file, listing }
+    }
 }
 
+// Of the desk that is served at a place, where one is given; what stands in the place of the file is then the new one.
 fn back_up<'a>(file: &'a str, given: &ArgMatches<'a>) -> Option<Command<'a>> {
-    let to = given.get_str(arguments::TO)?;
-    Some(Command::BackUp { file, to })
+    match place(given) {
+        Some(place) => Some(Command::BackUpServed { place, to: file }),
+        None => {
+            let to = given.get_str(arguments::TO)?;
+            Some(Command::BackUp { file, to })
+        }
+    }
 }
 
 fn restore<'a>(file: &'a str, given: &ArgMatches<'a>) -> Option<Command<'a>> {
@@ -226,30 +240,29 @@ fn object_number(text: &str) -> Option<u64> {
     }
 }
 
-// What is wrong with the words of a revocation by a desk that is served, if anything is.
+// What is wrong with words that ask a desk which is served, if anything is.
 fn misplaced(matches: &ArgMatches<'_>) -> Option<&'static str> {
     let (name, given) = matches.subcommand()?;
-    if !Subcommand::named(name)?.is_revocation() {
-        return None;
-    }
+    let subcommand = Subcommand::named(name)?;
+    let served = Served::of(subcommand)?;
     let place = place(given)?;
     if given.get_str(arguments::PORT).is_some() && given.get_str(arguments::SOCKET).is_some() {
-        return Some(TWO_PLACES);
+        return Some(served.two_places);
     }
-    if given.get_str(arguments::NUMBER).is_some() {
-        return Some(file_beside(place));
+    if given.get_str(served.beside).is_some() {
+        return Some(served.file_beside(place));
     }
-    match object_number(given.get_str(arguments::FILE)?) {
-        Some(_) => None,
-        None => Some(no_number_at(place)),
+    match subcommand {
+        Subcommand::RevokeAuthorization | Subcommand::RevokeAccount => unnumbered(place, given),
+        _ => None,
     }
 }
 
-// What is said where a file stands beside a place.
-fn file_beside(place: Place<'_>) -> &'static str {
-    match place {
-        Place::Port(_) => FILE_BESIDE_PORT,
-        Place::Socket(_) => FILE_BESIDE_SOCKET,
+// What is said of a revocation by a place, where what stands in the place of the file is no number.
+fn unnumbered(place: Place<'_>, given: &ArgMatches<'_>) -> Option<&'static str> {
+    match object_number(given.get_str(arguments::FILE)?) {
+        Some(_) => None,
+        None => Some(no_number_at(place)),
     }
 }
 

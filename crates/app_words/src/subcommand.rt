@@ -37,12 +37,4 @@ impl Subcommand {
     pub(crate) fn named(name: &str) -> Option<Subcommand> {
         Some(word_named(name)?.subcommand)
     }
-
-    /// Whether it revokes something.
-    pub(crate) fn is_revocation(self) -> bool {
-        matches!(
-            self,
-            Subcommand::RevokeAuthorization | Subcommand::RevokeAccount
-        )
-    }
 }

@@ -85,9 +85,9 @@ pub(crate) enum Argument {
         missing: &'static str,
         help: &'static str,
     },
-    /// An option of another argument, which names a file: how long to try again while another program has that.
+    /// How long to try again while another program has a file: an option of the argument that names that, where it may be missing.
     Wait {
-        of: &'static str,
+        of: Option<&'static str>,
     },
     /// An option that takes none.
     Flag {
@@ -171,14 +171,12 @@ const DESK_FILE: Argument = Argument::Positional {
 };
 
 // How long to try again while another program has the desk's file.
-const DESK_WAIT: Argument = Argument::Wait {
-    of: arguments::FILE,
-};
+const DESK_WAIT: Argument = Argument::Wait { of: None };
 
-// The arguments of a word that looks at a desk, or changes it: `DESK_WAIT` is among them.
+// The arguments of a word that reports on a desk: where that is, and `DESK_WAIT`, are among them.
 macro_rules! on_desk {
     ($($argument:expr,)*) => {
-        &[DESK_FILE, $($argument,)* DESK_WAIT]
+        &[REPORTED_FILE, AT_PORT, AT_SOCKET, $($argument,)* DESK_WAIT]
     };
 }
 
@@ -194,6 +192,22 @@ macro_rules! option {
         }
     };
 }
+
+// The file that holds the desk, where that is not asked where it is served.
+const REPORTED_FILE: Argument = Argument::Positional {
+    id: arguments::FILE,
+    value: Value::Text,
+    need: Need::Unless(&[arguments::PORT, arguments::SOCKET]),
+    help: "the file that holds the desk; none with --port or --socket",
+};
+
+// The port of a desk that is served.
+const AT_PORT: Argument =
+    option! { arguments::PORT, "N", Port, "asks the desk that is served at this port of 127.0.0.1, 0 to 65535, in place of the file" };
+
+// The socket of one.
+const AT_SOCKET: Argument =
+    option! { arguments::SOCKET, "PATH", Text, "asks the desk that is served at the Unix socket of this path, in place of the file" };
 
 // The option that asks for JSON.
 macro_rules! json {
@@ -274,7 +288,7 @@ const BATCH: &[Argument] = &[
         of: arguments::BATCH_FILE,
     },
     Argument::Wait {
-        of: arguments::BATCH_FILE,
+        of: Some(arguments::BATCH_FILE),
     },
 ];
 
@@ -301,14 +315,23 @@ const AUTHORIZATIONS: &[Argument] = on_desk! {
 const CHECK: &[Argument] =
     on_desk! { json! { "one JSON document a line, a wrong status each; nothing where there is none" }, };
 
-const BACKUP: &[Argument] = on_desk! {
+const BACKUP: &[Argument] = &[
+    Argument::Positional {
+        id: arguments::FILE,
+        value: Value::Text,
+        need: Need::Always,
+        help: "the file that holds the desk; with --port or --socket TO stands in its place",
+    },
     Argument::Positional {
         id: arguments::TO,
         value: Value::Text,
-        need: Need::Always,
+        need: Need::Unless(&[arguments::PORT, arguments::SOCKET]),
         help: "the new file that will hold the copy",
     },
-};
+    AT_PORT,
+    AT_SOCKET,
+    DESK_WAIT,
+];
 
 const RESTORE: &[Argument] = &[
     Argument::Positional {
@@ -340,7 +363,7 @@ const REVOKE: &[Argument] = &[
         help: "its number, 1 to 2^62",
     },
     option! { arguments::PORT, "P", Port, "asks the desk that is served at this port of 127.0.0.1, 0 to 65535, in place of the file" },
-    option! { arguments::SOCKET, "PATH", Text, "asks the desk that is served at the Unix socket of this path, in place of the file" },
+    AT_SOCKET,
     DESK_WAIT,
 ];
 
@@ -368,17 +391,23 @@ const DESK_WORDS: &[Word] = &[
     word! { Batch, "batch", "Answers the lines of standard input, a call each", BATCH, BATCH },
 ];
 
-const OPERATOR_WORDS: &[Word] = &[
-    word! { About, "about", "Tells what a desk was made with, its clock, its objects by status, the size of its log", ABOUT, ABOUT },
-    word! { Page, "page", "Shows a desk as one page of HTML: objects by status, what waits, what ends soon, the last orders", PAGE, PAGE },
-    word! { Status, "status", "Lists the orders: number, account, status, end; last how many these are", STATUS, STATUS },
-    word! { Accounts, "accounts", "Lists the accounts: number, status, thumbprint of the key, contacts; last how many these are", ACCOUNTS, ACCOUNTS },
+const REPORT_WORDS: &[Word] = &[
+    word! { About, "about", "Tells what a desk was made with, its clock, its objects by status, the size of its log", ABOUT, ABOUT, Some(help::ABOUT_USAGE) },
+    word! { Page, "page", "Shows a desk as one page of HTML: objects by status, what waits, what ends soon, the last orders", PAGE, PAGE, Some(help::PAGE_USAGE) },
+    word! { Status, "status", "Lists the orders: number, account, status, end; last how many these are", STATUS, STATUS, Some(help::STATUS_USAGE) },
+    word! {
+        Accounts, "accounts", "Lists the accounts: number, status, thumbprint of the key, contacts; last how many these are", ACCOUNTS, ACCOUNTS,
+        Some(help::ACCOUNTS_USAGE)
+    },
     word! {
         Authorizations, "authorizations", "Lists the authorizations: number, account, status, end, name; last how many these are",
-        AUTHORIZATIONS, AUTHORIZATIONS
+        AUTHORIZATIONS, AUTHORIZATIONS, Some(help::AUTHORIZATIONS_USAGE)
     },
-    word! { Check, "check", "Lists the stored statuses that are wrong, and then ends with status 3", CHECK, CHECK },
-    word! { BackUp, "backup", "Checks a desk, and copies it into a new file", BACKUP, BACKUP },
+    word! { Check, "check", "Lists the stored statuses that are wrong, and then ends with status 3", CHECK, CHECK, Some(help::CHECK_USAGE) },
+];
+
+const OPERATOR_WORDS: &[Word] = &[
+    word! { BackUp, "backup", "Checks a desk, and copies it into a new file", BACKUP, BACKUP, Some(help::BACKUP_USAGE) },
     word! { Restore, "restore", "Checks a copy, and puts it into the place of a desk", RESTORE, RESTORE },
     word! { RevokeAuthorization, "revoke-authz", "Revokes an authorization", REVOKE_AUTHZ, REVOKE, Some(help::REVOKE_AUTHZ_USAGE) },
     word! { RevokeAccount, "revoke-account", "Revokes an account", REVOKE_ACCOUNT, REVOKE, Some(help::REVOKE_ACCOUNT_USAGE) },
@@ -386,10 +415,9 @@ const OPERATOR_WORDS: &[Word] = &[
 
 /// The word of this name.
 pub(crate) fn word_named(name: &str) -> Option<&'static Word> {
-    match named_in(desk_words(), name) {
-        Some(word) => Some(word),
-        None => named_in(operator_words(), name),
-    }
+    named_in(desk_words(), name)
+        .or(named_in(report_words(), name))
+        .or(named_in(operator_words(), name))
 }
 
 // The one of these words that has this name.
@@ -402,7 +430,12 @@ pub(crate) fn desk_words() -> &'static [Word] {
     DESK_WORDS
 }
 
-/// The words of the operator, which help lists behind those. One table of all words takes more steps than a proof may.
+/// The words that report on a desk, which help lists behind those. One table of all words takes more steps than a proof may.
+pub(crate) fn report_words() -> &'static [Word] {
+    REPORT_WORDS
+}
+
+/// The other words of the operator, which help lists last.
 pub(crate) fn operator_words() -> &'static [Word] {
     OPERATOR_WORDS
 }
