@@ -3,6 +3,8 @@ mod Behind
 mod Done
 mod Entries
 mod Looked
+mod Reading
 mod Replied
 mod Sent
+mod Short
 mod Watching

@@ -5,6 +5,7 @@ pub mod Doing
 pub mod Faults
 pub mod Filters
 pub mod GivenTerms
+pub mod Looking
 pub mod Metrics
 pub mod Outcomes
 pub mod Sending

@@ -7,15 +7,26 @@ use app_reports::{AuthorizationFilter, OrderFilter};
 use app_words::{AuthorizationListing, OrderListing};
 use desk_model::{DnsName, OrderStatus};
 use identifiers::{NameFault, read_name};
-use std::alloc::Global;
+use std::alloc::{AllocError, Global};
 
 /// Why the words of a list ask for no rows.
 #[derive(Clone, Copy)]
 pub enum Unasked {
     /// They are wrong.
     Wrong(Wrong),
-    /// There is no memory for the name.
+    /// There is no memory for them.
     Memory,
+}
+
+impl From<AllocError> for Unasked {
+    ghost use Rattle.std.specs.Prelude.{◌≡◌};
+    ghost use Rattle.app_tasks.specs.declared.filters.Unasked.TheVariants.{Memory};
+
+    ghost from_gives = { λ refused why. why ≡ Memory };
+
+    fn from(_refused: AllocError) -> Unasked {
+        Unasked::Memory
+    }
 }
 
 /// The orders that the words ask for.

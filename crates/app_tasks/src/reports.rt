@@ -14,8 +14,8 @@ use std::alloc::Global;
 use std::io::Write;
 use store_api::{RowsAbove, Storage};
 
-// The exit status where a stored status is wrong.
-const FOUND: u8 = 3;
+/// The exit status where a stored status is wrong.
+pub(crate) const FOUND: u8 = 3;
 
 /// The form that the words ask for.
 pub fn form(json: bool) -> Form

@@ -34,7 +34,7 @@ impl SocketCause {
     // The one that an error of the machine tells.
     fn of(kind: ErrorKind) -> SocketCause {
         match kind {
-            ErrorKind::AddrInUse => SocketCause::Served,
+            ErrorKind::AddrInUse | ErrorKind::TimedOut => SocketCause::Served,
             ErrorKind::InvalidInput => SocketCause::NoPath,
             ErrorKind::NotFound | ErrorKind::NotADirectory => SocketCause::NoDirectory,
             ErrorKind::PermissionDenied | ErrorKind::ReadOnlyFilesystem => SocketCause::Denied,
