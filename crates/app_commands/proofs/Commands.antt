@@ -3,10 +3,10 @@ use Rattle.std.proofs.Common.{◌≡◌, ◌∙◌, ℕ, Bool, true, false, List
 use Rattle.std.specs.Prelude.{MatchOption, MatchResult}
 use Rattle.sqlite.specs.Recovery.{Image}
 use Rattle.sqlite_disk.specs.declared.Disk as disk
-use Rattle.app_words.specs.declared.command.{Command.Command, Syncs.Syncs}
+use Rattle.app_words.specs.declared.command.{Command.Command, Report.Report, Syncs.Syncs}
 use Rattle.app_tasks.specs.{Filters.IsUnasked, Faults.IsOfOpening, declared.filters.Unasked.Unasked, declared.fault.Fault.Fault}
 use Rattle.app_tasks.specs.Deeds.{ChecksStatuses, ListsRows, form_of}
-use Rattle.app_commands.specs.Statuses.{BySyncs, Ends, EndsList, EndsMake, EndsOverFiles, EndsUnasked, IsToldMade, terms_in_memory}
+use Rattle.app_commands.specs.Statuses.{BySyncs, Ends, EndsList, EndsMake, EndsOverFiles, EndsReport, EndsUnasked, IsToldMade, terms_in_memory}
 use Rattle.app_tasks.specs.declared.filters.Unasked.TheVariants as unasked
 use Rattle.app_tasks.specs.declared.fault.Fault.TheVariants as fault
 use Rattle.desk.specs.declared.fault.DeskFault.TheVariants as deskfault
@@ -24,6 +24,11 @@ module _ {D : Type 0} (g : disk.Ghosts D) (image : Image) (bytes was is : Option
   pub as_command : (o it : Command) (how : Result ℕ Fault) (left : Left D g) → o ≡ it → Ends g image bytes was is it how left
       → Ends g image bytes was is o how left
   as_command o it how left same ends = subst (λ x. Ends g image bytes was is x how left) (sym same) ends
+
+  -- a report ends as the one that it is
+  pub as_report : (r it : Report) (how : Result ℕ Fault) (left : Left D g) → r ≡ it → EndsReport g image it was is how left
+      → EndsReport g image r was is how left
+  as_report r it how left same ends = subst (λ x. EndsReport g image x was is how left) (sym same) ends
 
   -- a check ends in the form that is asked for
   pub as_check : (json : Bool) (f : Form) (how : Result ℕ Fault) (left : Left D g) → f ≡ form_of json

@@ -3,16 +3,19 @@ use Rattle.std.proofs.Common.{◌≡◌, ◌≤◌, ℕ, List, Bool, true, false
 use Rattle.std.specs.Prelude.{if◌then◌else◌}
 use Rattle.sqlite.specs.Recovery.{Image}
 use Rattle.sqlite_disk.specs.declared.Disk as disk
-use Rattle.app_words.specs.declared.command.{Command.Command, Revocation.Revocation, Serving.Serving}
+use Rattle.app_words.specs.declared.command.{Command.Command, Report.Report, Revocation.Revocation, Serving.Serving}
+use Rattle.app_words.specs.declared.command.Report.TheVariants as report
 use Rattle.app_words.specs.declared.command.Command.TheVariants as command
 use Rattle.app_words.specs.declared.fault.WordsFault.{WordsFault}
 use Rattle.app_words.specs.declared.fault.WordsFault.TheVariants as wordsfault
+use Rattle.app_tasks.specs.Looking.{LooksServed, shown, shown_status, unasked, unwritten}
+use Rattle.app_tasks.specs.Looking as looked
 use Rattle.app_tasks.specs.Asked.{IsSaid, RevokesServed, refused, revoked, unheard}
 use Rattle.app_tasks.specs.Deeds.{AnswersReader, ChecksStatuses, ListsRows, RevokesTarget, ServesClients, TellsAbout, TellsPage, AnswersLines, ByDesk, IsTold}
 use Rattle.app_tasks.specs.Deeds.{Revokes, Serves, ServesByMoment, ServesUnlessAhead, adopted, clocked, clockless, served, unadopted, unserved}
 use Rattle.app_tasks.specs.Deeds.{IsUntaken, how_checked, how_listed, how_served}
 use Rattle.app_tasks.specs.{Faults.IsOfOpening, declared.fault.Fault.Fault}
-use Rattle.app_commands.specs.Statuses.{CopiesChecked, EndsBackUp, EndsRestore, IsToldCopied, IsToldWords}
+use Rattle.app_commands.specs.Statuses.{CopiesChecked, EndsBackUp, EndsBackUpServed, EndsReport, EndsRestore, IsToldCopied, IsToldWords}
 use Rattle.app_commands.specs.Statuses.{Ends, EndsBy, EndsList, EndsMake, EndsOverFiles, IsToldMade, status_of, terms_in_memory}
 use Rattle.app_tasks.specs.{Deeds.form_of, GivenTerms.terms_of}
 use Rattle.desk_http.specs.declared.serve_fault.ServeFault.{ServeFault}
@@ -87,6 +90,26 @@ small_asked what was is how (unheard (inl it) same) = small_as how _ it.1 (omega
 small_asked what was is how (unheard (inr it) same) = small_as how _ it (omega arith)
 small_asked what was is how (refused reply refusal says it same) = small_as how _ it (omega arith)
 small_asked what was is how (revoked reply says it) = small_said what was is how it
+
+-- reports by a desk that is served
+small_found_there : (is_nothing : Bool) → IsSmall (Ok (if is_nothing then 0 else 3))
+small_found_there true = small_status 0 (omega arith)
+small_found_there false = small_status 3 (omega arith)
+
+small_shown : (r : Report) (is_nothing : Bool) → IsSmall (Ok (shown_status r is_nothing))
+small_shown report.About is_nothing = small_status 0 (omega arith)
+small_shown report.Page is_nothing = small_status 0 (omega arith)
+small_shown (report.Orders listing) is_nothing = small_status 0 (omega arith)
+small_shown (report.Accounts json) is_nothing = small_status 0 (omega arith)
+small_shown (report.Authorizations listing) is_nothing = small_status 0 (omega arith)
+small_shown (report.Check json) is_nothing = small_found_there is_nothing
+
+small_looked : (r : Report) (was is : Option (List ℕ)) (how : Result ℕ Fault) → LooksServed r was is how → IsSmall how
+small_looked r was is how (inl it) = small_as how _ it.1 (small_status 2 (omega arith))
+small_looked r was is how (inr (unasked ends same)) = small_as how _ ends (omega arith)
+small_looked r was is how (inr (looked.unheard why part ends written)) = small_as how _ ends (omega arith)
+small_looked r was is how (inr (unwritten ends)) = small_as how _ ends (omega arith)
+small_looked r was is how (inr (shown whole is_nothing written is_text ends)) = small_as how _ ends (small_shown r is_nothing)
 
 -- what is done by a desk
 small_by : {S C : Type 0} (v : Sight S C) (was is : Option (List ℕ)) (Does : DeskState S → DeskState S → Result ℕ Fault → Type 0)
@@ -218,10 +241,26 @@ module _ {D : Type 0} (g : disk.Ghosts D) (image : Image) where
   small_back_up was is how left (inl it) = small_as how _ it.2 (omega arith)
   small_back_up was is how left (inr it) = small_checked_copy was is how left it
 
+  small_back_up_served : (was is : Option (List ℕ)) (how : Result ℕ Fault) (left : Left D g) → EndsBackUpServed g image was is how left → IsSmall how
+  small_back_up_served was is how left (inl it) = small_as how _ it.1 (omega arith)
+  small_back_up_served was is how left (inr it) = small_checked_copy was is how left it
+
   -- copies that take the place of a desk
   small_restore : (was is : Option (List ℕ)) (how : Result ℕ Fault) (left : Left D g) → EndsRestore g image was is how left → IsSmall how
   small_restore was is how left (inl it) = small_as how _ it.2 (omega arith)
   small_restore was is how left (inr it) = small_checked_copy was is how left it
+
+  -- each report
+  small_report : (r : Report) (was is : Option (List ℕ)) (how : Result ℕ Fault) (left : Left D g) → EndsReport g image r was is how left → IsSmall how
+  small_report report.About was is how left (inl it) = small_as how _ it.2 (omega arith)
+  small_report report.About was is how left (inr it) = small_over (TellsAbout it.0) (small_tells it.0) was is how left it.1
+  small_report report.Page was is how left it = small_over TellsPage small_page was is how left it
+  small_report (report.Orders listing) was is how left it =
+      small_list _ _ was is how left (λ lists. small_rows (orders_roster lists.filter (form_of listing.json)) was is how left lists.ends) it
+  small_report (report.Accounts json) was is how left it = small_rows (accounts_roster (form_of json)) was is how left it
+  small_report (report.Authorizations listing) was is how left it =
+      small_list _ _ was is how left (λ lists. small_rows (authorizations_roster lists.filter (form_of listing.json)) was is how left lists.ends) it
+  small_report (report.Check json) was is how left it = small_over (ChecksStatuses (form_of json)) (small_checks (form_of json)) was is how left it
 
   -- each command
   small_command : (bytes was is : Option (List ℕ)) (o : Command) (how : Result ℕ Fault) (left : Left D g) → Ends g image bytes was is o how left
@@ -229,17 +268,10 @@ module _ {D : Type 0} (g : disk.Ghosts D) (image : Image) where
   small_command bytes was is (command.Make file terms) how left it = small_make (terms_of terms) was is how left it
   small_command bytes was is (command.Serve file serving) how left it =
       small_over (ServesClients serving it.0) (small_serves serving it.0) was is how left it.1
-  small_command bytes was is (command.About file) how left (inl it) = small_as how _ it.2 (omega arith)
-  small_command bytes was is (command.About file) how left (inr it) = small_over (TellsAbout it.0) (small_tells it.0) was is how left it.1
-  small_command bytes was is (command.Page file) how left it = small_over TellsPage small_page was is how left it
-  small_command bytes was is (command.Status file listing) how left it =
-      small_list _ _ was is how left (λ lists. small_rows (orders_roster lists.filter (form_of listing.json)) was is how left lists.ends) it
-  small_command bytes was is (command.Accounts file json) how left it = small_rows (accounts_roster (form_of json)) was is how left it
-  small_command bytes was is (command.Authorizations file listing) how left it =
-      small_list _ _ was is how left (λ lists. small_rows (authorizations_roster lists.filter (form_of listing.json)) was is how left lists.ends) it
-  small_command bytes was is (command.Check file json) how left it =
-      small_over (ChecksStatuses (form_of json)) (small_checks (form_of json)) was is how left it
+  small_command bytes was is (command.Report file report) how left it = small_report report was is how left it
+  small_command bytes was is (command.Look place report) how left it = small_looked report was is how it.0
   small_command bytes was is (command.BackUp file to) how left it = small_back_up was is how left it
+  small_command bytes was is (command.BackUpServed place to) how left it = small_back_up_served was is how left it
   small_command bytes was is (command.Restore copy file) how left it = small_restore was is how left it
   small_command bytes was is (command.Revoke file target) how left (inl it) = small_as how _ it.0 (omega arith)
   small_command bytes was is (command.Revoke file target) how left (inr it) =

@@ -4,14 +4,15 @@ use Rattle.std.specs.Io.KnownBytes.{Appends}
 use Rattle.sqlite.specs.Recovery.{Image}
 use Rattle.sqlite_disk.specs.declared.Disk as disk
 use Rattle.app_words.specs.declared.command.{AuthorizationListing.AuthorizationListing, OrderListing.OrderListing, Command.Command}
-use Rattle.app_words.specs.declared.command.{Serving.Serving, Syncs.Syncs}
+use Rattle.app_words.specs.declared.command.{Report.Report, Serving.Serving, Syncs.Syncs}
+use Rattle.app_words.specs.declared.command.Report.TheVariants as report
 use Rattle.app_words.specs.declared.command.Command.TheVariants as command
 use Rattle.app_words.specs.declared.command.Revocation.{Revocation}
 use Rattle.desk_http.specs.declared.serve_fault.ServeFault.TheVariants as servefault
 use Rattle.app_words.specs.declared.command.Syncs.TheVariants as syncs
 use Rattle.app_words.specs.declared.fault.WordsFault.{WordsFault}
 use Rattle.app_words.specs.declared.fault.WordsFault.TheVariants as wordsfault
-use Rattle.app_tasks.specs.{Asked.RevokesServed, declared.filters.Unasked.Unasked, declared.fault.Fault.Fault}
+use Rattle.app_tasks.specs.{Asked.RevokesServed, Looking.LooksServed, declared.filters.Unasked.Unasked, declared.fault.Fault.Fault}
 use Rattle.app_tasks.specs.Filters.{AreRight, AsksForAuthorizations, AsksForOrders, StandsForName}
 use Rattle.app_tasks.specs.Deeds.{AnswersReader, ChecksStatuses, ListsRows, RevokesTarget, ServesClients, TellsAbout, TellsPage, form_of}
 use Rattle.app_tasks.specs.{Faults.IsOfLog, Faults.IsOfOpening, Faults.open_fault, GivenTerms.terms_of}
@@ -144,19 +145,25 @@ module _ {D : Type 0} (g : disk.Ghosts D) (image : Image) where
   abbrev pub EndsBackUpServed : (was is : Option (List ℕ)) → Result ℕ Fault → Left D g → Type 0
   EndsBackUpServed was is how left = ((why : Fault) × (how ≡ Err why) × IsIdle was is left) ⊎ CopiesChecked was is how left
 
+  -- how a report on the desk of the files ends
+  abbrev pub EndsReport : Report → (was is : Option (List ℕ)) → Result ℕ Fault → Left D g → Type 0
+  EndsReport report.About was is how left = EndsAbout was is how left
+  EndsReport report.Page was is how left = EndsOverFiles TellsPage was is how left
+  EndsReport (report.Orders listing) was is how left = EndsList (AreRight listing) (ListsOrders listing was is how left) was is how left
+  EndsReport (report.Accounts json) was is how left = EndsOverFiles (ListsRows (accounts_roster (form_of json))) was is how left
+  EndsReport (report.Authorizations listing) was is how left =
+      EndsList (StandsForName listing.name) (ListsAuthorizations listing was is how left) was is how left
+  EndsReport (report.Check json) was is how left = EndsOverFiles (ChecksStatuses (form_of json)) was is how left
+
   -- how a command over files with these bytes ends, and what it leaves; its reader has these bytes, and its writer was given these and has
   -- these in the end, where that is known
   abbrev pub Ends : (bytes was is : Option (List ℕ)) → Command → Result ℕ Fault → Left D g → Type 0
   Ends bytes was is (command.Make file terms) how left = EndsMake (terms_of terms) was is how left
   Ends bytes was is (command.Serve file serving) how left = EndsServe serving was is how left
-  Ends bytes was is (command.About file) how left = EndsAbout was is how left
-  Ends bytes was is (command.Page file) how left = EndsOverFiles TellsPage was is how left
-  Ends bytes was is (command.Status file listing) how left = EndsList (AreRight listing) (ListsOrders listing was is how left) was is how left
-  Ends bytes was is (command.Accounts file json) how left = EndsOverFiles (ListsRows (accounts_roster (form_of json))) was is how left
-  Ends bytes was is (command.Authorizations file listing) how left =
-      EndsList (StandsForName listing.name) (ListsAuthorizations listing was is how left) was is how left
-  Ends bytes was is (command.Check file json) how left = EndsOverFiles (ChecksStatuses (form_of json)) was is how left
+  Ends bytes was is (command.Report file report) how left = EndsReport report was is how left
+  Ends bytes was is (command.Look place report) how left = LooksServed report was is how × (left ≡ rest.Untouched)
   Ends bytes was is (command.BackUp file to) how left = EndsBackUp was is how left
+  Ends bytes was is (command.BackUpServed place to) how left = EndsBackUpServed was is how left
   Ends bytes was is (command.Restore copy file) how left = EndsRestore was is how left
   Ends bytes was is (command.Revoke file target) how left = EndsRevoke target was is how left
   Ends bytes was is (command.RevokeServed place target) how left = RevokesServed target was is how × (left ≡ rest.Untouched)

@@ -60,9 +60,12 @@ pub(crate) fn explain<D: Disk, E: Write>(
             explain_socket(errors, cause, serving.listening)
         }
         (Err(Fault::Desk(fault)), _) => explain_desk_fault(rt, errors, command, fault, left),
-        (Err(Fault::Connection(unheard)), Command::RevokeServed { place, .. }) => {
-            explain_unheard(errors, unheard, place)
-        }
+        (
+            Err(Fault::Connection(unheard)),
+            Command::Look { place, .. }
+            | Command::BackUpServed { place, .. }
+            | Command::RevokeServed { place, .. },
+        ) => explain_unheard(errors, unheard, place),
         (
             Err(Fault::Refused(refusal)),
             Command::Revoke { target, .. } | Command::RevokeServed { target, .. },
@@ -143,7 +146,7 @@ fn explain_socket<E: Write>(errors: &mut E, cause: SocketCause, listening: Liste
     }
 }
 
-// Says why nobody knows what came of a request to the desk that is served at a place.
+// Says why nobody knows what came of a request to the desk that is served at a place, or all of what it shows.
 fn explain_unheard<E: Write>(errors: &mut E, unheard: Unheard, place: Place<'_>) {
     let _ = match place {
         Place::Port(port) => writeln!(errors, "desk: port {port}: {unheard}"),

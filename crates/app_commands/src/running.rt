@@ -5,7 +5,7 @@ ghost use Rattle.desk_model.specs.Terms.{are_terms};
 ghost use Rattle.desk.specs.declared.fault.DeskFault.TheVariants as deskfault;
 ghost use Rattle.app_tasks.specs.Deeds.{ChecksStatuses, ListsRows, TellsPage, form_of};
 ghost use Rattle.app_tasks.specs.{Faults.IsOfOpening, GivenTerms.terms_of};
-ghost use Rattle.app_commands.specs.Statuses.{Ends, EndsAbout, EndsBy, EndsMake, EndsOverFiles, EndsRevoke, EndsServe, EndsUnasked, IsToldMade};
+ghost use Rattle.app_commands.specs.Statuses.{Ends, EndsAbout, EndsBy, EndsMake, EndsOverFiles, EndsReport, EndsRevoke, EndsServe, EndsUnasked, IsToldMade};
 ghost use Rattle.app_commands.specs.Statuses.{BySyncs, EndsSo, IsToldWords, status_of, supposes, syncs_of, terms_in_memory};
 ghost use Rattle.app_words.specs.declared.command.Command.{Command as CommandValue};
 ghost use Rattle.app_words.specs.declared.fault.WordsFault.{WordsFault as WordsFaultValue};
@@ -13,19 +13,19 @@ ghost use Rattle.app_reports.specs.Listed.{roster};
 ghost use Rattle.app_files.specs.Endings.{EndsInMemory};
 ghost use Rattle.app_tasks.specs.declared.fault.Fault.TheVariants as fault;
 
-use crate::backing_up::back_up;
+use crate::backing_up::{back_up, back_up_served};
 use crate::explaining::explain;
 use crate::restoring::restore;
 use app_files::{Left, Unknown, Wary, make_desk, run_in_memory, run_over_file};
 use app_reports::{AllAccounts, RowList};
 use app_tasks::{
     AnswerLines, CheckStatuses, Fault, ListRows, Revoke, ServeConnections, ShowPage, Task,
-    TellAbout, Unasked, VisibleLines, Wrong, authorization_filter, form, known_beside,
+    TellAbout, Unasked, VisibleLines, Wrong, authorization_filter, form, known_beside, look_served,
     order_filter, refuse, revoke_served, wait_for, write_fault,
 };
 use app_words::{
-    AUTHZ_LIFE, Asked, AuthorizationListing, Command, NONCE_LIFE, ORDER_LIFE, OrderListing,
-    Revocation, Serving, SyncedFile, Syncs, Terms, WordsFault, read_words,
+    AUTHZ_LIFE, Asked, Command, NONCE_LIFE, ORDER_LIFE, Report, Revocation, Serving, SyncedFile,
+    Syncs, Terms, WordsFault, read_words,
 };
 use desk::DeskFault;
 use desk_http::moment;
@@ -191,19 +191,12 @@ fn try_command<S: Start, R: Read + Drop, W: Write, E: Write>(
     match command {
         Command::Make { file, terms } => make_file(rt, file, terms, start, out, errors),
         Command::Serve { file, serving } => serve_file(rt, file, serving, start, out, errors),
-        Command::About { file } => about_file(rt, file, start, out),
-        Command::Page { file } => show_page(rt, file, start, out),
-        Command::Status { file, listing } => {
-            let filter = order_filter(rt.alloc(), listing);
-            list_asked(rt, file, filter, listing.json, start, out, errors)
+        Command::Report { file, report } => report_on(rt, file, report, start, out, errors),
+        Command::Look { place, report } => {
+            (look_served(rt, place, report, out, errors), Left::Untouched)
         }
-        Command::Accounts { file, json } => list_over(rt, file, AllAccounts, json, start, out),
-        Command::Authorizations { file, listing } => {
-            let filter = authorization_filter(rt.alloc(), listing);
-            list_asked(rt, file, filter, listing.json, start, out, errors)
-        }
-        Command::Check { file, json } => check_file(rt, file, json, start, out, errors),
         Command::BackUp { file, to } => back_up(rt, file, to, start, out, errors),
+        Command::BackUpServed { place, to } => back_up_served(rt, place, to, start, out, errors),
         Command::Restore { copy, file } => restore(rt, copy, file, start, out, errors),
         Command::Revoke { file, target } => revoke_over(rt, file, target, start, out),
         Command::RevokeServed { place, target } => {
@@ -266,6 +259,33 @@ fn serve_file<S: Start, W: Write, E: Write>(
         errors,
     };
     run_over_file(rt, file.path, start, task, out)
+}
+
+// Reports on the desk in a file.
+fn report_on<S: Start, W: Write, E: Write>(
+    rt: &HostRuntime,
+    file: &str,
+    report: Report<'_>,
+    start: S,
+    out: &mut W,
+    errors: &mut E,
+) -> (Result<u8, Fault>, Left<FileFrom<S>>)
+    ensures { EndsReport ⟦<FileFrom<S> as Disk>⟧ (image_at S.Start) report.entry (W.contents out.old) (W.contents out.new) result.0 result.1 }
+{
+    match report {
+        Report::About => about_file(rt, file, start, out),
+        Report::Page => show_page(rt, file, start, out),
+        Report::Orders(listing) => {
+            let filter = order_filter(rt.alloc(), listing);
+            list_asked(rt, file, filter, listing.json, start, out, errors)
+        }
+        Report::Accounts { json } => list_over(rt, file, AllAccounts, json, start, out),
+        Report::Authorizations(listing) => {
+            let filter = authorization_filter(rt.alloc(), listing);
+            list_asked(rt, file, filter, listing.json, start, out, errors)
+        }
+        Report::Check { json } => check_file(rt, file, json, start, out, errors),
+    }
 }
 
 // Tells about the desk in a file, and how large the log beside it was.
@@ -428,13 +448,10 @@ fn syncs_of(command: Command<'_>) -> Syncs
     match command {
         Command::Make { .. } => Syncs::Twice,
         Command::Serve { file, .. } => file.syncs,
-        Command::About { .. } => Syncs::Twice,
-        Command::Page { .. } => Syncs::Twice,
-        Command::Status { .. } => Syncs::Twice,
-        Command::Accounts { .. } => Syncs::Twice,
-        Command::Authorizations { .. } => Syncs::Twice,
-        Command::Check { .. } => Syncs::Twice,
+        Command::Report { .. } => Syncs::Twice,
+        Command::Look { .. } => Syncs::Twice,
         Command::BackUp { .. } => Syncs::Twice,
+        Command::BackUpServed { .. } => Syncs::Twice,
         Command::Restore { .. } => Syncs::Twice,
         Command::Revoke { .. } => Syncs::Twice,
         Command::RevokeServed { .. } => Syncs::Twice,
