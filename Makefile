@@ -78,6 +78,8 @@ trials: ## what the gate tries of the program bin/desk
 	@python3 -B -m scripts.files.stops bin/desk
 	@echo 'Serving over loopback: replies byte for byte, requests that are none, connections that fail, what ends the program.'
 	@python3 -B -m scripts.serving.serve bin/desk
+	@echo 'Asking a desk that is served by the words, whole and broken off, and what is no desk.'
+	@python3 -B -m scripts.serving.looks bin/desk
 	@echo 'Refusing memory to the program, each ninth growth of a call (make growths: each one).'
 	@python3 -B -m scripts.files.growths bin/desk --step 9
 	@echo 'Counting the instructions of a call, and comparing them with those that docs/PERFORMANCE.md has (make instructions writes these).'
