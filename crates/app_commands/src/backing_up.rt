@@ -90,20 +90,6 @@ fn may_be_made(rt: &HostRuntime, to: &str) -> Result<(), CopyFault>
     Ok(())
 }
 
-/// Has the desk that is served at a place give a copy of its files, and checks and keeps that in a new file.
-pub(crate) fn back_up_served<S: Start, W: Write, E: Write>(
-    _rt: &HostRuntime,
-    _place: Place<'_>,
-    _to: &str,
-    _start: S,
-    _out: &mut W,
-    _errors: &mut E,
-) -> (Result<u8, Fault>, Left<FileFrom<S>>)
-    ensures { EndsBackUpServed ⟦<FileFrom<S> as Disk>⟧ (image_at S.Start) (W.contents _out.old) (W.contents _out.new) result.0 result.1 }
-{
-    (Err(Fault::Connection(Unheard::Unshown)), Left::Untouched)
-}
-
 /// Copies the file of a desk that is closed and has no wrong status, says so, and gives the exit status. It takes the result of the
 /// check as it is, since its callers give what is left of the files beside it.
 pub(crate) fn copied<W: Write>(
