@@ -108,21 +108,21 @@ predicted: ## compares 100 random batches with the model
 	@python3 -B -m scripts.model.predicted bin/desk
 
 # The program, its manual page and its completion for bash from its own help, and for systemd its unit, the sockets in front of it with
-# their filter, and the users.
+# their filter, the port of its metrics, and the users.
 PLACE = $(DESTDIR)$(PREFIX)
 UNITS = $(PLACE)/lib/systemd/system
 install: ## the program, its manual page, its completion for bash, its units and users
 	@$(HAS_DESK)
 	@python3 -B -m scripts.gate.manual page bin/desk > bin/desk.1
 	@python3 -B -m scripts.gate.manual completion bin/desk > bin/desk.bash
-	@for unit in desk.service desk-filter.service desk-role@.socket; do sed 's|@PREFIX@|$(PREFIX)|' packaging/$$unit > bin/$$unit; done
+	@for unit in desk.service desk-filter.service desk-role@.socket desk-metrics.service desk-metrics.socket; do sed 's|@PREFIX@|$(PREFIX)|' packaging/$$unit > bin/$$unit; done
 	install -D -m 755 bin/desk "$(PLACE)/bin/desk"
 	install -D -m 644 bin/desk.1 "$(PLACE)/share/man/man1/desk.1"
 	install -D -m 644 bin/desk.bash "$(PLACE)/share/bash-completion/completions/desk"
 	install -D -m 644 packaging/desk.sysusers "$(PLACE)/lib/sysusers.d/desk.conf"
 	install -D -m 644 examples/house/filter.py "$(PLACE)/share/desk/house/filter.py"
 	install -d "$(UNITS)"
-	install -m 644 bin/desk.service bin/desk-filter.service bin/desk-role@.socket "$(UNITS)"
+	install -m 644 bin/desk.service bin/desk-filter.service bin/desk-role@.socket bin/desk-metrics.service bin/desk-metrics.socket "$(UNITS)"
 	@echo 'Whoever reaches the desk is trusted. The units keep it behind sockets in /run/desk, one a role, each for a group of its own; a port of'
 	@echo '`desk serve --port` is open to every user of this machine, and while it is stopped any of them may take it.'
 
@@ -201,8 +201,6 @@ bench: ## times the program for docs/PERFORMANCE.md, in minutes
 	@python3 bench/bench.py > bin/PERFORMANCE.md
 	@echo 'Timing requests over loopback.'
 	@python3 bench/loopback.py >> bin/PERFORMANCE.md
-	@echo 'Timing the reports.'
-	@python3 bench/reports.py >> bin/PERFORMANCE.md
 	@echo 'Timing what an operator does with finished orders.'
 	@python3 bench/finished.py >> bin/PERFORMANCE.md
 	@echo 'Timing the opening of a file of format 1.'

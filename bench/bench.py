@@ -481,27 +481,20 @@ def ratio(measured, size, name, who="desk"):
     return measured[size].seconds["c"][name] / measured[size].seconds[who][name]
 
 
-def print_rates(measured, who):
-    print("| calls a second | " + " | ".join(f"{size:,} orders" for size in measured) + " | growth |")
-    print("|---|" + "---|" * (len(measured) + 1))
-    for name, _ in KINDS:
-        rates = " | ".join(figure(1 / found.seconds[who][name]) for found in measured.values())
-        print(f"| {name} | {rates} | {figure(growth(measured, who, name))} |")
-    print()
-
-
-def print_ratios(disk, memory):
-    """The rate of C at the largest size, and by it those of the program with two syncs, with `--sync once`, and without a sync."""
-    ends, largest = (min(disk), max(disk)), max(disk)
-    columns = [f"C, {largest:,}", "its growth", *(f"ratio, {size:,}" for size in ends), *(f"once, {size:,}" for size in ends)]
-    if memory:
-        columns += [f"no sync, {size:,}" for size in (min(memory), largest)]
-    print("| | " + " | ".join(columns) + " |")
+def print_rates(measured, who, memory=None):
+    """The rate of the program at the largest size and its growth; where C is measured, too, its own, and by these the program's rate with
+    two syncs, with `--sync once`, and over a file in memory, without a sync."""
+    largest = max(measured)
+    has_c = "c" in measured[largest].seconds
+    columns = [f"{NAMES[who]}, {largest:,} orders", "growth"]
+    columns += ["C", "growth", "ratio", "once"] if has_c else []
+    columns += ["no sync"] if has_c and memory else []
+    print("| calls a second | " + " | ".join(columns) + " |")
     print("|---|" + "---|" * len(columns))
     for name, _ in KINDS:
-        cells = [1 / disk[largest].seconds["c"][name], growth(disk, "c", name)]
-        cells += [ratio(disk, size, name, who) for who in ("desk", "once") for size in ends]
-        cells += [ratio(memory, size, name) for size in (min(memory), largest)] if memory else []
+        cells = [cell for maker in (who, "c") if maker == who or has_c for cell in (1 / measured[largest].seconds[maker][name], growth(measured, maker, name))]
+        cells += [ratio(measured, largest, name, maker) for maker in ("desk", "once") if has_c]
+        cells += [ratio(memory, max(memory), name)] if has_c and memory else []
         print(f"| {name} | " + " | ".join(map(figure, cells)) + " |")
     print()
 
@@ -572,7 +565,7 @@ def say_how():
         `bench/desk.c`, which does the same transactions by hand on SQLite {sqlite3.sqlite_version}, each serve a copy, side by side,
         and give the same replies. They are asked in {TURNS} turns of {CALLS} calls of a kind, one after the other, {RUNS} times over new
         files; a time is the median of the turns, with the round through pipes. Growth is the time at the largest size by that at the
-        smallest, ratio the program's rate by C's, "once" the ratio with `--sync once`. Measured on {os.cpu_count()} processors that other work shared: rates are low by
+        smallest ({min(SIZES):,} orders), ratio the program's rate by C's, "once" that with `--sync once`, "no sync" that over files in memory. Measured on {os.cpu_count()} processors that other work shared: rates are low by
         it, and a single figure may differ by a third from run to run."""
     )
 
@@ -637,7 +630,6 @@ def say_old():
 
 def print_comparison(disk, memory):
     """The program beside C."""
-    print_ratios(disk.sizes, memory and memory.sizes)
     print_of_one(disk)
     print("## Where the time goes\n")
     say(missed(disk))
@@ -651,7 +643,7 @@ def print_page(counts, disk, memory):
     print("# Performance\n\n## Calls a second\n")
     say_how()
     say_syncs(counts, disk.sync)
-    print_rates(disk.sizes, who)
+    print_rates(disk.sizes, who, memory and memory.sizes)
     if {"desk", "c"} <= set(disk.sizes[largest].seconds):
         print_comparison(disk, memory)
     print("## What one desk carries\n")

@@ -1,27 +1,47 @@
 #!/usr/bin/env python3
-"""Times openings, `check`, `backup` and `restore` over files of finished orders, and writes a section of docs/PERFORMANCE.md to standard output.
+"""Times what an operator does with files of finished orders, and writes sections of docs/PERFORMANCE.md to standard output: openings, reports,
+`backup` and `restore` over a file, and what a desk is asked that is served, with the longest wait of a client meanwhile.
 
 Each file is one of bench.py's, whose orders a batch then answers, reports, finalizes and certifies.
 
-    python3 bench/finished.py [--sizes 10000,100000] [--turns 3]
+    python3 bench/finished.py [--program bin/desk] [--sizes 10000,100000] [--turns 3]
 """
 
 import argparse
+import contextlib
 import os
+import re
 import shutil
+import socket
 import statistics
 import subprocess
 import sys
 import tempfile
 import textwrap
+import threading
+import time
 
 from bench import CERTIFICATE, CSR, KINDS, TOP, Lines, make_file
-from reports import run
 
 SIZES = (10000, 100000)
 TURNS = 3
+# How often the metrics are read.
+READINGS = 20
+# The reports, with the end of what each prints of so many orders.
+REPORTS = {"about": "log: ", "page": "</html>\n", "status": "orders {}\n", "check": "no fault\n"}
 # The calls of an order that is there, from its challenge to its certificate.
 FINISHING = ("answer a challenge", "report", "finalize", "certify")
+
+
+def run(words):
+    """The seconds and the most kilobytes that the program took, and what it printed."""
+    begun = time.monotonic()
+    process = subprocess.Popen(words, stdin=subprocess.DEVNULL, stdout=subprocess.PIPE, text=True)
+    printed = process.stdout.read()
+    _, ended, used = os.wait4(process.pid, 0)
+    if ended != 0:
+        sys.exit(f"{' '.join(words)} ended with {ended}")
+    return time.monotonic() - begun, used.ru_maxrss, printed
 
 
 def finish(program, path, orders):
@@ -46,27 +66,112 @@ def make_finished(program, path, size):
         shutil.move(made, path)
 
 
+def see_end(name, size, printed):
+    """Ends the script where a report does not end as it should; of `about` it is the last line that is looked at."""
+    end = REPORTS.get(name, "").format(size)
+    if name in REPORTS and not (printed.endswith(end) or name == "about" and printed.splitlines()[-1].startswith(end)):
+        sys.exit(f"{name} of {size} orders ended otherwise")
+
+
 def measure(program, size, turns, folder):
     """The bytes of a file, for each word the median of its seconds, and the most kilobytes of all."""
     path, copy = f"{folder}/{size}.db", f"{folder}/{size}-copy.db"
     make_finished(program, path, size)
-    words = {"opening": ("batch", "--file", path), "check": ("check", path), "backup": ("backup", path, copy), "restore": ("restore", copy, path)}
+    words = {"opening": ("batch", "--file", path), **{name: (name, path) for name in REPORTS}, "backup": ("backup", path, copy),
+             "restore": ("restore", copy, path)}
     taken = {name: [] for name in words}
     for _ in range(turns):
         for name, word in words.items():
-            taken[name].append(run([program, *word])[:2])
+            *found, printed = run([program, *word])
+            see_end(name, size, printed)
+            taken[name].append(found)
         os.remove(copy)
     seconds = {name: statistics.median(it[0] for it in found) for name, found in taken.items()}
     return os.path.getsize(path), seconds, max(it[1] for found in taken.values() for it in found)
+
+
+def asked(place, path):
+    """The seconds that a GET at a socket takes, from the connection to the end of the reply."""
+    start = time.monotonic()
+    with socket.socket(socket.AF_UNIX) as desk:
+        desk.connect(place)
+        desk.sendall(f"GET {path} HTTP/1.1\r\nHost: desk\r\n\r\n".encode())
+        while desk.recv(65536):
+            pass
+    return time.monotonic() - start
+
+
+class Waiting(threading.Thread):
+    """A client that asks for one nonce after the other, and keeps the longest time that one took."""
+
+    def __init__(self, place):
+        super().__init__(daemon=True)
+        self.place, self.over, self.longest = place, threading.Event(), 0
+        self.start()
+
+    def run(self):
+        while not self.over.is_set():
+            self.longest = max(self.longest, asked(self.place, "/new-nonce"))
+
+    def end(self):
+        self.over.set()
+        self.join()
+        return self.longest
+
+
+@contextlib.contextmanager
+def served(program, path, place):
+    """The process of a desk that is served at a socket."""
+    desk = subprocess.Popen([program, "serve", path, "--socket", place], stdin=subprocess.DEVNULL, stdout=subprocess.PIPE)
+    desk.stdout.readline()
+    try:
+        yield desk
+    finally:
+        desk.terminate()
+        desk.wait()
+
+
+def measure_served(program, size, turns, folder):
+    """For each word the median of its seconds, the longest wait of a client beside a backup, the seconds of a
+    reading of the metrics, and the most kilobytes of the desk that is served."""
+    path, place, copy = f"{folder}/{size}.db", f"{folder}/socket", f"{folder}/served-copy.db"
+    taken, waits = {name: [] for name in (*REPORTS, "backup")}, []
+    with served(program, path, place) as desk:
+        for _ in range(turns):
+            for name in REPORTS:
+                seconds, _, printed = run([program, name, "--socket", place])
+                see_end(name, size, printed)
+                taken[name].append(seconds)
+            client = Waiting(place)
+            taken["backup"].append(run([program, "backup", copy, "--socket", place])[0])
+            waits.append(client.end())
+            os.remove(copy)
+        reading = statistics.median(asked(place, "/office/metrics") for _ in range(READINGS))
+        with open(f"/proc/{desk.pid}/status", encoding="ascii") as status:
+            kilobytes = int(re.search(r"VmHWM:\s*(\d+)", status.read())[1])
+    return {name: statistics.median(found) for name, found in taken.items()}, statistics.median(waits), reading, kilobytes
+
+
+def served_page(found, turns):
+    """The lines of the section on desks that are served."""
+    text = f"""`bench/finished.py` writes this section, too, of the same files: the desk is served at a socket, and asked there. A time
+        is the median of {turns} runs, that of the metrics of {READINGS} readings. The desk is busy until a report is taken, and until the files of a
+        backup are sent, which the longest wait of a client tells that takes nonces meanwhile; the word checks the copy alone."""
+    lines = ["## Asked while it serves", "", *textwrap.wrap(" ".join(text.split()), 118), ""]
+    lines += [f"| orders | {' | '.join(REPORTS)} | backup | wait beside it | metrics | memory |", "|" + "---|" * (len(REPORTS) + 5)]
+    for size, (seconds, wait, reading, kilobytes) in found.items():
+        times = " | ".join(f"{it:,.1f} s" for it in (*seconds.values(), wait))
+        lines.append(f"| {size:,} | {times} | {1000 * reading:,.1f} ms | {kilobytes / 1024:,.0f} MB |")
+    return lines
 
 
 def page(found, turns):
     """The lines of the section."""
     text = f"""`bench/finished.py` writes this section. Each order has a CSR of {len(CSR) * 3 // 4} bytes and a certificate of {len(CERTIFICATE):,}.
         A time is the median of {turns} runs; memory is the most that a process had. What opening takes grows with all that the file
-        holds, since the engine reads each table whole."""
+        holds, since the engine reads each table whole; each word opens the file, and that is in its time."""
     lines = ["## Finished orders", "", *textwrap.wrap(" ".join(text.split()), 118), ""]
-    lines += ["| orders | file | opening | check | backup | restore | memory |", "|---|---|---|---|---|---|---|"]
+    lines += [f"| orders | file | opening | {' | '.join(REPORTS)} | backup | restore | memory |", "|" + "---|" * (len(REPORTS) + 6)]
     for size, (held, seconds, kilobytes) in found.items():
         times = " | ".join(f"{it:,.1f} s" for it in seconds.values())
         lines.append(f"| {size:,} | {held / 1e6:,.0f} MB | {times} | {kilobytes / 1024:,.0f} MB |")
@@ -77,10 +182,13 @@ def main():
     words = argparse.ArgumentParser(description="Times what an operator does with a desk of finished orders.")
     words.add_argument("--sizes", default=",".join(map(str, SIZES)))
     words.add_argument("--turns", type=int, default=TURNS)
+    words.add_argument("--program", default=f"{TOP}/bin/desk")
     given = words.parse_args()
     with tempfile.TemporaryDirectory(prefix="desk-finished-") as folder:
-        found = {int(size): measure(f"{TOP}/bin/desk", int(size), given.turns, folder) for size in given.sizes.split(",")}
-    print("\n".join(page(found, given.turns)))
+        program, sizes = given.program, [int(size) for size in given.sizes.split(",")]
+        found = {size: measure(program, size, given.turns, folder) for size in sizes}
+        asked_served = {size: measure_served(program, size, given.turns, folder) for size in sizes}
+    print("\n".join([*page(found, given.turns), "", *served_page(asked_served, given.turns)]))
 
 
 if __name__ == "__main__":

@@ -16,7 +16,7 @@ import tempfile
 import textwrap
 
 from bench import NOW, TOP, make_file
-from reports import run, said
+from finished import run
 
 SIZE, TURNS = 100000, 3
 # The upgrade is to take no longer than so many openings.
@@ -63,7 +63,7 @@ def page(found, size, turns):
         most {GOAL} openings, and {MEMORY} MB more than an opening: it takes {times:.1f}, and {more:.1f} MB more."""
     lines = ["", "## A file of format 1", "", *textwrap.wrap(" ".join(text.split()), 118), ""]
     lines += ["| orders | opening | opening with the upgrade | memory, opening | with the upgrade |", "|---|---|---|---|---|"]
-    cells = [said(found[form][0]) for form in (2, 1)] + [f"{found[form][1] / 1024:,.1f} MB" for form in (2, 1)]
+    cells = [f"{1000 * found[form][0]:,.0f} ms" for form in (2, 1)] + [f"{found[form][1] / 1024:,.1f} MB" for form in (2, 1)]
     return [*lines, f"| {size:,} | {' | '.join(cells)} |"]
 
 

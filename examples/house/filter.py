@@ -19,6 +19,7 @@ ROLES = {
     "validator": r"GET /office/challenges|POST /office/report/[0-9]+",
     "office": r"GET /office/orders|POST /office/(certify|fail)/[0-9]+",
     "operator": r".*",
+    "monitor": r"GET /office/metrics",
 }
 LINE, LENGTH = re.compile(rb"([A-Z]{1,16} /[!-~]*) HTTP/1\.1\r\n"), re.compile(rb"\r\ncontent-length:[ \t]*([0-9]{1,9})[ \t]*\r\n")
 # The bytes of a head and of a body, at most; how long a part may be silent, and the desk, in seconds.

@@ -22,7 +22,7 @@ from scripts.repository import ROOT, blocks, read, sections, write
 from scripts.trying import faults, finish, see
 
 # The exposure that systemd-analyze may find, in tenths; how long systemd and what is asked of it may take, in seconds.
-EXPOSURE = {"desk": 10, "desk-filter": 12, "desk-office": 10, "desk-validator": 15, "desk-front": 20}
+EXPOSURE = {"desk": 10, "desk-filter": 12, "desk-office": 10, "desk-validator": 15, "desk-front": 20, "desk-metrics": 12}
 PATIENCE = 60
 # The orders of an account whose list is in the memory that is measured.
 ORDERS = 4000
@@ -189,7 +189,7 @@ def attack(machine):
         said = machine.call(PYTHON, "-c", "import socket; socket.create_connection(('127.0.0.1', 8555))", user=user)[1]
         see(f"{user or 'root'} at port 8555", "ConnectionRefusedError" in said, True)
     for user in ("nobody", "desk-front", "desk-validator", "desk-office"):
-        for role in ("front", "validator", "office", "operator"):
+        for role in ("front", "validator", "office", "operator", "monitor"):
             reach = f"import socket; socket.socket(socket.AF_UNIX).connect('/run/desk/{role}')"
             see(f"{user} at the socket of the {role}", "PermissionError" in machine.call(PYTHON, "-c", reach, user=user)[1], user != f"desk-{role}")
     for user, part, can in (("desk-front", "office", True), ("desk-front", "validator", True), ("desk-validator", "office", False), ("nobody", "office", False)):
@@ -198,6 +198,8 @@ def attack(machine):
     for role, user, method, path, status in (
         ("front", "desk-front", "GET", "office/key/1", "404"), ("front", "desk-front", "POST", "office/revoke-account/1", "403"),
         ("validator", "desk-validator", "GET", "office/orders", "403"), ("operator", None, "POST", "office/revoke-account/1", "404"),
+        ("operator", None, "GET", "office/page", "200"), ("front", "desk-front", "GET", "office/page", "403"),
+        ("monitor", None, "GET", "office/metrics", "200"), ("monitor", None, "GET", "office/page", "403"),
     ):
         see(f"{method} /{path} by the {role}", asked(machine, role, method, path, user), status)
     for path, user in (("/run/desk/front", "nobody"), ("/run/desk/front", "desk-front"), ("/run/desk/other", "desk-front")):
@@ -214,6 +216,7 @@ def attack(machine):
     see("the desk after a kill", asked(machine, "operator", "GET", "directory"), "200")
     well(machine, *HERE, "client")
     journal(machine)
+    at_metrics(machine)
     measure(machine)
     well(machine, "mv", "/var/lib/desk-office/root.pem", "/root")
     machine.call("systemctl", "restart", "desk-office")
@@ -235,6 +238,13 @@ def at_own_socket(machine):
     for place, said in ((place, "desk: there is nothing here\n"), ("/run/desk/operator", "desk: there is nothing here\n")):
         ended = machine.call("/usr/local/bin/desk", "revoke-account", "4611686018427387904", "--socket", place)
         see(f"a revocation at {place}", (ended[0], ended[1].splitlines()[:1]), (1, [said.rstrip()]))
+
+
+def at_metrics(machine):
+    """The port of the metrics, once it is asked for: any user reads these there, and nothing else."""
+    well(machine, "systemctl", "start", "desk-metrics.socket")
+    for path, status in (("office/metrics", "200"), ("office/page", "403"), ("directory", "403")):
+        see(f"/{path} at the port of the metrics", status_of(machine, f"http://127.0.0.1:9855/{path}", user="nobody"), status)
 
 
 def journal(machine):
