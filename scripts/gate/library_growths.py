@@ -29,7 +29,7 @@ use desk_book::{Book, Row, Table};
 use desk::{Desk, DeskFault, Memory};
 use desk_core::decide;
 use desk_model::*;
-use store_api::{ParsedCall, Storage, StorageFault};
+use store_api::{Kept, ParsedCall, Storage, StorageFault};
 use std::alloc::Global;
 use std::io::BufRead;
 use std::marker::Model;
@@ -305,14 +305,16 @@ impl Model for Unsaved {
     ghost view = { λ unsaved. unsaved.memory };
 }
 
-impl Storage for Unsaved {
+impl Kept for Unsaved {
     ghost use Rattle.desk_model.specs.Tables.{Tables};
     ghost use Rattle.store_api.specs.InMemory.{in_memory};
 
     ghost Content = { Tables };
 
     ghost sight = { in_memory };
+}
 
+impl Storage for Unsaved {
     ghost causes = { λ _ _ _ _. Unit {0} };
 
     fn policy(&mut self, alloc: Global) -> Result<Policy, StorageFault> {
