@@ -1,4 +1,5 @@
 //! A backup that a desk which is served gives, under the name of the part of a copy until it is checked.
+ghost use Rattle.std.specs.Prelude.{◌≤◌, IfOk, length};
 
 use crate::asking::connected;
 use crate::causes::FileCause;
@@ -166,20 +167,22 @@ impl<'a> Incoming<'a> {
     }
 
     // Writes bytes of the file or of the log, of which some are to come, and tells how many.
-    fn take_of_files(&mut self, rest: Sizes, buf: &[u8]) -> io::Result<usize> {
+    fn take_of_files(&mut self, rest: Sizes, buf: &[u8]) -> io::Result<usize>
+        ensures { IfOk result (λ count. count ≤ length buf.now) }
+    {
         let (mut to, most) = if rest.file > 0 {
             (self.file, rest.file)
         } else {
             (self.log, rest.log)
         };
-        let bytes = buf.get(..within(most, buf.len())).unwrap_or(buf);
-        if bytes.is_empty() {
+        let count = within(most, buf.len());
+        if count == 0 {
             return Err(ErrorKind::InvalidData.into());
         }
-        match to.write_all(bytes) {
+        match to.write_all(&buf[..count]) {
             Ok(()) => {
-                self.rest = Some(rest.without(bytes.len() as u64));
-                Ok(bytes.len())
+                self.rest = Some(rest.without(count as u64));
+                Ok(count)
             }
             Err(error) => {
                 self.failed = Some(FileCause::of(error));
@@ -227,7 +230,9 @@ impl<'a> Write for Incoming<'a> {
 }
 
 // The lesser of a number of bytes and of those that are there.
-fn within(most: u64, len: usize) -> usize {
+fn within(most: u64, len: usize) -> usize
+    ensures { result ≤ len }
+{
     if most < len as u64 {
         most as usize
     } else {
