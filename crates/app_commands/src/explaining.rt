@@ -34,6 +34,9 @@ pub(crate) fn explain<D: Disk, E: Write>(
         (Err(Fault::Copy(fault)), Command::BackUp { file, to }) => {
             explain_copy(rt, errors, fault, file, to)
         }
+        (Err(Fault::Copy(fault)), Command::BackUpServed { to, .. }) => {
+            explain_copy(rt, errors, fault, to, to)
+        }
         (Err(Fault::Copy(fault)), Command::Restore { copy, file }) => {
             explain_copy(rt, errors, fault, copy, file)
         }
