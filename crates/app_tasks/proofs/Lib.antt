@@ -6,5 +6,4 @@ mod Looked
 mod Reading
 mod Replied
 mod Sent
-mod Short
 mod Watching
