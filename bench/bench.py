@@ -551,8 +551,7 @@ def missed(run):
 
 
 WHERE = """Most of a small call is the engine's: rows that are written, the commit, and tables of its page cache, which it clears
-some ten times. The program reads whole rows and writes all columns that calls move, where C reads and writes the columns
-that it needs. What an order lists, and each challenge that changes, is a statement each."""
+some ten times."""
 
 CAPACITY = """A house that outgrows one desk runs several, each with a file, a base (`https://ca1.example`, `https://ca2.example`)
 and accounts of its own; the front sends a request on by its host name alone."""
