@@ -2,7 +2,7 @@ use Rattle.std.proofs.Common.{inl, inr, refl}
 use Rattle.app_commands.proofs.backing_up.back_up.Goals as goal
 
 pub returns-in-Err : goal.returns-in-Err
-returns-in-Err g c = inl (c.in-Err.fault, (c.in-Err.ensures, (refl, (refl, refl))))
+returns-in-Err g c = inl (c.in-Err.fault, c.in-Err.ensures, refl, (refl, refl))
 
 pub returns : goal.returns
 returns g c =
