@@ -37,7 +37,7 @@ use Rattle.http_routes.specs.Lines.{Spells, line_text}
 use Rattle.http_routes.specs.declared.{lines.Line.Line, request.Request.Request}
 use Rattle.http_routes.specs.declared.request.Request.TheVariants as request
 use Rattle.app_lives.specs.Left.{IsOver, LeavesDesk, LeavesLife, LivesOn, WordsLeave}
-use Rattle.app_lives.specs.Told.{IsOfNext, TellsAny, TellsBatch, TellsLines, TellsRevocation, asked, no_line, refused}
+use Rattle.app_lives.specs.Told.{IsOfNext, TellsAny, TellsBatch, TellsLines, TellsRevocation, asked, no_line, not_shown, refused}
 use Rattle.app_lives.proofs.Copies.{copies_hold_desk, restored_hold_desk, stores_hold_desk}
 use Rattle.app_lives.proofs.Chains.{Any, AreCalls, OrOneMore, honest_at_first, left_behind, no_call, none_more, of_calls, once_more, one_replied}
 use Rattle.app_lives.proofs.Chains.{one_unanswered}
@@ -67,6 +67,13 @@ module _ {S C : Type 0} (v : Sight S C) where
         says = subst (λ r. TellsLines (lines ++ line ∷ []) (said ++ (line_text r ++ 10 ∷ [])) before.told) (sym replies.0)
             (refused before.says line l why spells asks);
       }
+  one_line old mid new lines said line reply l (request.Looks looked) spells asks replies before =
+      record {
+        told = before.told;
+        answered = subst (Answered v old before.told) (sym replies.1) before.answered;
+        says = subst (λ r. TellsLines (lines ++ line ∷ []) (said ++ (line_text r ++ 10 ∷ [])) before.told) (sym replies.0)
+            (not_shown before.says line l looked spells asks);
+      }
 
   -- lines that were answered
   lines_calls : (old new : DeskState S) (lines : List (List ℕ)) (said : List ℕ) → AnswersEach v old lines said new
@@ -86,10 +93,12 @@ module _ {S C : Type 0} (v : Sight S C) where
         one_replied v P (IsOfNext bytes left) old mid new (call_of l what) reply replies
         (line, next, record { line = l; what = what; spells = spells; asks = asks; call = refl }) before
     replied_next reply l (request.Refused why) spells asks replies = none_more v P (IsOfNext bytes left) old mid new replies.1 before
+    replied_next reply l (request.Looks looked) spells asks replies = none_more v P (IsOfNext bytes left) old mid new replies.1 before
 
     declined_next : (why : DeskFault) (l : Line) (q : Request) → DeclinesTo v mid l q why new → AreCalls v (OrOneMore v P (IsOfNext bytes left)) old new
     declined_next why l (request.Asks what) declines = one_unanswered v P (IsOfNext bytes left) old mid new (call_of l what) why declines before
     declined_next why l (request.Refused refusal) declines = absurd declines
+    declined_next why l (request.Looks looked) declines = absurd declines
 
     lacking_next : LacksMemory v mid line new → AreCalls v (OrOneMore v P (IsOfNext bytes left)) old new
     lacking_next (inl same) = none_more v P (IsOfNext bytes left) old mid new same before

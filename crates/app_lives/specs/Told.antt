@@ -9,11 +9,12 @@ use Rattle.desk.specs.Office.{office_call, refusal_in}
 use Rattle.desk.specs.Seen.{Told}
 use Rattle.desk_model.specs.declared.{call.Ask.Ask, reply.Reply.Reply}
 use Rattle.http_routes.specs.Lines.{Spells, line_text}
-use Rattle.http_routes.specs.{Request.refused_reply, declared.lines.Line.Line, declared.request.RequestRefusal.RequestRefusal}
+use Rattle.http_routes.specs.{Request.refused_reply, Request.unshown, declared.lines.Line.Line, declared.looked.Looked.Looked}
+use Rattle.http_routes.specs.declared.request.RequestRefusal.{RequestRefusal}
 use Rattle.http_routes.specs.declared.request.Request.TheVariants as request
 
 -- these texts were said to these lines, each with its end, and tell these replies, the latest first: to a line that asks something the
--- text of its reply, to another one the refusal of its request, which is no reply of the desk's
+-- text of its reply, to another one, also one that asks to be shown something, the refusal of its request, which is no reply of the desk's
 pub data TellsLines : (lines : List (List ℕ)) (said : List ℕ) (told : List Told) → Type 0 where
   no_line : TellsLines [] [] []
   asked :
@@ -24,6 +25,10 @@ pub data TellsLines : (lines : List (List ℕ)) (said : List ℕ) (told : List T
       {lines : List (List ℕ)} {said : List ℕ} {told : List Told} → TellsLines lines said told
       → (bytes : List ℕ) (l : Line) (why : RequestRefusal) → Spells bytes l → IsRequestOf l (request.Refused why)
       → TellsLines (lines ++ bytes ∷ []) (said ++ (line_text (refused_reply why) ++ 10 ∷ [])) told
+  not_shown :
+      {lines : List (List ℕ)} {said : List ℕ} {told : List Told} → TellsLines lines said told
+      → (bytes : List ℕ) (l : Line) (asked : Looked) → Spells bytes l → IsRequestOf l (request.Looks asked)
+      → TellsLines (lines ++ bytes ∷ []) (said ++ (line_text (refused_reply unshown) ++ 10 ∷ [])) told
 
 -- a reply of the desk's to what this line asks
 pub record IsOfLine (bytes : List ℕ) (told : Told) : Type 0 where
