@@ -8,8 +8,6 @@ mod failing_streams;
 #[cfg(test)]
 mod first_nonce;
 #[cfg(test)]
-mod shown;
-#[cfg(test)]
 mod tests;
 #[cfg(test)]
 mod worked_run;
