@@ -167,7 +167,7 @@ house-clients: ## has each client that is installed get a certificate
 
 house-test: ## what the gate tries of the house and of the units
 	@$(HAS_DESK)
-	@! $(HOUSE) packages || for trials in trials attacks firm random_signatures; do \
+	@! $(HOUSE) packages || for trials in trials attacks firm day random_signatures; do \
 		/usr/bin/python3 -B -m scripts.house.$$trials bin/desk || exit 1; \
 	done
 	@/usr/bin/python3 -B -m scripts.house.units bin/desk

@@ -3,7 +3,8 @@
 `about`, `page`, `status`, `accounts`, `authorizations` and `check`, in each form and with each filter, write over a socket and a port what they
 write over the file, and end with the same status, also where a status is wrong. Who breaks off its reply at any byte, begins it otherwise, leaves
 out its last line or stops in it, is told as desk: connection; the words that are wrong end with 2 before anything is asked. The desk goes on
-behind a client that breaks off, or reads slowly. A place whose queue is full is given up after ten seconds.
+behind a client that breaks off, or reads slowly. A place whose queue is full is given up after ten seconds. A body that asks for no report, and
+each other method, is refused.
 """
 import contextlib
 import json
@@ -14,7 +15,7 @@ import threading
 import time
 
 from scripts.files.stops import Desk
-from scripts.serving.served import DIRECTORY, Server, directory_reply, reached, received, request, reset, stranger
+from scripts.serving.served import DIRECTORY, Server, directory_reply, reached, received, refusal, request, reset, stranger
 from scripts.trying import begin, change, finish, line_of, order_of, put, run, run_on_full, see, workspace
 
 # The words, each with the options that it is tried with.
@@ -228,6 +229,43 @@ def behind(program, folder):
     server.stop()
 
 
+# Bodies that ask for a report in other words than those of the program, each with the words that print it.
+ASKED = (
+    (b'{"report":"orders"}', ("status",)), (b' {"name":"A.Example" , "report":"orders","status":"pending","form":"json","account":1}\n',
+                                            ("status", "--json", "--account", "1", "--status", "pending", "--name", "a.example")),
+    (b'{"form":"text","report":"accounts"}', ("accounts",)), (b'{"report":"authorizations","account":1}', ("authorizations", "--account", "1")),
+    (b'{"report":"authorizations","name":"*.b.example"}', ("authorizations", "--name", "*.b.example")), (b'{"report":"check"}', ("check",)),
+    (b'{"report":"about"}', ("about",)), (b'{"report":"\\u0061bout"}', ("about",)))
+# Bodies that ask for no report.
+UNASKED = (
+    b"", b"{}", b"[]", b"null", b'"about"', b"about", b'{"report":"about"', b'{"report":"about"}{}', b'{"report":"about","report":"about"}',
+    b'{"report":"about","\xff":1}', b'{"report":null}', b'{"report":["about"]}', b'{"report":"About"}', b'{"report":"order"}', b'{"report":"page"}',
+    b'{"report":"orders","form":"html"}', b'{"report":"orders","form":null}', b'{"report":"orders","account":0}', b'{"report":"orders","account":"1"}',
+    b'{"report":"orders","account":1.0}', b'{"report":"orders","account":-1}', b'{"report":"orders","account":4611686018427387905}',
+    b'{"report":"orders","status":"good"}', b'{"report":"orders","status":1}', b'{"report":"orders","name":"a b"}', b'{"report":"orders","name":""}',
+    b'{"report":"orders","names":"a.example"}', b'{"report":"authorizations","status":"valid"}', b'{"report":"accounts","account":1}',
+    b'{"report":"check","name":"a.example"}', b'{"report":"about","form":"text"}', b'{"report":"about","account":1}', b"[" * 3000)
+
+
+def bodies(program, folder):
+    """What a body asks for is what the words of the report print; whatever asks for no report, and each other method, is refused."""
+    server = Server(program, desk_of_all(program, folder, "bodies").path)
+    for body, words in ASKED:
+        ended, wanted, _ = run(program, *words, "--port", str(server.port))
+        see(f"{words}: its end", ended, 0)
+        see(f"what is shown by {body}", server.ask(request("POST", "/office/look", body)), whole(words[0], "json" if "--json" in words else "text", wanted))
+    for body in UNASKED:
+        see(f"what asks for no report: {body[:60]}", server.ask(request("POST", "/office/look", body)), refusal(1, "/office/look"))
+    for path, allow in (("/office/look", "POST"), ("/office/page", "GET"), ("/office/metrics", "GET"), ("/office/backup", "GET")):
+        for method in ("GET", "POST", "HEAD", "PUT"):
+            if method != allow:
+                see(f"{method} {path}", server.ask(request(method, path)), refusal(3, path, allow=allow, head=method == "HEAD"))
+        see(f"{path}/", server.ask(request(allow, f"{path}/")), refusal(2, f"{path}/"))
+        see(f"{path}?x", server.ask(request(allow, f"{path}?x")), refusal(2, f"{path}?x"))
+    see("a desk behind them", server.ask(DIRECTORY), directory_reply())
+    server.stop()
+
+
 def wrong(program, folder):
     """Words that are wrong end with 2, and nobody is asked."""
     path = Desk(program, f"{folder}/wrong").path
@@ -253,7 +291,7 @@ def wrong(program, folder):
     see("no socket", run(program, "about", "--socket", f"{folder}/file"), GONE)
 
 
-GROUPS = (served, asked, broken, crowded, silent, behind, wrong)
+GROUPS = (served, asked, bodies, broken, crowded, silent, behind, wrong)
 
 
 def main(program):
