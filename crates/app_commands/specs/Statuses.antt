@@ -28,7 +28,7 @@ use Rattle.app_files.specs.Endings.{EndsInMemory, EndsMaking, EndsOver}
 use Rattle.app_tasks.specs.declared.copies.CopyFault.TheVariants as copyfault
 use Rattle.app_files.specs.declared.left.Left.TheVariants as rest
 use Rattle.app_reports.specs.Listed.{accounts_roster, authorizations_roster, orders_roster}
-use Rattle.app_reports.specs.declared.{asked.AuthorizationFilter.AuthorizationFilter, beside.Beside.Beside, form.Form.Form}
+use Rattle.app_reports.specs.declared.{asked.AuthorizationFilter.AuthorizationFilter, beside.Beside.Beside}
 use Rattle.app_reports.specs.declared.form.Form.TheVariants as form
 use Rattle.app_reports.specs.declared.asked.OrderFilter.{OrderFilter}
 

@@ -1,15 +1,13 @@
 -- The document by which a report is asked for is read as what its words ask for.
 use Rattle.std.proofs.Common.{◌≡◌, ◌∙◌, ℕ, List, Bool, true, false, Option, None, Some, ap, refl, sym}
 use Rattle.std.specs.Prelude.{codes, option_map}
-use Rattle.app_words.specs.declared.command.Report.{Report}
 use Rattle.app_words.specs.declared.command.Report.TheVariants as report
 use Rattle.desk_model.specs.{Document.order_status_text, Name.Name, Names.name_of, declared.status.OrderStatus.OrderStatus}
 use Rattle.desk_model.specs.declared.status.OrderStatus.TheVariants as order
 use Rattle.http_routes.specs.Looked.{authorizations_by, object_number, orders_by, report_in, status_named}
-use Rattle.http_routes.specs.declared.looked.Looked.{Looked}
 use Rattle.http_routes.specs.declared.looked.Looked.TheVariants as looked
 use Rattle.app_tasks.specs.Filters.{AsksForName, AsksForStatus, Given}
-use Rattle.app_tasks.specs.Looking.{IsOfAccount, LooksAreRead, Wants, asked_form, document_of, form_word, given, rows_document}
+use Rattle.app_tasks.specs.Looking.{LooksAreRead, asked_form, form_word, given, rows_document}
 
 -- what is read of a member that may be missing
 abbrev number_read : Option ℕ → Option (Option ℕ)

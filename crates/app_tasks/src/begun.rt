@@ -6,7 +6,7 @@ use crate::copies::make_new;
 use crate::identity::Identity;
 use crate::locks::take_lock;
 use crate::parts::Part;
-use std::fs::{self, Metadata, OpenOptions};
+use std::fs::{self, OpenOptions};
 use std::io::{self, ErrorKind};
 use std::os::unix::fs::{MetadataExt, fchown};
 

@@ -7,7 +7,7 @@ use crate::causes::FileCause;
 use crate::identity::Identity;
 use crate::parts::Part;
 use std::fs::{self, OpenOptions};
-use std::io::{self, ErrorKind};
+use std::io;
 use std::os::unix::fs::OpenOptionsExt;
 use thiserror::Error;
 

@@ -2,7 +2,7 @@
 ghost use Rattle.app_tasks.specs.Doing.{Deed};
 
 use std::io::Write;
-use store_api::{LookUps, RowsAbove, Storage};
+use store_api::{RowsAbove, Storage};
 
 /// What a command does with a store. It is over any store whose rows can be read one by one, since a check pays for each call
 /// that names the engine's own type.

@@ -1,12 +1,12 @@
 -- What is shown, copied in pieces.
-use Rattle.std.proofs.Common.{◌≡◌, ◌≢◌, ◌∙◌, ◌≤◌, ◌<◌, ◌+◌, ◌-◌, ◌++◌, ℕ, Bool, true, false, List, [], Option, Result, Ok, Err, ap, append_assoc, arith, drop, length, subst}
+use Rattle.std.proofs.Common.{◌≡◌, ◌≢◌, ◌∙◌, ◌<◌, ◌+◌, ◌-◌, ◌++◌, ℕ, Bool, false, List, [], Option, Result, Ok, Err, ap, append_assoc, arith, drop, length, subst}
 use Rattle.std.proofs.Common.{sym, take, take-append-drop}
 use Rattle.std.proofs.KnownBytes.{Appends-nil, Appends-trans, Consumes-trans}
 use Rattle.std.proofs.lemmas.List.{drop_at, length-append}
-use Rattle.std.specs.Prelude.{◌↔◌, IfErr, IsTrue, OnErr}
+use Rattle.std.specs.Prelude.{◌↔◌, IsTrue, OnErr}
 use Rattle.std.specs.Io.KnownBytes.{Appends, Consumes, IsAtEnd}
 use Rattle.http_wire.specs.Head.{Adds}
-use Rattle.desk_http.specs.Copied.{Copies, CopiesAll, CopiesLong, WritesAll, WritesSome}
+use Rattle.desk_http.specs.Copied.{CopiesAll, CopiesLong, WritesSome}
 use Rattle.desk_http.specs.Serving.{AppendsBeginning}
 
 -- behind a first piece these bytes were read, and all but the last piece was written

@@ -1,5 +1,5 @@
 -- What showing something of a desk does to it: nothing, or what a call does that is declined.
-use Rattle.std.proofs.Common.{◌≡◌, ℕ, List, Option, Result, inl}
+use Rattle.std.proofs.Common.{ℕ, List, Option, Result, inl}
 use Rattle.store_api.specs.Sight.{Sight}
 use Rattle.desk.specs.{State.DeskState, Meets.ActsOnce}
 use Rattle.desk.proofs.LookedAt.{look_acts}

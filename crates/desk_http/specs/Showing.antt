@@ -1,5 +1,5 @@
 -- What a program shows of a desk that is served, in the place of a reply.
-use Rattle.std.specs.Prelude.{◌≡◌, ℕ, ◌++◌, true, List, [], Option, Some, None, Result, Ok, Err, codes}
+use Rattle.std.specs.Prelude.{◌≡◌, ℕ, ◌++◌, true, List, Option, Some, None, Result, Ok, Err, codes}
 use Rattle.std.specs.{Io.KnownBytes.Appends, Io.KnownBytes.Keeps, declared.alloc.AllocError.AllocError}
 use Rattle.store_api.specs.Sight.{Sight}
 use Rattle.store_api.specs.declared.fault.StorageFault.{StorageFault}

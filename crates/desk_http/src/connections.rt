@@ -122,6 +122,8 @@ fn serve_connection<M: Clock + RandomSource, K: Storage + Drop, H: Hook<K>, O: O
         &mut writer,
         desk,
     )?;
+    // Behind a write that failed none follows: what is left in the buffer is not sent.
+    let _ = writer.into_parts();
     let is_kept = watch
         .overseer
         .log_entry(entry_of(machine, &reader, call, served));
