@@ -1,7 +1,7 @@
 # The commands of the repository; README.md says what they need.
 SHELL := /bin/bash
 SOURCES := crates.txt $(shell find crates \( -name out -o -name must-fail \) -prune -o -type f -print)
-HAS_RT := command -v rt >/dev/null || { echo 'desk: rt is not on PATH; ./try says where it is from' >&2; exit 1; }
+HAS_RT := command -v rt >/dev/null || { echo 'desk: rt is not on PATH; ./try says what to link' >&2; exit 1; }
 HAS_DESK := test -x bin/desk || { echo 'desk: there is no bin/desk; make bin/desk proves and builds it' >&2; exit 1; }
 
 PREFIX ?= /usr/local

@@ -17,7 +17,7 @@ from scripts.trying import (BASE, DEVICE, NOT_A_DESK, answered, bytes_of, change
 
 # The bytes on which SQLite's lock lies: how many, and from which on.
 LOCK = (512, 1 << 30)
-HELD = "another program has it: while desk serve runs, no other word works on it; --wait SECONDS tries again"
+HELD = "another program has it; one that serves it is asked by --socket or --port, and --wait SECONDS tries again"
 NO_ROOM = "no file can be made in its directory: this user may not, or that is read-only or full"
 TAKEN = "there is a file already, and it stays as it is"
 # How late a word may be that waits, in seconds.

@@ -64,7 +64,7 @@ def filled(lines):
         if entry:
             made += term(*entry.groups())
         elif more:
-            made.append(roff(more[1]))
+            made += [".br"] * more[1].startswith("desk ") + [roff(more[1])]
         elif line:
             made += [".PP"] * is_new + [roff(line.strip())]
         is_new = not line or line.endswith(":")

@@ -140,7 +140,8 @@ def broken(program, folder):
                  whole("page", "text", b"x\n"), whole("check", "json", b"x\n")):
         see(f"what says {said[:80]}", told(program, said, "about")[0], GONE)
     said = told(program, body.replace(b" 200 ", b" 404 "), "about", "--verbose")[0][2]
-    see("why nothing is shown", said.splitlines()[1].endswith(b"what replies there does not show this: an older program, another one, or a desk that met a fault"), True)
+    cause = b"what replies there does not show this: a filter, an older program, another one, or a desk that met a fault"
+    see("why nothing is shown", said.splitlines()[1].endswith(cause), True)
     said = told(program, body[:-1], "about", "--verbose")[0][2]
     see("why it is not whole", said.splitlines()[1].endswith(b"no more of it came for 60 seconds: what was written is not all of it"), True)
 

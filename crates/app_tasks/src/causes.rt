@@ -35,7 +35,7 @@ pub enum FileCause {
     #[error("it holds something else than a desk")]
     NoDesk,
     /// Another program has locked it.
-    #[error("another program has it: while desk serve runs, no other word works on it; --wait SECONDS tries again")]
+    #[error("another program has it; one that serves it is asked by --socket or --port, and --wait SECONDS tries again")]
     Held,
     /// Its mode or its user is not for this one.
     #[error("this user may not read and write it")]

@@ -35,7 +35,7 @@ pub(crate) const SYNCS: &str =
 
 /// What help says of `--verbose`.
 pub(crate) const VERBOSE: &str =
-    "say the file of a fault and its cause on a second line of standard error; without it where that is a terminal";
+    "say the file of a fault and its cause on a second line of standard error, as at a terminal without it";
 
 /// What help says of `--quiet`.
 pub(crate) const QUIET: &str = "leave that line out at a terminal, too";
@@ -44,9 +44,9 @@ pub(crate) const QUIET: &str = "leave that line out at a terminal, too";
 pub(crate) const DESK: &str = after!(
     "Files:
   One program at a time has a file: while serve runs, any other word on it ends with fault 21, at
-  once or after its --wait, and changes nothing. The first word that opens a file of an earlier
-  format brings it into today's, status and check too. There is no way back, and an older program
-  refuses the file then: keep a copy.",
+  once or after its --wait, and changes nothing; by --socket or --port it asks that desk itself. The
+  first word that opens a file of an earlier format brings it into today's, status and check too.
+  There is no way back, and an older program refuses the file then: keep a copy.",
     "Faults, of which a second line says the file and the cause, at a terminal or by --verbose:
   20 memory        a growth of memory was refused
   21 device        another program has the file, as serve does while it runs; this user may not read
@@ -110,7 +110,8 @@ pub(crate) const SERVE: &str = synced!(
   than so many seconds. Set the machine's clock, or restore a backup from before the wrong reading.",
     "Files:
   While it serves, no other word works on the file: each ends with fault 21, at once or after its
-  --wait. Do not replace, cut or remove the file or its log meanwhile: serve ends with fault 21 then.",
+  --wait; words that look, back up or revoke ask it by --socket or --port. Do not replace, cut or
+  remove the file or its log meanwhile: serve ends with fault 21 then.",
     "Sockets:
   By --socket it listens on a Unix socket, whose mode and group come from the umask, the user and the
   directory: who may write it asks the desk as who reaches its port does. A socket that stands there and

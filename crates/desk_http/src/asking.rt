@@ -26,10 +26,10 @@ pub enum Unheard {
     #[error("the request was not taken, or not all of it")]
     Unsent,
     /// It was sent, and no reply of a desk came.
-    #[error("no reply of a desk came within 60 seconds: it may be done or not, and asking again is safe")]
+    #[error("no reply of a desk came, or none within 60 seconds: it may be done or not, and asking again is safe")]
     Unanswered,
     /// It was sent, and what replies does not show what a desk would.
-    #[error("what replies there does not show this: an older program, another one, or a desk that met a fault")]
+    #[error("what replies there does not show this: a filter, an older program, another one, or a desk that met a fault")]
     Unshown,
     /// It was sent, and its reply has no end.
     #[error("the reply broke off, or no more of it came for 60 seconds: what was written is not all of it")]
