@@ -62,6 +62,9 @@ pub(crate) fn explain<D: Disk, E: Write>(
         (Err(Fault::Socket(cause)), Command::Serve { serving, .. }) => {
             explain_socket(errors, cause, serving.listening)
         }
+        (Err(Fault::Desk(fault)), Command::BackUpServed { to, .. }) => {
+            let _ = writeln!(errors, "desk: {}: {}", Visible(to), FaultCause::of(fault));
+        }
         (Err(Fault::Desk(fault)), _) => explain_desk_fault(rt, errors, command, fault, left),
         (
             Err(Fault::Connection(unheard)),

@@ -31,6 +31,9 @@ pub enum FileCause {
     /// There is none, but the log of one.
     #[error("the log of another desk stands there, the file -wal beside it")]
     LogAlone,
+    /// There is none, but SQLite's journal of one.
+    #[error("a rollback journal of another file stands there, the file -journal beside it")]
+    JournalAlone,
     /// Its bytes are not those of a desk.
     #[error("it holds something else than a desk")]
     NoDesk,
@@ -58,8 +61,8 @@ pub enum FileCause {
     /// Its log is not for this user.
     #[error("this user may not read and write its log, the file -wal beside it")]
     LogDenied,
-    /// The name of its part is taken.
-    #[error("another program copies there, or the file -part beside it is to be removed")]
+    /// The name of its part, or of the log of that, is taken.
+    #[error("another program copies there, or the file -part or -part-wal beside it is to be removed")]
     PartTaken,
     /// Its file system gives a file no second name.
     #[error("its file system has no hard links, by which a copy gets its name")]
@@ -67,6 +70,9 @@ pub enum FileCause {
     /// Neither it nor its log can be made where it stands.
     #[error("no file can be made in its directory: this user may not, or that is read-only or full")]
     NoRoom,
+    /// No room is left in its name for the endings of what stands beside it.
+    #[error("its name is too long: a copy's has 242 bytes at most")]
+    LongName,
     /// Its disk has no room.
     #[error("its disk is full")]
     Full,
@@ -118,10 +124,14 @@ impl FileCause {
         }
     }
 
-    /// Why no copy gets a path, at which something stands, or beside which a log does.
+    /// Why no copy gets a path, at which something stands, or beside which a log or a journal does.
     pub fn not_copied(rt: &HostRuntime, path: &str) -> FileCause {
-        if !stands(rt, path) && is_beside_log(rt, path) {
+        if stands(rt, path) {
+            FileCause::Taken
+        } else if is_beside_log(rt, path) {
             FileCause::LogAlone
+        } else if has_journal(rt, path) {
+            FileCause::JournalAlone
         } else {
             FileCause::Taken
         }

@@ -3,7 +3,7 @@ ghost use Rattle.std.specs.Prelude.{IsTrue};
 ghost use Rattle.std.specs.Fs.{asks_create_new};
 
 use crate::beside::{is_beside_log, stands, take_log_away};
-use crate::causes::FileCause;
+use crate::causes::{FileCause, has_journal};
 use crate::identity::Identity;
 use crate::parts::Part;
 use std::fs::{self, OpenOptions};
@@ -104,9 +104,15 @@ pub(crate) fn make_new(rt: &HostRuntime, path: &str) -> io::Result<fs::File> {
     as_new().open(rt, path)
 }
 
-/// Whether anything stands at a path, if only a link that leads nowhere, or the log of another desk beside it.
+/// Whether anything stands at a path, if only a link that leads nowhere, or the log or the journal of another file beside it.
 pub fn is_taken(rt: &HostRuntime, path: &str) -> bool {
-    stands(rt, path) || is_beside_log(rt, path)
+    stands(rt, path) || has_neighbour(rt, path)
+}
+
+/// Whether the log or the journal of another file, which holds something, stands beside a path: either would be taken for that of a file
+/// which gets the path.
+pub(crate) fn has_neighbour(rt: &HostRuntime, path: &str) -> bool {
+    is_beside_log(rt, path) || has_journal(rt, path)
 }
 
 // How the files are named that stand beside a desk: SQLite's journal, its log, and what becomes a copy.
@@ -138,12 +144,32 @@ fn open(rt: &HostRuntime, from: &str) -> Result<fs::File, CopyFault> {
     }
 }
 
-/// The part of the copy that gets a path.
+// The most bytes of the name of a new copy: of what stands beside it and its part the longest names, `-part-journal` behind it, have 255
+// bytes then, which file systems give them.
+const LONGEST_NAME: usize = 242;
+
+/// The part of the new copy that gets a path.
 ///
 /// # Errors
 ///
-/// `Failed` where it can't be made.
-pub(crate) fn begin(rt: &HostRuntime, to: &str) -> Result<Part, CopyFault> {
+/// `Failed` where the path's name is too long, or it can't be made.
+pub(crate) fn begin_new(rt: &HostRuntime, to: &str) -> Result<Part, CopyFault> {
+    if name_of(to).len() > LONGEST_NAME {
+        return Err(CopyFault::Failed(FileCause::LongName));
+    }
+    begin(rt, to)
+}
+
+// The name that a path ends with.
+fn name_of(path: &str) -> &str {
+    match path.rsplit_once('/') {
+        Some((_, name)) => name,
+        None => path,
+    }
+}
+
+// The part of the copy that gets a path; `Failed` where it can't be made.
+fn begin(rt: &HostRuntime, to: &str) -> Result<Part, CopyFault> {
     match Part::of(rt, to) {
         Ok(part) => Ok(part),
         Err(error) => Err(CopyFault::Failed(FileCause::of_part(error))),
@@ -162,7 +188,7 @@ fn given_up(rt: &HostRuntime, part: &Part, cause: FileCause) -> CopyFault {
 // Copies a file into a new one.
 fn copy_file(rt: &HostRuntime, from: &str, to: &str) -> Result<(), CopyFault> {
     let mut file = open(rt, from)?;
-    let mut part = begin(rt, to)?;
+    let mut part = begin_new(rt, to)?;
     if let Err(error) = part.fill(&mut file) {
         return Err(given_up(rt, &part, FileCause::of(error)));
     }

@@ -1,7 +1,7 @@
 //! A new file under a name of its own, beside the path that it gets once it is whole.
 
-use crate::beside::{is_beside_log, named, sync_directory};
-use crate::copies::{are_same, make_new};
+use crate::beside::{named, sync_directory};
+use crate::copies::{are_same, has_neighbour, make_new};
 use crate::identity::Identity;
 use crate::locks::{is_held, take_lock};
 use std::fs::{self, Metadata, OpenOptions, Permissions};
@@ -89,7 +89,7 @@ impl Part {
     ///
     /// # Errors
     ///
-    /// Those of the system, and `AlreadyExists` where something stands there, or the log of another desk beside it.
+    /// Those of the system, and `AlreadyExists` where something stands there, or the log or the journal of another file beside it.
     pub(crate) fn link(&self, rt: &HostRuntime, to: &str) -> io::Result<()> {
         fs::hard_link(rt, self.path.as_str(), to)?;
         match self.settle(rt, to) {
@@ -101,9 +101,9 @@ impl Part {
         }
     }
 
-    // Takes its own name away, now that it has another, where no log stands beside that.
+    // Takes its own name away, now that it has another, where no log and no journal stand beside that.
     fn settle(&self, rt: &HostRuntime, to: &str) -> io::Result<()> {
-        if is_beside_log(rt, to) {
+        if has_neighbour(rt, to) {
             return Err(ErrorKind::AlreadyExists.into());
         }
         self.lose_name(rt, to)

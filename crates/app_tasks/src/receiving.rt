@@ -3,7 +3,7 @@ ghost use Rattle.std.specs.Prelude.{◌≤◌, IfOk, length};
 
 use crate::asking::connected;
 use crate::causes::FileCause;
-use crate::copies::{CopyFault, begin, make_new};
+use crate::copies::{CopyFault, begin_new, make_new};
 use crate::fault::Fault;
 use crate::parts::{Part, remove_left, remove_with_log};
 use crate::showing::{kind_of, last_of};
@@ -33,11 +33,19 @@ impl Received {
     /// `Connection` where the desk could not be asked, or did not give all of it; `Copy` where they could not be made or written;
     /// `Desk` where a growth was refused. Nothing is left of them then.
     pub fn of(rt: &HostRuntime, place: Place<'_>, to: &str) -> Result<Received, Fault> {
-        let part = match begin(rt, to) {
+        let part = match begin_new(rt, to) {
             Ok(part) => part,
             Err(fault) => return Err(Fault::Copy(fault)),
         };
-        match fill(rt, place, &part) {
+        // A log that stands there already is another's, and stays.
+        let log = match make_log(rt, &part) {
+            Ok(log) => log,
+            Err(fault) => {
+                part.remove(rt);
+                return Err(fault);
+            }
+        };
+        match receive(rt, place, &mut Incoming::new(part.file(), &log)) {
             Ok(()) => Ok(Received { path: part.leave() }),
             Err(fault) => {
                 remove_with_log(rt, part.path());
@@ -61,13 +69,13 @@ impl Received {
     }
 }
 
-// Fills the file, and a log beside it, with those of the desk that is served at a place.
-fn fill(rt: &HostRuntime, place: Place<'_>, part: &Part) -> Result<(), Fault> {
+// Makes the log beside the file, for that of the desk which is served.
+fn make_log(rt: &HostRuntime, part: &Part) -> Result<fs::File, Fault> {
     let Ok(log_path) = format!(in rt.alloc(); "{}-wal", part.path()) else {
         return Err(Fault::Desk(DeskFault::Memory));
     };
     match make_new(rt, log_path.as_str()) {
-        Ok(log) => receive(rt, place, &mut Incoming::new(part.file(), &log)),
+        Ok(log) => Ok(log),
         Err(error) => Err(Fault::Copy(CopyFault::Failed(FileCause::of_part(error)))),
     }
 }
