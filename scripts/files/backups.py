@@ -12,7 +12,7 @@ from contextlib import contextmanager
 
 from scripts.serving.kills import Stream, look
 from scripts.serving.served import DIRECTORY, STOPPED, Server, directory_reply, stranger
-from scripts.trying import (BASE, DEVICE, NOT_A_DESK, answered, bytes_of, change, desk_with_calls, example, fresh, put, run, run_on_full, see,
+from scripts.trying import (BASE, DEVICE, NOT_A_DESK, answered, bytes_of, change, checked, desk_with_calls, example, fresh, put, run, run_on_full, see,
                             see_wrong, tables_of)
 
 # The bytes on which SQLite's lock lies: how many, and from which on.
@@ -270,9 +270,29 @@ def parts_of(to):
     return [name for name in (f"{to}-part", f"{to}-part-wal", f"{to}-wal") if os.path.exists(name)]
 
 
+def see_refused_names(program, folder, to, place):
+    """A copy is not made beside what another file left there, which stays, nor where its name is too long."""
+    put(f"{to}-journal", b"what another left")
+    see("a backup beside a journal", run(program, "backup", to, *place, "--verbose"),
+        (1, b"", b"desk: there is a file already\n" + because(to, "a rollback journal of another file stands there, the file -journal beside it")))
+    see("a copy beside a journal", run(program, "backup", fresh(program, folder, "closed"), to), (1, b"", b"desk: there is a file already\n"))
+    os.remove(f"{to}-journal")
+    put(f"{to}-part-wal", b"what another left")
+    see("a backup beside the log of a part", run(program, "backup", to, *place, "--verbose"),
+        (1, b"", b"desk: copy\n" + because(to, "another program copies there, or the file -part or -part-wal beside it is to be removed")))
+    see("that log", (parts_of(to), bytes_of(f"{to}-part-wal")), ([f"{to}-part-wal"], b"what another left"))
+    os.remove(f"{to}-part-wal")
+    for size, ended in ((242, COPIED), (243, (1, b"", b"desk: copy\n")), (256, (1, b"", b"desk: copy\n"))):
+        name = f"{folder}/{'n' * size}"
+        see(f"a backup whose name has {size} bytes", run(program, "backup", name, *place), ended)
+        see(f"{size} bytes: it opens", os.path.exists(name) and checked(program, name)[0] != 0, False)
+    said = run(program, "backup", name, *place, "--verbose")[2]
+    see("why not", said, b"desk: copy\n" + because(name, "its name is too long: a copy's has 242 bytes at most"))
+
+
 def of_served(program, folder):
     """A copy of a desk that serves is the desk as it is between two calls, in one file that its user alone may read; nothing is written over."""
-    path, to = desk_with_calls(program, folder, "asked", example("order")[0]), f"{folder}/given.db"
+    path, to = desk_with_calls(program, folder, "asked", example("order")[0]), f"{folder}/sent.db"
     tables = tables_of(path, folder)
     server = Server(program, path, "--socket", f"{folder}/asked.socket")
     places = (("--port", str(server.port)), ("--socket", f"{folder}/asked.socket"))
@@ -286,7 +306,8 @@ def of_served(program, folder):
     put(f"{to}-part-wal", b"and its log")
     see("a backup where a stop left its part", run(program, "backup", to, *places[0]), COPIED)
     see("that part", parts_of(to), [])
-    none = f"{folder}/none/given.db"
+    see_refused_names(program, folder, to, places[0])
+    none = f"{folder}/none/sent.db"
     see("a backup without a directory", run(program, "backup", none, *places[0], "--verbose"),
         (1, b"", b"desk: copy\n" + because(none, "its directory is missing")))
     see("the desk behind that", server.ask(DIRECTORY), directory_reply())
@@ -301,7 +322,8 @@ def of_served(program, folder):
         see("what was asked", heard[0].split(b"\r\n")[0], b"GET /office/backup HTTP/1.1")
         see("nothing of it", (os.path.exists(gone), parts_of(gone)), (False, []))
     with stranger(whole) as (port, _):
-        see("a backup of what is no desk", run(program, "backup", gone, "--port", str(port)), NOT_A_DESK)
+        said = run(program, "backup", gone, "--port", str(port), "--verbose")
+        see("a backup of what is no desk", said, (*NOT_A_DESK[:2], NOT_A_DESK[2] + because(gone, "it holds something else than a desk")))
     see("nothing of that", (os.path.exists(gone), parts_of(gone)), (False, []))
 
 

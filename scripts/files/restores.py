@@ -233,7 +233,7 @@ def backups_killed(program, folder):
 
 def served_backups_killed(program, folder):
     """The same of a desk that serves: what a kill leaves of the part and of its log is in no later word's way."""
-    path, to, preload = desk_with_calls(program, folder, "given", example("order")[0]), f"{folder}/given-copy.db", library(folder)
+    path, to, preload = desk_with_calls(program, folder, "outlived", example("order")[0]), f"{folder}/outlived-copy.db", library(folder)
     tables, server, found = tables_of(path, folder), Server(program, path), []
     words, parts = [program, "backup", to, "--port", str(server.port)], (f"{to}-part", f"{to}-part-wal")
 
@@ -250,7 +250,8 @@ def served_backups_killed(program, folder):
         see(f"{said}: nothing else is left", [part for part in parts if os.path.exists(part)], [])
         remove(f"{to}-wal")
     see("kills before the link, and behind it", (found == sorted(found), set(found)), (True, {False, True}))
-    see("the desk behind them", server.stop(), STOPPED)
+    status, _, said = server.stop()
+    see("the desk behind them, some of whose clients broke off", (status, said.replace(b"desk: connection\n", b"")), STOPPED[::2])
     see("its tables", tables_of(path, folder), tables)
 
 

@@ -236,16 +236,16 @@ ASKED = (
                                             ("status", "--json", "--account", "1", "--status", "pending", "--name", "a.example")),
     (b'{"form":"text","report":"accounts"}', ("accounts",)), (b'{"report":"authorizations","account":1}', ("authorizations", "--account", "1")),
     (b'{"report":"authorizations","name":"*.b.example"}', ("authorizations", "--name", "*.b.example")), (b'{"report":"check"}', ("check",)),
-    (b'{"report":"about"}', ("about",)), (b'{"report":"\\u0061bout"}', ("about",)))
+    (b'{"report":"about"}', ("about",)), (b'{"report":"\\u0061bout"}', ("about",)), (b'{"report":"check","report":"accounts"}', ("accounts",)))
 # Bodies that ask for no report.
 UNASKED = (
-    b"", b"{}", b"[]", b"null", b'"about"', b"about", b'{"report":"about"', b'{"report":"about"}{}', b'{"report":"about","report":"about"}',
-    b'{"report":"about","\xff":1}', b'{"report":null}', b'{"report":["about"]}', b'{"report":"About"}', b'{"report":"order"}', b'{"report":"page"}',
-    b'{"report":"orders","form":"html"}', b'{"report":"orders","form":null}', b'{"report":"orders","account":0}', b'{"report":"orders","account":"1"}',
-    b'{"report":"orders","account":1.0}', b'{"report":"orders","account":-1}', b'{"report":"orders","account":4611686018427387905}',
-    b'{"report":"orders","status":"good"}', b'{"report":"orders","status":1}', b'{"report":"orders","name":"a b"}', b'{"report":"orders","name":""}',
-    b'{"report":"orders","names":"a.example"}', b'{"report":"authorizations","status":"valid"}', b'{"report":"accounts","account":1}',
-    b'{"report":"check","name":"a.example"}', b'{"report":"about","form":"text"}', b'{"report":"about","account":1}', b"[" * 3000)
+    b"", b"{}", b"[]", b"null", b'"about"', b"about", b'{"report":"about"', b'{"report":"about"}{}', b'{"report":"about","\xff":1}', b'{"report":null}',
+    b'{"report":["about"]}', b'{"report":"About"}', b'{"report":"order"}', b'{"report":"page"}', b'{"report":"orders","form":"html"}',
+    b'{"report":"orders","form":null}', b'{"report":"orders","account":0}', b'{"report":"orders","account":"1"}', b'{"report":"orders","account":1.0}',
+    b'{"report":"orders","account":-1}', b'{"report":"orders","account":4611686018427387905}', b'{"report":"orders","status":"good"}',
+    b'{"report":"orders","status":1}', b'{"report":"orders","name":"a b"}', b'{"report":"orders","name":""}', b'{"report":"orders","names":"a.example"}',
+    b'{"report":"authorizations","status":"valid"}', b'{"report":"accounts","account":1}', b'{"report":"check","name":"a.example"}',
+    b'{"report":"about","form":"text"}', b'{"report":"about","account":1}', b"[" * 3000)
 
 
 def bodies(program, folder):

@@ -187,6 +187,20 @@ def counters(program, folder):
     again.stop()
 
 
+def ended(program, folder):
+    """A challenge that was answered waits for as long as its authorization is pending."""
+    server = Server(program, fresh(program, folder, "ended"))
+    client = Client(server)
+    client.open_account()
+    client.order("a.example")
+    client.post("/chall/1", "{}")
+    see("a challenge that was answered waits", metrics(server)["desk_waiting_challenges"], {None: 1})
+    client.post("/authz/1", '{"status":"deactivated"}')
+    see("one of an authorization that ended does not", metrics(server)["desk_waiting_challenges"], {None: 0})
+    see("nobody is asked for it", server.ask(request("GET", "/office/challenges")).endswith(b'{"challenges":[]}'), True)
+    server.stop()
+
+
 def faults_and_clock(program, folder):
     """Calls that are refused for their moment are counted by their fault; a clock that is ahead is told."""
     path, told = fresh(program, folder, "bounded"), Told()
@@ -210,7 +224,7 @@ def faults_and_clock(program, folder):
 
 def main(program):
     with workspace("watched") as folder:
-        for tries in (counters, faults_and_clock):
+        for tries in (counters, ended, faults_and_clock):
             tries(program, folder)
     return finish("Watched")
 

@@ -5,7 +5,7 @@ use crate::causes::has_journal;
 use crate::copies::make_new;
 use crate::identity::Identity;
 use crate::locks::take_lock;
-use crate::parts::Part;
+use crate::parts::{Part, lose_part};
 use std::fs::{self, OpenOptions};
 use std::io::{self, ErrorKind};
 use std::os::unix::fs::{MetadataExt, fchown};
@@ -140,6 +140,8 @@ impl EmptyFile {
         if has_journal(rt, path) {
             return Err(ErrorKind::Unsupported.into());
         }
+        // One that was stopped before it lost its first name has that, too.
+        lose_part(rt, path);
         let begun = begin_owned(rt, path)?;
         match lock_empty(rt, path, &begun) {
             Ok(file) => Ok(EmptyFile { begun, _file: file }),
