@@ -163,7 +163,11 @@ fn count_pending<K: LookUps>(
 }
 
 // 1 where the authorization of this number is stored as pending.
-fn pending_of<K: LookUps>(alloc: Global, source: &mut K, authorization: u64) -> Result<u64, StorageFault>
+fn pending_of<K: LookUps>(
+    alloc: Global,
+    source: &mut K,
+    authorization: u64,
+) -> Result<u64, StorageFault>
     ensures found { Gives K.sight source.old source.new (λ T count. count ≡ pending_among (bare_authorizations T authorization)) result }
     ensures within { IfOk result (λ count. count ≤ 1) }
 {
