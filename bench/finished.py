@@ -8,11 +8,9 @@ Each file is one of bench.py's, whose orders a batch then answers, reports, fina
 """
 
 import argparse
-import contextlib
 import os
 import re
 import shutil
-import socket
 import statistics
 import subprocess
 import sys
@@ -22,11 +20,13 @@ import threading
 import time
 
 from bench import CERTIFICATE, CSR, KINDS, TOP, Lines, make_file
+from loopback import NONCE, Server
 
 SIZES = (10000, 100000)
 TURNS = 3
-# How often the metrics are read.
-READINGS = 20
+# How often the metrics are read, and by which request.
+READINGS = 50
+METRICS = b"GET /office/metrics HTTP/1.1\r\nHost: 127.0.0.1\r\n\r\n"
 # The reports, with the end of what each prints of so many orders.
 REPORTS = {"about": "log: ", "page": "</html>\n", "status": "orders {}\n", "check": "no fault\n"}
 # The calls of an order that is there, from its challenge to its certificate.
@@ -90,28 +90,17 @@ def measure(program, size, turns, folder):
     return os.path.getsize(path), seconds, max(it[1] for found in taken.values() for it in found)
 
 
-def asked(place, path):
-    """The seconds that a GET at a socket takes, from the connection to the end of the reply."""
-    start = time.monotonic()
-    with socket.socket(socket.AF_UNIX) as desk:
-        desk.connect(place)
-        desk.sendall(f"GET {path} HTTP/1.1\r\nHost: desk\r\n\r\n".encode())
-        while desk.recv(65536):
-            pass
-    return time.monotonic() - start
-
-
 class Waiting(threading.Thread):
     """A client that asks for one nonce after the other, and keeps the longest time that one took."""
 
-    def __init__(self, place):
+    def __init__(self, desk):
         super().__init__(daemon=True)
-        self.place, self.over, self.longest = place, threading.Event(), 0
+        self.desk, self.over, self.longest = desk, threading.Event(), 0
         self.start()
 
     def run(self):
         while not self.over.is_set():
-            self.longest = max(self.longest, asked(self.place, "/new-nonce"))
+            self.longest = max(self.longest, asked(self.desk, NONCE))
 
     def end(self):
         self.over.set()
@@ -119,49 +108,62 @@ class Waiting(threading.Thread):
         return self.longest
 
 
-@contextlib.contextmanager
-def served(program, path, place):
-    """The process of a desk that is served at a socket."""
-    desk = subprocess.Popen([program, "serve", path, "--socket", place], stdin=subprocess.DEVNULL, stdout=subprocess.PIPE)
-    desk.stdout.readline()
-    try:
-        yield desk
-    finally:
-        desk.terminate()
-        desk.wait()
+def asked(desk, request):
+    """The seconds that a request takes, from the connection to the end of the reply."""
+    start = time.monotonic()
+    desk.ask(request)
+    return time.monotonic() - start
+
+
+def ordered(desk, number):
+    """The seconds that a newOrder takes."""
+    request = desk.ordered(f"new{number}.example")
+    start = time.monotonic()
+    desk.call(request, 201)
+    return time.monotonic() - start
+
+
+def beside(desk):
+    """The medians of the seconds of a reading of the metrics, and of a newOrder, asked in turn."""
+    desk.call(NONCE, 204)
+    desk.call(desk.signed("/new-account", {}), 201)
+    found = [(asked(desk, METRICS), ordered(desk, number)) for number in range(READINGS)]
+    return [statistics.median(times) for times in zip(*found)]
 
 
 def measure_served(program, size, turns, folder):
-    """For each word the median of its seconds, the longest wait of a client beside a backup, the seconds of a
-    reading of the metrics, and the most kilobytes of the desk that is served."""
-    path, place, copy = f"{folder}/{size}.db", f"{folder}/socket", f"{folder}/served-copy.db"
+    """For each word the median of its seconds, the longest wait of a client beside a backup, the seconds of a reading of the metrics and of a
+    newOrder, and the most kilobytes of the desk that is served."""
+    path, copy = f"{folder}/{size}.db", f"{folder}/served-copy.db"
     taken, waits = {name: [] for name in (*REPORTS, "backup")}, []
-    with served(program, path, place) as desk:
-        for _ in range(turns):
-            for name in REPORTS:
-                seconds, _, printed = run([program, name, "--socket", place])
-                see_end(name, size, printed)
-                taken[name].append(seconds)
-            client = Waiting(place)
-            taken["backup"].append(run([program, "backup", copy, "--socket", place])[0])
-            waits.append(client.end())
-            os.remove(copy)
-        reading = statistics.median(asked(place, "/office/metrics") for _ in range(READINGS))
-        with open(f"/proc/{desk.pid}/status", encoding="ascii") as status:
-            kilobytes = int(re.search(r"VmHWM:\s*(\d+)", status.read())[1])
-    return {name: statistics.median(found) for name, found in taken.items()}, statistics.median(waits), reading, kilobytes
+    desk = Server(program, "serve", path, "--port", "0")
+    place = ("--port", str(desk.address[1]))
+    for _ in range(turns):
+        for name in REPORTS:
+            seconds, _, printed = run([program, name, *place])
+            see_end(name, size, printed)
+            taken[name].append(seconds)
+        client = Waiting(desk)
+        taken["backup"].append(run([program, "backup", copy, *place])[0])
+        waits.append(client.end())
+        os.remove(copy)
+    calls = beside(desk)
+    with open(f"/proc/{desk.run.pid}/status", encoding="ascii") as status:
+        kilobytes = int(re.search(r"VmHWM:\s*(\d+)", status.read())[1])
+    desk.close()
+    return {name: statistics.median(found) for name, found in taken.items()}, statistics.median(waits), calls, kilobytes
 
 
 def served_page(found, turns):
     """The lines of the section on desks that are served."""
-    text = f"""`bench/finished.py` writes this section, too, of the same files: the desk is served at a socket, and asked there. A time
-        is the median of {turns} runs, that of the metrics of {READINGS} readings. The desk is busy until a report is taken, and until the files of a
-        backup are sent, which the longest wait of a client tells that takes nonces meanwhile; the word checks the copy alone."""
+    text = f"""`bench/finished.py` writes this section, too, of the same files, which are served. A time is the median of {turns} runs, of the
+        metrics and of a newOrder beside them that of {READINGS}. The desk is busy until a report is taken, and until the files of a backup are sent,
+        which the longest wait of a client tells that takes nonces meanwhile; the word checks the copy alone."""
     lines = ["## Asked while it serves", "", *textwrap.wrap(" ".join(text.split()), 118), ""]
-    lines += [f"| orders | {' | '.join(REPORTS)} | backup | wait beside it | metrics | memory |", "|" + "---|" * (len(REPORTS) + 5)]
-    for size, (seconds, wait, reading, kilobytes) in found.items():
-        times = " | ".join(f"{it:,.1f} s" for it in (*seconds.values(), wait))
-        lines.append(f"| {size:,} | {times} | {1000 * reading:,.1f} ms | {kilobytes / 1024:,.0f} MB |")
+    lines += [f"| orders | {' | '.join(REPORTS)} | backup | wait beside it | metrics | newOrder | memory |", "|" + "---|" * (len(REPORTS) + 6)]
+    for size, (seconds, wait, calls, kilobytes) in found.items():
+        times = " | ".join([f"{it:,.1f} s" for it in (*seconds.values(), wait)] + [f"{1000 * it:,.2f} ms" for it in calls])
+        lines.append(f"| {size:,} | {times} | {kilobytes / 1024:,.0f} MB |")
     return lines
 
 

@@ -190,4 +190,5 @@ def main():
     print_section(measure(os.path.abspath(words.program), words.turns, words.calls), words.turns, words.calls)
 
 
-main()
+if __name__ == "__main__":
+    main()
