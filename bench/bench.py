@@ -550,9 +550,6 @@ def missed(run):
         small ones are mostly noise."""
 
 
-WHERE = """Most of a small call is the engine's: rows that are written, the commit, and tables of its page cache, which it clears
-some ten times."""
-
 CAPACITY = """A house that outgrows one desk runs several, each with a file, a base (`https://ca1.example`, `https://ca2.example`)
 and accounts of its own; the front sends a request on by its host name alone."""
 
@@ -633,7 +630,6 @@ def print_comparison(disk, memory):
     print("## Where the time goes\n")
     say(missed(disk))
     print_parts((memory or disk).sizes)
-    say(WHERE)
 
 
 def print_page(counts, disk, memory):
