@@ -306,7 +306,7 @@ def of_served(program, folder):
     put(f"{to}-part-wal", b"and its log")
     see("a backup where a stop left its part", run(program, "backup", to, *places[0]), COPIED)
     see("that part", parts_of(to), [])
-    see_refused_names(program, folder, to, places[0])
+    see_refused_names(program, folder, f"{folder}/refused.db", places[0])
     none = f"{folder}/none/sent.db"
     see("a backup without a directory", run(program, "backup", none, *places[0], "--verbose"),
         (1, b"", b"desk: copy\n" + because(none, "its directory is missing")))
