@@ -31,6 +31,7 @@ import subprocess
 import sys
 import tempfile
 import threading
+import time
 from concurrent.futures import ThreadPoolExecutor
 
 from scripts.repository import ROOT, read, write
@@ -427,7 +428,7 @@ def try_crate(copy, crate):
 
 def try_planted(names):
     """Tries the planted edits of these crates, each on a copy; returns whether each was refused."""
-    printing, failed, tried = threading.Lock(), [], []
+    printing, failed, tried, start = threading.Lock(), [], [], time.monotonic()
 
     def one(name):
         with tempfile.TemporaryDirectory(prefix="planted-") as copy:
@@ -444,7 +445,7 @@ def try_planted(names):
     names = sorted(names, key=lambda it: -len(planted_edits(it)))
     with ThreadPoolExecutor(lanes()) as pool:
         list(pool.map(one, names))
-    print(f"{sum(tried)} planted edits tried; {'crates with one that was not refused: ' + ' '.join(sorted(failed)) if failed else 'each was refused'}")
+    print(f"{sum(tried)} planted edits tried, in {time.monotonic() - start:.0f} seconds; {'crates with one that was not refused: ' + ' '.join(sorted(failed)) if failed else 'each was refused'}")
     return not failed
 
 
