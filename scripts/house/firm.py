@@ -388,7 +388,7 @@ def roles(trial):
         "GET /office/challenges": "validator operator", "POST /office/report/99": "validator operator", "GET /office/orders": "office operator",
         "POST /office/certify/99": "office operator", "POST /office/fail/99": "office operator", "POST /office/revoke-account/99": "operator",
         "POST /office/revoke-authz/99": "operator", "GET /office/nothing": "operator", "GET /office/key/1?x": "operator", "POST /office/key/1": "operator",
-        "GET /office/page": "operator", "POST /office/look": "operator", "GET /office/metrics": "operator", "GET /office/backup": "operator",
+        "GET /office/page": "operator", "POST /office/look": "operator", "GET /office/metrics": "operator monitor", "GET /office/backup": "operator",
         "GET /office": "operator", "GET /officers": "operator"}
     servers = {}
     for role in filter.ROLES:
