@@ -158,7 +158,8 @@ def served_page(found, turns):
     """The lines of the section on desks that are served."""
     text = f"""`bench/finished.py` writes this section, too, of the same files, which are served. A time is the median of {turns} runs, of the
         metrics and of a newOrder beside them that of {READINGS}. The desk is busy until a report is taken, and until the files of a backup are sent,
-        which the longest wait of a client tells that takes nonces meanwhile; the word checks the copy alone."""
+        which the longest wait of a client tells that takes nonces meanwhile; the word checks the copy alone. A reading of the metrics takes some 3
+        microseconds more for each order that waits for the signing office."""
     lines = ["## Asked while it serves", "", *textwrap.wrap(" ".join(text.split()), 118), ""]
     lines += [f"| orders | {' | '.join(REPORTS)} | backup | wait beside it | metrics | newOrder | memory |", "|" + "---|" * (len(REPORTS) + 6)]
     for size, (seconds, wait, calls, kilobytes) in found.items():
