@@ -119,6 +119,8 @@ def fault_of(edit):
     """Why an edit does not apply to its crate, or nothing."""
     if not edit.wrong:
         return "it does not say what it gets wrong"
+    if not re.fullmatch(r"[a-z0-9_]+", edit.name):
+        return "its name has other characters than letters, digits and _"
     texts, changes = {}, 0
     for path, old, new in edit.pairs:
         if path is None or not old:
