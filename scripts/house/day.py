@@ -6,13 +6,13 @@ to another path and served there, and what a client holds is revoked. Beside eac
 """
 import json
 import re
-import socket
 import threading
 import time
 
 from scripts.house.client import Client, Names, Web
 from scripts.house.housed import Run, in_house
 from scripts.house.trials import Trial
+from scripts.serving.served import reached, received, request
 from scripts.trying import begin, checked, finish, run, see
 
 # How long a client has for a certificate, in seconds.
@@ -43,15 +43,6 @@ class Renewing(threading.Thread):
         see(f"{count} certificates", self.count >= count, True)
 
 
-def fetched(place, path):
-    """The reply to a GET at a socket: its head, and what stands behind it."""
-    with socket.socket(socket.AF_UNIX) as desk:
-        desk.connect(place)
-        desk.sendall(f"GET {path} HTTP/1.1\r\nHost: desk\r\n\r\n".encode())
-        head, _, shown = desk.makefile("rb").read().partition(b"\r\n\r\n")
-    return head, shown
-
-
 class Day:
     """What the operator of a house does by the program, at the socket of its desk."""
 
@@ -78,7 +69,9 @@ class Day:
 
     def watch(self):
         """The metrics, as a program that reads them regularly gets them."""
-        head, shown = fetched(self.house.desk_socket, "/office/metrics")
+        with reached(self.house.desk_socket) as desk:
+            desk.sendall(request("GET", "/office/metrics"))
+            head, _, shown = received(desk).partition(b"\r\n\r\n")
         see("the type of metrics", b"application/openmetrics-text" in head, True)
         see("the end of metrics", shown.endswith(b"# EOF\n"), True)
 
