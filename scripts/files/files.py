@@ -10,19 +10,22 @@ import socket
 import sqlite3
 import struct
 import subprocess
+import tempfile
 
 from scripts.files.upgrades import cut_upgrades, later_calls, strange_upgrades, upgrades, without_room
 from scripts.model.model import LIVES, Desk
 from scripts.model.texts import canonical
 from scripts.repository import ROOT
 from scripts.trying import (BASE, KEY, NOT_A_DESK, TABLES, answered, begin, bytes_of, change, checked, copy, desk_with_calls, example, finish, fresh,
-                            need, put, run, see, small_files, stored, tables_of, terms_of, workspace)
+                            line_of, need, nonce_text, put, run, see, small_files, stored, tables_of, terms_of, workspace)
 
 
 # The folders of batches below examples/, with the lives of nonces, orders and authorizations of the desks that answer them.
 BATCHES = {"": LIVES, "short-lives": (3600, 100, 100)}
 # The batches that have names and heads of which scripts/model/model.py knows nothing.
 UNKNOWN = ("names", "limits")
+# The orders of one account, with the bytes of the CSR of each, and how much memory more than an opening their list may take.
+MANY_ORDERS, LONGEST_CSR, LIST_MEMORY = 4000, 8192, 10 << 20
 
 
 def batches(program, folder):
@@ -203,6 +206,33 @@ def used_up(program, folder):
     see("a nonce past the last: nothing changed", tables_of(path, folder), rows)
 
 
+def taken(program, path, calls=b""):
+    """The output of a batch over a file, and the most bytes of memory that the program had."""
+    with tempfile.TemporaryFile() as given:
+        given.write(calls)
+        given.seek(0)
+        with subprocess.Popen([program, "batch", "--file", path], stdin=given, stdout=subprocess.PIPE) as batch:
+            out = batch.stdout.read()
+            _, batch.returncode, used = os.wait4(batch.pid, 0)
+    return out, 1024 * used.ru_maxrss
+
+
+def long_list(program, folder):
+    """The list of an account with many orders, each with the longest CSR, takes little memory beside an opening."""
+    path = desk_with_calls(program, folder, "long-list", example("renewal")[0][:3])
+    others = f"WITH RECURSIVE other (num) AS (SELECT 2 UNION ALL SELECT num + 1 FROM other WHERE num < {MANY_ORDERS}) INSERT INTO"
+    change(path, f"UPDATE ord SET finalized = 0, csr = zeroblob({LONGEST_CSR}), certified = 0, cert = x'41', status = 'valid'",
+           f"{others} ord SELECT other.num, account, made, expires, finalized, csr, certified, cert, failed, problem, status FROM other, ord",
+           f"{others} ord_authz SELECT other.num, place, authz FROM other, ord_authz WHERE ord = 1", f"UPDATE meta SET orders = {MANY_ORDERS}")
+    see("a desk of many orders", checked(program, path), (0, b"no fault\n", b""))
+    opened = taken(program, path)[1]
+    asked = json.dumps({"jwk": KEY, "nonce": nonce_text(3), "payload": ""})
+    out, memory = taken(program, path, line_of("POST", "/account/1/orders", asked, random="00" * 16))
+    urls = [f"{BASE}/order/{order}" for order in range(1, MANY_ORDERS + 1)]
+    see("the list of many orders", out, f"200 - {nonce_text(4)} {json.dumps({'orders': urls}, separators=(',', ':'))}\n".encode())
+    see("the memory of the list of many orders", memory - opened if memory > opened + LIST_MEMORY else 0, 0)
+
+
 def cut_short(program, folder):
     """A file that was cut ends a command by a fault, or holds a desk; nothing is written."""
     ends = {(1, b"", b"desk: fault %s\n" % text) for text in (b"20 memory", b"21 device", b"23 not a desk")} | {(0, b"", b"")}
@@ -271,7 +301,7 @@ def broken_input(program, _):
 
 def main(program):
     with workspace("files") as folder:
-        for tries in (batches, as_often, first_rows, ends, strange, missing_columns, other_schemas, used_up, cut_short, upgrades,
+        for tries in (batches, as_often, first_rows, ends, strange, missing_columns, other_schemas, used_up, long_list, cut_short, upgrades,
                       strange_upgrades, cut_upgrades, without_room, later_calls, full_output, broken_input, together, shell):
             tries(program, folder)
     return finish("Files")

@@ -17,8 +17,8 @@ use Rattle.sql_write.specs.Committing.{GoesBack, HasCommitted, IsBeforeCommit, I
 use Rattle.sql_write.specs.declared.fault.SaveFault.{SaveFault}
 use Rattle.sql_schema.specs.Stays.{Asks}
 use Rattle.sql_write.specs.Fitting.{FitAfter, Saves as Puts}
-use Rattle.sql_write.specs.Stored.{HasSome, IsRow, IsWithout, AreFound, IsPartOf}
-use Rattle.model_lives.specs.Thinned.{with_challenges, with_listed}
+use Rattle.sql_write.specs.Stored.{HasSome, IsRow, IsMadeAs, AreFound, IsPartOf}
+use Rattle.model_lives.specs.Thinned.{with_challenges, with_orders}
 use Rattle.model_lives.proofs.Lists.{filtered_each}
 use Rattle.sql_write.proofs.{StoredRows.all_of, Numbered.find_none, OrderedFit.ordered_fit}
 use Rattle.store_api.specs.Sight.{Sight}
@@ -213,6 +213,6 @@ part_found part T cut rising =
           (found_chosen (λ (a : AccountRow). a.number) cut.0.rows.accounts 0 T.accounts rising.accounts);
       authorizations = found_thin (λ (a : AuthorizationRow). a.number) HasSome (with_challenges cut.0.challenges) (λ a. refl) (some_own cut.0.challenges) _
           T.authorizations (found_chosen (λ (a : AuthorizationRow). a.number) cut.0.rows.authorizations 0 T.authorizations rising.authorizations);
-      orders = found_thin (λ (o : OrderRow). o.number) IsWithout (with_listed cut.0.listed) (λ o. refl) (λ o. refl) _ T.orders
+      orders = found_thin (λ (o : OrderRow). o.number) IsMadeAs (with_orders cut.0.whole) (λ o. refl) (λ o. refl) _ T.orders
           (found_chosen (λ (o : OrderRow). o.number) cut.0.rows.orders 0 T.orders rising.orders);
     })

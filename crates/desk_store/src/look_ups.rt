@@ -59,8 +59,8 @@ impl<S: Alter> LookUps for Store<S> {
         self.or_fault(read)
     }
 
-    fn bare_orders_of(&mut self, alloc: Global, account: u64) -> Found<OrderRow> {
-        let read = rows::bare_orders_of(alloc, &mut self.conn, account);
+    fn summaries_of(&mut self, alloc: Global, account: u64) -> Found<OrderRow> {
+        let read = rows::summaries_of(alloc, &mut self.conn, account);
         self.or_fault(read)
     }
 

@@ -6,7 +6,7 @@ use Rattle.desk_model.specs.Kept.{EachOf}
 use Rattle.json.specs.{Token.Token, Lex.tokens}
 use Rattle.json.specs.Json as json
 use Rattle.json.specs.Json.{Parse, parse_map, after_end_array, read_key, items_step, members_step, value_with}
-use Rattle.serde_json.specs.Data.{Data, null, boolean, number, string, array, object, Items, no_items, item, Members, no_members, member, put}
+use Rattle.serde_json.specs.Data.{Data, number, string, array, object, Items, no_items, item, Members, no_members, member, put}
 use Rattle.serde_json.specs.Read.{max_depth, number_of, of_items, of_json, of_members, read}
 use Rattle.model_lives.proofs.JsonTokens.{IsTextToken, tokens_texts}
 

@@ -1,9 +1,9 @@
 -- The keys that payloads spell are keys that the desk accepts.
-use Rattle.std.proofs.Common.{◌≡◌, ℕ, List, Option, Some, None, IfSome, Bool, true, false, cond, refl, inl, inr}
-use Rattle.std.specs.Prelude.{IsTrue, ◌||◌, bytes_eq, codes}
+use Rattle.std.proofs.Common.{◌≡◌, ℕ, List, Option, Some, None, IfSome, Bool, true, false, cond, refl}
+use Rattle.std.specs.Prelude.{IsTrue, bytes_eq, codes}
 use Rattle.desk_model.proofs.KeyShapes.{curve_known}
 use Rattle.serde_json.specs.Data.{Data}
-use Rattle.desk_model.specs.Keys.{Key, IsCurve, IsKey, IsKeyText, canonical_text, ec_by, is_curve, is_number_text, key_in, key_of_type, number_member, okp_by}
+use Rattle.desk_model.specs.Keys.{Key, IsKey, IsKeyText, canonical_text, ec_by, is_curve, is_number_text, key_in, key_of_type, number_member, okp_by}
 use Rattle.desk_model.specs.Keys.{rsa_by, text_member}
 use Rattle.desk_model.specs.Payload.{key_change, key_change_by, key_change_in, key_text_in, object_in, object_member}
 use Rattle.desk_model.specs.declared.payload.KeyChange.{KeyChange}

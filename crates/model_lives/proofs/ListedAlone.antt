@@ -1,6 +1,6 @@
--- The list of an account's orders is answered from orders without what they list, but for those that fall.
+-- The list of an account's orders is answered from summaries of orders, but for those that fall.
 use Rattle.std.proofs.Common.{◌≡◌, ℕ, List, [], ◌∷◌, ◌++◌, map, filter, Option, Some, None, refl, sym, ap, subst, ◌∙◌, true, false, Bool, cond, Result, Ok, Err}
-use Rattle.std.specs.Prelude.{◌==◌, codes, if◌then◌else◌}
+use Rattle.std.specs.Prelude.{◌==◌, codes}
 use Rattle.std.proofs.lemmas.Bool.{and_parts, or_left, or_right}
 use Rattle.serde_json.specs.Data.{string}
 use Rattle.desk_model.specs.{Account.is_valid as is_valid_account, Decide.entries_of, Questions.account_with_key, Tables.Tables, Touched.is_named_order}
@@ -28,42 +28,42 @@ use Rattle.model_laws.specs.Ordered.{IsOrdered}
 use Rattle.model_laws.proofs.Basics.{each, each_both}
 use Rattle.model_lives.specs.AnswersAs.{CarriesOutAs, PassesAs}
 use Rattle.model_lives.specs.MinimalPart.{is_needed_order, is_opened_order, is_whole_order, needs_holders, changes_statuses}
-use Rattle.model_lives.specs.Thinned.{Thinning, all_challenges, thin, thinned, with_listed}
+use Rattle.model_lives.specs.Thinned.{Thinning, all_challenges, thin, thinned, whole_if, with_orders}
 use Rattle.model_lives.proofs.{Between.bare, Steps.check_keeps, Verdicts.verdict_by}
 use Rattle.model_lives.proofs.Cut.{at_number, numbered}
 use Rattle.model_lives.proofs.Fewer.{minimal_hold, minimal_holders, minimal_kept, minimal_restated}
 use Rattle.model_lives.proofs.Grown.{KeepsRestated, grown, grown_part, keeps_falling}
 use Rattle.model_lives.proofs.Lists.{filtered_each, or_cases}
-use Rattle.model_lives.proofs.Thin.{ListsFalling, carries_thin, falls_thin, swept_thin, whole_authorizations}
+use Rattle.model_lives.proofs.Thin.{KeepsFallingWhole, carries_thin, falls_thin, swept_thin, whole_authorizations}
 use Rattle.model_lives.proofs.Unlisted.{falls_open, issued_bare, nonces_bare}
 
 -- ---- what it records
 
--- an order of which all that it lists is kept is the order
-listed_whole : (l : ℕ → Bool) (o : OrderRow) → l o.number ≡ true → with_listed l o ≡ o
-listed_whole l o h = λ i. record o { listed = if h i then o.listed else [] }
+-- an order that is kept whole is the order
+order_whole : (l : ℕ → Bool) (o : OrderRow) → l o.number ≡ true → with_orders l o ≡ o
+order_whole l o h = λ i. whole_if (h i) o
 
-pub orders_whole : (l : ℕ → Bool) (os : List OrderRow) → EachOf (λ o. l o.number ≡ true) os → map (with_listed l) os ≡ os
+pub orders_whole : (l : ℕ → Bool) (os : List OrderRow) → EachOf (λ o. l o.number ≡ true) os → map (with_orders l) os ≡ os
 orders_whole l [] h = refl
-orders_whole l (o ∷ os) h = λ i. listed_whole l o h.0 i ∷ orders_whole l os h.1 i
+orders_whole l (o ∷ os) h = λ i. order_whole l o h.0 i ∷ orders_whole l os h.1 i
 
 -- the same orders fall
 falling_thin : (l : ℕ → Bool) (m : ℕ) (rows : List AuthorizationRow) (os : List OrderRow) → EachOf (λ o. falls m rows o ≡ true → l o.number ≡ true) os →
-    filter (falls m rows) (map (with_listed l) os) ≡ filter (falls m rows) os
+    filter (falls m rows) (map (with_orders l) os) ≡ filter (falls m rows) os
 falling_thin l m rows [] k = refl
 falling_thin l m rows (o ∷ os) k =
-    ap (λ b. cond b (with_listed l o ∷ filter (falls m rows) (map (with_listed l) os)) (filter (falls m rows) (map (with_listed l) os)))
-    (ap (λ rows. falls m rows (with_listed l o)) (sym (whole_authorizations rows)) ∙ falls_thin all_challenges l m rows o k.0)
+    ap (λ b. cond b (with_orders l o ∷ filter (falls m rows) (map (with_orders l) os)) (filter (falls m rows) (map (with_orders l) os)))
+    (ap (λ rows. falls m rows (with_orders l o)) (sym (whole_authorizations rows)) ∙ falls_thin all_challenges l m rows o k.0)
     ∙ by (falls m rows o) k.0 (falling_thin l m rows os k.1)
   where
-    by : (b : Bool) → (b ≡ true → l o.number ≡ true) → filter (falls m rows) (map (with_listed l) os) ≡ filter (falls m rows) os →
-        cond b (with_listed l o ∷ filter (falls m rows) (map (with_listed l) os)) (filter (falls m rows) (map (with_listed l) os))
+    by : (b : Bool) → (b ≡ true → l o.number ≡ true) → filter (falls m rows) (map (with_orders l) os) ≡ filter (falls m rows) os →
+        cond b (with_orders l o ∷ filter (falls m rows) (map (with_orders l) os)) (filter (falls m rows) (map (with_orders l) os))
         ≡ cond b (o ∷ filter (falls m rows) os) (filter (falls m rows) os)
-    by true kept ih = λ i. listed_whole l o (kept refl) i ∷ ih i
+    by true kept ih = λ i. order_whole l o (kept refl) i ∷ ih i
     by false kept ih = ih
 
-module _ (l : ℕ → Bool) (m : ℕ) (P : Tables) (kept : ListsFalling l m P) where
-  -- the rows, with what these orders list
+module _ (l : ℕ → Bool) (m : ℕ) (P : Tables) (kept : KeepsFallingWhole l m P) where
+  -- the rows, with these orders whole
   abbrev some : Tables
   some = thin all_challenges l P
 
@@ -103,15 +103,15 @@ orders_document_thin : (l : ℕ → Bool) (S : Tables) (n : ℕ) →
     reply_of (thin all_challenges l S) (show.List (listing.Orders n)) ≡ reply_of S (show.List (listing.Orders n))
 orders_document_thin l S n = ap (λ urls. ok 200 (document ((codes "orders", list urls) ∷ []))) (urls S.orders)
   where
-    urls : (os : List OrderRow) → map (λ (o : OrderRow). string (order_url S.meta.policy o.number)) (filter (is_listed n) (map (with_listed l) os))
+    urls : (os : List OrderRow) → map (λ (o : OrderRow). string (order_url S.meta.policy o.number)) (filter (is_listed n) (map (with_orders l) os))
         ≡ map (λ (o : OrderRow). string (order_url S.meta.policy o.number)) (filter (is_listed n) os)
     urls [] = refl
     urls (o ∷ os) = by (is_listed n o) (urls os)
       where
-        by : (b : Bool) → map (λ (o : OrderRow). string (order_url S.meta.policy o.number)) (filter (is_listed n) (map (with_listed l) os))
+        by : (b : Bool) → map (λ (o : OrderRow). string (order_url S.meta.policy o.number)) (filter (is_listed n) (map (with_orders l) os))
             ≡ map (λ (o : OrderRow). string (order_url S.meta.policy o.number)) (filter (is_listed n) os) →
             map (λ (o : OrderRow). string (order_url S.meta.policy o.number))
-            (cond b (with_listed l o ∷ filter (is_listed n) (map (with_listed l) os)) (filter (is_listed n) (map (with_listed l) os)))
+            (cond b (with_orders l o ∷ filter (is_listed n) (map (with_orders l) os)) (filter (is_listed n) (map (with_orders l) os)))
             ≡ map (λ (o : OrderRow). string (order_url S.meta.policy o.number)) (cond b (o ∷ filter (is_listed n) os) (filter (is_listed n) os))
         by true ih = ap (λ us. string (order_url S.meta.policy o.number) ∷ us) ih
         by false ih = ih
@@ -157,7 +157,7 @@ verdict_same l S r s j = by s.key
 
 -- ---- the request
 
-carried_list : (T P : Tables) (m : ℕ) (l : ℕ → Bool) (v : Verdict) → ListsFalling l m P → IsList v → CarriesOutAs m T P v →
+carried_list : (T P : Tables) (m : ℕ) (l : ℕ → Bool) (v : Verdict) → KeepsFallingWhole l m P → IsList v → CarriesOutAs m T P v →
     CarriesOutAs m T (thin all_challenges l P) v
 carried_list T P m l (refused why ss) kept is h = carries_thin T P m (refused why ss) all_challenges l (swept_thin all_challenges l m P kept) (λ index. refl) h
 carried_list T P m l (key_taken account) kept is h =
@@ -167,7 +167,7 @@ carried_list T P m l (answers (show.List (listing.Orders n))) kept is h =
     (λ index. orders_document_thin l (swept m P) n) h
 carried_list T P m l _ kept is h = absurd is
 
-list_records : (l : ℕ → Bool) (m : ℕ) (P : Tables) (v : Verdict) → ListsFalling l m P → IsList v → (n : ℕ) (fresh : List ℕ) →
+list_records : (l : ℕ → Bool) (m : ℕ) (P : Tables) (v : Verdict) → KeepsFallingWhole l m P → IsList v → (n : ℕ) (fresh : List ℕ) →
     recorded_changes m (thin all_challenges l P) (spent n ∷ issued fresh ∷ entries_of v) ≡ recorded_changes m P (spent n ∷ issued fresh ∷ entries_of v)
 list_records l m P (refused why ss) kept is n fresh = nonces_same l m P kept n fresh
 list_records l m P (key_taken account) kept is n fresh = nonces_same l m P kept n fresh
@@ -175,7 +175,7 @@ list_records l m P (answers (show.List (listing.Orders j))) kept is n fresh = no
 list_records l m P _ kept is n fresh = absurd is
 
 -- rows that answer it answer it so
-pub passes_alone : (T P : Tables) (m : ℕ) (s : Signed) (j : ℕ) (l : ℕ → Bool) → ListsFalling l m P → PassesAs m (record s { target = to.Orders j }) T P →
+pub passes_alone : (T P : Tables) (m : ℕ) (s : Signed) (j : ℕ) (l : ℕ → Bool) → KeepsFallingWhole l m P → PassesAs m (record s { target = to.Orders j }) T P →
     PassesAs m (record s { target = to.Orders j }) T (thin all_challenges l P)
 passes_alone T P m s j l kept h =
     record {
@@ -192,23 +192,23 @@ passes_alone T P m s j l kept h =
 
 -- ---- what is needed of the few rows
 
--- the orders that are needed with what they list, by number
-abbrev pub needed_listed : Tables → ℕ → Ask → ℕ → Bool
-needed_listed T m a = at_number (λ (o : OrderRow). o.number) (is_whole_order T m a) T.orders
+-- the orders that are needed whole, by number
+abbrev pub needed_in_whole : Tables → ℕ → Ask → ℕ → Bool
+needed_in_whole T m a = at_number (λ (o : OrderRow). o.number) (is_whole_order T m a) T.orders
 
--- the rows, of which orders alone lack what they list
-abbrev pub unlisted : Tables → ℕ → Ask → Thinning
-unlisted T m a = record { rows = minimal_kept T m a; challenges = all_challenges; listed = needed_listed T m a }
+-- the rows, of which orders alone are summaries
+abbrev pub with_summaries : Tables → ℕ → Ask → Thinning
+with_summaries T m a = record { rows = minimal_kept T m a; challenges = all_challenges; whole = needed_in_whole T m a }
 
-pub needed_same : (T : Tables) (m : ℕ) (a : Ask) → IsOrdered T → EachOf (λ o. needed_listed T m a o.number ≡ is_whole_order T m a o) T.orders
+pub needed_same : (T : Tables) (m : ℕ) (a : Ask) → IsOrdered T → EachOf (λ o. needed_in_whole T m a o.number ≡ is_whole_order T m a o) T.orders
 needed_same T m a h = numbered (λ (o : OrderRow). o.number) (is_whole_order T m a) 1 T.orders h.orders.0
 
 -- where no list of orders is asked for, each order is needed in whole
-pub all_needed : (T : Tables) (m : ℕ) (a : Ask) → IsOrdered T → asks_orders a ≡ false → thinned (unlisted T m a) T ≡ restricted (minimal_kept T m a) T
+pub all_needed : (T : Tables) (m : ℕ) (a : Ask) → IsOrdered T → asks_orders a ≡ false → thinned (with_summaries T m a) T ≡ restricted (minimal_kept T m a) T
 all_needed T m a h none =
     λ i. record (restricted (minimal_kept T m a) T) {
       authorizations = whole_authorizations (restricted (minimal_kept T m a) T).authorizations i;
-      orders = orders_whole (needed_listed T m a) (restricted (minimal_kept T m a) T).orders
+      orders = orders_whole (needed_in_whole T m a) (restricted (minimal_kept T m a) T).orders
           (filtered_each _ (λ (o : OrderRow). (minimal_kept T m a).orders o.number) T.orders
           (each _ _ T.orders (λ o e kept. e.0 ∙ whole o (sym e.1 ∙ kept))
           (each_both _ _ T.orders (needed_same T m a h) (numbered (λ (o : OrderRow). o.number) (is_needed_order T m a) 1 T.orders h.orders.0)))) i;
@@ -220,11 +220,11 @@ all_needed T m a h none =
         (λ e. or_cases (is_named_order a o) _ e (λ named. or_right (is_opened_order T m a o) _ named)
         (λ own. let asked : asks_orders a ≡ true = (and_parts (asks_orders a) _ own).0 in cc))
 
--- what falls is needed with what it lists
+-- what falls is needed whole
 pub falling_needed : (T : Tables) (m : ℕ) (a : Ask) → IsOrdered T → needs_holders a ≡ true →
-    ListsFalling (needed_listed T m a) m (restricted (minimal_kept T m a) T)
+    KeepsFallingWhole (needed_in_whole T m a) m (restricted (minimal_kept T m a) T)
 falling_needed T m a h holders =
-    subst (ListsFalling (needed_listed T m a) m) (grown_part (minimal_kept T m a) T)
+    subst (KeepsFallingWhole (needed_in_whole T m a) m) (grown_part (minimal_kept T m a) T)
     (filtered_each _ (λ (o : OrderRow). k.orders o.number) T.orders
     (each _ _ T.orders (λ o f kept so. f (sym (falls_open k T m (keeps_falling (changes_statuses a) k T m a few) o) ∙ so))
     (keeps_falling (changes_statuses a) opens T m a restated).orders))
@@ -236,7 +236,7 @@ falling_needed T m a h holders =
     few = minimal_restated (minimal_kept T m a) T m a (minimal_holders (minimal_kept T m a) T m a holders (minimal_hold T m a h)) (minimal_hold T m a h)
 
     opens : Kept
-    opens = record k { orders = needed_listed T m a }
+    opens = record k { orders = needed_in_whole T m a }
 
     restated : KeepsRestated (changes_statuses a) opens T m a
     restated =
@@ -251,16 +251,16 @@ falling_needed T m a h holders =
 
 -- a signed request is answered so
 pub needed_pass : (T : Tables) (m : ℕ) (s : Signed) → IsOrdered T → PassesAs m s T (restricted (minimal_kept T m (ask.Signed s)) T) →
-    PassesAs m s T (thinned (unlisted T m (ask.Signed s)) T)
+    PassesAs m s T (thinned (with_summaries T m (ask.Signed s)) T)
 needed_pass T m s h passes = by s.target (falling_needed T m (ask.Signed s) h refl) passes (all_needed T m (ask.Signed s) h)
   where
     P : Tables
     P = restricted (minimal_kept T m (ask.Signed s)) T
 
     l : ℕ → Bool
-    l = needed_listed T m (ask.Signed s)
+    l = needed_in_whole T m (ask.Signed s)
 
-    by : (t : Target) → ListsFalling l m P → PassesAs m (record s { target = t }) T P → (target_orders t ≡ false → thin all_challenges l P ≡ P) →
+    by : (t : Target) → KeepsFallingWhole l m P → PassesAs m (record s { target = t }) T P → (target_orders t ≡ false → thin all_challenges l P ≡ P) →
         PassesAs m (record s { target = t }) T (thin all_challenges l P)
     by (to.Orders j) kept answered all = passes_alone T P m s j l kept answered
     by t kept answered all = subst (PassesAs m (record s { target = t }) T) (sym (all refl)) answered

@@ -12,12 +12,12 @@ use Rattle.model_laws.proofs.Local.{filter_all}
 use Rattle.model_lives.specs.AnswersAs.{AnswersAs}
 use Rattle.model_lives.specs.MinimalPart.{as_needed, authorization_as_needed, minimal_rows, is_needed_authorization, is_needed_order, is_moved_authorization}
 use Rattle.model_lives.specs.MinimalPart.{is_restated_authorization, is_whole_authorization, needed_rows, changes_statuses}
-use Rattle.model_lives.specs.Thinned.{Thinning, thin, thinned, with_challenges, with_listed}
+use Rattle.model_lives.specs.Thinned.{Thinning, thin, thinned, whole_if, with_challenges, with_orders}
 use Rattle.model_lives.proofs.Trimming.{AreWhole, trimmed, those}
 use Rattle.model_lives.proofs.Cut.{at_number, numbered}
 use Rattle.model_lives.proofs.Fewer.{minimal_cut, minimal_kept}
 use Rattle.model_lives.proofs.Grown.{kept_number, new_kept, same_kept, with_others}
-use Rattle.model_lives.proofs.ListedAlone.{needed_listed, needed_same, unlisted}
+use Rattle.model_lives.proofs.ListedAlone.{needed_in_whole, needed_same, with_summaries}
 use Rattle.model_lives.proofs.Lists.{each_member, filter_nothing, filtered_each, turned}
 use Rattle.model_lives.proofs.Thin.{whole_authorizations, whole_orders}
 use Rattle.model_lives.proofs.TrimmedVerdicts.{IsNoList, KeepsWhole, answers_trimmed}
@@ -29,9 +29,9 @@ number r = r.number
 abbrev needed_whole : Tables → ℕ → Ask → ℕ → Bool
 needed_whole T m a = with_others number T.authorizations (at_number number (is_whole_authorization T m a) T.authorizations)
 
--- these rows, which lack other challenges, and what orders list that is not needed
+-- these rows, which lack other challenges, and of which other orders are summaries
 abbrev pub needed : Tables → ℕ → Ask → Thinning
-needed T m a = record { rows = minimal_kept T m a; challenges = those (needed_whole T m a); listed = needed_listed T m a }
+needed T m a = record { rows = minimal_kept T m a; challenges = those (needed_whole T m a); whole = needed_in_whole T m a }
 
 whole_same : (T : Tables) (m : ℕ) (a : Ask) → IsOrdered T → EachOf (λ r. needed_whole T m a r.number ≡ is_whole_authorization T m a r) T.authorizations
 whole_same T m a h =
@@ -42,7 +42,7 @@ whole_same T m a h =
 -- ---- the cut
 
 pub needed_cut : (T : Tables) (m : ℕ) (a : Ask) → IsOrdered T → needed_rows T m a ≡ thinned (needed T m a) T
-needed_cut T m a h = start ∙ ap (thin (those (needed_whole T m a)) (needed_listed T m a)) (minimal_cut T m a h)
+needed_cut T m a h = start ∙ ap (thin (those (needed_whole T m a)) (needed_in_whole T m a)) (minimal_cut T m a h)
   where
     lacks : (r : AuthorizationRow) (b : Bool) → needed_whole T m a r.number ≡ b → is_whole_authorization T m a r ≡ b →
         authorization_as_needed T m a r ≡ with_challenges (those (needed_whole T m a)) r
@@ -58,23 +58,23 @@ needed_cut T m a h = start ∙ ap (thin (those (needed_whole T m a)) (needed_lis
               ∙ sym (ap (λ b. filter (λ (c : ChallengeRow). b) r.challenges) is)) i;
         }
 
-    start : needed_rows T m a ≡ thin (those (needed_whole T m a)) (needed_listed T m a) (minimal_rows T m a)
+    start : needed_rows T m a ≡ thin (those (needed_whole T m a)) (needed_in_whole T m a) (minimal_rows T m a)
     start = λ i. record (minimal_rows T m a) {
       authorizations = map-each (authorization_as_needed T m a) (with_challenges (those (needed_whole T m a)))
           (filter (is_needed_authorization T m a) T.authorizations)
           (filtered_each _ (is_needed_authorization T m a) T.authorizations
           (each _ _ T.authorizations (λ r e few. lacks r (is_whole_authorization T m a r) e refl) (whole_same T m a h))) i;
-      orders = map-each (as_needed T m a) (with_listed (needed_listed T m a)) (filter (is_needed_order T m a) T.orders)
+      orders = map-each (as_needed T m a) (with_orders (needed_in_whole T m a)) (filter (is_needed_order T m a) T.orders)
           (filtered_each _ (is_needed_order T m a) T.orders
-          (each _ _ T.orders (λ o e few i. record o { listed = if sym e i then o.listed else [] }) (needed_same T m a h))) i;
+          (each _ _ T.orders (λ o e few i. whole_if (sym e i) o) (needed_same T m a h))) i;
     }
 
 -- ---- what is in whole
 
 module _ (T : Tables) (m : ℕ) (a : Ask) (h : IsOrdered T) where
-  -- the few rows, which lack what orders list
+  -- the few rows, with summaries of orders
   abbrev rows : Tables
-  rows = thinned (unlisted T m a) T
+  rows = thinned (with_summaries T m a) T
 
   -- what holds of each authorization holds of those that are kept
   kept_each : (P : AuthorizationRow → Type 0) → EachOf P T.authorizations → EachOf P rows.authorizations

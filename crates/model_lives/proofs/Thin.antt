@@ -15,7 +15,7 @@ use Rattle.model_laws.proofs.Basics.{each-map, each_all, find-map, list_any-same
 use Rattle.model_laws.proofs.{Local.filter_all, RowLists.ascends_map}
 use Rattle.model_lives.specs.AnswersAs.{CarriesOutAs}
 use Rattle.model_lives.proofs.Lists.{filter_nothing}
-use Rattle.model_lives.specs.Thinned.{all_challenges, all_listed, in_whole, no_challenges, thin, thinned, with_challenges, with_listed, without_challenges}
+use Rattle.model_lives.specs.Thinned.{all_challenges, all_whole, in_whole, no_challenges, thin, thinned, with_challenges, with_orders, without_challenges}
 
 -- ---- rows in whole
 
@@ -29,7 +29,7 @@ pub bare_authorizations : (rows : List AuthorizationRow) → map (with_challenge
 bare_authorizations [] = refl
 bare_authorizations (r ∷ rs) = λ i. record r { challenges = sym (filter_nothing r.challenges) i } ∷ bare_authorizations rs i
 
-pub whole_orders : (rows : List OrderRow) → map (with_listed all_listed) rows ≡ rows
+pub whole_orders : (rows : List OrderRow) → map (with_orders all_whole) rows ≡ rows
 whole_orders [] = refl
 whole_orders (o ∷ os) = ap (λ l. o ∷ l) (whole_orders os)
 
@@ -57,7 +57,7 @@ thin_ordered c l T h =
       accounts = h.accounts;
       authorizations = table_thin (λ (a : AuthorizationRow). a.number) (with_challenges c) (λ a. refl) T.meta.counters.authorizations T.authorizations
           h.authorizations;
-      orders = table_thin (λ (o : OrderRow). o.number) (with_listed l) (λ o. refl) T.meta.counters.orders T.orders h.orders;
+      orders = table_thin (λ (o : OrderRow). o.number) (with_orders l) (λ o. refl) T.meta.counters.orders T.orders h.orders;
     }
 
 -- ---- look-ups
@@ -105,9 +105,9 @@ swept_authorizations_thin : (c : ℕ → ChallengeRow → Bool) (m : ℕ) (rows 
 swept_authorizations_thin c m [] = refl
 swept_authorizations_thin c m (r ∷ rs) = λ i. swept_authorization_thin c m r i ∷ swept_authorizations_thin c m rs i
 
--- an order that falls has what it lists: then it falls without the rest of these rows, too
+-- an order that falls is whole: then it falls without the rest of these rows, too
 pub falls_thin : (c : ℕ → ChallengeRow → Bool) (l : ℕ → Bool) (m : ℕ) (rows : List AuthorizationRow) (o : OrderRow) →
-    (falls m rows o ≡ true → l o.number ≡ true) → falls m (map (with_challenges c) rows) (with_listed l o) ≡ falls m rows o
+    (falls m rows o ≡ true → l o.number ≡ true) → falls m (map (with_challenges c) rows) (with_orders l o) ≡ falls m rows o
 falls_thin c l m rows o kept = by (l o.number) kept
   where
     without : (live past one : Bool) → ((live && (past || one)) ≡ true → false ≡ true) → (live && (past || false)) ≡ (live && (past || one))
@@ -124,31 +124,31 @@ falls_thin c l m rows o kept = by (l o.number) kept
 
 swept_order_thin : (c : ℕ → ChallengeRow → Bool) (l : ℕ → Bool) (m : ℕ) (rows : List AuthorizationRow) (o : OrderRow) →
     (falls m rows o ≡ true → l o.number ≡ true) →
-    swept_order m (map (with_challenges c) rows) (with_listed l o) ≡ with_listed l (swept_order m rows o)
+    swept_order m (map (with_challenges c) rows) (with_orders l o) ≡ with_orders l (swept_order m rows o)
 swept_order_thin c l m rows o kept =
-    ap (λ b. cond b (record (with_listed l o) { status = order.Invalid }) (with_listed l o)) (falls_thin c l m rows o kept) ∙ by (falls m rows o)
+    ap (λ b. cond b (record (with_orders l o) { status = order.Invalid }) (with_orders l o)) (falls_thin c l m rows o kept) ∙ by (falls m rows o)
   where
-    by : (b : Bool) → cond b (record (with_listed l o) { status = order.Invalid }) (with_listed l o)
-        ≡ with_listed l (cond b (record o { status = order.Invalid }) o)
+    by : (b : Bool) → cond b (record (with_orders l o) { status = order.Invalid }) (with_orders l o)
+        ≡ with_orders l (cond b (record o { status = order.Invalid }) o)
     by true = refl
     by false = refl
 
--- what each order that falls lists is kept
-abbrev pub ListsFalling : (ℕ → Bool) → ℕ → Tables → Type 0
-ListsFalling l m T = EachOf (λ o. falls m T.authorizations o ≡ true → l o.number ≡ true) T.orders
+-- each order that falls is kept whole
+abbrev pub KeepsFallingWhole : (ℕ → Bool) → ℕ → Tables → Type 0
+KeepsFallingWhole l m T = EachOf (λ o. falls m T.authorizations o ≡ true → l o.number ≡ true) T.orders
 
-pub swept_thin : (c : ℕ → ChallengeRow → Bool) (l : ℕ → Bool) (m : ℕ) (P : Tables) → ListsFalling l m P → swept m (thin c l P) ≡ thin c l (swept m P)
+pub swept_thin : (c : ℕ → ChallengeRow → Bool) (l : ℕ → Bool) (m : ℕ) (P : Tables) → KeepsFallingWhole l m P → swept m (thin c l P) ≡ thin c l (swept m P)
 swept_thin c l m P kept =
     λ i. record (swept m P) { authorizations = swept_authorizations_thin c m P.authorizations i; orders = orders P.orders kept i }
   where
     orders : (os : List OrderRow) → EachOf (λ o. falls m P.authorizations o ≡ true → l o.number ≡ true) os →
-        map (swept_order m (map (with_challenges c) P.authorizations)) (map (with_listed l) os)
-        ≡ map (with_listed l) (map (swept_order m P.authorizations) os)
+        map (swept_order m (map (with_challenges c) P.authorizations)) (map (with_orders l) os)
+        ≡ map (with_orders l) (map (swept_order m P.authorizations) os)
     orders [] k = refl
     orders (o ∷ os) k = λ i. swept_order_thin c l m P.authorizations o k.0 i ∷ orders os k.1 i
 
--- what all orders list is kept
-pub all_falling : (m : ℕ) (T : Tables) → ListsFalling all_listed m T
+-- all orders are kept whole
+pub all_falling : (m : ℕ) (T : Tables) → KeepsFallingWhole all_whole m T
 all_falling m T = each_all _ T.orders (λ o falling. refl)
 
 -- ---- what is carried out
@@ -183,6 +183,6 @@ carries_thin T P m v c l after same h =
           ap (λ (E : Tables). E.authorizations) after ∙ ap (map (with_challenges c)) h.authorizations
           ∙ thin_both h.challenges c (filter h.kept (effects m (swept m T) (entries_of v)).authorizations);
       ends = λ n all. subst (EachOf (λ o. o.expires ≤ n)) (sym (ap (λ (E : Tables). E.orders) after))
-          (each-map _ (with_listed l) (effects m (swept m P) (entries_of v)).orders (h.ends n all));
+          (each-map _ (with_orders l) (effects m (swept m P) (entries_of v)).orders (h.ends n all));
       shows = λ index. ap (λ E. verdict_reply index E v) after ∙ same index ∙ h.shows index;
     }

@@ -47,7 +47,7 @@ use Rattle.model_laws.proofs.Finds.{each_found, found_passes}
 use Rattle.model_laws.proofs.Plain.{issued_effect, spent_effect}
 use Rattle.model_lives.specs.AnswersAs.{AnswersAs, CarriesOutAs, IssuesAs, PassesAs, SettlesAs}
 use Rattle.model_lives.specs.MinimalPart.{is_end, changes_statuses}
-use Rattle.model_lives.specs.Thinned.{all_listed, with_challenges}
+use Rattle.model_lives.specs.Thinned.{all_whole, with_challenges}
 use Rattle.model_lives.proofs.{Replies.owner_then, Lists.same_number, Ready.swept_named}
 use Rattle.model_lives.proofs.Trimming.{AllWhole, AreWhole, NewWhole, trimmed, effects_trimmed, find_changed, recorded_trimmed, row_whole, swept_trimmed, those}
 use Rattle.model_lives.proofs.Trimming.{touches_trimmed}
@@ -454,7 +454,7 @@ swept_on_whole w S m a h =
 module _ (T S : Tables) (m : ℕ) (w : ℕ → Bool) (new : NewWhole w S) (past : AreWhole w (is_overdue m) S.authorizations) where
   carried_trimmed : (v : Verdict) → ActsOnWhole w (swept m S) v → CarriesOutAs m T S v → CarriesOutAs m T (trimmed w S) v
   carried_trimmed v wholly h =
-      carries_thin T S m v (those w) all_listed
+      carries_thin T S m v (those w) all_whole
       (ap (λ U. effects m U (entries_of v)) (swept_trimmed w m S)
       ∙ effects_trimmed w m (swept m S) (entries_of v) new (verdict_touches w m (swept m S) v wholly))
       (λ index. verdict_reply_trimmed w m (swept m S) v index new wholly) h

@@ -19,7 +19,7 @@ use Rattle.desk_model.specs.declared.status.OrderStatus.TheVariants as order
 use Rattle.model_laws.proofs.Basics.{each, each_all, list_any-same}
 use Rattle.model_laws.proofs.{Chain.up_kept, Finds.each_found, OrderFacts.restated_alike, Recorded.made_up}
 use Rattle.model_laws.proofs.Local.{filter_all, moved_number}
-use Rattle.model_lives.specs.Thinned.{all_listed, thin, with_challenges, without_challenges}
+use Rattle.model_lives.specs.Thinned.{all_whole, thin, with_challenges, without_challenges}
 use Rattle.model_lives.proofs.Lists.{filter_nothing}
 use Rattle.model_lives.proofs.Thin.{all_falling, found_thin, overdue_thin, swept_thin, whole_orders}
 
@@ -29,7 +29,7 @@ those w n c = w n
 
 -- tables with these challenges alone
 abbrev pub trimmed : (ℕ → Bool) → Tables → Tables
-trimmed w T = thin (those w) all_listed T
+trimmed w T = thin (those w) all_whole T
 
 -- each row that passes a test is in whole
 abbrev pub AreWhole : (ℕ → Bool) → (AuthorizationRow → Bool) → List AuthorizationRow → Type 0
@@ -249,7 +249,7 @@ all_changes_trimmed w m S (e ∷ es) new h =
 -- ---- the passing of time
 
 pub swept_trimmed : (w : ℕ → Bool) (m : ℕ) (S : Tables) → swept m (trimmed w S) ≡ trimmed w (swept m S)
-swept_trimmed w m S = swept_thin (those w) all_listed m S (all_falling m S)
+swept_trimmed w m S = swept_thin (those w) all_whole m S (all_falling m S)
 
 -- what is past its moment is in whole: so it changes the same
 sweep_trimmed : (w : ℕ → Bool) (m : ℕ) (S : Tables) → AreWhole w (is_overdue m) S.authorizations → sweep_changes m (trimmed w S) ≡ sweep_changes m S

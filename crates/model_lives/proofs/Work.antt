@@ -28,7 +28,7 @@ use Rattle.model_lives.specs.AnswersAs.{AnswersAs, CarriesOutAs, SettlesAs}
 use Rattle.model_lives.specs.MinimalPart.{IsStatedFor, needed_rows}
 use Rattle.model_lives.specs.IsEnough.{IsEnoughFor, challenge_work_rows, enough, enough_at, has_work, is_worked_on, order_work_rows}
 use Rattle.model_lives.specs.IsPart.{IsPartFor}
-use Rattle.model_lives.specs.Thinned.{Thinning, all_listed, in_whole, no_challenges, thin, thinned, waiting_challenges, with_challenges}
+use Rattle.model_lives.specs.Thinned.{Thinning, all_whole, in_whole, no_challenges, thin, thinned, waiting_challenges, with_challenges}
 use Rattle.model_lives.proofs.Between.{carries_by, none_listed, parts_answer}
 use Rattle.model_lives.proofs.Cut.{at_number, no_part, no_rows, numbered}
 use Rattle.model_lives.proofs.Enough.{answers_at, restricted_ordered}
@@ -50,7 +50,7 @@ part_enough T P call h part =
 -- what is enough is cut from the whole, and stands by number as it does
 pub enough_ordered : (T P : Tables) (call : Call) → IsOrdered T → IsEnoughFor call T P → IsOrdered P
 enough_ordered T P call h part =
-    subst IsOrdered (sym part.cut) (thin_ordered part.kept.challenges part.kept.listed (restricted part.kept.rows T) (restricted_ordered part.kept.rows T h))
+    subst IsOrdered (sym part.cut) (thin_ordered part.kept.challenges part.kept.whole (restricted part.kept.rows T) (restricted_ordered part.kept.rows T h))
 
 -- ---- what shows something and records nothing
 
@@ -109,7 +109,7 @@ validator_same T h = numbered (λ (r : AuthorizationRow). r.number) has_work 1 T
 
 -- with the challenges that wait alone
 abbrev validator_thinning : Tables → Thinning
-validator_thinning T = record { rows = validator_kept T; challenges = waiting_challenges; listed = all_listed }
+validator_thinning T = record { rows = validator_kept T; challenges = waiting_challenges; whole = all_whole }
 
 validator_cut : (T : Tables) → IsOrdered T → challenge_work_rows T ≡ thinned (validator_thinning T) T
 validator_cut T h =
@@ -154,7 +154,7 @@ work_thin r = by (is_pending r.status)
     by true = ap (map (work_document r)) (filter_again waits r.challenges)
     by false = refl
 
-challenge_work_thin : (S : Tables) → challenge_work (thin waiting_challenges all_listed S) ≡ challenge_work S
+challenge_work_thin : (S : Tables) → challenge_work (thin waiting_challenges all_whole S) ≡ challenge_work S
 challenge_work_thin S = ap (λ (items : List Data). document ((codes "challenges", list items) ∷ [])) (items S.authorizations)
   where
     items : (rows : List AuthorizationRow) → flat_map work_of (map (with_challenges waiting_challenges) rows) ≡ flat_map work_of rows
@@ -162,13 +162,13 @@ challenge_work_thin S = ap (λ (items : List Data). document ((codes "challenges
     items (r ∷ rows) = λ i. work_thin r i ++ items rows i
 
 -- so it needs no others
-validator_thin : (T P : Tables) (m : ℕ) → SettlesAs m office.ChallengeWork T P → SettlesAs m office.ChallengeWork T (thin waiting_challenges all_listed P)
+validator_thin : (T P : Tables) (m : ℕ) → SettlesAs m office.ChallengeWork T P → SettlesAs m office.ChallengeWork T (thin waiting_challenges all_whole P)
 validator_thin T P m h =
     record {
       judged = refl;
       verdict =
-          carries_thin T P m (answers (show.List listing.ChallengeWork)) waiting_challenges all_listed
-          (swept_thin waiting_challenges all_listed m P (all_falling m P)) (λ index. ap (ok 200) (challenge_work_thin (swept m P))) h.verdict;
+          carries_thin T P m (answers (show.List listing.ChallengeWork)) waiting_challenges all_whole
+          (swept_thin waiting_challenges all_whole m P (all_falling m P)) (λ index. ap (ok 200) (challenge_work_thin (swept m P))) h.verdict;
       records = refl;
     }
 
@@ -189,7 +189,7 @@ issuer_same T h = numbered (λ (o : OrderRow). o.number) (λ o. is_processing o.
 
 -- without challenges
 abbrev issuer_thinning : Tables → Thinning
-issuer_thinning T = record { rows = issuer_kept T; challenges = no_challenges; listed = all_listed }
+issuer_thinning T = record { rows = issuer_kept T; challenges = no_challenges; whole = all_whole }
 
 issuer_cut : (T : Tables) → IsOrdered T → order_work_rows T ≡ thinned (issuer_thinning T) T
 issuer_cut T h =
@@ -278,22 +278,22 @@ issuer_settles T m h =
         ∙ or_left _ _ (e ∙ swept_processing m T.authorizations o yes)) (issuer_same T h))
 
 -- the list shows no challenge
-order_work_thin : (S : Tables) → order_work (thin no_challenges all_listed S) ≡ order_work S
+order_work_thin : (S : Tables) → order_work (thin no_challenges all_whole S) ≡ order_work S
 order_work_thin S =
     ap (λ (items : List Data). document ((codes "orders", list items) ∷ []))
-    (ap (λ os. map (order_work_document (thin no_challenges all_listed S)) (filter (λ o. is_processing o.status) os)) (whole_orders S.orders)
-    ∙ map-each (order_work_document (thin no_challenges all_listed S)) (order_work_document S) (filter (λ o. is_processing o.status) S.orders)
+    (ap (λ os. map (order_work_document (thin no_challenges all_whole S)) (filter (λ o. is_processing o.status) os)) (whole_orders S.orders)
+    ∙ map-each (order_work_document (thin no_challenges all_whole S)) (order_work_document S) (filter (λ o. is_processing o.status) S.orders)
     (each_all _ (filter (λ o. is_processing o.status) S.orders) (λ o.
     ap (λ names. names_document names o)
     (rows_thin (λ (a : AuthorizationRow). string (shown_name a.name)) no_challenges (λ r. refl) S.authorizations (numbers_of o.listed)))))
 
 -- so it needs none
-issuer_thin : (T P : Tables) (m : ℕ) → SettlesAs m office.OrderWork T P → SettlesAs m office.OrderWork T (thin no_challenges all_listed P)
+issuer_thin : (T P : Tables) (m : ℕ) → SettlesAs m office.OrderWork T P → SettlesAs m office.OrderWork T (thin no_challenges all_whole P)
 issuer_thin T P m h =
     record {
       judged = refl;
       verdict =
-          carries_thin T P m (answers (show.List listing.OrderWork)) no_challenges all_listed (swept_thin no_challenges all_listed m P (all_falling m P))
+          carries_thin T P m (answers (show.List listing.OrderWork)) no_challenges all_whole (swept_thin no_challenges all_whole m P (all_falling m P))
           (λ index. ap (ok 200) (order_work_thin (swept m P))) h.verdict;
       records = refl;
     }

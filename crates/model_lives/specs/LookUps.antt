@@ -5,7 +5,7 @@ use Rattle.desk_model.specs.Derived.{authz_code, numbers_of, order_code}
 use Rattle.desk_model.specs.{Kept.EachOf, Legal.is_processing_challenge, Order.is_processing, Tables.Tables}
 use Rattle.desk_model.specs.declared.{objects.Nonce.Nonce, rows.AccountRow.AccountRow, rows.AuthorizationRow.AuthorizationRow, rows.ChallengeRow.ChallengeRow}
 use Rattle.desk_model.specs.declared.{rows.OrderRow.OrderRow, status.AuthzStatus.AuthzStatus, status.OrderStatus.OrderStatus}
-use Rattle.model_lives.specs.Thinned.{without_challenges, without_listed}
+use Rattle.model_lives.specs.Thinned.{summarized, without_challenges}
 use Rattle.model_lives.specs.declared.{queries.AccountsWhere.AccountsWhere, queries.AuthorizationsWhere.AuthorizationsWhere, queries.NoncesWhere.NoncesWhere}
 use Rattle.model_lives.specs.declared.queries.OrdersWhere.{OrdersWhere}
 use Rattle.model_lives.specs.declared.queries.AccountsWhere.TheVariants as accounts
@@ -61,7 +61,6 @@ accounts_with_key T key = filter (has_key key) T.accounts
 abbrev pub wants_order : OrdersWhere → OrderRow → Bool
 wants_order orders.Any = λ o. true
 wants_order (orders.Number n) = λ o. o.number == n
-wants_order (orders.Account n) = λ o. o.account == n
 wants_order (orders.Past status m) = λ o. (order_code o.status == order_code status) && nat_lt o.expires m
 wants_order orders.Processing = λ o. is_processing o.status
 
@@ -74,11 +73,11 @@ orders_numbered T n = orders_where T (orders.Number n)
 
 -- by the account
 abbrev pub orders_of : Tables → ℕ → List OrderRow
-orders_of T n = orders_where T (orders.Account n)
+orders_of T n = filter (λ o. o.account == n) T.orders
 
--- by the account, without what they list
-abbrev pub bare_orders_of : Tables → ℕ → List OrderRow
-bare_orders_of T n = map without_listed (orders_of T n)
+-- by the account, in summary
+abbrev pub summaries_of : Tables → ℕ → List OrderRow
+summaries_of T n = map summarized (orders_of T n)
 
 -- of one stored status, with an end before a moment
 abbrev pub orders_past : Tables → OrderStatus → ℕ → List OrderRow

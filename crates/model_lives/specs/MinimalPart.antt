@@ -8,6 +8,7 @@ use Rattle.desk_model.specs.{Kept.EachOf, Lookup.holds, Payload.account_change, 
 use Rattle.desk_model.specs.Touched.{is_named_account, is_named_authorization, is_named_order, is_own_authorization, is_past_order, is_touched_nonce, lists}
 use Rattle.desk_model.specs.declared.{call.Ask.Ask, call.Target.Target, payload.AccountChange.AccountChange, rows.AccountRow.AccountRow}
 use Rattle.desk_model.specs.declared.{rows.AuthorizationRow.AuthorizationRow, rows.OrderRow.OrderRow}
+use Rattle.model_lives.specs.Thinned.{whole_if}
 use Rattle.desk_model.specs.declared.call.Ask.TheVariants as ask
 use Rattle.desk_model.specs.declared.call.OfficeAsk.TheVariants as office
 use Rattle.desk_model.specs.declared.call.Target.TheVariants as to
@@ -101,13 +102,13 @@ minimal_rows T m a =
 
 -- ---- what they may lack
 
--- an order that is opened or named, and so needed with what it lists
+-- an order that is opened or named, and so needed whole
 abbrev pub is_whole_order : Tables → ℕ → Ask → OrderRow → Bool
 is_whole_order T m a o = is_opened_order T m a o || is_named_order a o
 
--- one that is only listed with those of its account is not
+-- of one that is only listed with those of its account the summary is enough
 abbrev pub as_needed : Tables → ℕ → Ask → OrderRow → OrderRow
-as_needed T m a o = record o { listed = if is_whole_order T m a o then o.listed else [] }
+as_needed T m a o = whole_if (is_whole_order T m a o) o
 
 -- an authorization that may change, or that is named or wanted, and so needed with its challenges
 abbrev pub is_whole_authorization : Tables → ℕ → Ask → AuthorizationRow → Bool

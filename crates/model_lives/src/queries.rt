@@ -67,8 +67,6 @@ pub enum OrdersWhere {
     Any,
     /// Those of a number.
     Number(u64),
-    /// Those of an account.
-    Account(u64),
     /// Those of a stored status whose end is before a moment.
     Past(OrderStatus, u64),
     /// Those that are stored as waiting for a certificate.
@@ -82,7 +80,6 @@ impl Query<OrderRow> for OrdersWhere {
         match *self {
             OrdersWhere::Any => true,
             OrdersWhere::Number(number) => row.number == number,
-            OrdersWhere::Account(account) => row.account == account,
             OrdersWhere::Past(status, moment) => row.status == status && row.expires < moment,
             OrdersWhere::Processing => row.status == OrderStatus::Processing,
         }

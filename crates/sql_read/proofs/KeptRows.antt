@@ -3,10 +3,10 @@ use Rattle.std.proofs.Common.{◌≡◌, ℤ, List, [], ◌∷◌, map, sym, sub
 use Rattle.std.proofs.lemmas.{List.map-id, Simd.map-map}
 use Rattle.sqlite.specs.{Effect.Database, Schema.Schema}
 use Rattle.store_columns.specs.Columns.{authorization_columns, challenge_columns, first_format, key_columns, known_format, nonce_columns, order_columns}
-use Rattle.store_columns.specs.Flat.{bare_row, challenge_rows, key_rows, without_challenges, without_listed}
-use Rattle.store_columns.specs.Limits.{IsStoredAccount, IsStoredChallenge, IsStoredKey, IsStoredNonce}
-use Rattle.store_columns.specs.TextColumns.{HasTextAuthorization, HasTextChallenge, HasTextOrder}
-use Rattle.model_laws.proofs.Basics.{each_all}
+use Rattle.store_columns.specs.Flat.{bare_row, challenge_rows, key_rows, summarized, without_challenges, without_listed}
+use Rattle.store_columns.specs.Limits.{IsStoredAccount, IsStoredChallenge, IsStoredKey, IsStoredNonce, IsStoredOrder, IsStoredSummary}
+use Rattle.store_columns.specs.TextColumns.{HasTextAuthorization, HasTextChallenge, HasTextOrder, HasTextSummary}
+use Rattle.model_laws.proofs.Basics.{each, each-map, each_all, each_of_map}
 use Rattle.desk_model.specs.{Kept.EachOf, Tables.Tables}
 use Rattle.sql_schema.specs.Schema.{desk_schema, first_schema}
 use Rattle.sql_tables.specs.Holds.{Holds, HoldsFirst}
@@ -19,7 +19,7 @@ use Rattle.sql_read.specs.declared.formats.Format.{Format}
 use Rattle.sql_read.specs.declared.formats.Format.TheVariants.{First, Second}
 use Rattle.sql_read.proofs.{FoundRows.Keeps, KeyedReadings.HasRowsIn, Lists.each_map_sorted}
 use Rattle.sql_read.proofs.TableFacts.{account_facts, authorization_facts, challenge_facts, columns, formatted_facts, key_facts, meta_facts, nonce_facts}
-use Rattle.sql_read.proofs.TableFacts.{order_facts}
+use Rattle.sql_read.proofs.TableFacts.{order_facts, summary_facts}
 
 -- the definitions of a format, and its number
 abbrev pub schema_of : Format → Schema
@@ -77,6 +77,21 @@ module _ (db : Database) (T : Tables) where
     stored = λ stored. stored.orders;
     texts = λ texts. subst (EachOf HasTextOrder) (map-map order_columns without_listed T.orders) texts.orders;
   }
+
+  -- orders, in summary
+  pub summaries_kept : Holds db T → Keeps desk_schema summary_facts db T T.orders
+  summaries_kept has =
+      let whole = orders_kept Second has in
+      record {
+        rows = whole.rows;
+        stored = λ stored.
+            each-map IsStoredSummary summarized T.orders
+            (each _ _ T.orders (λ o k. record { number = k.number; account = k.account; made = k.made; expires = k.expires; bare = refl })
+            (each_of_map IsStoredOrder without_listed T.orders (whole.stored stored)));
+        texts = λ texts.
+            each-map HasTextSummary (columns summary_facts) T.orders
+            (each _ _ T.orders (λ o k. k.status) (each_of_map HasTextOrder (columns order_facts) T.orders (whole.texts texts)));
+      }
 
   -- authorizations, without their challenges
   pub authorizations_kept : (format : Format) → HoldsIn format db T → Keeps (schema_of format) authorization_facts db T T.authorizations

@@ -32,8 +32,8 @@ use Rattle.sql_read.specs.declared.formats.Format.TheVariants.{Second}
 use Rattle.sql_read.proofs.Answered.{IsReading, all_rows, by, first_row}
 use Rattle.sql_read.proofs.Readings.{accounts_reading, authorizations_reading, nonces_reading, orders_reading}
 use Rattle.sql_read.proofs.TableColumns.{account_names, authorization_names, authorization_status_at, challenge_names, challenge_status_at, key_names}
-use Rattle.sql_read.proofs.TableColumns.{listed_names, listed_project, nonce_names, order_names, order_status_at}
-use Rattle.sql_read.proofs.TableFacts.{IsReadingOf, account_facts, authorization_facts, challenge_facts, key_facts, nonce_facts, order_facts}
+use Rattle.sql_read.proofs.TableColumns.{listed_names, listed_project, nonce_names, order_names, order_status_at, summary_names}
+use Rattle.sql_read.proofs.TableFacts.{IsReadingOf, account_facts, authorization_facts, challenge_facts, key_facts, nonce_facts, order_facts, summary_facts}
 
 -- ---- tests, and what they are given
 
@@ -92,7 +92,6 @@ accounts_asked (accounts_by.Key key) = record { names = account_names; means = r
 abbrev pub order_tests : OrdersWhere → List Term
 order_tests orders_by.Any = []
 order_tests (orders_by.Number n) = is_equal 0
-order_tests (orders_by.Account n) = is_equal 2
 order_tests (orders_by.Past status m) = past order_status_at 4
 order_tests orders_by.Processing = is_equal order_status_at
 
@@ -100,9 +99,13 @@ pub orders_asked : (which : OrdersWhere) → IsReadingOf order_facts desk_schema
 unfolding understood everything
 orders_asked orders_by.Any = orders_reading Second
 orders_asked (orders_by.Number n) = record { names = order_names; means = refl; selecting = refl; sizes = refl; typed = refl }
-orders_asked (orders_by.Account n) = record { names = order_names; means = refl; selecting = refl; sizes = refl; typed = refl }
 orders_asked (orders_by.Past status m) = record { names = order_names; means = refl; selecting = refl; sizes = refl; typed = refl }
 orders_asked orders_by.Processing = record { names = order_names; means = refl; selecting = refl; sizes = refl; typed = refl }
+
+-- the orders of an account, in summary
+pub summaries_reading : (n : ℕ) → IsReadingOf summary_facts desk_schema all_rows ord.SELECT_SUMMARIES_OF.now (is_equal 2) (number n)
+unfolding understood everything
+summaries_reading n = record { names = summary_names; means = refl; selecting = refl; sizes = refl; typed = refl }
 
 -- authorizations
 abbrev pub authorization_tests : AuthorizationsWhere → List Term

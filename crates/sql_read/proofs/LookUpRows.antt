@@ -4,7 +4,7 @@ use Rattle.std.specs.Prelude.{◌==◌, nat_lt, bytes_eq}
 use Rattle.std.proofs.lemmas.List.{map-id}
 use Rattle.sqlite.specs.Held.{Held, state}
 use Rattle.sqlite.specs.Store.{Ghosts}
-use Rattle.store_columns.specs.Flat.{bare_row, challenge_rows, key_rows, without_challenges, without_listed}
+use Rattle.store_columns.specs.Flat.{bare_row, challenge_rows, key_rows, summarized, without_challenges, without_listed}
 use Rattle.store_columns.specs.Limits.{IsStoredAccount, IsStoredAuthorization, IsStoredNonce, IsStoredOrder}
 use Rattle.desk_model.specs.Document.{authorization_status_text, challenge_status_text, order_status_text}
 use Rattle.desk_model.specs.{Legal.is_processing_challenge, Tables.Tables}
@@ -12,7 +12,7 @@ use Rattle.desk_model.specs.declared.{objects.Nonce.Nonce, rows.AccountRow.Accou
 use Rattle.desk_model.specs.declared.status.ChallengeStatus.TheVariants as challenge
 use Rattle.desk_model.specs.declared.status.OrderStatus.TheVariants as order
 use Rattle.model_lives.specs.Above.{accounts_above, authorizations_above, first_of, orders_above}
-use Rattle.model_lives.specs.LookUps.{accounts_where, authorizations_where, nonces_where, orders_where}
+use Rattle.model_lives.specs.LookUps.{accounts_where, authorizations_where, nonces_where, orders_of, orders_where}
 use Rattle.model_lives.specs.LookUps.{wants_account, wants_authorization, wants_nonce, wants_order}
 use Rattle.model_lives.specs.declared.queries.AccountsWhere.{AccountsWhere}
 use Rattle.model_lives.specs.declared.queries.AccountsWhere.TheVariants as accounts_by
@@ -38,14 +38,15 @@ use Rattle.sql_schema.specs.declared.orders.TheConstants as ord
 use Rattle.sql_read.specs.declared.formats.Format.TheVariants.{Second}
 use Rattle.sql_read.proofs.Answered.{all_rows, first_row}
 use Rattle.sql_read.proofs.FoundRows.{FindsIn, finds}
-use Rattle.sql_read.proofs.KeptRows.{accounts_kept, authorizations_kept, challenges_kept, keys_kept, meta_kept, nonces_kept, orders_kept}
+use Rattle.sql_read.proofs.KeptRows.{accounts_kept, authorizations_kept, challenges_kept, keys_kept, meta_kept, nonces_kept, orders_kept, summaries_kept}
 use Rattle.sql_read.proofs.LookUpReadings.{account_above_reading, account_tests, accounts_asked, authorization_above_reading, authorization_tests}
 use Rattle.sql_read.proofs.LookUpReadings.{authorizations_asked, challenges_numbered_reading, challenges_of_reading, challenges_processing_reading, is_equal}
-use Rattle.sql_read.proofs.LookUpReadings.{is_higher, keys_of_reading, nonce_tests, nonces_asked, order_above_reading, order_tests, orders_asked, text}
+use Rattle.sql_read.proofs.LookUpReadings.{is_higher, keys_of_reading, nonce_tests, nonces_asked, order_above_reading, order_tests, orders_asked, summaries_reading}
+use Rattle.sql_read.proofs.LookUpReadings.{text}
 use Rattle.sql_read.proofs.{UnderLemmas.own_ascend, Readings.meta_reading, TableColumns.challenge_status_at}
 use Rattle.sql_read.proofs.StatusTests.{authorization_status_test, challenge_waits, order_status_test, order_waits}
 use Rattle.sql_read.proofs.Tests.{above_bounded, above_test, below_bounded, below_test, number_test, number_text_test, same_bounded, text_below_test, text_test}
-use Rattle.sql_read.proofs.TableFacts.{account_facts, authorization_facts, challenge_facts, key_facts, meta_facts, nonce_facts, order_facts, picks}
+use Rattle.sql_read.proofs.TableFacts.{account_facts, authorization_facts, challenge_facts, key_facts, meta_facts, nonce_facts, order_facts, picks, summary_facts}
 
 -- ---- SQL's tests are the model's, on rows in their limits
 
@@ -67,7 +68,6 @@ order_agrees : (which : OrdersWhere) (x : OrderRow) → IsStoredOrder (without_l
     → picks order_facts (order_tests which) (order_query which).1 x ≡ wants_order which x
 order_agrees orders_by.Any x k = refl
 order_agrees (orders_by.Number n) x k = number_test x.number (bounded n) ∙ same_bounded x.number n k.number.1
-order_agrees (orders_by.Account n) x k = number_test x.account (bounded n) ∙ same_bounded x.account n k.account.1
 order_agrees (orders_by.Past status m) x k =
     text_below_test (order_status_text x.status) (order_status_text status) x.expires (bounded m)
     ∙ (λ i. order_status_test x.status status i && below_bounded x.expires m (let e = k.expires in omega (arith, e)) i)
@@ -111,6 +111,12 @@ module _ {S : Type 0} (g : Ghosts S) (old : Held S) (T : Tables) (has : Holds (s
   orders_find which =
       finds order_facts g all_rows (order_query which) (order_tests which) (orders_asked which) (wants_order which) (order_agrees which) old T book T.orders
       (orders_kept _ T Second has)
+
+  -- of the orders of an account, in summary
+  pub summaries_find : (n : ℕ) → FindsIn summary_facts g (ord.SELECT_SUMMARIES_OF.now, number n) old (map summarized (orders_of T n))
+  summaries_find n =
+      finds summary_facts g all_rows (ord.SELECT_SUMMARIES_OF.now, number n) (is_equal 2) (summaries_reading n) (λ x. x.account == n)
+      (λ x k. number_test x.account (bounded n) ∙ same_bounded x.account n k.account.1) old T book T.orders (summaries_kept _ T has)
 
   -- of authorizations, without their challenges
   pub authorizations_find : (which : AuthorizationsWhere)

@@ -1,25 +1,27 @@
 -- The columns of each table: their names, that what is read of a row is what stands in it, and that it fits the table.
 use Rattle.std.proofs.Common.{ℕ, List, [], ◌∷◌, codes, ◌≡◌, ℤ, pos, None, Some, Option, refl, map, All, IsUtf8, IfSome, arith, subst, sym}
-use Rattle.sqlite.specs.declared.types.Value.TheVariants.{Int}
+use Rattle.sqlite.specs.declared.types.Value.TheVariants.{Int, Text}
 use Rattle.sqlite_value.specs.Order.{Row, column}
 use Rattle.sqlite_trees.specs.Tree.{Trees}
 use Rattle.sqlite_sql.specs.Term.{Term, col, eval_all}
 use Rattle.sqlite_sql.specs.Program.{overlay}
 use Rattle.store_columns.specs.Columns.{account_columns, authorization_columns, challenge_columns, key_columns, meta_columns, nonce_columns, order_columns}
+use Rattle.store_columns.specs.Columns.{summary_columns}
 use Rattle.store_columns.specs.declared.columns.{AccountColumns.AccountColumns, AuthzColumns.AuthzColumns, ChallColumns.ChallColumns}
 use Rattle.store_columns.specs.declared.columns.{ChallKeyColumns.ChallKeyColumns, MetaColumns.MetaColumns, NonceColumns.NonceColumns}
-use Rattle.store_columns.specs.declared.columns.{OrderAuthzColumns.OrderAuthzColumns, OrderColumns.OrderColumns}
+use Rattle.store_columns.specs.declared.columns.{OrderAuthzColumns.OrderAuthzColumns, OrderColumns.OrderColumns, OrderSummaryColumns.OrderSummaryColumns}
 use Rattle.store_columns.specs.Flat.{bare_row}
 use Rattle.sql_tables.specs.Images.{account_params, authorization_params, blob_or_null, challenge_params, formatted_columns, int_or_null, key_params}
 use Rattle.sql_tables.specs.Images.{listed_params, meta_params, nonce_params, order_params, text_or_null}
 use Rattle.sql_tables.specs.Layouts.{Layout, account_layout, authorization_layout, challenge_layout, formatted_layout, key_layout, meta_layout}
 use Rattle.sql_tables.specs.Layouts.{nonce_layout, order_layout}
 use Rattle.sql_read.specs.Spelled.{account_in, authorization_in, bytes_or_none, challenge_in, key_in, listed_in, meta_in, nonce_in, number_or_none}
-use Rattle.sql_read.specs.Spelled.{order_in, FitsAccount, FitsAuthorization, FitsChallenge, FitsKey, FitsListed, FitsMeta, FitsNonce, FitsOrder}
+use Rattle.sql_read.specs.Spelled.{order_in, summary_in, FitsAccount, FitsAuthorization, FitsChallenge, FitsKey, FitsListed, FitsMeta, FitsNonce, FitsOrder}
+use Rattle.sql_read.specs.Spelled.{FitsSummary}
 use Rattle.sql_read.specs.Spelled.{HoldsBlobOrNull, HoldsIntOrNull, HoldsTextOrNull}
 use Rattle.std.specs.List.{AllByRecursion}
 use Rattle.std.proofs.lemmas.List.Elements.{All-from_recursion}
-use Rattle.store_columns.specs.TextColumns.{HasTextAccount, HasTextAuthorization, HasTextChallenge, HasTextMeta, HasTextOrder}
+use Rattle.store_columns.specs.TextColumns.{HasTextAccount, HasTextAuthorization, HasTextChallenge, HasTextMeta, HasTextOrder, HasTextSummary}
 use Rattle.desk_model.specs.Kept.{EachOf}
 
 -- ---- the names of the columns, as the engine reads them in a statement
@@ -43,6 +45,10 @@ abbrev pub order_names : List (List ℕ)
 order_names =
     codes "num" ∷ codes "account" ∷ codes "made" ∷ codes "expires" ∷ codes "finalized" ∷ codes "csr"
     ∷ codes "certified" ∷ codes "cert" ∷ codes "failed" ∷ codes "problem" ∷ codes "status" ∷ []
+
+-- of an order in summary
+abbrev pub summary_names : List (List ℕ)
+summary_names = codes "num" ∷ codes "account" ∷ codes "made" ∷ codes "expires" ∷ codes "status" ∷ []
 
 -- of `authz`
 abbrev pub authorization_names : List (List ℕ)
@@ -170,6 +176,18 @@ order_project = col 1 0 ∷ col 1 2 ∷ col 1 3 ∷ col 1 4 ∷ col 1 5 ∷ col 
 abbrev pub order_spelled : IsSpelled order_layout order_columns order_in order_project
 order_spelled = record { row = order_params; back = order_back; low = λ _. refl; shows = λ _ _. refl; key = λ _. refl }
 
+-- those of an order in summary
+abbrev pub summary_project : List Term
+summary_project = col 1 0 ∷ col 1 2 ∷ col 1 3 ∷ col 1 4 ∷ col 1 11 ∷ []
+
+-- what is shown of it
+abbrev pub summary_params : OrderSummaryColumns → Row
+summary_params c = Int c.num ∷ Int c.account ∷ Int c.made ∷ Int c.expires ∷ Text c.status ∷ []
+
+-- an order in summary
+abbrev pub summary_spelled : IsSpelled order_layout summary_columns summary_in summary_project
+summary_spelled = record { row = summary_params; back = λ _. refl; low = λ _. refl; shows = λ _ _. refl; key = λ _. refl }
+
 -- those of `authz`
 abbrev pub authorization_project : List Term
 authorization_project = col 1 0 ∷ col 1 2 ∷ col 1 3 ∷ col 1 4 ∷ col 1 5 ∷ col 1 6 ∷ col 1 7 ∷ col 1 8 ∷ col 1 9 ∷ []
@@ -278,6 +296,10 @@ order_fits c h = (
   (omega arith, text_fits c.problem h.problem),
   (omega arith, h.status),
 )
+
+-- an order in summary
+pub summary_fits : (c : OrderSummaryColumns) → HasTextSummary c → FitsSummary (summary_params c)
+summary_fits c h = ((omega arith, tt), (omega arith, tt), (omega arith, tt), (omega arith, tt), (omega arith, h))
 
 -- `authz`
 pub authorization_fits : (c : AuthzColumns) → HasTextAuthorization c → FitsAuthorization (authorization_params c)

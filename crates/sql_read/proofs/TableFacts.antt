@@ -4,29 +4,32 @@ use Rattle.sqlite_value.specs.Order.{Row}
 use Rattle.sqlite_sql.specs.Term.{Term}
 use Rattle.sqlite.specs.Schema.{Schema}
 use Rattle.store_columns.specs.Columns.{account_columns, authorization_columns, challenge_columns, key_columns, known_format, meta_columns}
-use Rattle.store_columns.specs.Columns.{nonce_columns, order_columns}
-use Rattle.store_columns.specs.Flat.{bare_row, without_challenges, without_listed}
+use Rattle.store_columns.specs.Columns.{nonce_columns, order_columns, summary_columns}
+use Rattle.store_columns.specs.Flat.{bare_row, summarized, without_challenges, without_listed}
 use Rattle.store_columns.specs.Laws.{AreToldApart}
 use Rattle.store_columns.specs.Limits.{IsStoredAccount, IsStoredAuthorization, IsStoredChallenge, IsStoredKey, IsStoredMeta, IsStoredNonce, IsStoredOrder}
-use Rattle.store_columns.specs.TextColumns.{HasTextAccount, HasTextAuthorization, HasTextChallenge, HasTextMeta, HasTextOrder}
+use Rattle.store_columns.specs.Limits.{IsStoredSummary}
+use Rattle.store_columns.specs.TextColumns.{HasTextAccount, HasTextAuthorization, HasTextChallenge, HasTextMeta, HasTextOrder, HasTextSummary}
 use Rattle.store_columns.specs.declared.{columns.AccountColumns.AccountColumns, columns.AuthzColumns.AuthzColumns, columns.ChallColumns.ChallColumns}
 use Rattle.store_columns.specs.declared.{columns.ChallKeyColumns.ChallKeyColumns, columns.MetaColumns.MetaColumns, columns.NonceColumns.NonceColumns}
 use Rattle.store_columns.specs.declared.{columns.OrderColumns.OrderColumns, columns.AnswerKey.AnswerKey, columns.BareChallenge.BareChallenge}
+use Rattle.store_columns.specs.declared.{columns.OrderSummaryColumns.OrderSummaryColumns}
 use Rattle.store_columns.specs.declared.{columns.Owned.Owned}
 use Rattle.store_columns.proofs.RowsApart.{accounts-apart, authorizations-apart, challenges-apart, keys-apart, metas-apart, nonces-apart, orders-apart}
+use Rattle.store_columns.proofs.RowsApart.{summaries-apart}
 use Rattle.desk_model.specs.declared.{objects.Nonce.Nonce, rows.AccountRow.AccountRow, rows.AuthorizationRow.AuthorizationRow, rows.ChallengeRow.ChallengeRow}
 use Rattle.desk_model.specs.declared.{rows.Meta.Meta, rows.OrderRow.OrderRow}
 use Rattle.sql_tables.specs.Images.{formatted_columns}
 use Rattle.sql_tables.specs.Layouts.{Layout, account_layout, authorization_layout, challenge_layout, formatted_layout, key_layout, meta_layout}
 use Rattle.sql_tables.specs.Layouts.{nonce_layout, order_layout}
-use Rattle.sql_read.specs.Spelled.{FitsAccount, FitsAuthorization, FitsChallenge, FitsKey, FitsMeta, FitsNonce, FitsOrder, account_in}
-use Rattle.sql_read.specs.Spelled.{authorization_in, challenge_in, key_in, meta_in, nonce_in, order_in}
+use Rattle.sql_read.specs.Spelled.{FitsAccount, FitsAuthorization, FitsChallenge, FitsKey, FitsMeta, FitsNonce, FitsOrder, FitsSummary, account_in}
+use Rattle.sql_read.specs.Spelled.{authorization_in, challenge_in, key_in, meta_in, nonce_in, order_in, summary_in}
 use Rattle.sql_read.proofs.Answered.{IsReading, by, passes}
 use Rattle.sql_read.proofs.TableColumns.{IsSpelled, account_fits, account_project, account_spelled, authorization_fits, authorization_project}
 use Rattle.sql_read.proofs.TableColumns.{authorization_spelled, challenge_fits, challenge_project, challenge_spelled, formatted_spelled, key_fits, key_project}
 use Rattle.sql_read.proofs.TableColumns.{key_spelled}
 use Rattle.sql_read.proofs.TableColumns.{meta_fits, meta_project, meta_spelled, nonce_fits, nonce_project, nonce_spelled, order_fits, order_project}
-use Rattle.sql_read.proofs.TableColumns.{order_spelled}
+use Rattle.sql_read.proofs.TableColumns.{order_spelled, summary_fits, summary_project, summary_spelled}
 
 -- rows as they are kept, the part of each that stands in this table, and the columns that are written and read of that
 pub record TableFacts (X R C : Type 0) : Type 1 where
@@ -92,6 +95,12 @@ account_facts =
 abbrev pub order_facts : TableFacts OrderRow OrderRow OrderColumns
 order_facts =
     table_of order_layout without_listed order_columns order_in order_project order_spelled IsStoredOrder orders-apart HasTextOrder FitsOrder order_fits
+
+-- `ord`, of orders in summary
+abbrev pub summary_facts : TableFacts OrderRow OrderRow OrderSummaryColumns
+summary_facts =
+    table_of order_layout summarized summary_columns summary_in summary_project summary_spelled IsStoredSummary summaries-apart HasTextSummary FitsSummary
+    summary_fits
 
 -- `authz`, of authorizations without their challenges
 abbrev pub authorization_facts : TableFacts AuthorizationRow AuthorizationRow AuthzColumns

@@ -50,7 +50,6 @@ account_query (accounts_by.Key key) = (account.SELECT_WITH_KEY.now, Text key.now
 abbrev pub order_query : OrdersWhere → List ℕ × Row
 order_query orders_by.Any = (ord.SELECT.now, [])
 order_query (orders_by.Number n) = (ord.SELECT_NUMBERED.now, number n)
-order_query (orders_by.Account n) = (ord.SELECT_OF.now, number n)
 order_query (orders_by.Past status m) = (ord.SELECT_PAST.now, Text (order_status_text status) ∷ number m)
 order_query orders_by.Processing = (ord.SELECT_WITH_STATUS.now, Text (order_status_text order.Processing) ∷ [])
 

@@ -5,7 +5,7 @@ use Rattle.sqlite.specs.declared.types.Value.TheVariants.{Int, Text, Blob, Null}
 use Rattle.sqlite.specs.Order.{Row, column}
 use Rattle.store_columns.specs.declared.columns.{AccountColumns.AccountColumns, AuthzColumns.AuthzColumns, ChallColumns.ChallColumns}
 use Rattle.store_columns.specs.declared.columns.{ChallKeyColumns.ChallKeyColumns, MetaColumns.MetaColumns, NonceColumns.NonceColumns}
-use Rattle.store_columns.specs.declared.columns.{OrderAuthzColumns.OrderAuthzColumns, OrderColumns.OrderColumns}
+use Rattle.store_columns.specs.declared.columns.{OrderAuthzColumns.OrderAuthzColumns, OrderColumns.OrderColumns, OrderSummaryColumns.OrderSummaryColumns}
 
 -- ---- values, read
 
@@ -83,6 +83,17 @@ order_in r =
       failed = number_or_none (column r 8);
       problem = bytes_or_none (column r 9);
       status = bytes_in (column r 10);
+    }
+
+-- of an order in summary
+abbrev pub summary_in : Row → OrderSummaryColumns
+summary_in r =
+    record {
+      num = number_in (column r 0);
+      account = number_in (column r 1);
+      made = number_in (column r 2);
+      expires = number_in (column r 3);
+      status = bytes_in (column r 4);
     }
 
 -- of `authz`
@@ -184,6 +195,10 @@ abbrev pub FitsOrder : Row → Type 0
 FitsOrder r =
     HasAt HoldsInt r 0 × HasAt HoldsInt r 1 × HasAt HoldsInt r 2 × HasAt HoldsInt r 3 × HasAt HoldsIntOrNull r 4 × HasAt HoldsBlobOrNull r 5
     × HasAt HoldsIntOrNull r 6 × HasAt HoldsBlobOrNull r 7 × HasAt HoldsIntOrNull r 8 × HasAt HoldsTextOrNull r 9 × HasAt HoldsText r 10
+
+-- of an order in summary
+abbrev pub FitsSummary : Row → Type 0
+FitsSummary r = HasAt HoldsInt r 0 × HasAt HoldsInt r 1 × HasAt HoldsInt r 2 × HasAt HoldsInt r 3 × HasAt HoldsText r 4
 
 -- of `authz`
 abbrev pub FitsAuthorization : Row → Type 0

@@ -28,5 +28,5 @@ pub use first::first_meta;
 pub use format::is_newer;
 pub use meta::meta_row;
 pub use nonces::{earliest_issue, find_nonces};
-pub use orders::{bare_orders_of, earliest_order_end, find_orders, order_above, orders_listing};
+pub use orders::{earliest_order_end, find_orders, order_above, orders_listing, summaries_of};
 pub use rows::Selected;

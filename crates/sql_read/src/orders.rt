@@ -2,10 +2,10 @@
 ghost use Rattle.std.specs.Prelude.{◌≡◌};
 ghost use Rattle.store_columns.specs.Flat.{without_listed};
 ghost use Rattle.model_lives.specs.Above.{first_of, orders_above};
-ghost use Rattle.model_lives.specs.LookUps.{bare_orders_of, orders_listing, orders_where};
+ghost use Rattle.model_lives.specs.LookUps.{orders_listing, orders_where, summaries_of};
 ghost use Rattle.sql_read.specs.Earliest.{TellsEarliest, order_ends};
 ghost use Rattle.sql_read.specs.{Looking.LooksUp, Queries.asked, Queries.order_query, Under.HasItsListed};
-ghost use Rattle.sql_read.specs.Spelled.{FitsListed, FitsOrder, listed_in, order_in};
+ghost use Rattle.sql_read.specs.Spelled.{FitsListed, FitsOrder, FitsSummary, listed_in, order_in, summary_in};
 
 use crate::fault::ReadFault;
 use crate::rows::{
@@ -17,7 +17,7 @@ use model_lives::OrdersWhere;
 use sql_schema::{listed, orders};
 use sqlite::{Alter, Connection, Error, Row};
 use std::alloc::Global;
-use store_columns::{OrderAuthzColumns, OrderColumns};
+use store_columns::{OrderAuthzColumns, OrderColumns, OrderSummaryColumns};
 
 impl Selected for OrderColumns {
     ghost spelled = { order_in };
@@ -42,6 +42,24 @@ impl Selected for OrderColumns {
             cert,
             failed,
             problem,
+            status,
+        })
+    }
+}
+
+impl Selected for OrderSummaryColumns {
+    ghost spelled = { summary_in };
+
+    ghost Fits = { FitsSummary };
+
+    fn of(row: &Row) -> Result<OrderSummaryColumns, Error> {
+        let [num, account, made, expires] = numbers(row, [0, 1, 2, 3])?;
+        let status = text(row, 4)?;
+        Ok(OrderSummaryColumns {
+            num,
+            account,
+            made,
+            expires,
             status,
         })
     }
@@ -85,7 +103,6 @@ fn query_of<'a>(which: OrdersWhere) -> Query<'a>
     match which {
         OrdersWhere::Any => Query::all(orders::SELECT),
         OrdersWhere::Number(number) => Query::number(orders::SELECT_NUMBERED, number),
-        OrdersWhere::Account(account) => Query::number(orders::SELECT_OF, account),
         OrdersWhere::Past(status, moment) => {
             Query::text_and_number(orders::SELECT_PAST, status.as_str(), moment)
         }
@@ -110,19 +127,20 @@ pub fn find_orders<S: Alter>(
     find_wholes::<S, OrderColumns, _>(alloc, conn, query_of(which))
 }
 
-/// The orders of an account, by number, without what they list.
+/// The orders of an account, by number, in summary.
 ///
 /// # Errors
 ///
 /// As of each reading (`lib.rt`).
-pub fn bare_orders_of<S: Alter>(
+pub fn summaries_of<S: Alter>(
     alloc: Global,
     conn: &mut Connection<S>,
     account: u64,
 ) -> Result<Vec<OrderRow>, ReadFault>
-    ensures { LooksUp S.Store conn.old conn.new (λ T rows. rows.items ≡ bare_orders_of T account) result }
+    ensures { LooksUp S.Store conn.old conn.new (λ T rows. rows.items ≡ summaries_of T account) result }
 {
-    find_rows::<S, OrderColumns>(alloc, conn, Query::number(orders::SELECT_OF, account))
+    let query = Query::number(orders::SELECT_SUMMARIES_OF, account);
+    find_rows::<S, OrderSummaryColumns>(alloc, conn, query)
 }
 
 /// The numbers of the orders that list an authorization.

@@ -14,8 +14,9 @@ pub const SELECT: &str = ord!(select; "");
 /// Shows the orders of a number.
 pub const SELECT_NUMBERED: &str = ord!(select; " WHERE num = ?1");
 
-/// Shows the orders of an account.
-pub const SELECT_OF: &str = ord!(select; " WHERE account = ?1");
+/// Shows the summaries of the orders of an account: what they were made with, and their statuses.
+pub const SELECT_SUMMARIES_OF: &str =
+    "SELECT num, account, made, expires, status FROM ord WHERE account = ?1 ORDER BY num";
 
 /// Shows the orders of a status that expire before a moment.
 pub const SELECT_PAST: &str = ord!(select; " WHERE status = ?1 AND expires < ?2");

@@ -18,7 +18,7 @@ use Rattle.desk_model.specs.declared.{rows.OrderRow.OrderRow, rows.Change.Change
 use Rattle.desk_model.specs.declared.rows.Change.TheVariants.{PutMeta, PutNonce, RemoveNonce, PutAccount, PutAuthorization, PutOrder}
 use Rattle.sql_write.specs.Makes.{AppendsAll, Makes, PlacesAll, PutsOver, SavesAuthorization, SavesMeta, SavesOrder, WritesOrder, appended}
 use Rattle.sql_write.specs.{Refusals.HasWritten, Statements.statements_of}
-use Rattle.sql_write.specs.Stored.{HasSome, IsWithout}
+use Rattle.sql_write.specs.Stored.{HasSome, IsMadeAs}
 use Rattle.sql_write.specs.declared.{fault.SaveFault.SaveFault, stored.Write.Write}
 use Rattle.sql_write.specs.declared.stored.Write.TheVariants.{Upsert, Insert, Update}
 use Rattle.sql_write.proofs.{ChallengeNumbers.keys_owned, InPlace.put_alike, Over.has_own, PlacedRows.appended_rows, Written.written_as}
@@ -218,11 +218,11 @@ makes_renewed_order : (part : Tables) (x there : OrderRow) → order_on part x.n
     → order_kept (order_columns there) ≡ order_kept (order_columns x) → (old new : Database)
     → Renews order_layout (λ o. order_kept (order_columns o)) x old new → Makes part (PutOrder x) old new
 makes_renewed_order part x there is keeps old new renews T has is_part fits =
-    let it = subst (λ o. IfSome o (λ (o : OrderRow). (p : OrderRow) × (find (λ (r : OrderRow). r.number == x.number) T.orders ≡ Some p) × IsWithout o p)) is
+    let it = subst (λ o. IfSome o (λ (o : OrderRow). (p : OrderRow) × (find (λ (r : OrderRow). r.number == x.number) T.orders ≡ Some p) × IsMadeAs o p)) is
     (is_part.orders x.number) in
     let whole = it.0 in
     let found = it.1 in
-    let columns = sym (ap (λ (o : OrderRow). order_kept (order_columns o)) it.2) ∙ keeps in
+    let columns = sym it.2 ∙ keeps in
     let stood = found_has order_layout.key x.number T.orders whole found in
     let kept = subst (λ o. IfSome o (λ (o : OrderRow). o.listed ≡ x.listed)) found fits.children in
     let p = renews T.orders (orders_held old T has) whole stood.0 stood.1 columns in

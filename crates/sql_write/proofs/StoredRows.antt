@@ -17,7 +17,7 @@ use Rattle.desk_model.specs.declared.rows.{OrderRow.OrderRow}
 use Rattle.desk_model.specs.declared.rows.Change.TheVariants.{PutMeta, PutNonce, RemoveNonce, PutAccount, PutAuthorization, PutOrder}
 use Rattle.sql_write.specs.Highest.{IsAbove, PutsNone}
 use Rattle.sql_write.specs.declared.stored.Highest.{Highest}
-use Rattle.sql_write.specs.Stored.{HasSome, IsRow, IsWithout, AreFound, IsPartOf}
+use Rattle.sql_write.specs.Stored.{HasSome, IsRow, IsMadeAs, AreFound, IsPartOf}
 use Rattle.sql_tables.proofs.Keyed.{ranked}
 
 -- ---- look-ups
@@ -100,7 +100,7 @@ all_of x = record { columns = refl; challenges = own x.challenges (λ c h. h) }
 -- each table of a part stands in that of the tables
 all_found : (part T : Tables) → part.meta ≡ T.meta → AreFound (λ (a : AccountRow). a.number) IsRow part.accounts T.accounts
     → AreFound (λ (a : AuthorizationRow). a.number) HasSome part.authorizations T.authorizations
-    → AreFound (λ (o : OrderRow). o.number) IsWithout part.orders T.orders → IsPartOf part T
+    → AreFound (λ (o : OrderRow). o.number) IsMadeAs part.orders T.orders → IsPartOf part T
 all_found part T meta accounts authorizations orders =
     record { meta = meta; accounts = accounts; authorizations = authorizations; orders = orders }
 
@@ -115,7 +115,7 @@ part_on (PutAuthorization x) part T h =
     all_found _ _ h.meta h.accounts
     (found_put (λ (a : AuthorizationRow). a.number) HasSome all_of x part.authorizations T.authorizations h.authorizations) h.orders
 part_on (PutOrder x) part T h =
-    all_found _ _ h.meta h.accounts h.authorizations (found_put (λ (o : OrderRow). o.number) IsWithout (λ o. refl) x part.orders T.orders h.orders)
+    all_found _ _ h.meta h.accounts h.authorizations (found_put (λ (o : OrderRow). o.number) IsMadeAs (λ o. refl) x part.orders T.orders h.orders)
 
 -- behind all
 pub part_after : (cs : List Change) (part T : Tables) → IsPartOf part T → IsPartOf (applied cs part) (applied cs T)

@@ -1,9 +1,10 @@
 -- What is known to stand in the tables: rows of a part.
 use Rattle.std.specs.Prelude.{◌≡◌, ◌==◌, ℕ, List, Option, Some, IfSome, find, option_and_then}
 use Rattle.sqlite_rules.specs.Lists.{Has}
-use Rattle.store_columns.specs.Flat.{answer_key}
+use Rattle.store_columns.specs.{Columns.order_columns, Flat.answer_key}
 use Rattle.store_columns.specs.declared.columns.AnswerKey.{AnswerKey}
 use Rattle.desk_model.specs.{Kept.EachOf, Tables.Tables}
+use Rattle.sql_tables.specs.Images.{order_kept}
 use Rattle.desk_model.specs.declared.rows.{AuthorizationRow.AuthorizationRow, ChallengeRow.ChallengeRow, OrderRow.OrderRow}
 
 -- ---- what it is
@@ -22,16 +23,16 @@ pub record HasSome (x y : AuthorizationRow) : Type 0 where
   pub columns : record x { challenges = y.challenges } ≡ y
   pub challenges : EachOf (λ c. Has y.challenges c) x.challenges
 
--- an order, with or without what it lists
-abbrev pub IsWithout : OrderRow → OrderRow → Type 0
-IsWithout x y = record x { listed = y.listed } ≡ y
+-- an order that was made as the other: it may lack what that one lists, and what calls have recorded of it
+abbrev pub IsMadeAs : OrderRow → OrderRow → Type 0
+IsMadeAs x y = order_kept (order_columns x) ≡ order_kept (order_columns y)
 
 -- the rows of the part stand in the tables; they may lack what belongs to them
 pub record IsPartOf (part T : Tables) : Type 0 where
   pub meta : part.meta ≡ T.meta
   pub accounts : AreFound (λ a. a.number) IsRow part.accounts T.accounts
   pub authorizations : AreFound (λ a. a.number) HasSome part.authorizations T.authorizations
-  pub orders : AreFound (λ o. o.number) IsWithout part.orders T.orders
+  pub orders : AreFound (λ o. o.number) IsMadeAs part.orders T.orders
 
 -- ---- what is found of a row that is known
 

@@ -16,8 +16,8 @@ use Rattle.model_lives.specs.MinimalPart.{as_needed, authorization_as_needed, is
 use Rattle.model_lives.specs.MinimalPartLoaded.{minimal_accounts, listed_orders, moved_authorizations, opened_orders, restated_authorizations}
 use Rattle.model_lives.specs.MinimalPartLoaded.{whole_authorizations}
 use Rattle.model_lives.specs.Loaded.{accounts_once, authorizations_asked_of, authorizations_once, listed_authorizations, named_orders, orders_once}
-use Rattle.model_lives.specs.LookUps.{authorizations_numbered, bare_authorizations, bare_orders_of, orders_of}
-use Rattle.model_lives.specs.Thinned.{without_challenges, without_listed}
+use Rattle.model_lives.specs.LookUps.{authorizations_numbered, bare_authorizations, summaries_of, orders_of}
+use Rattle.model_lives.specs.Thinned.{summarized, whole_if, without_challenges}
 use Rattle.model_lives.proofs.MinimalPartLoading.{listed_orders_found, loaded_minimal, whole_authorizations_found, whole_found}
 use Rattle.model_lives.proofs.Found.{found_table}
 use Rattle.model_lives.proofs.Lists.{filter_nothing, filter_same, filtered_each}
@@ -160,27 +160,27 @@ whole_needed T m a (o ∷ os) = by (is_whole_order T m a o) refl (whole_needed T
     by : (b : Bool) → is_whole_order T m a o ≡ b → map (as_needed T m a) (filter (is_whole_order T m a) os) ≡ filter (is_whole_order T m a) os →
         map (as_needed T m a) (cond b (o ∷ filter (is_whole_order T m a) os) (filter (is_whole_order T m a) os))
         ≡ cond b (o ∷ filter (is_whole_order T m a) os) (filter (is_whole_order T m a) os)
-    by true e ih = λ i. record o { listed = if e i then o.listed else [] } ∷ ih i
+    by true e ih = λ i. whole_if (e i) o ∷ ih i
     by false e ih = ih
 
--- the orders of accounts, each without what it lists
-bare_own : (T : Tables) (xs : List AccountRow) → flat_map (λ x. bare_orders_of T x.number) xs ≡ map without_listed (flat_map (λ x. orders_of T x.number) xs)
-bare_own T [] = refl
-bare_own T (x ∷ xs) =
-    ap (λ l. bare_orders_of T x.number ++ l) (bare_own T xs)
-    ∙ sym (map-append without_listed (orders_of T x.number) (flat_map (λ x. orders_of T x.number) xs))
+-- the orders of accounts, each in summary
+summaries_own : (T : Tables) (xs : List AccountRow) → flat_map (λ x. summaries_of T x.number) xs ≡ map summarized (flat_map (λ x. orders_of T x.number) xs)
+summaries_own T [] = refl
+summaries_own T (x ∷ xs) =
+    ap (λ l. summaries_of T x.number ++ l) (summaries_own T xs)
+    ∙ sym (map-append summarized (orders_of T x.number) (flat_map (λ x. orders_of T x.number) xs))
 
--- the orders that are opened or named, and those of the accounts, which lack what they list, are the orders as they are needed
+-- the orders that are opened or named, and summaries of those of the accounts, are the orders as they are needed
 pub needed_orders : (T : Tables) (m : ℕ) (a : Ask) → IsOrdered T →
-    lacking of_order (if asks_orders a then flat_map (λ (x : AccountRow). bare_orders_of T x.number) (accounts_once (minimal_accounts T a)) else [])
+    lacking of_order (if asks_orders a then flat_map (λ (x : AccountRow). summaries_of T x.number) (accounts_once (minimal_accounts T a)) else [])
     (puts of_order (if not (needs_listed a) then named_orders T a else []) (orders_once (opened_orders T m a)))
     ≡ (needed_rows T m a).orders
 needed_orders T m a h =
     ap (λ rows. lacking of_order rows (puts of_order named (orders_once (opened_orders T m a)))) (own (asks_orders a))
-    ∙ ap (lacking of_order (map without_listed (listed_orders T a)))
+    ∙ ap (lacking of_order (map summarized (listed_orders T a)))
     (sym (puts_append of_order (opened_orders T m a) named []) ∙ whole ∙ sym (whole_needed T m a T.orders))
-    ∙ lacking_all of_order without_listed (as_needed T m a) (λ o. refl) (λ o. refl) (is_whole_order T m a)
-    (λ o no i. record o { listed = if sym no i then o.listed else [] }) T.orders h.orders.0 (listed_orders T a) (listed_orders_found T a h).from
+    ∙ lacking_all of_order summarized (as_needed T m a) (λ o. refl) (λ o. refl) (is_whole_order T m a)
+    (λ o no i. whole_if (sym no i) o) T.orders h.orders.0 (listed_orders T a) (listed_orders_found T a h).from
     (is_whole_order T m a) (λ o so. so)
     ∙ ap (map (as_needed T m a))
     (ap (puts of_order (listed_orders T a)) (sym whole)
@@ -194,9 +194,9 @@ needed_orders T m a h =
     whole : puts of_order (opened_orders T m a ++ named) [] ≡ filter (is_whole_order T m a) T.orders
     whole = found_table of_order (is_whole_order T m a) 1 T.orders (opened_orders T m a ++ named) h.orders.0 (whole_found T m a h)
 
-    own : (b : Bool) → (if b then flat_map (λ (x : AccountRow). bare_orders_of T x.number) (accounts_once (minimal_accounts T a)) else [])
-        ≡ map without_listed (if b then flat_map (λ (x : AccountRow). orders_of T x.number) (accounts_once (minimal_accounts T a)) else [])
-    own true = bare_own T (accounts_once (minimal_accounts T a))
+    own : (b : Bool) → (if b then flat_map (λ (x : AccountRow). summaries_of T x.number) (accounts_once (minimal_accounts T a)) else [])
+        ≡ map summarized (if b then flat_map (λ (x : AccountRow). orders_of T x.number) (accounts_once (minimal_accounts T a)) else [])
+    own true = summaries_own T (accounts_once (minimal_accounts T a))
     own false = refl
 
 -- those that are whole are needed so

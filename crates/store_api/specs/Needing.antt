@@ -8,7 +8,7 @@ use Rattle.desk_model.specs.declared.{call.Ask.Ask, rows.AccountRow.AccountRow, 
 use Rattle.model_lives.specs.MinimalPart.{needs_holders, needs_listed, changes_statuses}
 use Rattle.model_lives.specs.Loaded.{account_numbers, authorization_numbers, challenge_numbers, keys, listing_orders, new_keys, order_numbers}
 use Rattle.model_lives.specs.Loaded.{past_authorizations, past_orders}
-use Rattle.model_lives.specs.LookUps.{accounts_numbered, accounts_with_key, authorizations_numbered, authorizations_of, bare_orders_of, orders_numbered}
+use Rattle.model_lives.specs.LookUps.{accounts_numbered, accounts_with_key, authorizations_numbered, authorizations_of, summaries_of, orders_numbered}
 use Rattle.model_lives.specs.LookUps.{owners_of}
 use Rattle.store_api.specs.Naming.{Names}
 use Rattle.store_api.specs.declared.enough.RowsNeeded.{RowsNeeded}
@@ -71,6 +71,6 @@ opened_with T needs rows = (past_orders T needs.moment ++ listing_orders T rows)
 abbrev pub named_alone : Tables → RowsNeeded → List OrderRow
 named_alone T needs = if not needs.needs_listed then orders_by T needs else []
 
--- the orders of these accounts, where they are asked for, without what they list
+-- the orders of these accounts, where they are asked for, in summary
 abbrev pub listed_with : Tables → RowsNeeded → List AccountRow → List OrderRow
-listed_with T needs accounts = if needs.named.asks_orders then flat_map (λ x. bare_orders_of T x.number) accounts else []
+listed_with T needs accounts = if needs.named.asks_orders then flat_map (λ x. summaries_of T x.number) accounts else []

@@ -1,7 +1,7 @@
 //! Look-ups in the tables of a desk, and its rows one by one.
 ghost use Rattle.std.specs.Prelude.{◌≡◌, map};
-ghost use Rattle.model_lives.specs.LookUps.{accounts_where, authorizations_where, nonces_where, orders_where, AreWaiting, bare_authorizations, bare_orders_of};
-ghost use Rattle.model_lives.specs.LookUps.{orders_listing, owners_of};
+ghost use Rattle.model_lives.specs.LookUps.{accounts_where, authorizations_where, nonces_where, orders_where, AreWaiting, bare_authorizations};
+ghost use Rattle.model_lives.specs.LookUps.{orders_listing, owners_of, summaries_of};
 ghost use Rattle.model_laws.specs.Ordered.{IsOrdered};
 ghost use Rattle.store_api.specs.Sight.{Gives};
 ghost use Rattle.model_lives.specs.Above.{accounts_above, authorizations_above, challenges_above, first_of, orders_above};
@@ -47,9 +47,9 @@ pub trait LookUps: Kept {
     ) -> Found<AuthorizationRow>
         ensures { Gives Self.sight self.old self.new (λ T rows. rows.items ≡ authorizations_where T which.entry) result };
 
-    /// The orders of an account, by number, without what they list.
-    fn bare_orders_of(&mut self, alloc: Global, account: u64) -> Found<OrderRow>
-        ensures { Gives Self.sight self.old self.new (λ T rows. rows.items ≡ bare_orders_of T account) result };
+    /// The orders of an account, by number, in summary: without what they list, and without what calls have recorded of them.
+    fn summaries_of(&mut self, alloc: Global, account: u64) -> Found<OrderRow>
+        ensures { Gives Self.sight self.old self.new (λ T rows. rows.items ≡ summaries_of T account) result };
 
     /// The authorization of a number, without its challenges.
     fn bare_authorizations(&mut self, alloc: Global, number: u64) -> Found<AuthorizationRow>

@@ -5,7 +5,7 @@ ghost use Rattle.store_api.specs.Finding.{AreNone, AreRowsOf, Finds};
 ghost use Rattle.store_api.specs.Needing.{NeedsFor, holders_by, lacking, listed_with, missings, movable_by, named_alone, opened_with};
 ghost use Rattle.store_api.specs.Needing.{orders_by, restated_by, with_named};
 ghost use Rattle.model_lives.specs.{MinimalPart.needed_rows, Loaded.authorizations_asked_of};
-ghost use Rattle.model_lives.specs.LookUps.{accounts_numbered, bare_authorizations, bare_orders_of};
+ghost use Rattle.model_lives.specs.LookUps.{accounts_numbered, bare_authorizations, summaries_of};
 ghost use Rattle.std.specs.List.{flat_map};
 ghost use Rattle.desk_model.specs.Derived.{numbers_of};
 ghost use Rattle.identifiers.specs.Parsed.{ask_of};
@@ -248,18 +248,18 @@ fn add_others<S: LookUps>(
     add_bare_listed(alloc, source, authorizations, orders)
 }
 
-// Puts the orders of these accounts into a table without what they list, those alone that it lacks.
-fn add_bare_orders<S: LookUps>(
+// Puts the orders of these accounts into a table in summary, those alone that it lacks.
+fn add_summaries<S: LookUps>(
     alloc: Global,
     source: &mut S,
     orders: &mut Table<OrderRow>,
     accounts: &Table<AccountRow>,
 ) -> Result<(), StorageFault>
     ensures { Finds S.sight source.old source.new result (λ T.
-        orders.new ≡ lacking (λ o. o.number) (flat_map (λ x. bare_orders_of T x.number) accounts.now) orders.old) }
+        orders.new ≡ lacking (λ o. o.number) (flat_map (λ x. summaries_of T x.number) accounts.now) orders.old) }
 {
     for account in accounts.iter() {
-        add_lacking(orders, source.bare_orders_of(alloc, account.number))?;
+        add_lacking(orders, source.summaries_of(alloc, account.number))?;
     }
     Ok(())
 }
@@ -273,17 +273,17 @@ fn add_listed<S: LookUps>(
     asked: bool,
 ) -> Result<(), StorageFault>
     ensures { Finds S.sight source.old source.new result (λ T.
-        orders.new ≡ lacking (λ o. o.number) (if asked then flat_map (λ x. bare_orders_of T x.number) accounts.now else []) orders.old) }
+        orders.new ≡ lacking (λ o. o.number) (if asked then flat_map (λ x. summaries_of T x.number) accounts.now else []) orders.old) }
 {
     if asked {
-        add_bare_orders(alloc, source, orders, accounts)
+        add_summaries(alloc, source, orders, accounts)
     } else {
         Ok(())
     }
 }
 
 // Puts the order that is named, where nothing that it lists is needed, into a table, and then the orders of these accounts,
-// where they are asked for, that it lacks, without what they list.
+// where they are asked for, that it lacks, in summary.
 fn add_alone<S: LookUps>(
     alloc: Global,
     source: &mut S,

@@ -7,10 +7,10 @@ use Rattle.desk_model.specs.declared.{call.OrderProblem.OrderProblem, objects.Ac
 use Rattle.desk_model.specs.declared.{objects.Report.Report, rows.DatedBytes.DatedBytes, rows.DatedProblem.DatedProblem}
 use Rattle.store_columns.specs.Columns.{account_columns, account_end_columns, authorization_columns, authorization_end_columns}
 use Rattle.store_columns.specs.Columns.{challenge_columns, dated_bytes_columns, dated_columns, dated_problem_columns, key_columns, listed_columns}
-use Rattle.store_columns.specs.Columns.{meta_columns, nonce_columns, order_columns, report_columns, rows_columns}
+use Rattle.store_columns.specs.Columns.{meta_columns, nonce_columns, order_columns, report_columns, rows_columns, summary_columns}
 use Rattle.store_columns.specs.Laws.{AreToldApart, ColumnsTellRowsApart}
 use Rattle.store_columns.specs.Limits.{AreStored, IsStoredAccount, IsStoredAuthorization, IsStoredChallenge, IsStoredKey, IsStoredListed}
-use Rattle.store_columns.specs.Limits.{IsStoredMeta, IsStoredNonce, IsStoredOrder}
+use Rattle.store_columns.specs.Limits.{IsStoredMeta, IsStoredNonce, IsStoredOrder, IsStoredSummary}
 use Rattle.desk_model.specs.Facts.{ending_text, end_kind_text, outcome_text}
 use Rattle.store_columns.specs.Spelling.{contacts_text, problem_text}
 use Rattle.store_columns.proofs.{JsonTexts.read-contacts_text, ProblemTexts.spelled}
@@ -133,6 +133,22 @@ orders-apart row other kept kept2 same =
       status = told_apart order_status_text _ order_statuses row.status other.status (ap (λ c. c.status) same) i;
     }
 
+pub summaries-apart : AreToldApart summary_columns IsStoredSummary
+summaries-apart row other kept kept2 same =
+    sym kept.bare
+    ∙ (λ i. record {
+      number = pos-apart _ _ (ap (λ c. c.num) same) i;
+      account = pos-apart _ _ (ap (λ c. c.account) same) i;
+      made = pos-apart _ _ (ap (λ c. c.made) same) i;
+      expires = pos-apart _ _ (ap (λ c. c.expires) same) i;
+      listed = [];
+      finalized = None;
+      certified = None;
+      failed = None;
+      status = told_apart order_status_text _ order_statuses row.status other.status (ap (λ c. c.status) same) i;
+    })
+    ∙ kept2.bare
+
 pub authorizations-apart : AreToldApart authorization_columns IsStoredAuthorization
 authorizations-apart row other kept kept2 same =
     λ i. record {
@@ -205,6 +221,7 @@ all_apart =
       nonces = nonces-apart;
       accounts = accounts-apart;
       orders = orders-apart;
+      summaries = summaries-apart;
       authorizations = authorizations-apart;
       listed = listed-apart;
       challenges = challenges-apart;

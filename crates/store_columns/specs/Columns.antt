@@ -10,6 +10,7 @@ use Rattle.store_columns.specs.Spelling.{contacts_text, problem_text}
 use Rattle.store_columns.specs.declared.{columns.AccountColumns.AccountColumns, columns.AuthzColumns.AuthzColumns, columns.ChallColumns.ChallColumns}
 use Rattle.store_columns.specs.declared.{columns.ChallKeyColumns.ChallKeyColumns, columns.MetaColumns.MetaColumns, columns.NonceColumns.NonceColumns}
 use Rattle.store_columns.specs.declared.{columns.OrderAuthzColumns.OrderAuthzColumns, columns.OrderColumns.OrderColumns, columns.StoredRows.StoredRows}
+use Rattle.store_columns.specs.declared.{columns.OrderSummaryColumns.OrderSummaryColumns}
 use Rattle.store_columns.specs.declared.{columns.AnswerKey.AnswerKey, columns.BareChallenge.BareChallenge, columns.FlatRows.FlatRows}
 use Rattle.store_columns.specs.declared.{columns.Owned.Owned}
 
@@ -98,6 +99,17 @@ order_columns row =
       cert = (dated_bytes_columns row.certified).1;
       failed = (dated_problem_columns row.failed).0;
       problem = (dated_problem_columns row.failed).1;
+      status = order_status_text row.status;
+    }
+
+-- those of an order in summary
+abbrev pub summary_columns : OrderRow → OrderSummaryColumns
+summary_columns row =
+    record {
+      num = pos row.number;
+      account = pos row.account;
+      made = pos row.made;
+      expires = pos row.expires;
       status = order_status_text row.status;
     }
 

@@ -1,5 +1,5 @@
 -- The rows of a book, table by table.
-use Rattle.std.specs.Prelude.{ℕ, List, [], ◌∷◌, map, Option, option_map, filter_map}
+use Rattle.std.specs.Prelude.{ℕ, List, [], ◌∷◌, map, Option, None, option_map, filter_map}
 use Rattle.std.specs.{List.flat_map, List.Sorted.IsPermutation}
 use Rattle.desk_model.specs.Tables.{Tables}
 use Rattle.desk_model.specs.declared.{objects.Answer.Answer, rows.AuthorizationRow.AuthorizationRow, rows.ChallengeRow.ChallengeRow}
@@ -13,6 +13,10 @@ owned_by owner rows = map (λ r. record { owner = owner; row = r }) rows
 -- an order without what it lists
 abbrev pub without_listed : OrderRow → OrderRow
 without_listed o = record o { listed = [] }
+
+-- an order in summary: what it was made with and its status, without what it lists and what calls have recorded of it
+abbrev pub summarized : OrderRow → OrderRow
+summarized o = record o { listed = []; finalized = None; certified = None; failed = None }
 
 -- an authorization without its challenges
 abbrev pub without_challenges : AuthorizationRow → AuthorizationRow

@@ -1,24 +1,25 @@
 -- Laws of columns.
 use Rattle.std.specs.Prelude.{◌≡◌}
 use Rattle.store_columns.specs.Columns.{account_columns, authorization_columns, challenge_columns, key_columns, listed_columns, meta_columns}
-use Rattle.store_columns.specs.Columns.{nonce_columns, order_columns, rows_columns}
+use Rattle.store_columns.specs.Columns.{nonce_columns, order_columns, rows_columns, summary_columns}
 use Rattle.desk_model.specs.Texts.{HoldsTextAccount, HoldsTextAuthorization, HoldsTextMeta, HoldsTextOrder}
 use Rattle.desk_model.specs.declared.rows.{AccountRow.AccountRow, AuthorizationRow.AuthorizationRow, Meta.Meta, OrderRow.OrderRow}
 use Rattle.store_columns.specs.TextColumns.{HasTextAccount, HasTextAuthorization, HasTextChallenge, HasTextMeta, HasTextOrder, ColumnsAreTexts, RowsHoldTexts}
 use Rattle.store_columns.specs.declared.columns.{BareChallenge.BareChallenge, FlatRows.FlatRows, Owned.Owned}
 use Rattle.store_columns.specs.Limits.{AreStored, IsStoredAccount, IsStoredAuthorization, IsStoredChallenge, IsStoredKey, IsStoredListed}
-use Rattle.store_columns.specs.Limits.{IsStoredMeta, IsStoredNonce, IsStoredOrder}
+use Rattle.store_columns.specs.Limits.{IsStoredMeta, IsStoredNonce, IsStoredOrder, IsStoredSummary}
 
 -- different rows in their limits have different columns
 abbrev pub AreToldApart : {C R : Type 0} → (write : R → C) → (IsStored : R → Type 0) → Type 0
 AreToldApart {C} {R} write IsStored = (row other : R) → IsStored row → IsStored other → write row ≡ write other → row ≡ other
 
--- so have the rows of each table, and of all
+-- so have the rows of each table, and of all, and orders in summary
 pub record ColumnsTellRowsApart : Type 0 where
   pub metas : AreToldApart meta_columns IsStoredMeta
   pub nonces : AreToldApart nonce_columns IsStoredNonce
   pub accounts : AreToldApart account_columns IsStoredAccount
   pub orders : AreToldApart order_columns IsStoredOrder
+  pub summaries : AreToldApart summary_columns IsStoredSummary
   pub authorizations : AreToldApart authorization_columns IsStoredAuthorization
   pub listed : AreToldApart listed_columns IsStoredListed
   pub challenges : AreToldApart challenge_columns IsStoredChallenge

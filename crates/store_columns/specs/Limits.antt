@@ -5,6 +5,7 @@ use Rattle.desk_model.specs.Limits.{last_end, last_moment, last_number}
 use Rattle.desk_model.specs.declared.{call.OrderProblem.OrderProblem, objects.AccountEnd.AccountEnd, objects.AuthorizationEnd.AuthorizationEnd}
 use Rattle.desk_model.specs.declared.{objects.Nonce.Nonce, objects.Report.Report, rows.AccountRow.AccountRow, rows.AuthorizationRow.AuthorizationRow}
 use Rattle.desk_model.specs.declared.{rows.DatedBytes.DatedBytes, rows.DatedProblem.DatedProblem, rows.Listed.Listed, rows.Meta.Meta, rows.OrderRow.OrderRow}
+use Rattle.store_columns.specs.Flat.{summarized}
 use Rattle.store_columns.specs.declared.columns.{AnswerKey.AnswerKey, BareChallenge.BareChallenge, FlatRows.FlatRows, Owned.Owned}
 
 -- the number of an object
@@ -93,6 +94,14 @@ pub record IsStoredOrder (row : OrderRow) : Type 0 where
   pub finalized : IfRecorded AreDatedBytes row.finalized
   pub certified : IfRecorded AreDatedBytes row.certified
   pub failed : IfRecorded IsDatedProblem row.failed
+
+-- an order in summary
+pub record IsStoredSummary (row : OrderRow) : Type 0 where
+  pub number : IsNumber row.number
+  pub account : IsNumber row.account
+  pub made : IsMoment row.made
+  pub expires : IsExpiry row.expires
+  pub bare : summarized row ≡ row
 
 -- a row of `authz`; its challenges stand in a table of their own
 pub record IsStoredAuthorization (row : AuthorizationRow) : Type 0 where

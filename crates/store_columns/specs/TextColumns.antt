@@ -4,7 +4,7 @@ use Rattle.desk_model.specs.Kept.{EachOf}
 use Rattle.desk_model.specs.Texts.{HoldsTextAccount, HoldsTextAuthorization, HoldsTextMeta, HoldsTextOrder}
 use Rattle.store_columns.specs.declared.{columns.AccountColumns.AccountColumns, columns.AuthzColumns.AuthzColumns, columns.ChallColumns.ChallColumns}
 use Rattle.store_columns.specs.declared.{columns.MetaColumns.MetaColumns, columns.OrderColumns.OrderColumns, columns.StoredRows.StoredRows}
-use Rattle.store_columns.specs.declared.{columns.FlatRows.FlatRows}
+use Rattle.store_columns.specs.declared.{columns.FlatRows.FlatRows, columns.OrderSummaryColumns.OrderSummaryColumns}
 
 -- each text of the rows is UTF-8; the other tables hold none
 pub record RowsHoldTexts (rows : FlatRows) : Type 0 where
@@ -28,6 +28,10 @@ pub record HasTextAccount (columns : AccountColumns) : Type 0 where
 pub record HasTextOrder (columns : OrderColumns) : Type 0 where
   pub problem : IfSome columns.problem IsUtf8
   pub status : IsUtf8 columns.status
+
+-- that of an order in summary
+abbrev pub HasTextSummary : OrderSummaryColumns → Type 0
+HasTextSummary columns = IsUtf8 columns.status
 
 -- those of `authz`
 pub record HasTextAuthorization (columns : AuthzColumns) : Type 0 where

@@ -100,6 +100,21 @@ pub struct OrderColumns {
     pub status: Text,
 }
 
+/// What the list of an account's orders reads of a row of the table `ord`.
+#[derive(Drop)]
+pub struct OrderSummaryColumns {
+    /// The key.
+    pub num: i64,
+    /// The number of its account.
+    pub account: i64,
+    /// When it was made, in seconds since 1970.
+    pub made: i64,
+    /// The last moment of its life, in seconds since 1970.
+    pub expires: i64,
+    /// Its status (RFC 8555, 7.1.6).
+    pub status: Text,
+}
+
 /// A row of the table `authz`.
 #[derive(Drop)]
 pub struct AuthzColumns {

@@ -1,12 +1,12 @@
 //! Rows of the table `ord`, and of `ord_authz`, which has what an order lists.
 ghost use Rattle.std.specs.Prelude.{◌≡◌, ◌↔◌, string_bytes, IfOk, IsTrue};
-ghost use Rattle.store_columns.specs.Columns.{dated_problem_columns, order_columns, listed_columns};
-ghost use Rattle.store_columns.specs.Limits.{IfRecorded, IsDatedProblem, IsStoredOrder, IsProblem, IsStoredListed};
+ghost use Rattle.store_columns.specs.Columns.{dated_problem_columns, order_columns, listed_columns, summary_columns};
+ghost use Rattle.store_columns.specs.Limits.{IfRecorded, IsDatedProblem, IsStoredOrder, IsStoredSummary, IsProblem, IsStoredListed};
 ghost use Rattle.store_columns.specs.{Reading.IsRead};
 ghost use Rattle.serde_json.specs.View.{view};
 ghost use Rattle.store_columns.specs.Spelling.{problem_document, problem_text};
 
-use crate::columns::{OrderAuthzColumns, OrderColumns, Owned};
+use crate::columns::{OrderAuthzColumns, OrderColumns, OrderSummaryColumns, Owned};
 use crate::facts::{
     Columns, read_dated_bytes, read_dated_problem, read_expiry, read_moment, read_number,
     read_place,
@@ -61,6 +61,42 @@ impl Columns for OrderColumns {
             Some(failed) => Ok(read_order(alloc, failed, self)),
             None => Ok(None),
         }
+    }
+}
+
+// ---- an order in summary
+
+// The summary of an order with these columns, or `None` where no order in its limits has it.
+fn read_summary(alloc: Global, summary: &OrderSummaryColumns) -> Option<OrderRow>
+    ensures { IsRead summary_columns IsStoredSummary summary.now result }
+{
+    let number = read_number(summary.num)?;
+    let account = read_number(summary.account)?;
+    let made = read_moment(summary.made)?;
+    let expires = read_expiry(summary.expires)?;
+    let status = OrderStatus::from_text(summary.status.as_str())?;
+    Some(OrderRow {
+        number,
+        account,
+        made,
+        expires,
+        listed: Sequence::new(Vec::new(alloc)),
+        finalized: None,
+        certified: None,
+        failed: None,
+        status,
+    })
+}
+
+impl Columns for OrderSummaryColumns {
+    type Row = OrderRow;
+
+    ghost write = { summary_columns };
+
+    ghost IsStored = { IsStoredSummary };
+
+    fn read(self, alloc: Global) -> Result<Option<OrderRow>, AllocError> {
+        Ok(read_summary(alloc, &self))
     }
 }
 

@@ -10,7 +10,7 @@ use Rattle.store_api.proofs.minimal_part.add_minimal.Goals as goal
 use Rattle.store_api.specs.Needing.{lacking, missings, with_named}
 use Rattle.desk_model.specs.Tables.{Tables}
 use Rattle.model_lives.proofs.MinimalPartLoading.{loaded_minimal}
-use Rattle.model_lives.specs.LookUps.{accounts_numbered, bare_authorizations, bare_orders_of, orders_numbered}
+use Rattle.model_lives.specs.LookUps.{accounts_numbered, bare_authorizations, summaries_of, orders_numbered}
 use Rattle.std.specs.Prelude.{if◌then◌else◌, not}
 use Rattle.store_api.proofs.Lacking.{needed_authorizations, needed_orders}
 use Rattle.desk_model.specs.declared.{objects.Nonce.Nonce, rows.AccountRow.AccountRow, rows.AuthorizationRow.AuthorizationRow, rows.OrderRow.OrderRow}
@@ -55,7 +55,7 @@ returns g c =
           ∙ needed_authorizations T m ask ordered;
       orders =
           alone
-          ∙ (λ i. lacking order (if is.named.orders_asked i then flat_map (λ (x : AccountRow). bare_orders_of T x.number) (accounts i) else [])
+          ∙ (λ i. lacking order (if is.named.orders_asked i then flat_map (λ (x : AccountRow). summaries_of T x.number) (accounts i) else [])
           (puts order (if not (is.listed i) then flat_map (orders_numbered T) (is.named.order i) else []) (opens i)))
           ∙ needed_orders T m ask ordered;
     })
