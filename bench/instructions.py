@@ -27,10 +27,9 @@ from bench import CALLS, KINDS, TOP, Lines, check_replies, compiled, make_file, 
 SIZE, TURNS = 10000, 8
 HEAD = "## Instructions of a call"
 # What is said of the goals that are missed.
-WHY = """A statement costs the engine several times what it costs SQLite, most of it fixed. A list of work takes one
-statement, and two more for each item, where C joins the tables; no look-up has a join (docs/DECISIONS.md). The list of an
-account's orders reads them whole, where C reads two columns. A report looks up its challenge's authorization, and then reads
-all its challenges and keys."""
+WHY = """A statement costs the engine several times what it costs SQLite, most of it fixed. The list of orders to certify takes
+one statement, and two more for each item, where C takes one more. A report looks up its challenge's authorization, and then
+reads all its challenges and keys."""
 ALLOWED = 1.05
 MEMORY = re.compile(r"mem(cpy|move|set)")
 TITLES = ("call", "desk", "C", "ratio", "goal")

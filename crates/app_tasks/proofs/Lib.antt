@@ -3,6 +3,7 @@ mod Behind
 mod Done
 mod Entries
 mod Looked
+mod Pending
 mod Reading
 mod Replied
 mod Sent

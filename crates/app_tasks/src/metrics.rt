@@ -1,22 +1,23 @@
 //! The numbers by which a desk that is served is watched, in the text format of OpenMetrics 1.0.
-ghost use Rattle.std.specs.Prelude.{◌≡◌, ◌≤◌, IfOk, OnOk, length, map};
+ghost use Rattle.std.specs.Prelude.{◌≡◌, IfOk, OnOk, count_by, length};
 ghost use Rattle.std.specs.{Io.KnownBytes.Appends, List.flat_map};
 ghost use Rattle.app_reports.specs.Reported.{Reports};
-ghost use Rattle.app_tasks.specs.Metrics.{CountsWaiting, IsSnapshotOf, TellsMetrics, pending_among, pending_of, snapshot_of};
+ghost use Rattle.app_tasks.specs.Metrics.{CountsWaiting, IsSnapshotOf, TellsMetrics, snapshot_of};
 ghost use Rattle.app_tasks.specs.Metrics.{calls_text, class_text, classes_text, clock_text, counted_routes, fault_numbers, fault_text, files_text, label_of};
 ghost use Rattle.app_tasks.specs.Metrics.{made_text, metrics_text, number_text, seconds_text, served_text, slowest_text, waiting_text};
-ghost use Rattle.model_lives.specs.LookUps.{bare_authorizations, orders_processing};
-ghost use Rattle.store_api.specs.Sight.{ForTables, Gives, Reads};
+ghost use Rattle.desk_model.specs.Authorization.{is_pending};
+ghost use Rattle.model_lives.specs.LookUps.{orders_processing};
+ghost use Rattle.store_api.specs.Sight.{ForTables, Reads};
 
 use crate::totals::{COUNTED, CallCounts, FAULT_NUMBERS, Totals};
 use app_reports::{Beside, ReportFault, seconds_ahead};
-use desk_model::{AuthorizationRow, ChallengeRow, Counters};
+use desk_model::Counters;
 use http_routes::Route;
 use model_lives::OrdersWhere;
 use std::alloc::Global;
 use std::io::{self, Write};
 use store_api::{LookUps, StorageFault};
-use store_columns::Owned;
+use store_columns::Waiting;
 
 /// What is known of a desk that is served beside its rows.
 #[derive(Clone, Copy)]
@@ -142,48 +143,18 @@ fn count_challenges<K: LookUps>(alloc: Global, source: &mut K) -> Result<u64, St
     ensures reads { Reads K.sight source.old source.new result }
     ensures found { ForTables K.sight source.old source.new (λ T. IfOk result (CountsWaiting T)) }
 {
-    let challenges = source.waiting_challenges(alloc)?;
-    count_pending(alloc, source, challenges.as_slice())
+    let waiting = source.waiting_challenges(alloc)?;
+    Ok(count_pending(waiting.as_slice()))
 }
 
 // How many of these challenges are under an authorization that is stored as pending.
-fn count_pending<K: LookUps>(
-    alloc: Global,
-    source: &mut K,
-    challenges: &[Owned<ChallengeRow>],
-) -> Result<u64, StorageFault>
-    ensures reads { Reads K.sight source.old source.new result }
-    ensures found { ForTables K.sight source.old source.new (λ T. IfOk result (λ count. count ≡ pending_of T (map (λ c. c.owner) challenges.now))) }
+fn count_pending(waiting: &[Waiting]) -> u64
+    ensures { result ≡ count_by (λ w. is_pending w.authorization.status) waiting.now }
 {
-    let mut count = 0;
-    for challenge in challenges {
-        count += pending_of(alloc, source, challenge.owner)?;
-    }
-    Ok(count)
-}
-
-// 1 where the authorization of this number is stored as pending.
-fn pending_of<K: LookUps>(
-    alloc: Global,
-    source: &mut K,
-    authorization: u64,
-) -> Result<u64, StorageFault>
-    ensures found { Gives K.sight source.old source.new (λ T count. count ≡ pending_among (bare_authorizations T authorization)) result }
-    ensures within { IfOk result (λ count. count ≤ 1) }
-{
-    let found = source.bare_authorizations(alloc, authorization)?;
-    Ok(pending_among(found.as_slice()))
-}
-
-// 1 where the first of these authorizations is stored as pending.
-fn pending_among(rows: &[AuthorizationRow]) -> u64
-    ensures pending { result ≡ pending_among rows.now }
-    ensures within { result ≤ 1 }
-{
-    match rows.first() {
-        Some(row) if row.status.is_pending() => 1,
-        _ => 0,
-    }
+    waiting
+        .iter()
+        .filter(|found| found.authorization.status.is_pending())
+        .count() as u64
 }
 
 // How many orders are stored as waiting for the signing office.

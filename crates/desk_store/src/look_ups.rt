@@ -1,4 +1,5 @@
-//! The store as a source of rows: one statement a look-up, and one more for the children of each row; none for what it knows.
+//! The store as a source of rows: one statement a look-up, and one more for the children of each row, but for the challenges that wait;
+//! none for what it knows.
 ghost use Rattle.desk_store.specs.Desks.{store_sight, HasTables};
 ghost use Rattle.std.specs.Prelude.{◌≡◌, [], None, IfOk, IsTrue};
 ghost use Rattle.desk_model.specs.Tables.{Tables};
@@ -16,7 +17,7 @@ use sql_read as rows;
 use sqlite::Alter;
 use std::alloc::Global;
 use store_api::{Found, LookUps, RowsAbove, StorageFault};
-use store_columns::Owned;
+use store_columns::Waiting;
 use store_passes::{FaultKind, Orders, StatusFaults};
 
 impl<S: Alter> LookUps for Store<S> {
@@ -79,7 +80,7 @@ impl<S: Alter> LookUps for Store<S> {
         self.or_fault(read)
     }
 
-    fn waiting_challenges(&mut self, alloc: Global) -> Found<Owned<ChallengeRow>> {
+    fn waiting_challenges(&mut self, alloc: Global) -> Found<Waiting> {
         let read = rows::waiting_challenges(alloc, &mut self.conn);
         self.or_fault(read)
     }

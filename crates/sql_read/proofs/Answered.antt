@@ -12,7 +12,7 @@ use Rattle.sqlite_value.specs.Order.{Row}
 use Rattle.sqlite_value.proofs.OrderLemmas.{value_cmp-Int}
 use Rattle.sqlite_trees.specs.Tree.{Trees}
 use Rattle.sqlite_sql.specs.Term.{Term, Env, lit, col, eval, holds}
-use Rattle.sqlite_sql.specs.Query.{Query, Output, inner, end, IsAnswer, as_count, limited, output, output_cmp}
+use Rattle.sqlite_sql.specs.Query.{Join, Query, Output, inner, end, IsAnswer, as_count, limited, matches, output, output_cmp}
 use Rattle.sqlite_sql.specs.Program.{overlay}
 use Rattle.sqlite_sql.proofs.QueryLemmas.{output_cmp_total}
 use Rattle.sqlite_schema.specs.declared.command.{Command.Command, Command.TheVariants.Select, Returning.Returning}
@@ -41,10 +41,10 @@ all_rows = lit (Int (negsuc 0))
 abbrev pub first_row : Term
 first_row = lit (Int (pos 1))
 
--- the rows of a tree that pass the tests, in an order, up to a limit
-abbrev pub picked_up_to : Term → ℕ → List Term → List Term → List (Term × Key) → Query
-picked_up_to limit tree tests project order = record {
-  from = inner tree end;
+-- rows of trees side by side that pass the tests, in an order, up to a limit
+abbrev pub picked_from : Term → Join → List Term → List Term → List (Term × Key) → Query
+picked_from limit from tests project order = record {
+  from = from;
   filter = tests;
   group = None;
   project = project;
@@ -54,6 +54,13 @@ picked_up_to limit tree tests project order = record {
   limit = limit;
   offset = lit (Int (pos 0));
 }
+
+-- those of one tree
+abbrev pub one : ℕ → Join
+one tree = inner tree end
+
+abbrev pub picked_up_to : Term → ℕ → List Term → List Term → List (Term × Key) → Query
+picked_up_to limit tree = picked_from limit (one tree)
 
 -- all of them
 abbrev pub picked : ℕ → List Term → List Term → List (Term × Key) → Query
@@ -110,13 +117,17 @@ abbrev pub sizes_of : Result Compiled CompileError → ℕ × ℕ
 sizes_of r = (tail_of r, length (names_of r))
 
 -- what a text means over a schema: one statement with as many parameters as are given, which compares no values of other kinds
-pub record IsReading (schema : Schema) (limit : Term) (text : List ℕ) (tree : ℕ) (tests project : List Term) (order : List (Term × Key)) (params : Row)
+pub record IsReadingFrom (schema : Schema) (limit : Term) (text : List ℕ) (from : Join) (tests project : List Term) (order : List (Term × Key)) (params : Row)
     : Type 0 where
   pub names : List (List ℕ)
-  pub means : made_of (compiled schema text) ≡ Some (Select (record { lets = []; body = picked_up_to limit tree tests project order }) names, None, [])
+  pub means : made_of (compiled schema text) ≡ Some (Select (record { lets = []; body = picked_from limit from tests project order }) names, None, [])
   pub selecting : IsQuery text
   pub sizes : sizes_of (understood schema text) ≡ (length text, length params)
-  pub typed : accepts_program schema [] (picked_up_to limit tree tests project order) params ≡ true
+  pub typed : accepts_program schema [] (picked_from limit from tests project order) params ≡ true
+
+-- of one tree
+abbrev pub IsReading : Schema → Term → List ℕ → ℕ → List Term → List Term → List (Term × Key) → Row → Type 0
+IsReading schema limit text tree = IsReadingFrom schema limit text (one tree)
 
 -- a row passes the tests
 abbrev pub passes : List Term → Row → Row → Bool
@@ -143,6 +154,23 @@ pub record IsOrderedAs (q : Query) (outputs : List Output) (rows : List Row) : T
   pub same : IsPermutation outputs ordered
   pub sorted : IsSorted (output_cmp q) ordered
   pub shown : rows ≡ map (λ (o : Output). o.1) ordered
+
+-- the answer is cut from what is shown of the rows that match
+pub answers_from : {schema : Schema} (limit : Term) (text : List ℕ) (from : Join) (tests project : List Term) (order : List (Term × Key)) (params : Row)
+    → IsReadingFrom schema limit text from tests project order params → (old new : State) (outputs : List Output) (rows : List Row) → old.now.schema ≡ schema
+    → map (output (picked_from all_rows from tests project order)) (matches (overlay old.now.trees []) tests from (params ∷ [])) ≡ outputs
+    → Shown text params old new rows
+    → (all : List Row) × IsOrderedAs (picked_from all_rows from tests project order) outputs all × (rows ≡ limited (as_count (eval limit (params ∷ []))) all)
+answers_from {schema} limit text from tests project order params is old new outputs rows there match h =
+    let q = picked_from limit from tests project order in
+    let command = compiled_alone text _ is.means in
+    let read = reads_as text params old new schema there _ command.is command.plain command.unlisted rows h in
+    let a : IsAnswer q (overlay old.now.trees []) params rows = read.answer Null in
+    let kept : a.kept ≡ outputs = a.distinct ∙ ap (map (output q)) a.grouped ∙ match in (
+      map (λ (o : Output). o.1) a.ordered,
+      record { ordered = a.ordered; same = subst (λ os. IsPermutation os a.ordered) kept a.same; sorted = a.sorted; shown = refl },
+      a.shown,
+    )
 
 -- rows as the engine keeps them, of which the query tests and shows a part
 module _ {X Y : Type 0} (image : X → Row) (part : X → Y) (tree : ℕ) (tests project : List Term) (order : List (Term × Key)) (params : Row)
@@ -172,22 +200,15 @@ module _ {X Y : Type 0} (image : X → Row) (part : X → Y) (tree : ℕ) (tests
       → Shown text params old new rows
       → (all : List Row) × IsOrderedAs (picked tree tests project order) (map shown (filter test (map part xs))) all
       × (rows ≡ limited (as_count (eval limit (params ∷ []))) all)
-  answers_up_to {schema} limit text is low old new xs rows there has h =
-      let q = picked_up_to limit tree tests project order in
-      let command = compiled_alone text _ is.means in
-      let read = reads_as text params old new schema there _ command.is command.plain command.unlisted rows h in
-      let a : IsAnswer q (overlay old.now.trees []) params rows = read.answer Null in
-      let staged : a.staged ≡ map (λ r. params ∷ r ∷ []) (filter (passes tests params) (old.now.trees tree)) =
-      a.grouped ∙ rw (low old.now.trees) (left tests params (old.now.trees tree)) in
-      let kept : a.kept ≡ map shown (filter test (map part xs)) =
-      a.distinct
-      ∙ ap (map (output q)) staged
+  answers_up_to limit text is low old new xs rows there has h =
+      let q = picked tree tests project order in
+      let db = overlay old.now.trees [] in
+      let staged : matches db tests (one tree) (params ∷ []) ≡ map (λ r. params ∷ r ∷ []) (filter (passes tests params) (old.now.trees tree)) =
+      rw (low old.now.trees) (left tests params (old.now.trees tree)) in
+      answers_from limit text (one tree) tests project order params is old new (map shown (filter test (map part xs))) rows there
+      (ap (map (output q)) staged
       ∙ ap (λ rs. map (output q) (map (λ r. params ∷ r ∷ []) (filter (passes tests params) rs))) has
-      ∙ outputs xs in (
-        map (λ (o : Output). o.1) a.ordered,
-        record { ordered = a.ordered; same = subst (λ os. IsPermutation os a.ordered) kept a.same; sorted = a.sorted; shown = refl },
-        a.shown,
-      )
+      ∙ outputs xs) h
 
   -- of all rows
   pub answers : {schema : Schema} (text : List ℕ) → IsReading schema all_rows text tree tests project order params →

@@ -1,5 +1,6 @@
 -- A query of a desk's tables fails for memory or the disk alone.
-use Rattle.std.proofs.Common.{◌≡◌, inl, inr, ℕ, List, [], ◌∷◌, length, IsTrue, IsSome, None, Option, Ok, Err, All, refl, sym, ap, subst, ◌∙◌, arith, append-nil}
+use Rattle.std.proofs.Common.{◌≡◌, inl, inr, ℕ, true, List, [], ◌∷◌, length, IsTrue, IsSome, None, Option, Ok, Err, All, refl, sym, ap, subst, ◌∙◌}
+use Rattle.std.proofs.Common.{arith, append-nil}
 use Rattle.sqlite_value.specs.Order.{Row}
 use Rattle.sqlite_trees.specs.declared.error.StoreError.{StoreError}
 use Rattle.sqlite_trees.specs.declared.error.StoreError.TheVariants as store
@@ -7,7 +8,7 @@ use Rattle.sqlite_schema.specs.declared.command.{Command.Command, Command.TheVar
 use Rattle.sqlite_resolve.specs.declared.{compiled.Compiled.Compiled, error.CompileError.CompileError}
 use Rattle.sqlite_typing.specs.Types.{accepts_program}
 use Rattle.sqlite_sql.specs.{Term.Term, Program.overlay}
-use Rattle.sqlite_sql.specs.Query.{inner, end}
+use Rattle.sqlite_sql.specs.Query.{Join, has_no_fold}
 use Rattle.sqlite_sql.proofs.QueryLemmas.{no_fold_overflows}
 use Rattle.sqlite_value.specs.declared.keys.Key.{Key}
 use Rattle.sqlite.specs.{Clock.timed, Schema.Schema}
@@ -18,7 +19,7 @@ use Rattle.sqlite.specs.declared.error.Error.{Error}
 use Rattle.sqlite.proofs.Callers.{IsPlain, command_of}
 use Rattle.sql_schema.specs.{Failing.IsFailure, Stays.Asks}
 use Rattle.sql_read.specs.Failures.{FailsToRead, MayRead}
-use Rattle.sql_read.proofs.Answered.{IsCommand, IsReading, all_rows, compiled_alone, names_of, picked_up_to, tail_of}
+use Rattle.sql_read.proofs.Answered.{IsCommand, IsReading, IsReadingFrom, all_rows, compiled_alone, names_of, one, picked_from, tail_of}
 
 -- ---- the engine
 
@@ -31,10 +32,11 @@ failed old new e store.Full is_open is why = inr (inr (inr is))
 failed old new e store.Broken is_open is why = absurd (let x = sym is_open ∙ why in cc)
 failed old new e store.Unstorable is_open is why = absurd why
 
-module _ {schema : Schema} (limit : Term) (text : List ℕ) (tree : ℕ) (tests project : List Term) (order : List (Term × Key)) (params : Row)
-    (is : IsReading schema limit text tree tests project order params) (old new : State) (has : old.now.schema ≡ schema) (e : Error) where
+module _ {schema : Schema} (limit : Term) (text : List ℕ) (from : Join) (unfolded : has_no_fold from ≡ true) (tests project : List Term)
+    (order : List (Term × Key)) (params : Row)
+    (is : IsReadingFrom schema limit text from tests project order params) (old new : State) (has : old.now.schema ≡ schema) (e : Error) where
   -- what the text means
-  meant : IsCommand schema text (Select (record { lets = []; body = picked_up_to limit tree tests project order }) is.names)
+  meant : IsCommand schema text (Select (record { lets = []; body = picked_from limit from tests project order }) is.names)
   meant = compiled_alone text _ is.means
 
   -- what is understood is understood over the schema
@@ -62,28 +64,28 @@ module _ {schema : Schema} (limit : Term) (text : List ℕ) (tree : ℕ) (tests 
 
   -- the query is not refused
   refused : (steps : Option ℕ) → steps ≡ None → (command : Command) (values : Row) (db : Database)
-      → command ≡ Select (record { lets = []; body = picked_up_to limit tree tests project order }) is.names → values ≡ params → db ≡ old.now
+      → command ≡ Select (record { lets = []; body = picked_from limit from tests project order }) is.names → values ≡ params → db ≡ old.now
       → RefusesToRead steps command db values e → ⊥
   refused steps unlimited command values db same given source h =
-      let query = Select (record { lets = []; body = picked_up_to limit tree tests project order }) is.names in
+      let query = Select (record { lets = []; body = picked_from limit from tests project order }) is.names in
       let asked : RefusesToRead steps query old.now params e =
       subst (λ d. RefusesToRead steps query d params e) source (subst (λ p. RefusesToRead steps query db p e) given
       (subst (λ k. RefusesToRead steps k db values e) same h)) in
       go asked
     where
-      go : RefusesToRead steps (Select (record { lets = []; body = picked_up_to limit tree tests project order }) is.names) old.now params e → ⊥
+      go : RefusesToRead steps (Select (record { lets = []; body = picked_from limit from tests project order }) is.names) old.now params e → ⊥
       go (inl mismatch) =
-          absurd (let x = sym (ap (λ s. accepts_program s [] (picked_up_to limit tree tests project order) params) has ∙ is.typed) ∙ mismatch.1 in cc)
+          absurd (let x = sym (ap (λ s. accepts_program s [] (picked_from limit from tests project order) params) has ∙ is.typed) ∙ mismatch.1 in cc)
       go (inr (inl (why, inl none))) = none
-      go (inr (inl (why, inr folds))) = no_fold_overflows (overlay old.now.trees []) (inner tree end) (params ∷ []) refl folds
+      go (inr (inl (why, inr folds))) = no_fold_overflows (overlay old.now.trees []) from (params ∷ []) unfolded folds
       go (inr (inr stopped)) = absurd (let x = subst (λ (l : Option ℕ). IsSome l) unlimited stopped.1 in cc)
 
   -- so it fails for memory or the disk alone
-  pub query_fails : MayRead old → FailsToQuery text params old new e → IsFailure e
+  pub join_fails : MayRead old → FailsToQuery text params old new e → IsFailure e
   unfolding FailsToQuery IsNotRun
-  query_fails may (inl (inl none)) = absurd (never_none none.0)
-  query_fails may (inl (inr fails)) = failed old new e fails.0 may.is_open fails.1 fails.2
-  query_fails may (inr (c, it, h)) =
+  join_fails may (inl (inl none)) = absurd (never_none none.0)
+  join_fails may (inl (inr fails)) = failed old new e fails.0 may.is_open fails.1 fails.2
+  join_fails may (inr (c, it, h)) =
       let k = known c it.is in
       let plain = subst IsPlain k meant.plain in
       let values = timed params c.formats it.now in
@@ -91,6 +93,13 @@ module _ {schema : Schema} (limit : Term) (text : List ℕ) (tree : ℕ) (tests 
       let db : shown.0 ≡ old.now = subst (λ b. IsSourceOf b old.now shown.0) (ap (λ s. reads_listing s text) has ∙ meant.unlisted) shown.1 in
       let bare : values ≡ params = ap (λ f. timed params f it.now) plain.1 ∙ append-nil params in
       absurd (refused old.step_limit may.unlimited c.command values shown.0 (sym (ap command_of k) ∙ meant.is) bare db shown.2)
+
+-- so does one of one table
+pub query_fails : {schema : Schema} (limit : Term) (text : List ℕ) (tree : ℕ) (tests project : List Term) (order : List (Term × Key)) (params : Row)
+    → IsReading schema limit text tree tests project order params → (old new : State) → old.now.schema ≡ schema → (e : Error) → MayRead old
+    → FailsToQuery text params old new e → IsFailure e
+query_fails limit text tree tests project order params is old new has e =
+    join_fails limit text (one tree) refl tests project order params is old new has e
 
 -- and so does a reading of a whole table, where the rows that it shows fit
 pub reading_fails : {schema : Schema} (text : List ℕ) (tree : ℕ) (project : List Term) (order : List (Term × Key))

@@ -1,18 +1,21 @@
 -- What a look-up finds is the rows of the model; it fails for memory or the disk alone, and shows rows of its table.
-use Rattle.std.proofs.Common.{◌≡◌, ℕ, Bool, List, [], ◌∷◌, map, filter, cond, refl, sym, ap, ◌∙◌}
+use Rattle.std.proofs.Common.{◌≡◌, ℕ, Bool, List, [], ◌∷◌, map, filter, cond, refl, subst, sym, ◌∙◌}
 use Rattle.std.proofs.lemmas.Simd.{map-map}
 use Rattle.sqlite_value.specs.Order.{Row}
 use Rattle.sqlite_sql.specs.Query.{as_count}
 use Rattle.sqlite_sql.specs.Term.{Term, eval}
 use Rattle.sqlite.specs.{Effect.Database, Schema.Schema, Store.Ghosts}
 use Rattle.sqlite.specs.Held.{Held, state}
+use Rattle.sqlite.specs.State.{FailsToQuery, Shown}
+use Rattle.sqlite.specs.declared.error.Error.{Error}
 use Rattle.store_columns.specs.{Flat.flat, Laws.AreToldApart, Limits.AreStored}
 use Rattle.store_columns.proofs.RowsApart.{table-apart}
 use Rattle.model_laws.proofs.Basics.{each-map, each_of_map}
 use Rattle.model_laws.proofs.Keeps.{each-filter}
 use Rattle.desk_model.specs.{Kept.EachOf, Tables.Tables}
 use Rattle.sql_schema.specs.Schema.{desk_schema}
-use Rattle.sql_read.specs.Failures.{HasTexts}
+use Rattle.sql_schema.specs.Failing.{IsFailure}
+use Rattle.sql_read.specs.Failures.{HasTexts, MayRead}
 use Rattle.sql_read.specs.{LookUpFaults.AreTableRows, Looking.Finds}
 use Rattle.store_book.specs.IsBook.{IsStoredBook}
 use Rattle.sql_read.proofs.{Answered.by, Failing.query_fails, Lists.each_limited, TableColumns.all_fit}
@@ -46,6 +49,24 @@ table_rows bare write IsStored spelled row back HasText Fits fits xs rows stored
 
 -- ---- look-ups
 
+-- a look-up finds rows in their limits that are shown in full; it fails for memory or the disk alone
+pub finds_shown : {S X R C : Type 0} (bare : X → R) (write : R → C) (IsStored : R → Type 0) (spelled : Row → C) (row : C → Row)
+    → ((c : C) → spelled (row c) ≡ c) → AreToldApart write IsStored → (HasText : C → Type 0) (Fits : Row → Type 0) → ((c : C) → HasText c → Fits (row c))
+    → (g : Ghosts S) (ask : List ℕ × Row) (old : Held S) (xs : List X)
+    → EachOf (λ x. IsStored (bare x)) xs → EachOf (λ x. HasText (write (bare x))) xs
+    → ((new : Held S) (rows : List Row) → Shown ask.0 ask.1 (state g old) (state g new) rows → rows ≡ map (λ x. row (write (bare x))) xs)
+    → (MayRead (state g old) → (new : Held S) (e : Error) → FailsToQuery ask.0 ask.1 (state g old) (state g new) e → IsFailure e)
+    → Finds g spelled Fits write IsStored ask old (map bare xs)
+finds_shown bare write IsStored spelled row back apart HasText Fits fits g ask old xs stored texts shows fails = record {
+  shows = λ new shown heads h kept spells.
+      table-apart write IsStored apart heads (map bare xs) kept (each-map IsStored bare xs stored)
+      (sym spells ∙ columns_of spelled row (λ x. write (bare x)) back xs shown (shows new shown h) ∙ sym (map-map write bare xs));
+  sure = λ may. record {
+    fails = fails may;
+    shows = λ new rows h. table_rows bare write IsStored spelled row back HasText Fits fits xs rows stored texts (shows new rows h);
+  };
+}
+
 -- over this schema a table has these rows, which are in their limits, and whose texts are UTF-8, as those of all tables are
 pub record Keeps {X R C : Type 0} (schema : Schema) (t : TableFacts X R C) (db : Database) (T : Tables) (xs : List X) : Type 0 where
   pub rows : HasRowsIn schema t.layout db xs
@@ -71,19 +92,8 @@ module _ {X R C : Type 0} (t : TableFacts X R C) where
       let kept : EachOf P ys = each_limited P count (filter sql xs) (each-filter P sql xs limits) in
       let texts = each_limited (λ x. t.HasText (columns t x)) count (filter sql xs)
       (each-filter (λ x. t.HasText (columns t x)) sql xs (each_of_map t.HasText (columns t) xs (keeps.texts book.texts))) in
-      record {
-        shows = λ new shown heads h stored spells.
-            table-apart t.write t.IsStored t.apart heads (map t.bare ys) stored (each-map t.IsStored t.bare ys kept)
-            (sym spells
-            ∙ columns_of t.spelled t.is.row (columns t) t.is.back ys shown
-            (shown_cut t limit ask.0 tests ask.1 reading (state g old) (state g new) xs shown keeps.rows h)
-            ∙ sym (map-map t.write t.bare ys))
-            ∙ ap (λ zs. map t.bare (cut limit ask.1 zs)) (filter-each P sql test agree xs limits);
-        sure = λ may. record {
-          fails = λ new e. query_fails limit ask.0 t.layout.table.tree tests t.project (by 0 ∷ []) ask.1 reading (state g old) (state g new) keeps.rows.there e
-              may;
-          shows = λ new rows h.
-              table_rows t.bare t.write t.IsStored t.spelled t.is.row t.is.back t.HasText t.Fits t.fits ys rows kept texts
-              (shown_cut t limit ask.0 tests ask.1 reading (state g old) (state g new) xs rows keeps.rows h);
-        };
-      }
+      subst (λ zs. FindsIn g ask old (map t.bare (cut limit ask.1 zs))) (filter-each P sql test agree xs limits)
+      (finds_shown t.bare t.write t.IsStored t.spelled t.is.row t.is.back t.apart t.HasText t.Fits t.fits g ask old ys kept texts
+      (λ new rows h. shown_cut t limit ask.0 tests ask.1 reading (state g old) (state g new) xs rows keeps.rows h)
+      (λ may new e h.
+      query_fails limit ask.0 t.layout.table.tree tests t.project (by 0 ∷ []) ask.1 reading (state g old) (state g new) keeps.rows.there e may h))

@@ -1,5 +1,5 @@
 -- The rows that a database of a desk keeps of each table by number, in either format.
-use Rattle.std.proofs.Common.{◌≡◌, ℤ, List, [], ◌∷◌, map, sym, subst, arith}
+use Rattle.std.proofs.Common.{◌≡◌, ℤ, List, [], ◌∷◌, map, refl, sym, subst, arith}
 use Rattle.std.proofs.lemmas.{List.map-id, Simd.map-map}
 use Rattle.sqlite.specs.{Effect.Database, Schema.Schema}
 use Rattle.store_columns.specs.Columns.{authorization_columns, challenge_columns, first_format, key_columns, known_format, nonce_columns, order_columns}

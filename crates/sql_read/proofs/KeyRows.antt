@@ -1,5 +1,5 @@
 -- Under the number of each challenge that was answered stands the key of its answer, and no other.
-use Rattle.std.proofs.Common.{◌≡◌, ◌≢◌, ℕ, List, [], ◌∷◌, map, filter, cond, Option, Some, None, IfOk, Result, refl, sym, ap, ◌∙◌}
+use Rattle.std.proofs.Common.{◌≡◌, ◌≢◌, ℕ, List, [], ◌∷◌, filter, cond, Option, Some, None, option_to_list, IfOk, Result, refl, sym, ap, ◌∙◌}
 use Rattle.std.specs.List.{cons_option}
 use Rattle.std.specs.Prelude.{◌==◌, nat_lt, option_map}
 use Rattle.std.proofs.lemmas.Bool.{eq-eqb, ne_eqb}
@@ -9,7 +9,7 @@ use Rattle.store_columns.specs.declared.columns.{AnswerKey.AnswerKey, Owned.Owne
 use Rattle.model_laws.proofs.Basics.{each, each_both}
 use Rattle.model_laws.proofs.Keeps.{each-filter}
 use Rattle.model_laws.specs.Distinct.{Distinct}
-use Rattle.desk_model.specs.{Kept.EachOf, Legal.is_processing_challenge, Tables.Tables}
+use Rattle.desk_model.specs.{Kept.EachOf, Tables.Tables}
 use Rattle.desk_model.specs.declared.{objects.Answer.Answer, rows.ChallengeRow.ChallengeRow}
 use Rattle.sql_tables.specs.Sorted.{sorted_by}
 use Rattle.sql_tables.proofs.Sorting.{each_sorted}
@@ -40,27 +40,26 @@ keys_other k (c ∷ cs) apart = by c.row.answered (keys_other k cs apart.1)
         (ne_eqb c.row.number k (λ same. apart.0 (sym same)))
         ∙ rest
 
--- the key of a challenge is the one under its number
-abbrev IsOwn : List (Owned ChallengeRow) → ChallengeRow → Type 0
-IsOwn rows c = (k : AnswerKey) → answer_key c ≡ Some k → under c.number (key_rows rows) ≡ k ∷ []
+-- under the number of a challenge stands the key of its answer, or none where it was not answered
+abbrev pub IsOwn : List AnswerKey → ChallengeRow → Type 0
+IsOwn keys c = under c.number keys ≡ option_to_list (answer_key c)
 
 -- that of the first
-own_first : (c : Owned ChallengeRow) (cs : List (Owned ChallengeRow)) → EachOf (λ d. number c ≢ number d) cs → IsOwn (c ∷ cs) c.row
+own_first : (c : Owned ChallengeRow) (cs : List (Owned ChallengeRow)) → EachOf (λ d. number c ≢ number d) cs → IsOwn (key_rows (c ∷ cs)) c.row
 own_first c cs apart = by c.row.answered
   where
-    by : (a : Option Answer) (k : AnswerKey) → answer_key (answered_so c a).row ≡ Some k
-        → under c.row.number (cons_option (answer_key (answered_so c a).row) (key_rows cs)) ≡ k ∷ []
-    by None k is = absurd (let x = is in cc)
-    by (Some a) k is =
+    by : (a : Option Answer) → under c.row.number (cons_option (answer_key (answered_so c a).row) (key_rows cs))
+        ≡ option_to_list (answer_key (answered_so c a).row)
+    by None = keys_other c.row.number cs apart
+    by (Some a) =
         let own : AnswerKey = record { challenge = c.row.number; thumb = a.thumb } in
-        let rest : under c.row.number (key_rows cs) ≡ [] = keys_other c.row.number cs apart in
-        let same : own ≡ k = same_Some own k is in
         ap (λ b. cond b (own ∷ under c.row.number (key_rows cs)) (under c.row.number (key_rows cs))) (eq-eqb c.row.number c.row.number refl)
-        ∙ (λ i. same i ∷ rest i)
+        ∙ ap (λ ks. own ∷ ks) (keys_other c.row.number cs apart)
 
 -- the key of another challenge is not looked at
-own_behind : (c : Owned ChallengeRow) (cs : List (Owned ChallengeRow)) (d : ChallengeRow) → c.row.number ≢ d.number → IsOwn cs d → IsOwn (c ∷ cs) d
-own_behind c cs d apart own k is = by c.row.answered ∙ own k is
+own_behind : (c : Owned ChallengeRow) (cs : List (Owned ChallengeRow)) (d : ChallengeRow) → c.row.number ≢ d.number → IsOwn (key_rows cs) d
+    → IsOwn (key_rows (c ∷ cs)) d
+own_behind c cs d apart own = by c.row.answered ∙ own
   where
     by : (a : Option Answer) → under d.number (cons_option (answer_key (answered_so c a).row) (key_rows cs)) ≡ under d.number (key_rows cs)
     by None = refl
@@ -69,7 +68,7 @@ own_behind c cs d apart own k is = by c.row.answered ∙ own k is
         (ne_eqb c.row.number d.number apart)
 
 -- those of all
-pub keys_own : (rows : List (Owned ChallengeRow)) → Distinct number rows → EachOf (λ c. IsOwn rows c.row) rows
+pub keys_own : (rows : List (Owned ChallengeRow)) → Distinct number rows → EachOf (λ c. IsOwn (key_rows rows) c.row) rows
 keys_own [] apart = tt
 keys_own (c ∷ cs) apart = (
   own_first c cs apart.0,
@@ -117,21 +116,18 @@ module _ (T : Tables) (apart : Distinct number (challenge_rows T.authorizations)
   abbrev HasKey : Owned ChallengeRow → Type 0
   HasKey c = HasItsKey T c.row
 
+  -- as each has
+  keys_all : EachOf HasKey (challenge_rows T.authorizations)
+  keys_all =
+      let all = challenge_rows T.authorizations in each _ _ all (λ c own k is. own ∙ ap option_to_list is) (keys_own all apart)
+
   -- so has each of an authorization
   pub keys_under : (n : ℕ) → EachOf HasKey (filter (λ c. c.owner == n) (challenge_rows T.authorizations))
-  keys_under n =
-      let all = challenge_rows T.authorizations in
-      each-filter HasKey (λ c. c.owner == n) all (keys_own all apart)
-
-  -- of all, in the order of their numbers
-  keys_sorted : EachOf HasKey (sorted_by number (challenge_rows T.authorizations))
-  keys_sorted = let all = challenge_rows T.authorizations in each_sorted number HasKey all (keys_own all apart)
-
-  -- each that waits
-  pub keys_waiting : EachOf HasKey (filter (λ c. is_processing_challenge c.row.status) (sorted_by number (challenge_rows T.authorizations)))
-  keys_waiting = each-filter HasKey (λ c. is_processing_challenge c.row.status) (sorted_by number (challenge_rows T.authorizations)) keys_sorted
+  keys_under n = each-filter HasKey (λ c. c.owner == n) (challenge_rows T.authorizations) keys_all
 
   -- and the first above a number
   pub keys_above : (n : ℕ) → EachOf HasKey (challenges_from T n)
   keys_above n =
-      each_take HasKey 1 _ (each-filter HasKey (λ c. nat_lt n c.row.number) (sorted_by number (challenge_rows T.authorizations)) keys_sorted)
+      each_take HasKey 1 _
+      (each-filter HasKey (λ c. nat_lt n c.row.number) (sorted_by number (challenge_rows T.authorizations))
+      (each_sorted number HasKey (challenge_rows T.authorizations) keys_all))

@@ -2,6 +2,7 @@ pub mod AboveRows
 pub mod AllRows
 pub mod Answered
 pub mod Asking
+pub mod Beside
 pub mod BookChecks
 pub mod BookOfShown
 pub mod EarliestRows
@@ -12,6 +13,9 @@ pub mod FirstTables
 pub mod FormatLemmas
 pub mod FoundRows
 pub mod HeldBooks
+pub mod JoinFound
+pub mod JoinParts
+pub mod JoinRows
 pub mod KeptRows
 pub mod KeyRows
 pub mod KeyedReadings

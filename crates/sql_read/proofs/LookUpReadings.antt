@@ -1,5 +1,5 @@
 -- What the look-ups mean: one statement each, with as many parameters as are given, that compares no values of other kinds.
-use Rattle.std.proofs.Common.{ℕ, List, [], ◌∷◌, codes, refl}
+use Rattle.std.proofs.Common.{ℕ, List, [], ◌∷◌, ◌++◌, codes, refl}
 use Rattle.sqlite.specs.{Listing.understood, Order.Row}
 use Rattle.sqlite.specs.declared.types.Value.TheVariants.{Text}
 use Rattle.sqlite_value.specs.declared.keys.Collation.TheVariants.{Binary}
@@ -29,9 +29,10 @@ use Rattle.sql_schema.specs.declared.orders.TheConstants as ord
 use Rattle.sql_schema.specs.declared.listed.TheConstants as ord_authz
 use Rattle.sql_read.specs.Queries.{account_query, authorization_query, nonce_query, number, order_query}
 use Rattle.sql_read.specs.declared.formats.Format.TheVariants.{Second}
-use Rattle.sql_read.proofs.Answered.{IsReading, all_rows, by, first_row}
+use Rattle.sql_read.proofs.Answered.{IsReading, IsReadingFrom, all_rows, by, first_row}
+use Rattle.sql_read.proofs.JoinParts.{join_from, join_tests, joined_project}
 use Rattle.sql_read.proofs.Readings.{accounts_reading, authorizations_reading, nonces_reading, orders_reading}
-use Rattle.sql_read.proofs.TableColumns.{account_names, authorization_names, authorization_status_at, challenge_names, challenge_status_at, key_names}
+use Rattle.sql_read.proofs.TableColumns.{account_names, authorization_names, authorization_status_at, challenge_names, key_names}
 use Rattle.sql_read.proofs.TableColumns.{listed_names, listed_project, nonce_names, order_names, order_status_at, summary_names}
 use Rattle.sql_read.proofs.TableFacts.{IsReadingOf, account_facts, authorization_facts, challenge_facts, key_facts, nonce_facts, order_facts, summary_facts}
 
@@ -148,11 +149,12 @@ pub challenges_of_reading : (n : ℕ) → IsReadingOf challenge_facts desk_schem
 unfolding understood everything
 challenges_of_reading n = record { names = challenge_names; means = refl; selecting = refl; sizes = refl; typed = refl }
 
--- that wait
-pub challenges_processing_reading : IsReadingOf challenge_facts desk_schema all_rows chall.SELECT_WITH_STATUS.now (is_equal challenge_status_at)
+-- that wait, joined with their authorizations and the keys of their answers
+pub joined_reading : IsReadingFrom desk_schema all_rows chall.SELECT_JOINED.now join_from join_tests joined_project (by 0 ∷ [])
     (text (challenge_status_text challenge.Processing))
 unfolding understood everything
-challenges_processing_reading = record { names = challenge_names; means = refl; selecting = refl; sizes = refl; typed = refl }
+joined_reading =
+    record { names = challenge_names ++ (authorization_names ++ key_names); means = refl; selecting = refl; sizes = refl; typed = refl }
 
 -- the key of an answer
 pub keys_of_reading : (n : ℕ) → IsReadingOf key_facts desk_schema all_rows chall_key.SELECT_OF.now (is_equal 0) (number n)

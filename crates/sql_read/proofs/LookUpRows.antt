@@ -6,10 +6,9 @@ use Rattle.sqlite.specs.Held.{Held, state}
 use Rattle.sqlite.specs.Store.{Ghosts}
 use Rattle.store_columns.specs.Flat.{bare_row, challenge_rows, key_rows, summarized, without_challenges, without_listed}
 use Rattle.store_columns.specs.Limits.{IsStoredAccount, IsStoredAuthorization, IsStoredNonce, IsStoredOrder}
-use Rattle.desk_model.specs.Document.{authorization_status_text, challenge_status_text, order_status_text}
-use Rattle.desk_model.specs.{Legal.is_processing_challenge, Tables.Tables}
+use Rattle.desk_model.specs.Document.{authorization_status_text, order_status_text}
+use Rattle.desk_model.specs.Tables.{Tables}
 use Rattle.desk_model.specs.declared.{objects.Nonce.Nonce, rows.AccountRow.AccountRow, rows.AuthorizationRow.AuthorizationRow, rows.OrderRow.OrderRow}
-use Rattle.desk_model.specs.declared.status.ChallengeStatus.TheVariants as challenge
 use Rattle.desk_model.specs.declared.status.OrderStatus.TheVariants as order
 use Rattle.model_lives.specs.Above.{accounts_above, authorizations_above, first_of, orders_above}
 use Rattle.model_lives.specs.LookUps.{accounts_where, authorizations_where, nonces_where, orders_of, orders_where}
@@ -40,13 +39,14 @@ use Rattle.sql_read.proofs.Answered.{all_rows, first_row}
 use Rattle.sql_read.proofs.FoundRows.{FindsIn, finds}
 use Rattle.sql_read.proofs.KeptRows.{accounts_kept, authorizations_kept, challenges_kept, keys_kept, meta_kept, nonces_kept, orders_kept, summaries_kept}
 use Rattle.sql_read.proofs.LookUpReadings.{account_above_reading, account_tests, accounts_asked, authorization_above_reading, authorization_tests}
-use Rattle.sql_read.proofs.LookUpReadings.{authorizations_asked, challenges_numbered_reading, challenges_of_reading, challenges_processing_reading, is_equal}
-use Rattle.sql_read.proofs.LookUpReadings.{is_higher, keys_of_reading, nonce_tests, nonces_asked, order_above_reading, order_tests, orders_asked, summaries_reading}
-use Rattle.sql_read.proofs.LookUpReadings.{text}
-use Rattle.sql_read.proofs.{UnderLemmas.own_ascend, Readings.meta_reading, TableColumns.challenge_status_at}
-use Rattle.sql_read.proofs.StatusTests.{authorization_status_test, challenge_waits, order_status_test, order_waits}
+use Rattle.sql_read.proofs.LookUpReadings.{authorizations_asked, challenges_numbered_reading, challenges_of_reading, is_equal}
+use Rattle.sql_read.proofs.LookUpReadings.{is_higher, keys_of_reading, nonce_tests, nonces_asked, order_above_reading, order_tests, orders_asked}
+use Rattle.sql_read.proofs.LookUpReadings.{summaries_reading}
+use Rattle.sql_read.proofs.{UnderLemmas.own_ascend, Readings.meta_reading}
+use Rattle.sql_read.proofs.StatusTests.{authorization_status_test, order_status_test, order_waits}
 use Rattle.sql_read.proofs.Tests.{above_bounded, above_test, below_bounded, below_test, number_test, number_text_test, same_bounded, text_below_test, text_test}
-use Rattle.sql_read.proofs.TableFacts.{account_facts, authorization_facts, challenge_facts, key_facts, meta_facts, nonce_facts, order_facts, picks, summary_facts}
+use Rattle.sql_read.proofs.TableFacts.{account_facts, authorization_facts, challenge_facts, key_facts, meta_facts, nonce_facts, order_facts, picks}
+use Rattle.sql_read.proofs.TableFacts.{summary_facts}
 
 -- ---- SQL's tests are the model's, on rows in their limits
 
@@ -143,15 +143,6 @@ module _ {S : Type 0} (g : Ghosts S) (old : Held S) (T : Tables) (has : Holds (s
       (own_ascend n 0 T.authorizations has.rising.authorizations book.book.in_order.challenges))
       (finds challenge_facts g all_rows (chall.SELECT_OF.now, number n) (is_equal 2) (challenges_of_reading n) (λ c. c.owner == n)
       (λ c k. number_test c.owner (bounded n) ∙ same_bounded c.owner n k.authorization.1) old T book _ (challenges_kept _ T Second has))
-
-  -- in the order of their numbers
-  pub challenges_processing_find : FindsIn challenge_facts g (chall.SELECT_WITH_STATUS.now, text (challenge_status_text challenge.Processing)) old
-      (map bare_row (filter (λ c. is_processing_challenge c.row.status) (sorted_by challenge_layout.key (challenge_rows T.authorizations))))
-  challenges_processing_find =
-      finds challenge_facts g all_rows (chall.SELECT_WITH_STATUS.now, text (challenge_status_text challenge.Processing)) (is_equal challenge_status_at)
-      challenges_processing_reading (λ c. is_processing_challenge c.row.status)
-      (λ c k. text_test (challenge_status_text c.row.status) (challenge_status_text challenge.Processing) ∙ challenge_waits c.row.status) old T book _
-      (challenges_kept _ T Second has)
 
   -- ---- the key of an answer
 

@@ -232,12 +232,12 @@ challenge_status_at = 8
 -- ---- values that fit
 
 -- a number or NULL
-int_fits : (o : Option ℤ) → HoldsIntOrNull (int_or_null o)
+pub int_fits : (o : Option ℤ) → HoldsIntOrNull (int_or_null o)
 int_fits None = tt
 int_fits (Some n) = tt
 
 -- a text or NULL
-text_fits : (o : Option (List ℕ)) → IfSome o IsUtf8 → HoldsTextOrNull (text_or_null o)
+pub text_fits : (o : Option (List ℕ)) → IfSome o IsUtf8 → HoldsTextOrNull (text_or_null o)
 text_fits None h = tt
 text_fits (Some t) h = h
 

@@ -18,7 +18,7 @@ use Rattle.sql_read.proofs.UnderLemmas.{authorizations_have, own_ascend}
 use Rattle.sql_read.specs.Under.{rows_under}
 
 -- a challenge that waits
-abbrev waits : Owned ChallengeRow → Bool
+abbrev pub waits : Owned ChallengeRow → Bool
 waits c = is_processing_challenge c.row.status
 
 -- one of the challenges that wait, and of an owner that passes

@@ -8,6 +8,7 @@ pub mod First
 pub mod FirstRows
 pub mod Format
 pub mod Held
+pub mod Joined
 pub mod Keys
 pub mod LookUpFaults
 pub mod Looking

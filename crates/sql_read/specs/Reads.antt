@@ -1,5 +1,5 @@
 -- What a reading leaves, and what readings one after the other do.
-use Rattle.std.specs.Prelude.{◌≡◌, ℕ, List, Result, IfErr, IfOk, OnOk}
+use Rattle.std.specs.Prelude.{ℕ, List, Result, IfErr, IfOk, OnOk}
 use Rattle.sqlite.specs.Held.{Held, state}
 use Rattle.sqlite.specs.{Order.Row, Store.Ghosts}
 use Rattle.sqlite.specs.State.{FailsToQuery, HasCleanDisk, IsUnchanged, Shown}

@@ -1,5 +1,5 @@
 -- The columns that a row of an answer spells, and the rows whose values are of the kinds that the columns have.
-use Rattle.std.specs.Prelude.{ℕ, ℤ, pos, List, [], Option, None, Some, ◌<◌, length, IsUtf8, ⊤}
+use Rattle.std.specs.Prelude.{ℕ, ℤ, pos, ◌+◌, List, [], Option, None, Some, option_map, IfSome, ◌<◌, length, IsUtf8, ⊤}
 use Rattle.sqlite.specs.declared.types.Value.{Value}
 use Rattle.sqlite.specs.declared.types.Value.TheVariants.{Int, Text, Blob, Null}
 use Rattle.sqlite.specs.Order.{Row, column}
@@ -96,20 +96,24 @@ summary_in r =
       status = bytes_in (column r 4);
     }
 
+-- of `authz`, in a row from this place on
+abbrev pub authorization_from : ℕ → Row → AuthzColumns
+authorization_from n r =
+    record {
+      num = number_in (column r n);
+      account = number_in (column r (n + 1));
+      name = bytes_in (column r (n + 2));
+      wildcard = number_in (column r (n + 3));
+      made = number_in (column r (n + 4));
+      expires = number_in (column r (n + 5));
+      ended = number_or_none (column r (n + 6));
+      end_kind = bytes_or_none (column r (n + 7));
+      status = bytes_in (column r (n + 8));
+    }
+
 -- of `authz`
 abbrev pub authorization_in : Row → AuthzColumns
-authorization_in r =
-    record {
-      num = number_in (column r 0);
-      account = number_in (column r 1);
-      name = bytes_in (column r 2);
-      wildcard = number_in (column r 3);
-      made = number_in (column r 4);
-      expires = number_in (column r 5);
-      ended = number_or_none (column r 6);
-      end_kind = bytes_or_none (column r 7);
-      status = bytes_in (column r 8);
-    }
+authorization_in = authorization_from 0
 
 -- of `ord_authz`
 abbrev pub listed_in : Row → OrderAuthzColumns
@@ -129,9 +133,21 @@ challenge_in r =
       status = bytes_in (column r 7);
     }
 
+-- of `chall_key`, in a row from this place on
+abbrev pub key_from : ℕ → Row → ChallKeyColumns
+key_from n r = record { chall = number_in (column r n); thumb = bytes_in (column r (n + 1)) }
+
 -- of `chall_key`
 abbrev pub key_in : Row → ChallKeyColumns
-key_in r = record { chall = number_in (column r 0); thumb = bytes_in (column r 1) }
+key_in = key_from 0
+
+-- none where its number is NULL
+abbrev pub key_or_none : ℕ → Row → Option ChallKeyColumns
+key_or_none n r = option_map (λ _. key_from n r) (number_or_none (column r n))
+
+-- of a challenge, beside its authorization, and beside the key of its answer, where it has one
+abbrev pub joined_in : Row → (ChallColumns × AuthzColumns) × Option ChallKeyColumns
+joined_in r = ((challenge_in r, authorization_from 8 r), key_or_none 17 r)
 
 -- ---- values of the kinds that columns have
 
@@ -200,11 +216,15 @@ FitsOrder r =
 abbrev pub FitsSummary : Row → Type 0
 FitsSummary r = HasAt HoldsInt r 0 × HasAt HoldsInt r 1 × HasAt HoldsInt r 2 × HasAt HoldsInt r 3 × HasAt HoldsText r 4
 
+-- of `authz`, from this place on
+abbrev pub FitsAuthorizationFrom : ℕ → Row → Type 0
+FitsAuthorizationFrom n r =
+    HasAt HoldsInt r n × HasAt HoldsInt r (n + 1) × HasAt HoldsText r (n + 2) × HasAt HoldsInt r (n + 3) × HasAt HoldsInt r (n + 4)
+    × HasAt HoldsInt r (n + 5) × HasAt HoldsIntOrNull r (n + 6) × HasAt HoldsTextOrNull r (n + 7) × HasAt HoldsText r (n + 8)
+
 -- of `authz`
 abbrev pub FitsAuthorization : Row → Type 0
-FitsAuthorization r =
-    HasAt HoldsInt r 0 × HasAt HoldsInt r 1 × HasAt HoldsText r 2 × HasAt HoldsInt r 3 × HasAt HoldsInt r 4 × HasAt HoldsInt r 5 × HasAt HoldsIntOrNull r 6
-    × HasAt HoldsTextOrNull r 7 × HasAt HoldsText r 8
+FitsAuthorization = FitsAuthorizationFrom 0
 
 -- of `ord_authz`
 abbrev pub FitsListed : Row → Type 0
@@ -216,6 +236,18 @@ FitsChallenge r =
     HasAt HoldsInt r 0 × HasAt HoldsInt r 1 × HasAt HoldsText r 2 × HasAt HoldsBlob r 3 × HasAt HoldsIntOrNull r 4 × HasAt HoldsIntOrNull r 5
     × HasAt HoldsTextOrNull r 6 × HasAt HoldsText r 7
 
+-- of `chall_key`, from this place on
+abbrev pub FitsKeyFrom : ℕ → Row → Type 0
+FitsKeyFrom n r = HasAt HoldsInt r n × HasAt HoldsBlob r (n + 1)
+
 -- of `chall_key`
 abbrev pub FitsKey : Row → Type 0
-FitsKey r = HasAt HoldsInt r 0 × HasAt HoldsBlob r 1
+FitsKey = FitsKeyFrom 0
+
+-- where its number is not NULL
+abbrev pub FitsKeyOrNone : ℕ → Row → Type 0
+FitsKeyOrNone n r = HasAt HoldsIntOrNull r n × IfSome (number_or_none (column r n)) (λ _. FitsKeyFrom n r)
+
+-- of a challenge, beside its authorization, and beside the key of its answer, where it has one
+abbrev pub FitsJoined : Row → Type 0
+FitsJoined r = FitsChallenge r × FitsAuthorizationFrom 8 r × FitsKeyOrNone 17 r

@@ -1,20 +1,47 @@
 //! Challenges, each with the key of its answer.
-ghost use Rattle.std.specs.Prelude.{◌≡◌, [], ◌∷◌, Some, IfErr, IfOk, IsTrue};
+ghost use Rattle.std.specs.Prelude.{◌≡◌, ◌<◌, [], ◌∷◌, Some, IfErr, IfOk, IsTrue};
 ghost use Rattle.sqlite.specs.Held.{state};
 ghost use Rattle.store_columns.specs.Flat.{bare, bare_row};
 ghost use Rattle.store_columns.specs.declared.columns.AnswerKey.{AnswerKey as KeyRow};
 ghost use Rattle.sql_schema.specs.Stays.{Asks};
-ghost use Rattle.sql_read.specs.{Looking.LooksFor, Spelled.FitsKey, Spelled.key_in};
+ghost use Rattle.sql_read.specs.Failures.{IsOfNoDevice, IsOutOfMemory};
+ghost use Rattle.sql_read.specs.Looking.{LooksFor};
+ghost use Rattle.sql_read.specs.Spelled.{FitsKey, FitsKeyFrom, FitsKeyOrNone, key_from, key_in, key_or_none};
 ghost use Rattle.sql_read.specs.Keys.{HasItsKey, keys_of};
 
 use crate::fault::ReadFault;
 use crate::rows::{Parted, Query, Selected, find_rows};
-use crate::values::{bytes, numbers};
+use crate::values::{bytes, number_or_none, numbers};
 use desk_model::{Answer, ChallengeRow};
 use sql_schema::keys;
 use sqlite::{Alter, Connection, Error, Row};
 use std::alloc::Global;
 use store_columns::{AnswerKey, BareChallenge, ChallKeyColumns, Owned};
+
+// The columns of a key, in a row from this place on.
+fn key_columns(row: &Row, from: usize) -> Result<ChallKeyColumns, Error>
+    requires { from < 100 }
+    ensures read { IfOk result (λ c. c ≡ key_from from row.now) }
+    ensures fails { FitsKeyFrom from row.now → IfErr result IsOutOfMemory }
+    ensures kind { IfErr result IsOfNoDevice }
+{
+    let [chall] = numbers(row, [from])?;
+    let thumb = bytes(row, from + 1)?;
+    Ok(ChallKeyColumns { chall, thumb })
+}
+
+/// The columns of a key, in a row from this place on, or `None` where its number is NULL.
+pub(crate) fn key_columns_or_none(row: &Row, from: usize) -> Result<Option<ChallKeyColumns>, Error>
+    requires { from < 100 }
+    ensures read { IfOk result (λ c. c ≡ key_or_none from row.now) }
+    ensures fails { FitsKeyOrNone from row.now → IfErr result IsOutOfMemory }
+    ensures kind { IfErr result IsOfNoDevice }
+{
+    match number_or_none(row, from)? {
+        Some(_) => Ok(Some(key_columns(row, from)?)),
+        None => Ok(None),
+    }
+}
 
 impl Selected for ChallKeyColumns {
     ghost spelled = { key_in };
@@ -22,9 +49,7 @@ impl Selected for ChallKeyColumns {
     ghost Fits = { FitsKey };
 
     fn of(row: &Row) -> Result<ChallKeyColumns, Error> {
-        let [chall] = numbers(row, [0])?;
-        let thumb = bytes(row, 1)?;
-        Ok(ChallKeyColumns { chall, thumb })
+        key_columns(row, 0)
     }
 }
 

@@ -1,24 +1,52 @@
 //! Authorizations, each with its challenges, read from the rows of answers and looked up.
-ghost use Rattle.std.specs.Prelude.{◌≡◌, map};
+ghost use Rattle.std.specs.Prelude.{◌≡◌, ◌<◌, IfErr, IfOk};
 ghost use Rattle.store_columns.specs.{Flat.without_challenges};
 ghost use Rattle.model_lives.specs.Above.{authorizations_above, challenges_above, first_of};
-ghost use Rattle.model_lives.specs.LookUps.{AreWaiting, authorizations_where, bare_authorizations, owners_of};
+ghost use Rattle.model_lives.specs.LookUps.{authorizations_where, bare_authorizations, owners_of};
 ghost use Rattle.sql_read.specs.Earliest.{TellsEarliest, authorization_ends};
+ghost use Rattle.sql_read.specs.Failures.{IsOfNoDevice, IsOutOfMemory};
 ghost use Rattle.sql_read.specs.Looking.{LooksUp};
 ghost use Rattle.sql_read.specs.{Queries.asked, Queries.authorization_query, Under.HasItsChallenges};
-ghost use Rattle.sql_read.specs.Spelled.{FitsAuthorization, FitsChallenge, authorization_in, challenge_in};
+ghost use Rattle.sql_read.specs.Spelled.{FitsAuthorization, FitsAuthorizationFrom, FitsChallenge, authorization_from, authorization_in, challenge_in};
 
 use crate::fault::ReadFault;
 use crate::rows::{
     Parted, Query, Selected, earliest, find_rows, find_wholes, owners, without_owners,
 };
 use crate::values::{both, bytes, number_or_none, numbers, numbers_or_none, text, text_or_none};
-use desk_model::{AuthorizationRow, AuthzStatus, ChallengeRow, ChallengeStatus, Sequence};
+use desk_model::{AuthorizationRow, AuthzStatus, ChallengeRow, Sequence};
 use model_lives::AuthorizationsWhere;
 use sql_schema::{authorizations, challenges};
 use sqlite::{Alter, Connection, Error, Row};
 use std::alloc::Global;
-use store_columns::{AuthzColumns, ChallColumns, Owned};
+use store_columns::{AuthzColumns, ChallColumns};
+
+/// The columns of an authorization, in a row from this place on.
+pub(crate) fn authz_columns(row: &Row, from: usize) -> Result<AuthzColumns, Error>
+    requires { from < 100 }
+    ensures read { IfOk result (λ c. c ≡ authorization_from from row.now) }
+    ensures fails { FitsAuthorizationFrom from row.now → IfErr result IsOutOfMemory }
+    ensures kind { IfErr result IsOfNoDevice }
+{
+    let places = [from, from + 1, from + 3, from + 4, from + 5];
+    let [num, account, wildcard, made, expires] = numbers(row, places)?;
+    let ended = number_or_none(row, from + 6)?;
+    let (name, (end_kind, status)) = both(
+        text(row, from + 2),
+        both(text_or_none(row, from + 7), text(row, from + 8)),
+    )?;
+    Ok(AuthzColumns {
+        num,
+        account,
+        name,
+        wildcard,
+        made,
+        expires,
+        ended,
+        end_kind,
+        status,
+    })
+}
 
 impl Selected for AuthzColumns {
     ghost spelled = { authorization_in };
@@ -26,23 +54,7 @@ impl Selected for AuthzColumns {
     ghost Fits = { FitsAuthorization };
 
     fn of(row: &Row) -> Result<AuthzColumns, Error> {
-        let [num, account, wildcard, made, expires] = numbers(row, [0, 1, 3, 4, 5])?;
-        let ended = number_or_none(row, 6)?;
-        let (name, (end_kind, status)) = both(
-            text(row, 2),
-            both(text_or_none(row, 7), text(row, 8)),
-        )?;
-        Ok(AuthzColumns {
-            num,
-            account,
-            name,
-            wildcard,
-            made,
-            expires,
-            ended,
-            end_kind,
-            status,
-        })
+        authz_columns(row, 0)
     }
 }
 
@@ -156,23 +168,6 @@ pub fn owners_of<S: Alter>(
     let query = Query::number(challenges::SELECT_NUMBERED, challenge);
     let rows = find_rows::<S, ChallColumns>(alloc, conn, query)?;
     owners(alloc, rows)
-}
-
-/// The challenges that are stored as waiting for the validator, each with the number of its authorization; those of one
-/// authorization by number.
-///
-/// # Errors
-///
-/// As of each reading (`lib.rt`).
-pub fn waiting_challenges<S: Alter>(
-    alloc: Global,
-    conn: &mut Connection<S>,
-) -> Result<Vec<Owned<ChallengeRow>>, ReadFault>
-    ensures { LooksUp S.Store conn.old conn.new (λ T rows. AreWaiting T (map (λ c. (c.owner, c.row)) rows.items)) result }
-{
-    let waiting = ChallengeStatus::Processing.as_str();
-    let query = Query::text(challenges::SELECT_WITH_STATUS, waiting);
-    find_wholes::<S, ChallColumns, _>(alloc, conn, query)
 }
 
 /// The authorization of the least number above this one, if there is one.

@@ -14,8 +14,13 @@ pub const SELECT: &str = chall!(select; "");
 /// Shows the challenges of a number.
 pub const SELECT_NUMBERED: &str = chall!(select; " WHERE num = ?1");
 
-/// Shows the challenges of a status.
-pub const SELECT_WITH_STATUS: &str = chall!(select; " WHERE status = ?1");
+/// Shows the challenges of a status, each beside its authorization, and beside the key of its answer, where it has one.
+pub const SELECT_JOINED: &str = concat!(
+    "SELECT chall.num, chall.authz, chall.kind, chall.token, chall.answered, chall.reported, chall.outcome, chall.status, ",
+    "authz.num, authz.account, authz.name, authz.wildcard, authz.made, authz.expires, authz.ended, authz.end_kind, authz.status, ",
+    "chall_key.chall, chall_key.thumb FROM chall JOIN authz ON authz.num = chall.authz ",
+    "LEFT JOIN chall_key ON chall_key.chall = chall.num WHERE chall.status = ?1 ORDER BY chall.num"
+);
 
 /// Shows the challenges of an authorization.
 pub const SELECT_OF: &str = chall!(select; " WHERE authz = ?1");

@@ -1,5 +1,5 @@
 -- Rows that are put into a table which has some of them already.
-use Rattle.std.proofs.Common.{◌≡◌, ℕ, List, [], ◌∷◌, ◌++◌, filter, find, Option, Some, None, refl, sym, ap, ◌∙◌, true, false, Bool, cond}
+use Rattle.std.proofs.Common.{◌≡◌, ℕ, List, [], ◌∷◌, ◌++◌, filter, find, map, Option, Some, None, refl, sym, ap, ◌∙◌, true, false, Bool, cond}
 use Rattle.std.specs.Prelude.{◌==◌, ◌&&◌, ◌||◌, is_some}
 use Rattle.std.specs.List.{flat_map, list_any}
 use Rattle.std.proofs.lemmas.Bool.{eqb-true}
@@ -9,7 +9,8 @@ use Rattle.model_laws.proofs.RowLists.{ascends_found, puts_append}
 use Rattle.model_lives.proofs.Cut.{at_number, numbered}
 use Rattle.model_lives.proofs.Found.{any_filter, puts_filter}
 use Rattle.model_lives.proofs.Lists.{filter_same, filtered_each}
-use Rattle.store_api.specs.Needing.{missing, missings}
+use Rattle.desk_model.specs.Kept.{EachOf}
+use Rattle.store_api.specs.Needing.{lacking, missing, missings}
 
 -- the rows of a number
 abbrev pub rows_at : {X : Type 0} → (X → ℕ) → List X → ℕ → List X
@@ -96,3 +97,11 @@ pub missings_append : {X : Type 0} (number : X → ℕ) (rows_of : ℕ → List 
     missings number rows_of (ns ++ ms) table ≡ missings number rows_of ms (missings number rows_of ns table)
 missings_append number rows_of [] ms table = refl
 missings_append number rows_of (n ∷ ns) ms table = missings_append number rows_of ns ms (missing number rows_of n table)
+
+-- rows that stand alone under their numbers are put where they are missing
+pub lacking_missings : {X : Type 0} (number : X → ℕ) (rows_of : ℕ → List X) (xs : List X) → EachOf (λ x. rows_of (number x) ≡ x ∷ []) xs → (table : List X)
+    → lacking number xs table ≡ missings number rows_of (map number xs) table
+lacking_missings number rows_of [] alone table = refl
+lacking_missings number rows_of (x ∷ xs) alone table =
+    (λ i. lacking number xs (cond (is_some (find (λ y. number y == number x) table)) table (puts number (sym alone.0 i) table)))
+    ∙ lacking_missings number rows_of xs alone.1 (missing number rows_of (number x) table)

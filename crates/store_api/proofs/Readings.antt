@@ -1,7 +1,6 @@
 -- Look-ups one after the other.
 use Rattle.std.proofs.Common.{◌≡◌, ◌⊎◌, Result, Ok, Err, IfErr, IfOk, IsErrAnd, inl, inr, subst, sym}
 use Rattle.store_api.specs.Sight.{FailsBy, ForTables, Reads, Sight, Unchanged}
-use Rattle.desk_model.specs.Tables.{Tables}
 use Rattle.store_api.specs.declared.fault.StorageFault.{StorageFault}
 use Rattle.store_api.specs.declared.fault.StorageFault.TheVariants as fault
 use Rattle.store_api.specs.Finding.{LacksMemory}

@@ -15,13 +15,13 @@ use Rattle.model_lives.specs.Thinned.{waiting_challenges, with_challenges, witho
 use Rattle.model_lives.proofs.Lists.{filtered_each}
 use Rattle.store_api.proofs.Lacking.{rows_one}
 use Rattle.store_api.specs.Nesting.{joined, nested}
-use Rattle.store_columns.specs.declared.columns.Owned.{Owned}
+use Rattle.store_columns.specs.declared.columns.Waiting.{Waiting}
 
 -- ---- the challenges of rows
 
 -- a challenge behind the number of its authorization
-abbrev pub numbered : Owned ChallengeRow → ℕ × ChallengeRow
-numbered c = (c.owner, c.row)
+abbrev pub numbered : Waiting → ℕ × ChallengeRow
+numbered w = (w.authorization.number, w.challenge)
 
 -- the challenge
 abbrev second : ℕ × ChallengeRow → ChallengeRow

@@ -52,8 +52,8 @@ pub(crate) fn add_found<R: Row + Drop>(
     Ok(())
 }
 
-// Puts a row into a table, unless it has one of its number already.
-fn put_lacking<R: Row + Drop>(table: &mut Table<R>, row: R) -> Result<(), AllocError>
+/// Puts a row into a table, unless it has one of its number already.
+pub(crate) fn put_lacking<R: Row + Drop>(table: &mut Table<R>, row: R) -> Result<(), AllocError>
     ensures { OnOk result (table.new ≡ missing R.number (λ n. row ∷ []) (R.number row) table.old) }
 {
     let is_there = table.get(row.number()).is_some();

@@ -1,11 +1,11 @@
 //! Look-ups in the tables of a desk, and its rows one by one.
-ghost use Rattle.std.specs.Prelude.{◌≡◌, map};
+ghost use Rattle.std.specs.Prelude.{◌≡◌, [], ◌∷◌, map};
 ghost use Rattle.model_lives.specs.LookUps.{accounts_where, authorizations_where, nonces_where, orders_where, AreWaiting, bare_authorizations};
 ghost use Rattle.model_lives.specs.LookUps.{orders_listing, owners_of, summaries_of};
 ghost use Rattle.model_laws.specs.Ordered.{IsOrdered};
 ghost use Rattle.store_api.specs.Sight.{Gives};
 ghost use Rattle.model_lives.specs.Above.{accounts_above, authorizations_above, challenges_above, first_of, orders_above};
-ghost use Rattle.desk_model.specs.Tables.{Tables};
+ghost use Rattle.desk_model.specs.{Kept.EachOf, Tables.Tables};
 ghost use Rattle.store_book.specs.IsBook.{IsBook};
 
 use crate::fault::StorageFault;
@@ -13,7 +13,7 @@ use crate::kept::Kept;
 use desk_model::{AccountRow, AuthorizationRow, ChallengeRow, Meta, Nonce, OrderRow};
 use model_lives::{AccountsWhere, AuthorizationsWhere, NoncesWhere, OrdersWhere};
 use std::alloc::Global;
-use store_columns::Owned;
+use store_columns::Waiting;
 
 /// What a look-up of rows gives.
 pub type Found<R> = Result<Vec<R>, StorageFault>;
@@ -63,10 +63,12 @@ pub trait LookUps: Kept {
     fn owners_of(&mut self, alloc: Global, challenge: u64) -> Found<u64>
         ensures { Gives Self.sight self.old self.new (λ T numbers. numbers.items ≡ owners_of T challenge) result };
 
-    /// The challenges that are stored as waiting for the validator, each with the number of its authorization; those of one
-    /// authorization by number.
-    fn waiting_challenges(&mut self, alloc: Global) -> Found<Owned<ChallengeRow>>
-        ensures { Gives Self.sight self.old self.new (λ T rows. IsOrdered T → AreWaiting T (map (λ c. (c.owner, c.row)) rows.items)) result };
+    /// The challenges that are stored as waiting for the validator, each beside its authorization; those of one authorization
+    /// by number.
+    fn waiting_challenges(&mut self, alloc: Global) -> Found<Waiting>
+        ensures { Gives Self.sight self.old self.new (λ T rows. IsOrdered T
+            → AreWaiting T (map (λ w. (w.authorization.number, w.challenge)) rows.items)
+            × EachOf (λ w. bare_authorizations T w.authorization.number ≡ w.authorization ∷ []) rows.items) result };
 }
 
 // ---- rows one by one, by number

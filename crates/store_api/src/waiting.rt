@@ -1,35 +1,29 @@
 //! The authorizations of which a challenge waits for the validator, with those alone that wait.
 ghost use Rattle.std.specs.Prelude.{◌≡◌, ◌++◌, ◌∷◌, [], filter, map, IfErr, IfOk, OnOk};
 ghost use Rattle.model_laws.specs.Ordered.{Ascends, IsOrdered};
-ghost use Rattle.model_lives.specs.{IsEnough.has_work, LookUps.bare_authorizations};
+ghost use Rattle.model_lives.specs.IsEnough.{has_work};
 ghost use Rattle.model_lives.specs.Thinned.{waiting_challenges, with_challenges};
 ghost use Rattle.store_api.specs.Finding.{Finds, LacksMemory};
-ghost use Rattle.store_api.specs.Needing.{missings};
+ghost use Rattle.store_api.specs.Needing.{lacking};
 ghost use Rattle.store_api.specs.Nesting.{joined, nested};
 
 use crate::fault::StorageFault;
-use crate::links::{Bare, add_missing};
+use crate::links::put_lacking;
 use crate::look_ups::LookUps;
 use desk_book::Table;
 use desk_model::{AuthorizationRow, ChallengeRow, Sequence};
 use std::alloc::{AllocError, Global};
-use store_columns::Owned;
+use store_columns::Waiting;
 
-// Puts the authorizations of these challenges into a table, without challenges, those alone that it lacks.
-fn add_bare_owners<S: LookUps>(
-    alloc: Global,
-    source: &mut S,
+// Puts the authorizations beside these challenges into a table, those alone that it lacks.
+fn add_owners(
     authorizations: &mut Table<AuthorizationRow>,
-    waiting: &[Owned<ChallengeRow>],
-) -> Result<(), StorageFault>
-    ensures { Finds S.sight source.old source.new result (λ T.
-        authorizations.new ≡ missings (λ r. r.number) (bare_authorizations T) (map (λ c. c.owner) waiting.now) authorizations.old) }
+    waiting: &[Waiting],
+) -> Result<(), AllocError>
+    ensures { OnOk result (authorizations.new ≡ lacking (λ r. r.number) (map (λ w. w.authorization) waiting.now) authorizations.old) }
 {
-    for challenge in waiting {
-        let bare = Bare {
-            authorization: challenge.owner,
-        };
-        add_missing(alloc, source, authorizations, challenge.owner, &bare)?;
+    for found in waiting {
+        put_lacking(authorizations, found.authorization.clone()?)?;
     }
     Ok(())
 }
@@ -66,15 +60,30 @@ fn nest(
 // Puts these challenges under their authorizations, one after the other.
 fn nest_each(
     authorizations: &mut Table<AuthorizationRow>,
-    waiting: &[Owned<ChallengeRow>],
+    waiting: &[Waiting],
+) -> Result<(), AllocError>
+    ensures { OnOk result (Ascends (λ r. r.number) 1 authorizations.old
+        → authorizations.new ≡ nested (map (λ w. (w.authorization.number, w.challenge)) waiting.now) authorizations.old) }
+{
+    for found in waiting {
+        nest(authorizations, found.authorization.number, found.challenge)?;
+    }
+    Ok(())
+}
+
+// Puts the authorizations beside these challenges into a table, each with those of the challenges that are its own.
+fn add_nested(
+    authorizations: &mut Table<AuthorizationRow>,
+    waiting: &[Waiting],
 ) -> Result<(), StorageFault>
-    ensures nested { OnOk result (Ascends (λ r. r.number) 1 authorizations.old
-        → authorizations.new ≡ nested (map (λ c. (c.owner, c.row)) waiting.now) authorizations.old) }
+    ensures nested { OnOk result (
+        Ascends (λ r. r.number) 1 (lacking (λ r. r.number) (map (λ w. w.authorization) waiting.now) authorizations.old)
+        → authorizations.new ≡ nested (map (λ w. (w.authorization.number, w.challenge)) waiting.now)
+        (lacking (λ r. r.number) (map (λ w. w.authorization) waiting.now) authorizations.old)) }
     ensures lacks { IfErr result LacksMemory }
 {
-    for challenge in waiting {
-        nest(authorizations, challenge.owner, challenge.row)?;
-    }
+    add_owners(authorizations, waiting)?;
+    nest_each(authorizations, waiting)?;
     Ok(())
 }
 
@@ -88,7 +97,5 @@ pub(crate) fn add_working<S: LookUps>(
         → authorizations.new ≡ map (with_challenges waiting_challenges) (filter has_work T.authorizations)) }
 {
     let waiting = source.waiting_challenges(alloc)?;
-    let challenges = waiting.as_slice();
-    add_bare_owners(alloc, source, authorizations, challenges)?;
-    nest_each(authorizations, challenges)
+    add_nested(authorizations, waiting.as_slice())
 }

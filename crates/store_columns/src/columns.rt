@@ -246,6 +246,15 @@ pub struct AnswerKey {
     pub thumb: [u8; 32],
 }
 
+/// A challenge beside its authorization, which has no challenges here.
+#[derive(Drop)]
+pub struct Waiting {
+    /// The authorization, without its challenges.
+    pub authorization: AuthorizationRow,
+    /// One of its challenges that waits for the validator.
+    pub challenge: ChallengeRow,
+}
+
 /// The rows of each table, in any order.
 #[derive(Drop)]
 pub struct FlatRows {

@@ -15,7 +15,7 @@ mod stored;
 pub use columns::{
     AccountColumns, AnswerKey, AuthzColumns, BareChallenge, ChallColumns, ChallKeyColumns,
     FIRST_FORMAT, FORMAT, FlatRows, MetaColumns, NonceColumns, OrderAuthzColumns, OrderColumns,
-    OrderSummaryColumns, Owned, StoredRows,
+    OrderSummaryColumns, Owned, StoredRows, Waiting,
 };
 pub use facts::{Columns, read_table};
 pub use laws::{columns_tell_rows_apart, texts_are_written};

@@ -1,7 +1,7 @@
 //! The rows of all tables.
-ghost use Rattle.std.specs.Prelude.{IfOk, map};
+ghost use Rattle.std.specs.Prelude.{IfOk, map, option_map};
 ghost use Rattle.desk_model.specs.Kept.{EachOf};
-ghost use Rattle.store_columns.specs.{Columns.rows_columns, Limits.AreStored, Reading.IsRead};
+ghost use Rattle.store_columns.specs.{Columns.rows_columns, Limits.AreStored, Limits.IfRecorded, Reading.IsRead};
 
 use crate::columns::{FlatRows, StoredRows};
 use crate::facts::{Columns, read_table};
@@ -25,6 +25,25 @@ impl<A: Columns, B: Columns> Columns for (A, B) {
             return Ok(None);
         };
         Ok(Some((first, second)))
+    }
+}
+
+// What may be missing is read where it is there.
+impl<C: Columns> Columns for Option<C> {
+    type Row = Option<C::Row>;
+
+    ghost write = { option_map C.write };
+
+    ghost IsStored = { IfRecorded C.IsStored };
+
+    fn read(self, alloc: Global) -> Result<Option<Option<C::Row>>, AllocError> {
+        let Some(columns) = self else {
+            return Ok(Some(None));
+        };
+        match columns.read(alloc)? {
+            Some(row) => Ok(Some(Some(row))),
+            None => Ok(None),
+        }
     }
 }
 
