@@ -293,10 +293,10 @@ def opened(words):
     return program, statistics.median([*times, program.opening])
 
 
-def compiled(folder):
-    """The C program, or None with a word on standard error."""
-    path = os.path.join(folder, "desk_c")
-    words = ["gcc", "-O2", "-o", path, os.path.join(HERE, "desk.c"), "-lsqlite3"]
+def compiled(folder, name="desk"):
+    """A program in C, or None with a word on standard error."""
+    path = os.path.join(folder, f"{name}_c")
+    words = ["gcc", "-O2", "-o", path, os.path.join(HERE, f"{name}.c"), "-lsqlite3"]
     if shutil.which("gcc") and subprocess.run(words, check=False, stderr=subprocess.DEVNULL).returncode == 0:
         return path
     print("bench: the C program is left out: gcc or SQLite's header is missing", file=sys.stderr)
