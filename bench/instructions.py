@@ -36,7 +36,7 @@ TITLES = ("call", "desk", "C", "ratio", "goal")
 # What a call was to take at most of what C takes for it.
 GOALS = {
     "newNonce": 1.35, "newAccount, known": 1.45, "newOrder": 2.0, "its orders": 1.8, "read an order": 1.65, "answer a challenge": 1.95,
-    "challenge work": 2.6, "report": 2.35, "finalize": 1.4, "order work": 1.4, "certify": 1.25, "end an authorization": 2.0,
+    "challenge work": 2.4, "report": 2.2, "finalize": 1.4, "order work": 1.25, "certify": 1.25, "end an authorization": 2.0,
 }
 
 
