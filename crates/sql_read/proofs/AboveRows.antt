@@ -1,12 +1,10 @@
--- The first challenge above a number, and what a look-up finds of it.
+-- The first challenge above a number, of whatever authorization.
 use Rattle.std.proofs.Common.{◌≡◌, ◌≢◌, inl, inr, ℕ, Bool, cond, List, [], ◌∷◌, ◌++◌, map, filter, refl, sym, ap, ◌∙◌, arith}
 use Rattle.std.specs.Prelude.{nat_le, nat_lt}
 use Rattle.std.specs.List.{flat_map}
 use Rattle.std.proofs.lemmas.Bool.{le-leb, lt-leb}
 use Rattle.std.proofs.lemmas.List.{map-append, take-map}
-use Rattle.sqlite.specs.Held.{Held, state}
-use Rattle.sqlite.specs.Store.{Ghosts}
-use Rattle.store_columns.specs.Flat.{bare_row, challenge_rows, owned_by}
+use Rattle.store_columns.specs.Flat.{challenge_rows, owned_by}
 use Rattle.store_columns.specs.declared.columns.Owned.{Owned}
 use Rattle.model_laws.proofs.RowLists.{put_before, put_past}
 use Rattle.model_laws.specs.Distinct.{Distinct}
@@ -14,17 +12,10 @@ use Rattle.desk_model.specs.{Change.put, Tables.Tables}
 use Rattle.desk_model.specs.Derived.{insert_challenge, sorted_challenges}
 use Rattle.desk_model.specs.declared.rows.{AuthorizationRow.AuthorizationRow, ChallengeRow.ChallengeRow}
 use Rattle.model_lives.specs.Above.{challenges_above, first_of}
-use Rattle.sql_tables.specs.{Holds.Holds, Layouts.challenge_layout, Sorted.sorted_by}
+use Rattle.sql_tables.specs.{Layouts.challenge_layout, Sorted.sorted_by}
 use Rattle.sql_tables.proofs.Keyed.{ranked}
 use Rattle.sql_tables.proofs.Sorting.{IsApart, each_sorted}
-use Rattle.sql_read.specs.{Bounded.bounded, Queries.number}
-use Rattle.sql_read.specs.declared.formats.Format.TheVariants.{Second}
-use Rattle.store_book.specs.IsBook.{IsStoredBook}
-use Rattle.sql_schema.specs.declared.challenges.TheConstants as chall
-use Rattle.sql_read.proofs.{Answered.first_row, KeptRows.challenges_kept, Lists.filter-map, TableFacts.challenge_facts}
-use Rattle.sql_read.proofs.FoundRows.{FindsIn, finds}
-use Rattle.sql_read.proofs.LookUpReadings.{challenge_above_reading, is_higher}
-use Rattle.sql_read.proofs.Tests.{above_bounded, above_test}
+use Rattle.sql_read.proofs.{Lists.filter-map}
 
 -- ---- challenges without their owners
 
@@ -83,13 +74,3 @@ first_challenge T n apart =
     ∙ ap first_of (sym (filter-map (λ (c : ChallengeRow). nat_lt n c.number) (λ (c : Owned ChallengeRow). c.row) all))
     ∙ ap (λ cs. first_of (filter (λ (c : ChallengeRow). nat_lt n c.number) cs))
     (sorted_owned (challenge_rows T.authorizations) apart ∙ ap sorted_challenges (rows_owned T.authorizations))
-
--- ---- what is found
-
--- a challenge, under its authorization and without the key of its answer
-pub challenge_above_find : {S : Type 0} (g : Ghosts S) (old : Held S) (T : Tables) → Holds (state g old).now T → IsStoredBook T → (n : ℕ)
-    → FindsIn challenge_facts g (chall.SELECT_ABOVE.now, number n) old
-    (map bare_row (challenges_from T n))
-challenge_above_find g old T has book n =
-    finds challenge_facts g first_row (chall.SELECT_ABOVE.now, number n) is_higher (challenge_above_reading n) (λ c. nat_lt n c.row.number)
-    (λ c k. above_test c.row.number (bounded n) ∙ above_bounded c.row.number n k.number.1) old T book _ (challenges_kept _ T Second has)

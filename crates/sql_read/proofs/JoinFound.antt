@@ -1,60 +1,48 @@
 -- What the look-up of challenges that wait finds: each, beside its authorization.
-use Rattle.std.proofs.Common.{◌≡◌, List, [], ◌∷◌, map, filter, Option, Some, None, refl, subst, sym, ap, ◌∙◌}
-use Rattle.std.specs.{Prelude.◌==◌, Prelude.option_map, List.cons_option}
+use Rattle.std.proofs.Common.{◌≡◌, List, [], ◌∷◌, map, filter, refl, subst, sym, ap, ◌∙◌}
+use Rattle.std.specs.Prelude.{◌==◌}
 use Rattle.std.proofs.lemmas.Simd.{map-map}
 use Rattle.sqlite.specs.Held.{Held, state}
 use Rattle.sqlite.specs.Store.{Ghosts}
-use Rattle.store_columns.specs.Flat.{answer_key, bare, bare_row, challenge_rows, key_rows, without_challenges}
-use Rattle.store_columns.specs.Limits.{IfRecorded, IsStoredAuthorization, IsStoredChallenge, IsStoredKey}
+use Rattle.store_columns.specs.Flat.{answer_key, bare, challenge_rows, without_challenges}
+use Rattle.store_columns.specs.Limits.{IsStoredAuthorization}
 use Rattle.store_columns.specs.TextColumns.{HasTextAuthorization, HasTextChallenge}
-use Rattle.store_columns.specs.declared.columns.{Owned.Owned, Waiting.Waiting}
-use Rattle.model_laws.proofs.Basics.{each, each-map, each_both, each_of_map, map-each}
+use Rattle.store_columns.specs.declared.columns.{Waiting.Waiting}
+use Rattle.model_laws.proofs.Basics.{each, each-map, each_of_map, map-each}
 use Rattle.model_laws.proofs.Keeps.{each-filter}
 use Rattle.model_lives.specs.LookUps.{AreWaiting, bare_authorizations}
 use Rattle.desk_model.specs.{Kept.EachOf, Tables.Tables}
 use Rattle.desk_model.specs.Document.{challenge_status_text}
-use Rattle.desk_model.specs.declared.{objects.Answer.Answer, rows.AuthorizationRow.AuthorizationRow, rows.ChallengeRow.ChallengeRow}
+use Rattle.desk_model.specs.declared.rows.{AuthorizationRow.AuthorizationRow}
 use Rattle.desk_model.specs.declared.status.ChallengeStatus.TheVariants as challenge
 use Rattle.store_book.specs.IsBook.{IsStoredBook}
 use Rattle.sql_schema.specs.declared.challenges.TheConstants as chall
 use Rattle.sql_tables.specs.{Holds.Holds, Sorted.sorted_by}
-use Rattle.sql_tables.specs.Layouts.{challenge_layout, key_layout}
-use Rattle.sql_tables.proofs.AnswerKeys.{keys_apart}
-use Rattle.sql_tables.proofs.Sorting.{each_sorted, filter_number, sorted_rises}
-use Rattle.sql_read.specs.{Joined.joined_row, Looking.Finds}
+use Rattle.sql_tables.specs.Layouts.{challenge_layout}
+use Rattle.sql_tables.proofs.Sorting.{each_sorted, sorted_rises}
+use Rattle.sql_read.specs.{Joined.joined_row, Joined.keyed_row, Looking.Finds}
 use Rattle.sql_read.specs.Spelled.{FitsJoined, joined_in}
 use Rattle.sql_read.specs.declared.formats.Format.TheVariants.{Second}
 use Rattle.sql_read.proofs.Answered.{all_rows, by}
 use Rattle.sql_read.proofs.Beside.{HasOne, Pair, each_beside, each_pair, firsts, owners_there, pairs, parts}
-use Rattle.sql_read.proofs.{Failing.join_fails, FoundRows.finds_shown, KeyRows.keys_own}
-use Rattle.sql_read.proofs.JoinParts.{HasTextJoined, IsStoredJoined, join_from, join_tests, joined-apart, joined_back, joined_columns, joined_fits}
+use Rattle.sql_read.proofs.{Failing.join_fails, FoundRows.finds_shown}
+use Rattle.sql_read.proofs.JoinParts.{HasTextJoined, IsStoredJoined, IsStoredKeyed, join_from, join_tests, joined-apart, joined_back, joined_columns, joined_fits}
 use Rattle.sql_read.proofs.JoinParts.{joined_params, joined_project}
-use Rattle.sql_read.proofs.JoinRows.{HasOwnKey, HasTrees, pairs_shown}
-use Rattle.sql_read.proofs.KeptRows.{authorizations_kept, challenges_kept}
+use Rattle.sql_read.proofs.JoinRows.{HasTrees, pairs_shown}
+use Rattle.sql_read.proofs.KeyedFound.{all_challenges, all_keys, keyed_stored, keyed_texts, own_keys}
+use Rattle.sql_read.proofs.KeptRows.{authorizations_kept}
 use Rattle.sql_read.proofs.LookUpReadings.{joined_reading, text}
 use Rattle.sql_read.proofs.TableFacts.{authorization_facts, challenge_facts, columns}
 use Rattle.sql_read.proofs.WaitingChallenges.{are_waiting, found_waiting, numbered, waits}
 
 -- ---- in a database
 
--- the key of each answer is in its limits
-stored_keys : (cs : List (Owned ChallengeRow)) → EachOf IsStoredKey (key_rows cs) → EachOf (λ c. IfRecorded IsStoredKey (answer_key c.row)) cs
-stored_keys [] h = tt
-stored_keys (c ∷ cs) h = by c.row.answered (stored_keys cs) h
-  where
-    by : (a : Option Answer) → (EachOf IsStoredKey (key_rows cs) → EachOf (λ c. IfRecorded IsStoredKey (answer_key c.row)) cs)
-        → EachOf IsStoredKey (cons_option (option_map (λ (a : Answer). record { challenge = c.row.number; thumb = a.thumb }) a) (key_rows cs))
-        → IfRecorded IsStoredKey (option_map (λ (a : Answer). record { challenge = c.row.number; thumb = a.thumb }) a)
-        × EachOf (λ c. IfRecorded IsStoredKey (answer_key c.row)) cs
-    by None later h = (tt, later h)
-    by (Some a) later h = (h.0, later h.1)
-
 -- the challenges that wait, beside their authorizations
 abbrev pub waiting_pairs : Tables → List Pair
 waiting_pairs T = pairs T.authorizations (found_waiting T)
 
 -- a challenge with its authorization
-abbrev waiting_of : Pair → Waiting
+abbrev pub waiting_of : Pair → Waiting
 waiting_of x = record { authorization = without_challenges x.1; challenge = x.0.row }
 
 abbrev pub waiting_rows : Tables → List Waiting
@@ -69,46 +57,33 @@ module _ {S : Type 0} (g : Ghosts S) (old : Held S) (T : Tables) (has : Holds (s
       (each_sorted challenge_layout.key (HasOne T.authorizations) all (owners_there 0 T.authorizations has.rising.authorizations))
 
   -- the trees of the tables
-  trees : HasTrees (state g old).now.trees (sorted_by challenge_layout.key (challenge_rows T.authorizations)) T.authorizations
-      (sorted_by key_layout.key (key_rows (challenge_rows T.authorizations)))
-  trees =
-      let all = challenge_rows T.authorizations in
-      let keys = sorted_by key_layout.key (key_rows all) in
-      record {
-        challenges = has.challenges;
-        authorizations = has.authorizations;
-        keys_are = has.keys;
-        rising = sorted_rises challenge_layout.key all;
-        owned = owned;
-        own = each_sorted challenge_layout.key (HasOwnKey keys) all
-            (each _ _ all (λ c own. filter_number key_layout.key c.row.number (key_rows all) (keys_apart all has.rising.challenges) ∙ own)
-            (keys_own all has.rising.challenges));
-      }
+  trees : HasTrees (state g old).now.trees (all_challenges T) T.authorizations (all_keys T)
+  trees = record {
+    challenges = has.challenges;
+    authorizations = has.authorizations;
+    keys_are = has.keys;
+    rising = sorted_rises challenge_layout.key (challenge_rows T.authorizations);
+    owned = owned;
+    own = own_keys g old T has;
+  }
 
   -- they are found
   pub joined_find : IsStoredBook T → Finds g joined_in FitsJoined joined_columns IsStoredJoined
       (chall.SELECT_JOINED.now, text (challenge_status_text challenge.Processing)) old (map parts (waiting_pairs T))
   joined_find book =
-      let all = challenge_rows T.authorizations in
-      let cs = sorted_by challenge_layout.key all in
-      let challenges = challenges_kept _ T Second has in
       let authorizations = authorizations_kept _ T Second has in
-      let Limits = λ (c : Owned ChallengeRow). IsStoredChallenge (bare_row c) × IfRecorded IsStoredKey (answer_key c.row) in
       finds_shown parts joined_columns IsStoredJoined joined_in joined_params joined_back joined-apart HasTextJoined FitsJoined joined_fits g
       (chall.SELECT_JOINED.now, text (challenge_status_text challenge.Processing)) old (waiting_pairs T)
       (each _ _ (waiting_pairs T) (λ x p. ((p.0.0, p.1), p.0.1))
-      (each_pair Limits (λ a. IsStoredAuthorization (without_challenges a)) T.authorizations (found_waiting T)
-      (each-filter Limits waits cs
-      (each_both _ _ cs (each_of_map IsStoredChallenge bare_row cs (challenges.stored book.stored))
-      (each_sorted challenge_layout.key (λ c. IfRecorded IsStoredKey (answer_key c.row)) all (stored_keys all book.stored.keys))))
+      (each_pair (λ c. IsStoredKeyed (keyed_row c)) (λ a. IsStoredAuthorization (without_challenges a)) T.authorizations (found_waiting T)
+      (each-filter (λ c. IsStoredKeyed (keyed_row c)) waits (all_challenges T) (keyed_stored g old T has book))
       (each_of_map IsStoredAuthorization without_challenges T.authorizations (authorizations.stored book.stored))))
       (each_pair (λ c. HasTextChallenge (columns challenge_facts c)) (λ a. HasTextAuthorization (columns authorization_facts a)) T.authorizations
       (found_waiting T)
-      (each-filter (λ c. HasTextChallenge (columns challenge_facts c)) waits cs
-      (each_of_map HasTextChallenge (columns challenge_facts) cs (challenges.texts book.texts)))
+      (each-filter (λ c. HasTextChallenge (columns challenge_facts c)) waits (all_challenges T) (keyed_texts g old T has book))
       (each_of_map HasTextAuthorization (columns authorization_facts) T.authorizations (authorizations.texts book.texts)))
       (λ new rows h.
-      pairs_shown (state g old) (state g new) cs T.authorizations (sorted_by key_layout.key (key_rows all)) rows has.schema trees h)
+      pairs_shown (state g old) (state g new) (all_challenges T) T.authorizations (all_keys T) rows has.schema trees h)
       (λ may new e h.
       join_fails all_rows chall.SELECT_JOINED.now join_from refl join_tests joined_project (by 0 ∷ []) (text (challenge_status_text challenge.Processing))
       joined_reading (state g old) (state g new) has.schema e may h)

@@ -1,21 +1,21 @@
 -- What the join shows: each challenge that waits, beside the one authorization of its number, and beside the key of its answer, where it has one.
-use Rattle.std.proofs.Common.{◌≡◌, ◌+◌, ◌++◌, ◌&&◌, if◌then◌else◌, ℕ, pos, Bool, true, false, cond, List, [], ◌∷◌, map, filter, flat_map}
-use Rattle.std.proofs.Common.{Option, None, Some, option_map, option_to_list, refl, sym, ap, subst, ◌∙◌, append-nil}
+use Rattle.std.proofs.Common.{◌≡◌, ◌+◌, ◌++◌, ◌&&◌, ℕ, pos, Bool, true, false, cond, List, [], ◌∷◌, map, filter, flat_map}
+use Rattle.std.proofs.Common.{refl, sym, ap, subst, ◌∙◌}
 use Rattle.std.specs.Prelude.{◌==◌}
 use Rattle.std.specs.List.{list_all}
 use Rattle.std.proofs.{Math.Bool.and-true, lemmas.List.map-append, lemmas.Simd.map-map}
 use Rattle.sqlite.specs.declared.types.Value.TheVariants.{Int}
 use Rattle.sqlite.specs.State.{State, Shown}
-use Rattle.sqlite_value.specs.Order.{Row, column}
+use Rattle.sqlite_value.specs.Order.{Row}
 use Rattle.sqlite_trees.specs.Tree.{Trees}
 use Rattle.sqlite_sql.specs.Program.{overlay}
-use Rattle.sqlite_sql.specs.Query.{Output, end, inner, left, matches, or_nulls, output}
+use Rattle.sqlite_sql.specs.Query.{Output, end, inner, left, matches, output}
 use Rattle.sqlite_sql.specs.Term.{Env, holds}
-use Rattle.store_columns.specs.Columns.{authorization_columns, challenge_columns, key_columns}
+use Rattle.store_columns.specs.Columns.{authorization_columns, challenge_columns}
 use Rattle.store_columns.specs.Flat.{answer_key, bare_row, without_challenges}
 use Rattle.store_columns.specs.declared.columns.{AnswerKey.AnswerKey, Owned.Owned}
 use Rattle.model_laws.specs.Ordered.{Ascends}
-use Rattle.model_laws.proofs.RowLists.{ascends_filter}
+use Rattle.model_laws.proofs.{Basics.each_all, RowLists.ascends_filter}
 use Rattle.model_lives.proofs.Lists.{filter_nothing}
 use Rattle.desk_model.specs.Document.{challenge_status_text}
 use Rattle.desk_model.specs.Kept.{EachOf}
@@ -27,8 +27,9 @@ use Rattle.sql_tables.specs.Images.{authorization_image, authorization_params, c
 use Rattle.sql_tables.specs.Layouts.{challenge_layout}
 use Rattle.sql_read.proofs.Answered.{all_rows, answers_from, by, picked_from, shown_in_order, strictly}
 use Rattle.sql_read.proofs.Beside.{HasOne, Pair, beside, firsts, pairs, parts}
-use Rattle.sql_read.proofs.JoinParts.{join_from, join_tests, joined_columns, joined_params, joined_project, key_or_nulls, on_key}
-use Rattle.sql_read.proofs.Lists.{as_it_is, filter-map, map-same}
+use Rattle.sql_read.proofs.JoinParts.{join_from, join_tests, joined_columns, joined_params, joined_project, on_key}
+use Rattle.sql_read.proofs.KeyedRows.{HasOwnKey, each_joined, key_cells, key_shows, with_key}
+use Rattle.sql_read.proofs.Lists.{as_it_is, map-same}
 use Rattle.sql_read.proofs.LookUpReadings.{joined_reading, text}
 use Rattle.sql_read.proofs.StatusTests.{challenge_waits}
 use Rattle.sql_read.proofs.Tests.{number_test, number_text_test}
@@ -45,31 +46,12 @@ ascends_of_map number f n (x ∷ xs) up = (up.0, ascends_of_map number f (number
 abbrev asked : Row
 asked = text (challenge_status_text challenge.Processing)
 
--- the key of an answer as its table has it, or what reads as NULL
-abbrev key_cells : Option AnswerKey → Row
-key_cells None = []
-key_cells (Some k) = key_image k
-
 -- the rows of a pair, and of the key
 abbrev filled : Pair → Env
 filled x = asked ∷ challenge_image x.0 ∷ authorization_image x.1 ∷ key_cells (answer_key x.0.row) ∷ []
 
--- the key of its answer alone has the number of a challenge
-abbrev pub HasOwnKey : List AnswerKey → Owned ChallengeRow → Type 0
-HasOwnKey keys c = filter (λ k. k.challenge == c.row.number) keys ≡ option_to_list (answer_key c.row)
-
--- where there is none, NULL stands in its place
-key_stands : (o : Option AnswerKey) → or_nulls (map key_image (option_to_list o)) ≡ key_cells o ∷ []
-key_stands None = refl
-key_stands (Some k) = refl
-
--- and is shown
-key_shows : (o : Option AnswerKey) → column (key_cells o) 0 ∷ column (key_cells o) 2 ∷ [] ≡ key_or_nulls (option_map key_columns o)
-key_shows None = refl
-key_shows (Some k) = refl
-
 -- a test with one that never holds
-never : (b : Bool) → (b && false) ≡ false
+pub never : (b : Bool) → (b && false) ≡ false
 never true = refl
 never false = refl
 
@@ -81,44 +63,17 @@ passes_as x key =
     ∙ (λ i. (x.1.number == x.0.owner) && challenge_waits x.0.row.status i)
 
 module _ (db : Trees) (keys : List AnswerKey) (keys_are : db 17 ≡ map key_image keys) where
-  -- a pair is filled by the key, where it passes
-  with_key : (x : Pair) → HasOwnKey keys x.0
-      → matches db join_tests (left 17 on_key end) (asked ∷ challenge_image x.0 ∷ authorization_image x.1 ∷ [])
-      ≡ cond ((x.1.number == x.0.owner) && waits x.0) (filled x ∷ []) []
-  with_key x own =
-      let tried : Row → List Env =
-      λ r. if list_all (holds (asked ∷ challenge_image x.0 ∷ authorization_image x.1 ∷ r ∷ [])) join_tests
-      then (asked ∷ challenge_image x.0 ∷ authorization_image x.1 ∷ r ∷ []) ∷ [] else [] in
-      let is_its = λ (r : Row). list_all (holds (asked ∷ challenge_image x.0 ∷ authorization_image x.1 ∷ r ∷ [])) on_key in
-      ap (λ rs. flat_map tried (or_nulls (filter is_its rs))) keys_are
-      ∙ ap (λ rs. flat_map tried (or_nulls rs))
-      (filter-map is_its key_image keys
-      ∙ (λ i. map key_image (filter (λ k. number_test k.challenge x.0.row.number i) keys))
-      ∙ ap (map key_image) own)
-      ∙ ap (flat_map tried) (key_stands (answer_key x.0.row))
-      ∙ append-nil (tried (key_cells (answer_key x.0.row)))
-      ∙ ap (λ b. cond b (filled x ∷ []) []) (passes_as x (key_cells (answer_key x.0.row)))
-
   module _ (rows : List AuthorizationRow) (rows_are : db 5 ≡ map authorization_image rows) where
     -- of all authorizations those of the challenge's number, where it waits
-    with_each : (c : Owned ChallengeRow) → HasOwnKey keys c → (as' : List AuthorizationRow)
-        → flat_map (λ r. matches db join_tests (left 17 on_key end) (asked ∷ challenge_image c ∷ r ∷ [])) (map authorization_image as')
-        ≡ map (λ a. filled (c, a)) (filter (λ a. (a.number == c.owner) && waits c) as')
-    with_each c own [] = refl
-    with_each c own (a ∷ as') =
-        (λ i. with_key (c, a) own i ++ with_each c own as' i)
-        ∙ by ((a.number == c.owner) && waits c) (filter (λ (r : AuthorizationRow). (r.number == c.owner) && waits c) as')
-      where
-        by : (b : Bool) (rest : List AuthorizationRow)
-            → cond b (filled (c, a) ∷ []) [] ++ map (λ r. filled (c, r)) rest ≡ map (λ r. filled (c, r)) (cond b (a ∷ rest) rest)
-        by true rest = refl
-        by false rest = refl
-
     with_owner : (c : Owned ChallengeRow) → HasOwnKey keys c
-        → matches db join_tests (inner 5 (left 17 on_key end)) (asked ∷ challenge_image c ∷ []) ≡ map filled (cond (waits c) (beside rows c) [])
+        → matches db join_tests (inner 5 (left 17 (on_key 3 1) end)) (asked ∷ challenge_image c ∷ []) ≡ map filled (cond (waits c) (beside rows c) [])
     with_owner c own =
-        ap (flat_map (λ r. matches db join_tests (left 17 on_key end) (asked ∷ challenge_image c ∷ r ∷ []))) rows_are
-        ∙ with_each c own rows
+        ap (flat_map (λ r. matches db join_tests (left 17 (on_key 3 1) end) (asked ∷ challenge_image c ∷ r ∷ []))) rows_are
+        ∙ each_joined authorization_image (λ a. filled (c, a)) (λ _. Unit {0}) (λ a. (a.number == c.owner) && waits c)
+        (λ r. matches db join_tests (left 17 (on_key 3 1) end) (asked ∷ challenge_image c ∷ r ∷ []))
+        (λ a _.
+        with_key db keys keys_are (asked ∷ challenge_image c ∷ authorization_image a ∷ []) join_tests (on_key 3 1) c ((a.number == c.owner) && waits c)
+        (λ k. number_test k.challenge c.row.number) (passes_as (c, a)) own) rows (each_all _ rows (λ _. tt))
         ∙ by (waits c)
       where
         by : (b : Bool) → map (λ a. filled (c, a)) (filter (λ (a : AuthorizationRow). (a.number == c.owner) && b) rows) ≡ map filled (cond b (beside rows c) [])
@@ -131,7 +86,7 @@ module _ (db : Trees) (keys : List AnswerKey) (keys_are : db 17 ≡ map key_imag
 
     -- of all challenges those that wait
     all_match : (cs : List (Owned ChallengeRow)) → EachOf (HasOwnKey keys) cs
-        → flat_map (λ r. matches db join_tests (inner 5 (left 17 on_key end)) (asked ∷ r ∷ [])) (map challenge_image cs)
+        → flat_map (λ r. matches db join_tests (inner 5 (left 17 (on_key 3 1) end)) (asked ∷ r ∷ [])) (map challenge_image cs)
         ≡ map filled (pairs rows (filter waits cs))
     all_match [] own = refl
     all_match (c ∷ cs) own = (λ i. with_owner c own.0 i ++ all_match cs own.1 i) ∙ by (waits c) (filter waits cs)
@@ -175,7 +130,7 @@ pairs_shown old new cs rows keys given there has h =
     let db = overlay old.now.trees [] in
     let answered = answers_from all_rows chall.SELECT_JOINED.now join_from join_tests joined_project (by 0 ∷ []) asked joined_reading old new
     (map shown xs) given there
-    (ap (λ rs. map (output q) (flat_map (λ r. matches db join_tests (inner 5 (left 17 on_key end)) (asked ∷ r ∷ [])) rs)) has.challenges
+    (ap (λ rs. map (output q) (flat_map (λ r. matches db join_tests (inner 5 (left 17 (on_key 3 1) end)) (asked ∷ r ∷ [])) rs)) has.challenges
     ∙ ap (map (output q)) (all_match db keys has.keys_are rows has.authorizations cs has.own)
     ∙ map-map (output q) filled xs
     ∙ map-same (λ x. output q (filled x)) shown xs shows) h in

@@ -1,20 +1,14 @@
 -- Under the number of each challenge that was answered stands the key of its answer, and no other.
-use Rattle.std.proofs.Common.{◌≡◌, ◌≢◌, ℕ, List, [], ◌∷◌, filter, cond, Option, Some, None, option_to_list, IfOk, Result, refl, sym, ap, ◌∙◌}
+use Rattle.std.proofs.Common.{◌≡◌, ◌≢◌, ℕ, List, [], ◌∷◌, filter, cond, Option, Some, None, option_to_list, refl, sym, ap, ◌∙◌}
 use Rattle.std.specs.List.{cons_option}
-use Rattle.std.specs.Prelude.{◌==◌, nat_lt, option_map}
+use Rattle.std.specs.Prelude.{◌==◌}
 use Rattle.std.proofs.lemmas.Bool.{eq-eqb, ne_eqb}
-use Rattle.std.proofs.lemmas.{Option.same_Some}
-use Rattle.store_columns.specs.Flat.{answer_key, challenge_rows, key_rows}
+use Rattle.store_columns.specs.Flat.{answer_key, key_rows}
 use Rattle.store_columns.specs.declared.columns.{AnswerKey.AnswerKey, Owned.Owned}
 use Rattle.model_laws.proofs.Basics.{each, each_both}
-use Rattle.model_laws.proofs.Keeps.{each-filter}
 use Rattle.model_laws.specs.Distinct.{Distinct}
-use Rattle.desk_model.specs.{Kept.EachOf, Tables.Tables}
+use Rattle.desk_model.specs.Kept.{EachOf}
 use Rattle.desk_model.specs.declared.{objects.Answer.Answer, rows.ChallengeRow.ChallengeRow}
-use Rattle.sql_tables.specs.Sorted.{sorted_by}
-use Rattle.sql_tables.proofs.Sorting.{each_sorted}
-use Rattle.sql_read.specs.Keys.{HasItsKey, keys_of}
-use Rattle.sql_read.proofs.{AboveRows.challenges_from, Lists.each_take, Results.read_then}
 
 -- the number of a challenge
 abbrev number : Owned ChallengeRow → ℕ
@@ -74,60 +68,3 @@ keys_own (c ∷ cs) apart = (
   own_first c cs apart.0,
   each _ _ cs (λ d both. own_behind c cs d.row both.0 both.1) (each_both _ _ cs apart.0 (keys_own cs apart.1)),
 )
-
--- ---- what was found
-
--- the answer of this moment with the key that was found is the challenge's own
-pub answered_found : {E : Type 0} (r : Result (Option Answer) E) (T : Tables) (c : ChallengeRow) (date : ℕ) → HasItsKey T c
-    → option_map (λ (a : Answer). a.date) c.answered ≡ Some date
-    → ((key : AnswerKey) → keys_of T c.number ≡ key ∷ [] → IfOk r (λ found. found ≡ Some (record { date = date; thumb = key.thumb })))
-    → IfOk r (λ found. found ≡ c.answered)
-answered_found {E} r T c date own is read = by c.answered own is
-  where
-    by : (o : Option Answer)
-        → ((k : AnswerKey) → option_map (λ (a : Answer). record { challenge = c.number; thumb = a.thumb }) o ≡ Some k → keys_of T c.number ≡ k ∷ [])
-        → option_map (λ (a : Answer). a.date) o ≡ Some date → IfOk r (λ found. found ≡ o)
-    by None own is = absurd (let x = is in cc)
-    by (Some a) own is =
-        let key : AnswerKey = record { challenge = c.number; thumb = a.thumb } in
-        let same : a.date ≡ date = same_Some a.date date is in
-        read_then r (read key (own key refl)) (λ found it. it ∙ (λ i. Some (record a { date = sym same i })))
-
--- where a challenge was answered, its key serves
-pub with_key : {Q : Type 0} (T : Tables) (c : ChallengeRow) (date : ℕ) → HasItsKey T c → option_map (λ (a : Answer). a.date) c.answered ≡ Some date
-    → ((key : AnswerKey) → keys_of T c.number ≡ key ∷ [] → Q) → Q
-with_key {Q} T c date own is serve = by c.answered own is
-  where
-    by : (o : Option Answer)
-        → ((k : AnswerKey) → option_map (λ (a : Answer). record { challenge = c.number; thumb = a.thumb }) o ≡ Some k → keys_of T c.number ≡ k ∷ [])
-        → option_map (λ (a : Answer). a.date) o ≡ Some date → Q
-    by None own is = absurd (let x = is in cc)
-    by (Some a) own is = let key : AnswerKey = record { challenge = c.number; thumb = a.thumb } in serve key (own key refl)
-
--- no answer, where it was not answered
-pub unanswered : (o : Option Answer) → option_map (λ (a : Answer). a.date) o ≡ None → None ≡ o
-unanswered None is = refl
-unanswered (Some a) is = absurd (let x = is in cc)
-
--- ---- in the tables of a desk
-
-module _ (T : Tables) (apart : Distinct number (challenge_rows T.authorizations)) where
-  -- a challenge has its key
-  abbrev HasKey : Owned ChallengeRow → Type 0
-  HasKey c = HasItsKey T c.row
-
-  -- as each has
-  keys_all : EachOf HasKey (challenge_rows T.authorizations)
-  keys_all =
-      let all = challenge_rows T.authorizations in each _ _ all (λ c own k is. own ∙ ap option_to_list is) (keys_own all apart)
-
-  -- so has each of an authorization
-  pub keys_under : (n : ℕ) → EachOf HasKey (filter (λ c. c.owner == n) (challenge_rows T.authorizations))
-  keys_under n = each-filter HasKey (λ c. c.owner == n) (challenge_rows T.authorizations) keys_all
-
-  -- and the first above a number
-  pub keys_above : (n : ℕ) → EachOf HasKey (challenges_from T n)
-  keys_above n =
-      each_take HasKey 1 _
-      (each-filter HasKey (λ c. nat_lt n c.row.number) (sorted_by number (challenge_rows T.authorizations))
-      (each_sorted number HasKey (challenge_rows T.authorizations) keys_all))

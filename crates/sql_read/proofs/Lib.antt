@@ -3,6 +3,8 @@ pub mod AllRows
 pub mod Answered
 pub mod Asking
 pub mod Beside
+pub mod BesideFound
+pub mod BesideRows
 pub mod BookChecks
 pub mod BookOfShown
 pub mod EarliestRows
@@ -12,13 +14,16 @@ pub mod FirstLoading
 pub mod FirstTables
 pub mod FormatLemmas
 pub mod FoundRows
+pub mod Gathering
 pub mod HeldBooks
 pub mod JoinFound
 pub mod JoinParts
 pub mod JoinRows
 pub mod KeptRows
 pub mod KeyRows
+pub mod KeyedFound
 pub mod KeyedReadings
+pub mod KeyedRows
 pub mod ListedOrder
 pub mod Lists
 pub mod Looking

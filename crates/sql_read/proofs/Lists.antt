@@ -1,10 +1,11 @@
 -- Lists: maps, filters and their order.
-use Rattle.std.proofs.Common.{◌≡◌, ℕ, zero, suc, take, List, [], ◌∷◌, map, filter, Bool, true, false, cond, Option, Some, None, refl, ap, subst}
+use Rattle.std.proofs.Common.{◌≡◌, ◌++◌, ℕ, zero, suc, take, List, [], ◌∷◌, map, filter, flat_map, Bool, true, false, cond, Option, Some, None, refl, ap, subst}
+use Rattle.std.proofs.Common.{◌∙◌}
 use Rattle.std.specs.List.Sorted.{IsPermutation}
 use Rattle.std.proofs.lemmas.List.Sorted.{IsPermutation-refl}
-use Rattle.std.proofs.lemmas.List.{take-map}
+use Rattle.std.proofs.lemmas.List.{map-append, take-map}
 use Rattle.sqlite_sql.specs.Query.{limited}
-use Rattle.model_laws.proofs.Basics.{each-map, each_of_map}
+use Rattle.model_laws.proofs.Basics.{each-append, each-map, each_of_map}
 use Rattle.desk_model.specs.Kept.{EachOf}
 use Rattle.sql_tables.specs.Sorted.{sorted_by}
 use Rattle.sql_tables.proofs.Sorting.{each_sorted}
@@ -28,6 +29,25 @@ filter-map {A} p f (x ∷ xs) = by (p (f x)) (filter-map p f xs)
         → cond b (f x ∷ filter p (map f xs)) (filter p (map f xs)) ≡ map f (cond b (x ∷ filter (λ x. p (f x)) xs) (filter (λ x. p (f x)) xs))
     by true ih = ap (λ ys. f x ∷ ys) ih
     by false ih = ih
+
+-- a map of lists that are joined
+pub map_flat : {X Y Z : Type 0} (g : Y → Z) (f : X → List Y) (xs : List X) → map g (flat_map f xs) ≡ flat_map (λ x. map g (f x)) xs
+map_flat g f [] = refl
+map_flat g f (x ∷ xs) = map-append g (f x) (flat_map f xs) ∙ ap (λ ys. map g (f x) ++ ys) (map_flat g f xs)
+
+-- what holds of each item of these lists
+pub each_flat : {X Y : Type 0} (P : Y → Type 0) (f : X → List Y) (xs : List X) → EachOf (λ x. EachOf P (f x)) xs → EachOf P (flat_map f xs)
+each_flat P f [] h = tt
+each_flat P f (x ∷ xs) h = each-append P (f x) (flat_map f xs) h.0 (each_flat P f xs h.1)
+
+-- each item that passes a test does
+pub each_passing : {X : Type 0} (test : X → Bool) (xs : List X) → EachOf (λ x. test x ≡ true) (filter test xs)
+each_passing test [] = tt
+each_passing {X} test (x ∷ xs) = by (test x) refl (each_passing test xs)
+  where
+    by : (b : Bool) → test x ≡ b → EachOf (λ x. test x ≡ true) (filter test xs) → EachOf (λ x. test x ≡ true) (cond b (x ∷ filter test xs) (filter test xs))
+    by true is rest = (is, rest)
+    by false is rest = rest
 
 -- equal lists are permutations
 pub as_it_is : {X : Type 0} (xs ys : List X) → xs ≡ ys → IsPermutation xs ys

@@ -23,18 +23,17 @@ use Rattle.sql_schema.specs.Schema.{desk_schema}
 use Rattle.sql_schema.specs.declared.accounts.TheConstants as account
 use Rattle.sql_schema.specs.declared.authorizations.TheConstants as authz
 use Rattle.sql_schema.specs.declared.challenges.TheConstants as chall
-use Rattle.sql_schema.specs.declared.keys.TheConstants as chall_key
 use Rattle.sql_schema.specs.declared.nonces.TheConstants as nonce
 use Rattle.sql_schema.specs.declared.orders.TheConstants as ord
 use Rattle.sql_schema.specs.declared.listed.TheConstants as ord_authz
 use Rattle.sql_read.specs.Queries.{account_query, authorization_query, nonce_query, number, order_query}
 use Rattle.sql_read.specs.declared.formats.Format.TheVariants.{Second}
 use Rattle.sql_read.proofs.Answered.{IsReading, IsReadingFrom, all_rows, by, first_row}
-use Rattle.sql_read.proofs.JoinParts.{join_from, join_tests, joined_project}
+use Rattle.sql_read.proofs.JoinParts.{beside_from, beside_project, beside_tests, by_other, join_from, join_tests, joined_project, keyed_from, keyed_project}
 use Rattle.sql_read.proofs.Readings.{accounts_reading, authorizations_reading, nonces_reading, orders_reading}
 use Rattle.sql_read.proofs.TableColumns.{account_names, authorization_names, authorization_status_at, challenge_names, key_names}
 use Rattle.sql_read.proofs.TableColumns.{listed_names, listed_project, nonce_names, order_names, order_status_at, summary_names}
-use Rattle.sql_read.proofs.TableFacts.{IsReadingOf, account_facts, authorization_facts, challenge_facts, key_facts, nonce_facts, order_facts, summary_facts}
+use Rattle.sql_read.proofs.TableFacts.{IsReadingOf, account_facts, authorization_facts, nonce_facts, order_facts, summary_facts}
 
 -- ---- tests, and what they are given
 
@@ -139,15 +138,11 @@ pub listing_reading : (n : ℕ)
 unfolding understood everything
 listing_reading n = record { names = listed_names; means = refl; selecting = refl; sizes = refl; typed = refl }
 
--- challenges of a number
-pub challenges_numbered_reading : (n : ℕ) → IsReadingOf challenge_facts desk_schema all_rows chall.SELECT_NUMBERED.now (is_equal 0) (number n)
+-- challenges of an authorization, each beside the key of its answer
+pub challenges_of_reading : (n : ℕ)
+    → IsReadingFrom desk_schema all_rows chall.SELECT_OF.now keyed_from (is_equal 2) keyed_project (by 0 ∷ []) (number n)
 unfolding understood everything
-challenges_numbered_reading n = record { names = challenge_names; means = refl; selecting = refl; sizes = refl; typed = refl }
-
--- of an authorization
-pub challenges_of_reading : (n : ℕ) → IsReadingOf challenge_facts desk_schema all_rows chall.SELECT_OF.now (is_equal 2) (number n)
-unfolding understood everything
-challenges_of_reading n = record { names = challenge_names; means = refl; selecting = refl; sizes = refl; typed = refl }
+challenges_of_reading n = record { names = challenge_names ++ key_names; means = refl; selecting = refl; sizes = refl; typed = refl }
 
 -- that wait, joined with their authorizations and the keys of their answers
 pub joined_reading : IsReadingFrom desk_schema all_rows chall.SELECT_JOINED.now join_from join_tests joined_project (by 0 ∷ [])
@@ -156,10 +151,11 @@ unfolding understood everything
 joined_reading =
     record { names = challenge_names ++ (authorization_names ++ key_names); means = refl; selecting = refl; sizes = refl; typed = refl }
 
--- the key of an answer
-pub keys_of_reading : (n : ℕ) → IsReadingOf key_facts desk_schema all_rows chall_key.SELECT_OF.now (is_equal 0) (number n)
+-- of the authorization of one of them, joined with it and with the keys of their answers
+pub beside_reading : (n : ℕ) → IsReadingFrom desk_schema all_rows chall.SELECT_BESIDE.now beside_from beside_tests beside_project by_other (number n)
 unfolding understood everything
-keys_of_reading n = record { names = key_names; means = refl; selecting = refl; sizes = refl; typed = refl }
+beside_reading n =
+    record { names = challenge_names ++ (authorization_names ++ key_names); means = refl; selecting = refl; sizes = refl; typed = refl }
 
 -- ---- the first row above a number
 
@@ -178,10 +174,11 @@ pub authorization_above_reading : (n : ℕ) → IsReadingOf authorization_facts 
 unfolding understood everything
 authorization_above_reading n = record { names = authorization_names; means = refl; selecting = refl; sizes = refl; typed = refl }
 
--- of challenges
-pub challenge_above_reading : (n : ℕ) → IsReadingOf challenge_facts desk_schema first_row chall.SELECT_ABOVE.now is_higher (number n)
+-- of challenges, beside the key of its answer
+pub challenge_above_reading : (n : ℕ)
+    → IsReadingFrom desk_schema first_row chall.SELECT_ABOVE.now keyed_from is_higher keyed_project (by 0 ∷ []) (number n)
 unfolding understood everything
-challenge_above_reading n = record { names = challenge_names; means = refl; selecting = refl; sizes = refl; typed = refl }
+challenge_above_reading n = record { names = challenge_names ++ key_names; means = refl; selecting = refl; sizes = refl; typed = refl }
 
 -- ---- the earliest moment
 

@@ -1,10 +1,10 @@
 -- What each look-up finds, whether by number, by a column, by a status or above a number.
-use Rattle.std.proofs.Common.{◌≡◌, ◌&&◌, ℕ, [], ◌∷◌, true, map, filter, refl, subst, ◌∙◌, arith}
+use Rattle.std.proofs.Common.{◌≡◌, ◌&&◌, ℕ, [], ◌∷◌, true, map, refl, subst, ◌∙◌, arith}
 use Rattle.std.specs.Prelude.{◌==◌, nat_lt, bytes_eq}
 use Rattle.std.proofs.lemmas.List.{map-id}
 use Rattle.sqlite.specs.Held.{Held, state}
 use Rattle.sqlite.specs.Store.{Ghosts}
-use Rattle.store_columns.specs.Flat.{bare_row, challenge_rows, key_rows, summarized, without_challenges, without_listed}
+use Rattle.store_columns.specs.Flat.{summarized, without_challenges, without_listed}
 use Rattle.store_columns.specs.Limits.{IsStoredAccount, IsStoredAuthorization, IsStoredNonce, IsStoredOrder}
 use Rattle.desk_model.specs.Document.{authorization_status_text, order_status_text}
 use Rattle.desk_model.specs.Tables.{Tables}
@@ -21,32 +21,25 @@ use Rattle.model_lives.specs.declared.queries.NoncesWhere.{NoncesWhere}
 use Rattle.model_lives.specs.declared.queries.NoncesWhere.TheVariants as nonces_by
 use Rattle.model_lives.specs.declared.queries.OrdersWhere.{OrdersWhere}
 use Rattle.model_lives.specs.declared.queries.OrdersWhere.TheVariants as orders_by
-use Rattle.sql_tables.specs.{Holds.Holds, Sorted.sorted_by}
-use Rattle.sql_tables.specs.Layouts.{challenge_layout, key_layout}
-use Rattle.sql_tables.proofs.AnswerKeys.{keys_apart}
-use Rattle.sql_tables.proofs.Sorting.{filter_ascending, filter_number}
-use Rattle.sql_read.specs.{Bounded.bounded, Keys.keys_of}
+use Rattle.sql_tables.specs.Holds.{Holds}
+use Rattle.sql_read.specs.Bounded.{bounded}
 use Rattle.sql_read.specs.Queries.{account_query, authorization_query, nonce_query, number, order_query}
 use Rattle.store_book.specs.IsBook.{IsStoredBook}
 use Rattle.sql_schema.specs.declared.accounts.TheConstants as account
 use Rattle.sql_schema.specs.declared.authorizations.TheConstants as authz
-use Rattle.sql_schema.specs.declared.challenges.TheConstants as chall
-use Rattle.sql_schema.specs.declared.keys.TheConstants as chall_key
 use Rattle.sql_schema.specs.declared.meta.TheConstants as meta
 use Rattle.sql_schema.specs.declared.orders.TheConstants as ord
 use Rattle.sql_read.specs.declared.formats.Format.TheVariants.{Second}
 use Rattle.sql_read.proofs.Answered.{all_rows, first_row}
 use Rattle.sql_read.proofs.FoundRows.{FindsIn, finds}
-use Rattle.sql_read.proofs.KeptRows.{accounts_kept, authorizations_kept, challenges_kept, keys_kept, meta_kept, nonces_kept, orders_kept, summaries_kept}
+use Rattle.sql_read.proofs.KeptRows.{accounts_kept, authorizations_kept, meta_kept, nonces_kept, orders_kept, summaries_kept}
 use Rattle.sql_read.proofs.LookUpReadings.{account_above_reading, account_tests, accounts_asked, authorization_above_reading, authorization_tests}
-use Rattle.sql_read.proofs.LookUpReadings.{authorizations_asked, challenges_numbered_reading, challenges_of_reading, is_equal}
-use Rattle.sql_read.proofs.LookUpReadings.{is_higher, keys_of_reading, nonce_tests, nonces_asked, order_above_reading, order_tests, orders_asked}
-use Rattle.sql_read.proofs.LookUpReadings.{summaries_reading}
-use Rattle.sql_read.proofs.{UnderLemmas.own_ascend, Readings.meta_reading}
+use Rattle.sql_read.proofs.LookUpReadings.{authorizations_asked, is_equal}
+use Rattle.sql_read.proofs.LookUpReadings.{is_higher, nonce_tests, nonces_asked, order_above_reading, order_tests, orders_asked, summaries_reading}
+use Rattle.sql_read.proofs.Readings.{meta_reading}
 use Rattle.sql_read.proofs.StatusTests.{authorization_status_test, order_status_test, order_waits}
 use Rattle.sql_read.proofs.Tests.{above_bounded, above_test, below_bounded, below_test, number_test, number_text_test, same_bounded, text_below_test, text_test}
-use Rattle.sql_read.proofs.TableFacts.{account_facts, authorization_facts, challenge_facts, key_facts, meta_facts, nonce_facts, order_facts, picks}
-use Rattle.sql_read.proofs.TableFacts.{summary_facts}
+use Rattle.sql_read.proofs.TableFacts.{account_facts, authorization_facts, meta_facts, nonce_facts, order_facts, picks, summary_facts}
 
 -- ---- SQL's tests are the model's, on rows in their limits
 
@@ -124,36 +117,6 @@ module _ {S : Type 0} (g : Ghosts S) (old : Held S) (T : Tables) (has : Holds (s
   authorizations_find which =
       finds authorization_facts g all_rows (authorization_query which) (authorization_tests which) (authorizations_asked which) (wants_authorization which)
       (authorization_agrees which) old T book T.authorizations (authorizations_kept _ T Second has)
-
-  -- ---- challenges, under their authorizations
-
-  pub challenges_numbered_find : (n : ℕ)
-      → FindsIn challenge_facts g (chall.SELECT_NUMBERED.now, number n) old (map bare_row (filter (λ c. c.row.number == n) (challenge_rows T.authorizations)))
-  challenges_numbered_find n =
-      subst (λ cs. FindsIn challenge_facts g (chall.SELECT_NUMBERED.now, number n) old (map bare_row cs))
-      (filter_number challenge_layout.key n (challenge_rows T.authorizations) has.rising.challenges)
-      (finds challenge_facts g all_rows (chall.SELECT_NUMBERED.now, number n) (is_equal 0) (challenges_numbered_reading n) (λ c. c.row.number == n)
-      (λ c k. number_test c.row.number (bounded n) ∙ same_bounded c.row.number n k.number.1) old T book _ (challenges_kept _ T Second has))
-
-  pub challenges_of_find : (n : ℕ)
-      → FindsIn challenge_facts g (chall.SELECT_OF.now, number n) old (map bare_row (filter (λ c. c.owner == n) (challenge_rows T.authorizations)))
-  challenges_of_find n =
-      subst (λ cs. FindsIn challenge_facts g (chall.SELECT_OF.now, number n) old (map bare_row cs))
-      (filter_ascending challenge_layout.key (λ c. c.owner == n) 1 (challenge_rows T.authorizations) has.rising.challenges
-      (own_ascend n 0 T.authorizations has.rising.authorizations book.book.in_order.challenges))
-      (finds challenge_facts g all_rows (chall.SELECT_OF.now, number n) (is_equal 2) (challenges_of_reading n) (λ c. c.owner == n)
-      (λ c k. number_test c.owner (bounded n) ∙ same_bounded c.owner n k.authorization.1) old T book _ (challenges_kept _ T Second has))
-
-  -- ---- the key of an answer
-
-  pub keys_of_find : (n : ℕ) → FindsIn key_facts g (chall_key.SELECT_OF.now, number n) old (keys_of T n)
-  keys_of_find n =
-      let all = key_rows (challenge_rows T.authorizations) in
-      subst (FindsIn key_facts g (chall_key.SELECT_OF.now, number n) old)
-      (map-id (filter (λ k. k.challenge == n) (sorted_by key_layout.key all))
-      ∙ filter_number key_layout.key n all (keys_apart (challenge_rows T.authorizations) has.rising.challenges))
-      (finds key_facts g all_rows (chall_key.SELECT_OF.now, number n) (is_equal 0) (keys_of_reading n) (λ k. k.challenge == n)
-      (λ k limits. number_test k.challenge (bounded n) ∙ same_bounded k.challenge n limits.challenge.1) old T book _ (keys_kept _ T has))
 
   -- ---- the first row above a number
 

@@ -2,7 +2,6 @@
 use Rattle.std.proofs.Common.{◌≡◌, ℕ, List, Result, Ok, Err, IsErrAnd, map, subst, sym, arith}
 use Rattle.std.specs.Prelude.{IfErr, IfOk, IsErr, IsTrue, OnOk}
 use Rattle.std.proofs.lemmas.Result.{IfOk-from_err}
-use Rattle.sqlite.proofs.StateLemmas.{unchanged}
 use Rattle.sqlite.specs.{Order.Row, Store.Ghosts}
 use Rattle.sqlite.specs.Held.{Held, state}
 use Rattle.sqlite.specs.State.{HasCleanDisk}
@@ -10,7 +9,7 @@ use Rattle.sqlite.specs.declared.error.Error.{Error}
 use Rattle.desk_model.specs.{Kept.EachOf, Tables.Tables}
 use Rattle.store_book.specs.IsBook.{IsStoredBook}
 use Rattle.sql_schema.specs.Stays.{Asks}
-use Rattle.sql_schema.proofs.StaysLemmas.{asks_nothing, asks_then}
+use Rattle.sql_schema.proofs.StaysLemmas.{asks_then}
 use Rattle.sql_tables.specs.Holds.{Holds}
 use Rattle.sql_tables.proofs.Holding.{holds_still}
 use Rattle.sql_read.specs.{Failures.MayRead, Reads.ReadsRows}
@@ -150,16 +149,6 @@ stopped {r = r} ended caused asks = record {
   caused = caused;
   unchanged = λ clean. IfOk-from_err r _ ended;
   asks = asks;
-}
-
--- nothing had to be asked
-pub unasked : {S W A : Type 0} {g : Ghosts S} {old : Held S} {Such : Tables → W → Type 0} {Is : W → A → Type 0} {a : A} → IsTrue (state g old).is_open
-    → ((T : Tables) (w : W) → Such T w → Is w a) → LooksFor g old old Such Is (Ok a)
-unasked {g = g} {old = old} is_open is = record {
-  found = λ clean T has book w such. is T w such;
-  caused = λ clean T has book may w such. tt;
-  unchanged = λ clean. unchanged (state g old) is_open;
-  asks = asks_nothing (state g old);
 }
 
 -- a step behind another, which found what it looks by

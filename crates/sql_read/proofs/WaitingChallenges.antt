@@ -51,7 +51,7 @@ owners_wait T apart p =
     ∙ any_owner T p
 
 -- two tests, in either order
-filter_turned : {X : Type 0} (p q : X → Bool) (xs : List X) → filter p (filter q xs) ≡ filter q (filter p xs)
+pub filter_turned : {X : Type 0} (p q : X → Bool) (xs : List X) → filter p (filter q xs) ≡ filter q (filter p xs)
 filter_turned p q [] = refl
 filter_turned p q (x ∷ xs) = by (p x) refl (q x) refl (filter_turned p q xs)
   where

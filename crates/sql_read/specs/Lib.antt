@@ -9,7 +9,6 @@ pub mod FirstRows
 pub mod Format
 pub mod Held
 pub mod Joined
-pub mod Keys
 pub mod LookUpFaults
 pub mod Looking
 pub mod Only

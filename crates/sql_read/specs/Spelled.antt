@@ -145,6 +145,10 @@ key_in = key_from 0
 abbrev pub key_or_none : ℕ → Row → Option ChallKeyColumns
 key_or_none n r = option_map (λ _. key_from n r) (number_or_none (column r n))
 
+-- of a challenge, beside the key of its answer, where it has one
+abbrev pub keyed_in : Row → ChallColumns × Option ChallKeyColumns
+keyed_in r = (challenge_in r, key_or_none 8 r)
+
 -- of a challenge, beside its authorization, and beside the key of its answer, where it has one
 abbrev pub joined_in : Row → (ChallColumns × AuthzColumns) × Option ChallKeyColumns
 joined_in r = ((challenge_in r, authorization_from 8 r), key_or_none 17 r)
@@ -247,6 +251,10 @@ FitsKey = FitsKeyFrom 0
 -- where its number is not NULL
 abbrev pub FitsKeyOrNone : ℕ → Row → Type 0
 FitsKeyOrNone n r = HasAt HoldsIntOrNull r n × IfSome (number_or_none (column r n)) (λ _. FitsKeyFrom n r)
+
+-- of a challenge, beside the key of its answer, where it has one
+abbrev pub FitsKeyed : Row → Type 0
+FitsKeyed r = FitsChallenge r × FitsKeyOrNone 8 r
 
 -- of a challenge, beside its authorization, and beside the key of its answer, where it has one
 abbrev pub FitsJoined : Row → Type 0

@@ -1,22 +1,18 @@
-//! Challenges, each with the key of its answer.
-ghost use Rattle.std.specs.Prelude.{◌≡◌, ◌<◌, [], ◌∷◌, Some, IfErr, IfOk, IsTrue};
-ghost use Rattle.sqlite.specs.Held.{state};
-ghost use Rattle.store_columns.specs.Flat.{bare, bare_row};
-ghost use Rattle.store_columns.specs.declared.columns.AnswerKey.{AnswerKey as KeyRow};
-ghost use Rattle.sql_schema.specs.Stays.{Asks};
+//! Challenges, each beside the key of its answer, where it has one.
+ghost use Rattle.std.specs.Prelude.{◌≡◌, ◌<◌, Ok, option_map, IfErr, IfOk};
+ghost use Rattle.store_columns.specs.Flat.{answer_key};
+ghost use Rattle.desk_model.specs.declared.rows.ChallengeRow.{ChallengeRow as Challenge};
 ghost use Rattle.sql_read.specs.Failures.{IsOfNoDevice, IsOutOfMemory};
-ghost use Rattle.sql_read.specs.Looking.{LooksFor};
-ghost use Rattle.sql_read.specs.Spelled.{FitsKey, FitsKeyFrom, FitsKeyOrNone, key_from, key_in, key_or_none};
-ghost use Rattle.sql_read.specs.Keys.{HasItsKey, keys_of};
+ghost use Rattle.sql_read.specs.Joined.{keyed_row};
+ghost use Rattle.sql_read.specs.Spelled.{FitsKey, FitsKeyFrom, FitsKeyOrNone, FitsKeyed, key_from, key_in, key_or_none, keyed_in};
 
 use crate::fault::ReadFault;
-use crate::rows::{Parted, Query, Selected, find_rows};
-use crate::values::{bytes, number_or_none, numbers};
+use crate::rows::{Parted, Selected};
+use crate::values::{both, bytes, number_or_none, numbers};
 use desk_model::{Answer, ChallengeRow};
-use sql_schema::keys;
 use sqlite::{Alter, Connection, Error, Row};
 use std::alloc::Global;
-use store_columns::{AnswerKey, BareChallenge, ChallKeyColumns, Owned};
+use store_columns::{AnswerKey, BareChallenge, ChallColumns, ChallKeyColumns, Owned};
 
 // The columns of a key, in a row from this place on.
 fn key_columns(row: &Row, from: usize) -> Result<ChallKeyColumns, Error>
@@ -53,64 +49,58 @@ impl Selected for ChallKeyColumns {
     }
 }
 
-// The answer of this moment under the last of these keys; of an answered challenge it is the only one.
-fn last_answer(date: u64, mut keys: Vec<AnswerKey>) -> Result<Option<Answer>, ReadFault>
-    ensures answer { (key : KeyRow) → keys.items ≡ key ∷ [] → IfOk result (λ found. found ≡ Some (record { date = date; thumb = key.thumb })) }
-    ensures none { IfErr result (λ _. keys.items ≡ []) }
-{
-    let key = keys.pop().ok_or(ReadFault::NotARow)?;
-    let thumb = key.thumb;
-    Ok(Some(Answer { date, thumb }))
+// ---- challenges beside the keys of their answers
+
+/// The columns of a challenge, and those of the key of its answer, if it has one.
+pub(crate) type KeyedColumns = (ChallColumns, Option<ChallKeyColumns>);
+
+// What they spell.
+type Keyed = (Owned<BareChallenge>, Option<AnswerKey>);
+
+impl Selected for KeyedColumns {
+    ghost spelled = { keyed_in };
+
+    ghost Fits = { FitsKeyed };
+
+    fn of(row: &Row) -> Result<KeyedColumns, Error> {
+        both(ChallColumns::of(row), key_columns_or_none(row, 8))
+    }
 }
 
-// The answer of this moment to the challenge of this number.
-fn answer_of<S: Alter>(
-    alloc: Global,
-    conn: &mut Connection<S>,
-    number: u64,
-    date: u64,
+/// The answer to a challenge that was answered at this moment, if at any, under the key beside it.
+pub(crate) fn answer_under(
+    answered: Option<u64>,
+    key: Option<AnswerKey>,
 ) -> Result<Option<Answer>, ReadFault>
-    ensures { LooksFor S.Store conn.old conn.new (λ T key. keys_of T number ≡ key ∷ [])
-        (λ key found. found ≡ Some (record { date = date; thumb = key.thumb })) result }
+    ensures { (c : Challenge) → answered ≡ option_map (λ a. a.date) c.answered → key ≡ answer_key c → result ≡ Ok c.answered }
 {
-    let query = Query::number(keys::SELECT_OF, number);
-    let keys = find_rows::<S, ChallKeyColumns>(alloc, conn, query)?;
-    last_answer(date, keys)
-}
-
-// The answer to a challenge, where it was answered.
-fn answer_to<S: Alter>(
-    alloc: Global,
-    conn: &mut Connection<S>,
-    row: &BareChallenge,
-) -> Result<Option<Answer>, ReadFault>
-    ensures looks { IsTrue (state S.Store conn.old).is_open
-        → LooksFor S.Store conn.old conn.new (λ T c. HasItsKey T c × (row.now ≡ bare c)) (λ c found. found ≡ c.answered) result }
-    ensures asks { Asks (state S.Store conn.old) (state S.Store conn.new) }
-{
-    match row.answered {
-        Some(date) => answer_of(alloc, conn, row.number, date),
+    match answered {
+        Some(date) => {
+            let thumb = key.ok_or(ReadFault::NotARow)?.thumb;
+            Ok(Some(Answer { date, thumb }))
+        }
         None => Ok(None),
     }
 }
 
-// A challenge under its authorization, which has the key of its answer in another table.
-impl Parted for Owned<BareChallenge> {
+// A challenge under its authorization, which has the key of its answer beside it: nothing is looked up.
+impl Parted for Keyed {
     type Whole = Owned<ChallengeRow>;
 
-    ghost bare = { bare_row };
+    ghost bare = { keyed_row };
 
-    ghost HasItsPart = { λ T c. HasItsKey T c.row };
+    ghost HasItsPart = { λ _ _. Unit {0} };
 
     fn complete<S: Alter>(
         self,
-        alloc: Global,
-        conn: &mut Connection<S>,
+        _alloc: Global,
+        _conn: &mut Connection<S>,
     ) -> Result<Owned<ChallengeRow>, ReadFault> {
-        let answered = answer_to(alloc, conn, &self.row)?;
+        let (challenge, key) = self;
+        let answered = answer_under(challenge.row.answered, key)?;
         Ok(Owned {
-            owner: self.owner,
-            row: self.row.with_answer(answered),
+            owner: challenge.owner,
+            row: challenge.row.with_answer(answered),
         })
     }
 }

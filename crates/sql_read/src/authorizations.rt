@@ -2,17 +2,16 @@
 ghost use Rattle.std.specs.Prelude.{◌≡◌, ◌<◌, IfErr, IfOk};
 ghost use Rattle.store_columns.specs.{Flat.without_challenges};
 ghost use Rattle.model_lives.specs.Above.{authorizations_above, challenges_above, first_of};
-ghost use Rattle.model_lives.specs.LookUps.{authorizations_where, bare_authorizations, owners_of};
+ghost use Rattle.model_lives.specs.LookUps.{authorizations_where, bare_authorizations};
 ghost use Rattle.sql_read.specs.Earliest.{TellsEarliest, authorization_ends};
 ghost use Rattle.sql_read.specs.Failures.{IsOfNoDevice, IsOutOfMemory};
 ghost use Rattle.sql_read.specs.Looking.{LooksUp};
 ghost use Rattle.sql_read.specs.{Queries.asked, Queries.authorization_query, Under.HasItsChallenges};
 ghost use Rattle.sql_read.specs.Spelled.{FitsAuthorization, FitsAuthorizationFrom, FitsChallenge, authorization_from, authorization_in, challenge_in};
 
+use crate::answers::KeyedColumns;
 use crate::fault::ReadFault;
-use crate::rows::{
-    Parted, Query, Selected, earliest, find_rows, find_wholes, owners, without_owners,
-};
+use crate::rows::{Parted, Query, Selected, earliest, find_rows, find_wholes, without_owners};
 use crate::values::{both, bytes, number_or_none, numbers, numbers_or_none, text, text_or_none};
 use desk_model::{AuthorizationRow, AuthzStatus, ChallengeRow, Sequence};
 use model_lives::AuthorizationsWhere;
@@ -97,7 +96,7 @@ impl Parted for AuthorizationRow {
         conn: &mut Connection<S>,
     ) -> Result<AuthorizationRow, ReadFault> {
         let query = Query::number(challenges::SELECT_OF, self.number);
-        let rows = find_wholes::<S, ChallColumns, _>(alloc, conn, query)?;
+        let rows = find_wholes::<S, KeyedColumns, _>(alloc, conn, query)?;
         let challenges = Sequence::new(without_owners(alloc, rows)?);
         Ok(AuthorizationRow { challenges, ..self })
     }
@@ -153,23 +152,6 @@ pub fn bare_authorizations<S: Alter>(
     find_rows::<S, AuthzColumns>(alloc, conn, query)
 }
 
-/// The number of the authorization of a challenge.
-///
-/// # Errors
-///
-/// As of each reading (`lib.rt`).
-pub fn owners_of<S: Alter>(
-    alloc: Global,
-    conn: &mut Connection<S>,
-    challenge: u64,
-) -> Result<Vec<u64>, ReadFault>
-    ensures { LooksUp S.Store conn.old conn.new (λ T rows. rows.items ≡ owners_of T challenge) result }
-{
-    let query = Query::number(challenges::SELECT_NUMBERED, challenge);
-    let rows = find_rows::<S, ChallColumns>(alloc, conn, query)?;
-    owners(alloc, rows)
-}
-
 /// The authorization of the least number above this one, if there is one.
 ///
 /// # Errors
@@ -199,7 +181,7 @@ pub fn challenge_above<S: Alter>(
     ensures { LooksUp S.Store conn.old conn.new (λ T rows. rows.items ≡ first_of (challenges_above T number)) result }
 {
     let query = Query::number(challenges::SELECT_ABOVE, number);
-    let rows = find_wholes::<S, ChallColumns, _>(alloc, conn, query)?;
+    let rows = find_wholes::<S, KeyedColumns, _>(alloc, conn, query)?;
     without_owners(alloc, rows)
 }
 

@@ -21,7 +21,7 @@ mod waiting;
 pub use accounts::{account_above, find_accounts};
 pub use authorizations::{
     authorization_above, bare_authorizations, challenge_above, earliest_authorization_end,
-    find_authorizations, owners_of,
+    find_authorizations,
 };
 pub use checked::{check_table, has_book_rows};
 pub use fault::ReadFault;
@@ -31,4 +31,4 @@ pub use meta::meta_row;
 pub use nonces::{earliest_issue, find_nonces};
 pub use orders::{earliest_order_end, find_orders, order_above, orders_listing, summaries_of};
 pub use rows::Selected;
-pub use waiting::waiting_challenges;
+pub use waiting::{authorizations_with_challenge, waiting_challenges};

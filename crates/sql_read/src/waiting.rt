@@ -1,21 +1,22 @@
-//! The challenges that wait for the validator, each with the key of its answer and beside its authorization, found by one join.
-ghost use Rattle.std.specs.Prelude.{◌≡◌, [], ◌∷◌, Ok, map, option_map};
-ghost use Rattle.store_columns.specs.Flat.{answer_key};
+//! Challenges, each with the key of its answer and beside its authorization, found by one join: those that wait for the validator,
+//! and those of the authorization of one of them.
+ghost use Rattle.std.specs.Prelude.{◌≡◌, [], ◌∷◌, map, IfErr, IfOk};
+ghost use Rattle.std.specs.List.{flat_map};
 ghost use Rattle.desk_model.specs.Kept.{EachOf};
-ghost use Rattle.desk_model.specs.declared.rows.ChallengeRow.{ChallengeRow as Challenge};
-ghost use Rattle.model_lives.specs.LookUps.{AreWaiting, bare_authorizations};
-ghost use Rattle.sql_read.specs.{Joined.joined_row, Looking.LooksUp};
+ghost use Rattle.model_lives.specs.LookUps.{AreWaiting, authorizations_numbered, bare_authorizations, owners_of};
+ghost use Rattle.sql_read.specs.Joined.{gathered, joined_row};
+ghost use Rattle.sql_read.specs.{LookUpFaults.IsOfMemory, Looking.LooksUp};
 ghost use Rattle.sql_read.specs.Spelled.{FitsJoined, joined_in};
 
-use crate::answers::key_columns_or_none;
+use crate::answers::{answer_under, key_columns_or_none};
 use crate::authorizations::authz_columns;
 use crate::fault::ReadFault;
 use crate::rows::{Parted, Query, Selected, find_wholes};
 use crate::values::both;
-use desk_model::{Answer, AuthorizationRow, ChallengeStatus};
+use desk_model::{AuthorizationRow, ChallengeRow, ChallengeStatus, Sequence};
 use sql_schema::challenges;
 use sqlite::{Alter, Connection, Error, Row};
-use std::alloc::Global;
+use std::alloc::{AllocError, Global};
 use store_columns::{
     AnswerKey, AuthzColumns, BareChallenge, ChallColumns, ChallKeyColumns, Owned, Waiting,
 };
@@ -36,19 +37,6 @@ impl Selected for JoinedColumns {
             both(ChallColumns::of(row), authz_columns(row, 8)),
             key_columns_or_none(row, 17),
         )
-    }
-}
-
-// The answer to a challenge that was answered at this moment, if at any, under the key beside it.
-fn answer_under(answered: Option<u64>, key: Option<AnswerKey>) -> Result<Option<Answer>, ReadFault>
-    ensures { (c : Challenge) → answered ≡ option_map (λ a. a.date) c.answered → key ≡ answer_key c → result ≡ Ok c.answered }
-{
-    match answered {
-        Some(date) => {
-            let thumb = key.ok_or(ReadFault::NotARow)?.thumb;
-            Ok(Some(Answer { date, thumb }))
-        }
-        None => Ok(None),
     }
 }
 
@@ -90,4 +78,66 @@ pub fn waiting_challenges<S: Alter>(
     let waiting = ChallengeStatus::Processing.as_str();
     let query = Query::text(challenges::SELECT_JOINED, waiting);
     find_wholes::<S, JoinedColumns, _>(alloc, conn, query)
+}
+
+// The challenges of these rows.
+fn challenges_of(alloc: Global, rows: &[Waiting]) -> Result<Vec<ChallengeRow>, AllocError>
+    ensures { IfOk result (λ all. all.items ≡ map (λ w. w.challenge) rows.now) }
+{
+    rows.iter().map(|row| row.challenge).collect(alloc)
+}
+
+// The authorization with the challenges of these rows.
+fn with_all(
+    alloc: Global,
+    bare: &AuthorizationRow,
+    rows: &[Waiting],
+) -> Result<AuthorizationRow, AllocError>
+    ensures { IfOk result (λ row. row ≡ record bare.now { challenges = map (λ w. w.challenge) rows.now }) }
+{
+    let challenges = challenges_of(alloc, rows)?;
+    let mut row = bare.clone()?;
+    row.challenges = Sequence::new(challenges);
+    Ok(row)
+}
+
+// The authorization alone.
+fn alone(alloc: Global, row: AuthorizationRow) -> Result<Vec<AuthorizationRow>, AllocError>
+    ensures { IfOk result (λ rows. rows.items ≡ row ∷ []) }
+{
+    let mut rows = Vec::new(alloc);
+    rows.push(row)?;
+    Ok(rows)
+}
+
+// The authorization beside these challenges, with all of them; none where there is no challenge.
+fn gathered(alloc: Global, rows: &[Waiting]) -> Result<Vec<AuthorizationRow>, ReadFault>
+    ensures rows { IfOk result (λ found. found.items ≡ gathered rows.now) }
+    ensures fault { IfErr result IsOfMemory }
+{
+    match rows {
+        [] => Ok(Vec::new(alloc)),
+        [first, ..] => {
+            let row = with_all(alloc, &first.authorization, rows)?;
+            let found = alone(alloc, row)?;
+            Ok(found)
+        }
+    }
+}
+
+/// The authorization that has the challenge of a number, with all its challenges.
+///
+/// # Errors
+///
+/// As of each reading (`lib.rt`).
+pub fn authorizations_with_challenge<S: Alter>(
+    alloc: Global,
+    conn: &mut Connection<S>,
+    number: u64,
+) -> Result<Vec<AuthorizationRow>, ReadFault>
+    ensures { LooksUp S.Store conn.old conn.new (λ T rows. rows.items ≡ flat_map (authorizations_numbered T) (owners_of T number)) result }
+{
+    let query = Query::number(challenges::SELECT_BESIDE, number);
+    let rows = find_wholes::<S, JoinedColumns, _>(alloc, conn, query)?;
+    gathered(alloc, rows.as_slice())
 }

@@ -11,9 +11,6 @@ pub const WRITING: Writing = chall!(
 /// Shows all challenges.
 pub const SELECT: &str = chall!(select; "");
 
-/// Shows the challenges of a number.
-pub const SELECT_NUMBERED: &str = chall!(select; " WHERE num = ?1");
-
 /// Shows the challenges of a status, each beside its authorization, and beside the key of its answer, where it has one.
 pub const SELECT_JOINED: &str = concat!(
     "SELECT chall.num, chall.authz, chall.kind, chall.token, chall.answered, chall.reported, chall.outcome, chall.status, ",
@@ -22,8 +19,24 @@ pub const SELECT_JOINED: &str = concat!(
     "LEFT JOIN chall_key ON chall_key.chall = chall.num WHERE chall.status = ?1 ORDER BY chall.num"
 );
 
-/// Shows the challenges of an authorization.
-pub const SELECT_OF: &str = chall!(select; " WHERE authz = ?1");
+/// Shows the challenges of the authorization that has the challenge of a number, each beside it, and beside the key of its answer.
+pub const SELECT_BESIDE: &str = concat!(
+    "SELECT chall.num, chall.authz, chall.kind, chall.token, chall.answered, chall.reported, chall.outcome, chall.status, ",
+    "authz.num, authz.account, authz.name, authz.wildcard, authz.made, authz.expires, authz.ended, authz.end_kind, authz.status, ",
+    "chall_key.chall, chall_key.thumb FROM chall AS asked JOIN authz ON authz.num = asked.authz JOIN chall ON chall.authz = authz.num ",
+    "LEFT JOIN chall_key ON chall_key.chall = chall.num WHERE asked.num = ?1 ORDER BY chall.num"
+);
 
-/// Shows the first challenge above a number.
-pub const SELECT_ABOVE: &str = chall!(select; " WHERE num > ?1"; " LIMIT 1");
+/// Shows the challenges of an authorization, each beside the key of its answer, where it has one.
+pub const SELECT_OF: &str = concat!(
+    "SELECT chall.num, chall.authz, chall.kind, chall.token, chall.answered, chall.reported, chall.outcome, chall.status, ",
+    "chall_key.chall, chall_key.thumb FROM chall ",
+    "LEFT JOIN chall_key ON chall_key.chall = chall.num WHERE chall.authz = ?1 ORDER BY chall.num"
+);
+
+/// Shows the first challenge above a number, beside the key of its answer, where it has one.
+pub const SELECT_ABOVE: &str = concat!(
+    "SELECT chall.num, chall.authz, chall.kind, chall.token, chall.answered, chall.reported, chall.outcome, chall.status, ",
+    "chall_key.chall, chall_key.thumb FROM chall ",
+    "LEFT JOIN chall_key ON chall_key.chall = chall.num WHERE chall.num > ?1 ORDER BY chall.num LIMIT 1"
+);

@@ -7,6 +7,3 @@ pub const WRITING: Writing = chall_key!(writing; chall_key!(upsert));
 
 /// Shows all keys.
 pub const SELECT: &str = chall_key!(select; "");
-
-/// Shows the key of an answer.
-pub const SELECT_OF: &str = chall_key!(select; " WHERE chall = ?1");

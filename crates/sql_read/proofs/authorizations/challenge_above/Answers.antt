@@ -1,7 +1,8 @@
 use Rattle.std.proofs.Common.{ap, map, ◌∙◌}
 use Rattle.std.proofs.lemmas.Result.{IfOk-weaker}
-use Rattle.sql_read.proofs.AboveRows.{challenge_above_find, challenges_from, first_challenge}
-use Rattle.sql_read.proofs.{LookUpReadings.challenge_above_reading, KeyRows.keys_above}
+use Rattle.model_laws.proofs.Basics.{each_all}
+use Rattle.sql_read.proofs.AboveRows.{challenges_from, first_challenge}
+use Rattle.sql_read.proofs.{KeyedFound.challenge_above_find, LookUpReadings.challenge_above_reading}
 use Rattle.sql_read.proofs.Looking.{finds_as, looked_failed, looked_made, query_as}
 use Rattle.sql_read.proofs.authorizations.challenge_above.Goals as goal
 
@@ -12,7 +13,7 @@ pub returns : goal.returns
 returns g c =
     let n = c.args.number in
     looked_made (λ T. challenges_from T n) (λ T has book. (
-      keys_above T has.rising.challenges n,
+      each_all _ (challenges_from T n) (λ _. tt),
       finds_as c.number-query.ensures (challenge_above_find g.S.Store c.args.conn.now T has book n),
     ))
     c.in_ok-rows.ensures (λ T has book found. (
@@ -25,7 +26,7 @@ pub returns-in_err-rows : goal.returns-in_err-rows
 returns-in_err-rows g c =
     let n = c.args.number in
     looked_failed (λ T. challenges_from T n) (λ T has book. (
-      keys_above T has.rising.challenges n,
+      each_all _ (challenges_from T n) (λ _. tt),
       finds_as c.number-query.ensures (challenge_above_find g.S.Store c.args.conn.now T has book n),
     ))
     c.in_err-rows.ensures c.from_residual.ensures.1

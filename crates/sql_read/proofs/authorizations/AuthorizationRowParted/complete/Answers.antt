@@ -3,7 +3,8 @@ use Rattle.std.proofs.lemmas.Result.{IfOk-from_err}
 use Rattle.store_columns.specs.Flat.{challenge_rows}
 use Rattle.desk_model.specs.declared.rows.AuthorizationRow.{AuthorizationRow}
 use Rattle.sql_read.specs.{LookUpFaults.IsOfMemory, Under.rows_under}
-use Rattle.sql_read.proofs.{KeyRows.keys_under, LookUpRows.challenges_of_find, LookUpReadings.challenges_of_reading, Results.failed_as}
+use Rattle.model_laws.proofs.Basics.{each_all}
+use Rattle.sql_read.proofs.{KeyedFound.challenges_of_find, LookUpReadings.challenges_of_reading, Results.failed_as}
 use Rattle.sql_read.proofs.Looking.{finds_as, query_as, step_failed, step_made}
 use Rattle.sql_read.proofs.authorizations.AuthorizationRowParted.complete.Goals as goal
 
@@ -14,7 +15,7 @@ pub returns-clause-looks : goal.returns-clause-looks
 returns-clause-looks g c is_open =
     let n = c.args.self.number in
     step_made (λ T whole. filter (λ r. r.owner == n) (challenge_rows T.authorizations)) (λ T has book whole all. (
-      keys_under T has.rising.challenges n,
+      each_all _ (filter (λ r. r.owner == n) (challenge_rows T.authorizations)) (λ _. tt),
       finds_as c.number-query.ensures (challenges_of_find g.S.Store c.args.conn.now T has book n),
     ))
     c.in_ok-rows.ensures (λ T whole all found.
@@ -26,7 +27,7 @@ pub returns-in_err-rows-clause-looks : goal.returns-in_err-rows-clause-looks
 returns-in_err-rows-clause-looks g c is_open =
     let n = c.args.self.number in
     step_failed (λ T whole. filter (λ r. r.owner == n) (challenge_rows T.authorizations)) (λ T has book whole all. (
-      keys_under T has.rising.challenges n,
+      each_all _ (filter (λ r. r.owner == n) (challenge_rows T.authorizations)) (λ _. tt),
       finds_as c.number-query.ensures (challenges_of_find g.S.Store c.args.conn.now T has book n),
     ))
     c.in_err-rows.ensures c.from_residual.ensures.1
@@ -37,7 +38,7 @@ returns-in_err-without_owners-clause-looks g c is_open =
     let r = c.from_residual-in_err-without_owners.result in
     let end = c.from_residual-in_err-without_owners.ensures in
     step_made (λ T whole. filter (λ r. r.owner == n) (challenge_rows T.authorizations)) (λ T has book whole all. (
-      keys_under T has.rising.challenges n,
+      each_all _ (filter (λ r. r.owner == n) (challenge_rows T.authorizations)) (λ _. tt),
       finds_as c.number-query.ensures (challenges_of_find g.S.Store c.args.conn.now T has book n),
     ))
     c.in_ok-rows.ensures (λ T whole all found. (
