@@ -1,9 +1,10 @@
--- Challenges beside their authorizations: each beside the one of its owner's number.
+-- Rows beside those that they belong to, as challenges beside their authorizations: each beside the one of its owner's number.
 use Rattle.std.proofs.Common.{◌≡◌, ◌++◌, ◌+◌, ◌<◌, ℕ, cond, List, [], ◌∷◌, map, filter, flat_map, refl, sym, ap, subst, ◌∙◌, arith}
 use Rattle.std.specs.Prelude.{◌==◌}
 use Rattle.std.proofs.lemmas.Bool.{eq-eqb}
 use Rattle.store_columns.specs.Flat.{answer_key, bare_row, challenge_rows, owned_by, without_challenges}
 use Rattle.store_columns.specs.declared.columns.Owned.{Owned}
+use Rattle.store_book.specs.Nesting.{child_rows}
 use Rattle.model_laws.specs.Ordered.{Ascends}
 use Rattle.model_laws.proofs.Basics.{each, each-append, each-map, each_all, each_both, less_differs, more_differs}
 use Rattle.model_laws.proofs.{Keeps.each-filter, RowLists.ascends_above}
@@ -29,9 +30,13 @@ pairs rows cs = flat_map (beside rows) cs
 abbrev pub parts : Pair → Joined
 parts x = ((bare_row x.0, without_challenges x.1), answer_key x.0.row)
 
--- there is one authorization of the number
+-- there is one row of the number of the owner
+abbrev pub HasOneOwner : {P R : Type 0} → (P → ℕ) → List P → Owned R → Type 0
+HasOneOwner number ps c = (p : _) × ((filter (λ q. number q == c.owner) ps ≡ p ∷ []) × (number p ≡ c.owner))
+
+-- one authorization
 abbrev pub HasOne : List AuthorizationRow → Owned ChallengeRow → Type 0
-HasOne rows c = (a : AuthorizationRow) × ((filter (λ r. r.number == c.owner) rows ≡ a ∷ []) × (a.number ≡ c.owner))
+HasOne = HasOneOwner (λ a. a.number)
 
 -- which is the one beside it
 abbrev pub IsBeside : List AuthorizationRow → Pair → Type 0
@@ -59,40 +64,42 @@ each_pair P Q rows (c ∷ cs) h k =
     (each Q (λ a. P c × Q a) found (λ a q. (h.0, q)) (each-filter Q (λ a. a.number == c.owner) rows k)))
     (each_pair P Q rows cs h.1 k)
 
--- ---- the authorization of each challenge
+-- ---- the row of each owner
 
--- no higher authorization has the number
-none_at : (n k : ℕ) (rows : List AuthorizationRow) → k < n → Ascends (λ a. a.number) n rows → filter (λ r. r.number == k) rows ≡ []
-none_at n k [] low up = refl
-none_at n k (a ∷ rows) low up =
-    ap (λ b. cond b (a ∷ filter (λ r. r.number == k) rows) (filter (λ r. r.number == k) rows)) (more_differs a.number k (omega (arith, low, up.0)))
-    ∙ none_at (a.number + 1) k rows (omega (arith, low, up.0)) up.1
+module _ {P R : Type 0} (number : P → ℕ) (children : P → List R) where
+  -- no higher one has the number
+  none_at : (n k : ℕ) (ps : List P) → k < n → Ascends number n ps → filter (λ p. number p == k) ps ≡ []
+  none_at n k [] low up = refl
+  none_at n k (p ∷ ps) low up =
+      ap (λ b. cond b (p ∷ filter (λ q. number q == k) ps) (filter (λ q. number q == k) ps)) (more_differs (number p) k (omega (arith, low, up.0)))
+      ∙ none_at (number p + 1) k ps (omega (arith, low, up.0)) up.1
 
--- each is the one of its number
-each_one : (n : ℕ) (rows : List AuthorizationRow) → Ascends (λ a. a.number) n rows → EachOf (λ a. filter (λ r. r.number == a.number) rows ≡ a ∷ []) rows
-each_one n [] up = tt
-each_one n (a ∷ rows) up = (
-  ap (λ b. cond b (a ∷ filter (λ (r : AuthorizationRow). r.number == a.number) rows) (filter (λ (r : AuthorizationRow). r.number == a.number) rows))
-      (eq-eqb a.number a.number refl)
-      ∙ ap (λ l. a ∷ l) (none_at (a.number + 1) a.number rows (omega arith) up.1),
-  each _ _ rows
-      (λ r k.
-      ap (λ b. cond b (a ∷ filter (λ (s : AuthorizationRow). s.number == r.number) rows) (filter (λ (s : AuthorizationRow). s.number == r.number) rows))
-      (less_differs a.number r.number k.0)
-      ∙ k.1)
-      (each_both _ _ rows (ascends_above (λ (r : AuthorizationRow). r.number) a.number (a.number + 1) rows (omega arith) up.1)
-      (each_one (a.number + 1) rows up.1)),
-)
+  -- each is the one of its number
+  each_one : (n : ℕ) (ps : List P) → Ascends number n ps → EachOf (λ p. filter (λ q. number q == number p) ps ≡ p ∷ []) ps
+  each_one n [] up = tt
+  each_one n (p ∷ ps) up = (
+    ap (λ b. cond b (p ∷ filter (λ q. number q == number p) ps) (filter (λ q. number q == number p) ps)) (eq-eqb (number p) (number p) refl)
+        ∙ ap (λ l. p ∷ l) (none_at (number p + 1) (number p) ps (omega arith) up.1),
+    each _ _ ps
+        (λ r k.
+        ap (λ b. cond b (p ∷ filter (λ q. number q == number r) ps) (filter (λ q. number q == number r) ps)) (less_differs (number p) (number r) k.0)
+        ∙ k.1)
+        (each_both _ _ ps (ascends_above number (number p) (number p + 1) ps (omega arith) up.1) (each_one (number p + 1) ps up.1)),
+  )
 
--- what is so of all challenges of each authorization
-of_each : (P : Owned ChallengeRow → Type 0) (rows : List AuthorizationRow)
-    → EachOf (λ a. (c : ChallengeRow) → P (record { owner = a.number; row = c })) rows → EachOf P (challenge_rows rows)
-of_each P [] h = tt
-of_each P (a ∷ rows) h =
-    each-append P (owned_by a.number a.challenges) (challenge_rows rows)
-    (each-map P (λ c. record { owner = a.number; row = c }) a.challenges (each_all _ a.challenges h.0))
-    (of_each P rows h.1)
+  -- what is so of all that belongs to each
+  of_each : (Q : Owned R → Type 0) (ps : List P) → EachOf (λ p. (r : R) → Q (record { owner = number p; row = r })) ps
+      → EachOf Q (child_rows number children ps)
+  of_each Q [] h = tt
+  of_each Q (p ∷ ps) h =
+      each-append Q (owned_by (number p) (children p)) (child_rows number children ps)
+      (each-map Q (λ r. record { owner = number p; row = r }) (children p) (each_all _ (children p) h.0))
+      (of_each Q ps h.1)
 
--- so each challenge has its own
+  -- so each has its owner
+  pub one_owner : (n : ℕ) (ps : List P) → Ascends number n ps → EachOf (HasOneOwner number ps) (child_rows number children ps)
+  one_owner n ps up = of_each (HasOneOwner number ps) ps (each _ _ ps (λ p one r. (p, (one, refl))) (each_one n ps up))
+
+-- each challenge its authorization
 pub owners_there : (n : ℕ) (rows : List AuthorizationRow) → Ascends (λ a. a.number) n rows → EachOf (HasOne rows) (challenge_rows rows)
-owners_there n rows up = of_each (HasOne rows) rows (each _ _ rows (λ a one c. (a, (one, refl))) (each_one n rows up))
+owners_there n rows up = one_owner (λ (a : AuthorizationRow). a.number) (λ a. a.challenges) n rows up

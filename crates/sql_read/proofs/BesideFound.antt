@@ -26,8 +26,8 @@ use Rattle.sql_read.proofs.Beside.{HasOne, Pair, owners_there, parts}
 use Rattle.sql_read.proofs.BesideRows.{IsAsked, companions, companions_shown, each_companion, one_asked}
 use Rattle.sql_read.proofs.{Failing.join_fails, FoundRows.finds_shown}
 use Rattle.sql_read.proofs.JoinFound.{waiting_of}
-use Rattle.sql_read.proofs.JoinParts.{HasTextJoined, IsStoredJoined, IsStoredKeyed, beside_from, beside_project, beside_tests, by_other, joined-apart, joined_back}
-use Rattle.sql_read.proofs.JoinParts.{joined_columns, joined_fits, joined_params}
+use Rattle.sql_read.proofs.JoinParts.{HasTextJoined, IsStoredJoined, IsStoredKeyed, beside_from, beside_project, beside_tests, by_other}
+use Rattle.sql_read.proofs.JoinParts.{joined-apart, joined_back, joined_columns, joined_fits, joined_params}
 use Rattle.sql_read.proofs.KeptRows.{authorizations_kept}
 use Rattle.sql_read.proofs.KeyedFound.{all_challenges, all_keys, challenges_there, keyed_stored, keyed_texts}
 use Rattle.sql_read.proofs.LookUpReadings.{beside_reading}

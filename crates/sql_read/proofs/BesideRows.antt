@@ -29,10 +29,10 @@ use Rattle.sql_read.specs.{Bounded.bounded, Queries.number}
 use Rattle.sql_read.proofs.Answered.{all_rows, answers_from, picked_from, shown_in_order, strictly}
 use Rattle.sql_read.proofs.Beside.{HasOne, Pair, parts}
 use Rattle.sql_read.proofs.JoinParts.{beside_from, beside_project, beside_tests, by_other, joined_columns, joined_params, on_key}
-use Rattle.sql_read.proofs.JoinRows.{never}
-use Rattle.sql_read.proofs.KeyedRows.{HasChallenges, HasOwnKey, each_joined, key_cells, key_shows, with_key}
+use Rattle.sql_read.proofs.KeyedRows.{HasChallenges, HasOwnKey, key_cells, key_shows, with_key}
 use Rattle.sql_read.proofs.Lists.{as_it_is, each_flat, each_passing, map_flat}
 use Rattle.sql_read.proofs.LookUpReadings.{beside_reading}
+use Rattle.sql_read.proofs.SideBySide.{each_joined, each_spread, test_first, tests_first}
 use Rattle.sql_read.proofs.Tests.{eq_as, is_number, number_test, same_bounded}
 
 -- ---- the challenges of the authorization that has the one of a number
@@ -137,31 +137,6 @@ passes_as : (n : ℕ) (b : Owned ChallengeRow) (x : Pair) → (b.row.number == b
 passes_as n b x same key =
     λ i. is_number x.1.number b.owner i && (is_number x.0.owner x.1.number i && (number_test b.row.number (bounded n) ∙ same) i)
 
--- tests that do not look at the rows stand before them
-tests_first : {X Y : Type 0} (f : X → Y) (test : X → Bool) (p q : Bool) (xs : List X)
-    → map f (filter (λ x. p && (test x && q)) xs) ≡ cond (p && q) (map f (filter test xs)) []
-tests_first f test true true xs = λ i. map f (filter (λ x. and-true (test x) i) xs)
-tests_first f test true false xs = (λ i. map f (filter (λ x. never (test x) i) xs)) ∙ ap (map f) (sym (filter_nothing xs))
-tests_first f test false q xs = ap (map f) (sym (filter_nothing xs))
-
--- a test of all of them
-test_first : {X Y : Type 0} (f : X → List Y) (test : X → Bool) (q : Bool) (xs : List X)
-    → flat_map f (filter (λ x. test x && q) xs) ≡ cond q (flat_map f (filter test xs)) []
-test_first f test true xs = λ i. flat_map f (filter (λ x. and-true (test x) i) xs)
-test_first f test false xs = (λ i. flat_map f (filter (λ x. never (test x) i) xs)) ∙ ap (flat_map f) (sym (filter_nothing xs))
-
--- of rows those that pass, each with all that stands beside it
-each_spread : {X : Type 0} (image : X → Row) (part : X → List Env) (P : X → Type 0) (test : X → Bool) (joined : Row → List Env)
-    → ((x : X) → P x → joined (image x) ≡ cond (test x) (part x) []) → (xs : List X) → EachOf P xs
-    → flat_map joined (map image xs) ≡ flat_map part (filter test xs)
-each_spread image part P test joined is [] h = refl
-each_spread {X} image part P test joined is (x ∷ xs) h =
-    (λ i. is x h.0 i ++ each_spread image part P test joined is xs h.1 i) ∙ by (test x) (filter test xs)
-  where
-    by : (b : Bool) (rest : List X) → cond b (part x) [] ++ flat_map part rest ≡ flat_map part (cond b (x ∷ rest) rest)
-    by true rest = refl
-    by false rest = refl
-
 module _ (db : Trees) (cs : List (Owned ChallengeRow)) (keys : List AnswerKey) (there : HasChallenges db cs keys) (rows : List AuthorizationRow)
     (rows_are : db 5 ≡ map authorization_image rows) (n : ℕ) where
   -- of all challenges those of the authorization
@@ -222,10 +197,11 @@ companions_shown old new cs rows keys n given there has rows_are owned h =
     let q = picked_from all_rows beside_from beside_tests beside_project by_other in
     let xs = companions cs rows n in
     let db = overlay old.now.trees [] in
-    let db_has : HasChallenges db cs keys = record { challenges = has.challenges; keys_are = has.keys_are; rising = has.rising; own = has.own; stored = has.stored } in
+    let same : HasChallenges db cs keys =
+    record { challenges = has.challenges; keys_are = has.keys_are; rising = has.rising; own = has.own; stored = has.stored } in
     let answered = answers_from all_rows chall.SELECT_BESIDE.now beside_from beside_tests beside_project by_other (number n) (beside_reading n) old new
     (map shown xs) given there
-    (ap (map (output q)) (all_match db cs keys db_has rows rows_are n)
+    (ap (map (output q)) (all_match db cs keys same rows rows_are n)
     ∙ of_asked_again cs rows n (output q) (filled (number n))
     ∙ (λ i. of_asked cs rows n (λ b x. shows n b x i))
     ∙ sym (of_asked_again cs rows n shown (λ b x. x))) h in

@@ -26,8 +26,8 @@ use Rattle.sql_read.specs.declared.formats.Format.TheVariants.{Second}
 use Rattle.sql_read.proofs.Answered.{all_rows, by}
 use Rattle.sql_read.proofs.Beside.{HasOne, Pair, each_beside, each_pair, firsts, owners_there, pairs, parts}
 use Rattle.sql_read.proofs.{Failing.join_fails, FoundRows.finds_shown}
-use Rattle.sql_read.proofs.JoinParts.{HasTextJoined, IsStoredJoined, IsStoredKeyed, join_from, join_tests, joined-apart, joined_back, joined_columns, joined_fits}
-use Rattle.sql_read.proofs.JoinParts.{joined_params, joined_project}
+use Rattle.sql_read.proofs.JoinParts.{HasTextJoined, IsStoredJoined, IsStoredKeyed, join_from, join_tests, joined-apart, joined_back}
+use Rattle.sql_read.proofs.JoinParts.{joined_columns, joined_fits, joined_params, joined_project}
 use Rattle.sql_read.proofs.JoinRows.{HasTrees, pairs_shown}
 use Rattle.sql_read.proofs.KeyedFound.{all_challenges, all_keys, keyed_stored, keyed_texts, own_keys}
 use Rattle.sql_read.proofs.KeptRows.{authorizations_kept}

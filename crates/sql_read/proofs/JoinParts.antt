@@ -103,6 +103,14 @@ join_tests = are_same 2 0 1 2 ∷ are_same 1 challenge_status_at 0 0 ∷ []
 abbrev pub beside_tests : List Term
 beside_tests = are_same 2 0 1 2 ∷ are_same 3 2 2 0 ∷ are_same 1 0 0 0 ∷ []
 
+-- places of orders, and these orders
+abbrev pub listing_from : Join
+listing_from = inner 6 (inner 4 end)
+
+-- the order is that of the place, whose authorization is the first parameter
+abbrev pub listing_tests : List Term
+listing_tests = are_same 2 0 1 1 ∷ are_same 1 3 0 0 ∷ []
+
 -- by the number of the other one
 abbrev pub by_other : List (Term × Key)
 by_other = (col 3 0, record { collation = Binary; descending = false }) ∷ []
@@ -128,6 +136,10 @@ joined_project = challenge_at 1 ++ (authorization_at 2 ++ key_at 3)
 
 abbrev pub beside_project : List Term
 beside_project = challenge_at 3 ++ (authorization_at 2 ++ key_at 4)
+
+-- those of `ord`
+abbrev pub listing_project : List Term
+listing_project = col 2 0 ∷ col 2 2 ∷ col 2 3 ∷ col 2 4 ∷ col 2 5 ∷ col 2 6 ∷ col 2 7 ∷ col 2 8 ∷ col 2 9 ∷ col 2 10 ∷ col 2 11 ∷ []
 
 -- NULL for no key
 abbrev pub key_or_nulls : Option ChallKeyColumns → Row

@@ -28,9 +28,10 @@ use Rattle.sql_tables.specs.Layouts.{challenge_layout}
 use Rattle.sql_read.proofs.Answered.{all_rows, answers_from, by, picked_from, shown_in_order, strictly}
 use Rattle.sql_read.proofs.Beside.{HasOne, Pair, beside, firsts, pairs, parts}
 use Rattle.sql_read.proofs.JoinParts.{join_from, join_tests, joined_columns, joined_params, joined_project, on_key}
-use Rattle.sql_read.proofs.KeyedRows.{HasOwnKey, each_joined, key_cells, key_shows, with_key}
+use Rattle.sql_read.proofs.KeyedRows.{HasOwnKey, key_cells, key_shows, with_key}
 use Rattle.sql_read.proofs.Lists.{as_it_is, map-same}
 use Rattle.sql_read.proofs.LookUpReadings.{joined_reading, text}
+use Rattle.sql_read.proofs.SideBySide.{each_joined, never}
 use Rattle.sql_read.proofs.StatusTests.{challenge_waits}
 use Rattle.sql_read.proofs.Tests.{number_test, number_text_test}
 use Rattle.sql_read.proofs.WaitingChallenges.{waits}
@@ -49,11 +50,6 @@ asked = text (challenge_status_text challenge.Processing)
 -- the rows of a pair, and of the key
 abbrev filled : Pair → Env
 filled x = asked ∷ challenge_image x.0 ∷ authorization_image x.1 ∷ key_cells (answer_key x.0.row) ∷ []
-
--- a test with one that never holds
-pub never : (b : Bool) → (b && false) ≡ false
-never true = refl
-never false = refl
 
 -- SQL's tests of a pair are the model's
 passes_as : (x : Pair) (key : Row)

@@ -1,5 +1,5 @@
 -- What a join with the keys of answers shows: each challenge that passes the tests, beside the key of its answer, where it has one.
-use Rattle.std.proofs.Common.{◌≡◌, ◌++◌, ◌==◌, ℕ, pos, Bool, true, false, cond, if◌then◌else◌, List, [], ◌∷◌, map, filter, flat_map}
+use Rattle.std.proofs.Common.{◌≡◌, ◌++◌, ◌==◌, ℕ, pos, Bool, cond, if◌then◌else◌, List, [], ◌∷◌, map, filter, flat_map}
 use Rattle.std.proofs.Common.{Option, None, Some, option_map, option_to_list, refl, ap, ◌∙◌, append-nil}
 use Rattle.std.specs.List.{list_all}
 use Rattle.std.proofs.lemmas.Simd.{map-map}
@@ -26,7 +26,7 @@ use Rattle.sql_read.proofs.Answered.{IsReadingFrom, all_rows, answers_from, by, 
 use Rattle.sql_read.proofs.JoinParts.{key_or_nulls, keyed_columns, keyed_from, keyed_params, keyed_project, on_key}
 use Rattle.sql_read.proofs.KeyedReadings.{cut}
 use Rattle.sql_read.proofs.Lists.{as_it_is, filter-map, limited-map, map-same}
-use Rattle.sql_read.proofs.Tests.{number_test}
+use Rattle.sql_read.proofs.{SideBySide.each_joined, Tests.number_test}
 
 -- ---- keys
 
@@ -50,18 +50,6 @@ key_shows None = refl
 key_shows (Some k) = refl
 
 -- ---- rows side by side
-
--- of rows those that pass, each with what stands beside it
-pub each_joined : {X : Type 0} (image : X → Row) (filled : X → Env) (P : X → Type 0) (test : X → Bool) (joined : Row → List Env)
-    → ((x : X) → P x → joined (image x) ≡ cond (test x) (filled x ∷ []) []) → (xs : List X) → EachOf P xs
-    → flat_map joined (map image xs) ≡ map filled (filter test xs)
-each_joined image filled P test joined is [] h = refl
-each_joined {X} image filled P test joined is (x ∷ xs) h =
-    (λ i. is x h.0 i ++ each_joined image filled P test joined is xs h.1 i) ∙ by (test x) (filter test xs)
-  where
-    by : (b : Bool) (rest : List X) → cond b (filled x ∷ []) [] ++ map filled rest ≡ map filled (cond b (x ∷ rest) rest)
-    by true rest = refl
-    by false rest = refl
 
 -- rows that pass are filled by the key of the challenge among them
 pub with_key : (db : Trees) (keys : List AnswerKey) → db 17 ≡ map key_image keys → (env : Env) (tests on : List Term) (c : Owned ChallengeRow) (passed : Bool)

@@ -25,6 +25,8 @@ pub mod KeyedFound
 pub mod KeyedReadings
 pub mod KeyedRows
 pub mod ListedOrder
+pub mod ListingFound
+pub mod ListingRows
 pub mod Lists
 pub mod Looking
 pub mod LookUpFaults
@@ -38,6 +40,7 @@ pub mod Results
 pub mod Selecting
 pub mod ShownRows
 pub mod ShownTables
+pub mod SideBySide
 pub mod StatusTests
 pub mod Streaming
 pub mod TableColumns

@@ -31,7 +31,7 @@ use Rattle.sql_schema.specs.declared.listed.TheConstants as ord_authz
 use Rattle.sql_read.proofs.Answered.{IsReading, all_rows, answers, by, less, passes, picked, shown_in_order}
 use Rattle.sql_read.proofs.{Failing.query_fails, KeyedReadings.columns_of}
 use Rattle.sql_read.proofs.FoundRows.{filter-each, table_rows}
-use Rattle.sql_read.proofs.LookUpReadings.{is_equal, listed_by_reading, listing_reading}
+use Rattle.sql_read.proofs.LookUpReadings.{is_equal, listed_by_reading}
 use Rattle.sql_read.proofs.Tests.{number_test, same_bounded}
 use Rattle.sql_read.proofs.TableColumns.{listed_back, listed_fits, listed_project}
 
@@ -42,7 +42,7 @@ abbrev pub placed : Owned Listed → Output
 placed l = (Int (pos l.owner) ∷ Int (pos l.row.place) ∷ [], listed_cells l)
 
 -- how a query orders two rows
-abbrev ranks : List Term → Owned Listed → Owned Listed → Ordering
+abbrev pub ranks : List Term → Owned Listed → Owned Listed → Ordering
 ranks tests l k = output_cmp (picked 6 tests listed_project (by 1 ∷ by 2 ∷ [])) (placed l) (placed k)
 
 -- a lower order comes first
@@ -145,10 +145,3 @@ module _ {S : Type 0} (g : Ghosts S) (old : Held S) (T : Tables) (has : Holds (s
   listed_by_find n =
       listed_finds ord_authz.SELECT_OF.now (is_equal 1) (number n) (λ l. l.owner == bounded n) (λ l. l.owner == n) (listed_by_reading n)
       (λ t. number_test t.1.owner (bounded n)) (λ l k. same_bounded l.owner n k.order.1)
-
-  -- what lists an authorization
-  pub listing_find : (n : ℕ) → Finds g listed_in FitsListed listed_columns IsStoredListed (ord_authz.SELECT_LISTING.now, number n) old
-      (filter (λ l. l.row.authorization == n) (listed_rows T.orders))
-  listing_find n =
-      listed_finds ord_authz.SELECT_LISTING.now (is_equal 3) (number n) (λ l. l.row.authorization == bounded n) (λ l. l.row.authorization == n)
-      (listing_reading n) (λ t. number_test t.1.row.authorization (bounded n)) (λ l k. same_bounded l.row.authorization n k.authorization.1)

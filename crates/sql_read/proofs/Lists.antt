@@ -35,6 +35,11 @@ pub map_flat : {X Y Z : Type 0} (g : Y → Z) (f : X → List Y) (xs : List X) �
 map_flat g f [] = refl
 map_flat g f (x ∷ xs) = map-append g (f x) (flat_map f xs) ∙ ap (λ ys. map g (f x) ++ ys) (map_flat g f xs)
 
+-- lists of what a map gives
+pub flat_of_map : {X Y Z : Type 0} (f : Y → List Z) (g : X → Y) (xs : List X) → flat_map f (map g xs) ≡ flat_map (λ x. f (g x)) xs
+flat_of_map f g [] = refl
+flat_of_map f g (x ∷ xs) = ap (λ ys. f (g x) ++ ys) (flat_of_map f g xs)
+
 -- what holds of each item of these lists
 pub each_flat : {X Y : Type 0} (P : Y → Type 0) (f : X → List Y) (xs : List X) → EachOf (λ x. EachOf P (f x)) xs → EachOf P (flat_map f xs)
 each_flat P f [] h = tt

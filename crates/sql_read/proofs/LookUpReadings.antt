@@ -30,6 +30,7 @@ use Rattle.sql_read.specs.Queries.{account_query, authorization_query, nonce_que
 use Rattle.sql_read.specs.declared.formats.Format.TheVariants.{Second}
 use Rattle.sql_read.proofs.Answered.{IsReading, IsReadingFrom, all_rows, by, first_row}
 use Rattle.sql_read.proofs.JoinParts.{beside_from, beside_project, beside_tests, by_other, join_from, join_tests, joined_project, keyed_from, keyed_project}
+use Rattle.sql_read.proofs.JoinParts.{listing_from, listing_project, listing_tests}
 use Rattle.sql_read.proofs.Readings.{accounts_reading, authorizations_reading, nonces_reading, orders_reading}
 use Rattle.sql_read.proofs.TableColumns.{account_names, authorization_names, authorization_status_at, challenge_names, key_names}
 use Rattle.sql_read.proofs.TableColumns.{listed_names, listed_project, nonce_names, order_names, order_status_at, summary_names}
@@ -132,11 +133,11 @@ pub listed_by_reading : (n : ℕ)
 unfolding understood everything
 listed_by_reading n = record { names = listed_names; means = refl; selecting = refl; sizes = refl; typed = refl }
 
--- what lists an authorization
+-- the orders of what lists an authorization
 pub listing_reading : (n : ℕ)
-    → IsReading desk_schema all_rows ord_authz.SELECT_LISTING.now 6 (is_equal 3) listed_project (by 1 ∷ by 2 ∷ []) (number n)
+    → IsReadingFrom desk_schema all_rows ord.SELECT_LISTING.now listing_from listing_tests listing_project (by 1 ∷ by 2 ∷ []) (number n)
 unfolding understood everything
-listing_reading n = record { names = listed_names; means = refl; selecting = refl; sizes = refl; typed = refl }
+listing_reading n = record { names = order_names; means = refl; selecting = refl; sizes = refl; typed = refl }
 
 -- challenges of an authorization, each beside the key of its answer
 pub challenges_of_reading : (n : ℕ)

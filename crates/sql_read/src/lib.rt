@@ -29,6 +29,8 @@ pub use first::first_meta;
 pub use format::is_newer;
 pub use meta::meta_row;
 pub use nonces::{earliest_issue, find_nonces};
-pub use orders::{earliest_order_end, find_orders, order_above, orders_listing, summaries_of};
+pub use orders::{
+    earliest_order_end, find_orders, order_above, orders_with_authorization, summaries_of,
+};
 pub use rows::Selected;
 pub use waiting::{authorizations_with_challenge, waiting_challenges};

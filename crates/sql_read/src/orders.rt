@@ -1,16 +1,15 @@
 //! Orders, each with what it lists, read from the rows of answers and looked up.
 ghost use Rattle.std.specs.Prelude.{◌≡◌};
+ghost use Rattle.std.specs.List.{flat_map};
 ghost use Rattle.store_columns.specs.Flat.{without_listed};
 ghost use Rattle.model_lives.specs.Above.{first_of, orders_above};
-ghost use Rattle.model_lives.specs.LookUps.{orders_listing, orders_where, summaries_of};
+ghost use Rattle.model_lives.specs.LookUps.{orders_listing, orders_numbered, orders_where, summaries_of};
 ghost use Rattle.sql_read.specs.Earliest.{TellsEarliest, order_ends};
 ghost use Rattle.sql_read.specs.{Looking.LooksUp, Queries.asked, Queries.order_query, Under.HasItsListed};
 ghost use Rattle.sql_read.specs.Spelled.{FitsListed, FitsOrder, FitsSummary, listed_in, order_in, summary_in};
 
 use crate::fault::ReadFault;
-use crate::rows::{
-    Parted, Query, Selected, earliest, find_rows, find_wholes, owners, without_owners,
-};
+use crate::rows::{Parted, Query, Selected, earliest, find_rows, find_wholes, without_owners};
 use crate::values::{both, bytes_or_none, numbers, numbers_or_none, text, text_or_none};
 use desk_model::{OrderRow, OrderStatus, Sequence};
 use model_lives::OrdersWhere;
@@ -143,21 +142,20 @@ pub fn summaries_of<S: Alter>(
     find_rows::<S, OrderSummaryColumns>(alloc, conn, query)
 }
 
-/// The numbers of the orders that list an authorization.
+/// The orders that list an authorization, by number, each with what it lists, as often as it lists it.
 ///
 /// # Errors
 ///
 /// As of each reading (`lib.rt`).
-pub fn orders_listing<S: Alter>(
+pub fn orders_with_authorization<S: Alter>(
     alloc: Global,
     conn: &mut Connection<S>,
-    authorization: u64,
-) -> Result<Vec<u64>, ReadFault>
-    ensures { LooksUp S.Store conn.old conn.new (λ T rows. rows.items ≡ orders_listing T authorization) result }
+    number: u64,
+) -> Result<Vec<OrderRow>, ReadFault>
+    ensures { LooksUp S.Store conn.old conn.new (λ T rows. rows.items ≡ flat_map (orders_numbered T) (orders_listing T number)) result }
 {
-    let query = Query::number(listed::SELECT_LISTING, authorization);
-    let rows = find_rows::<S, OrderAuthzColumns>(alloc, conn, query)?;
-    owners(alloc, rows)
+    let query = Query::number(orders::SELECT_LISTING, number);
+    find_wholes::<S, OrderColumns, _>(alloc, conn, query)
 }
 
 /// The order of the least number above this one, if there is one.

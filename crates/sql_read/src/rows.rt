@@ -307,7 +307,7 @@ pub(crate) fn find_wholes<S: Alter, C: Selected<Row = P>, P: Parted>(
     complete_all(alloc, conn, heads)
 }
 
-// ---- rows that belong to others, and the numbers of those
+// ---- rows that belong to others
 
 /// The rows without the numbers of their owners.
 pub(crate) fn without_owners<T: Drop>(
@@ -318,12 +318,4 @@ pub(crate) fn without_owners<T: Drop>(
     ensures fault { IfErr result IsOfMemory }
 {
     Ok(rows.into_iter().map(|owned| owned.row).collect(alloc)?)
-}
-
-/// The numbers of the owners.
-pub(crate) fn owners<T: Drop>(alloc: Global, rows: Vec<Owned<T>>) -> Result<Vec<u64>, ReadFault>
-    ensures numbers { IfOk result (λ numbers. numbers.items ≡ map (λ r. r.owner) rows.items) }
-    ensures fault { IfErr result IsOfMemory }
-{
-    Ok(rows.into_iter().map(|owned| owned.owner).collect(alloc)?)
 }

@@ -24,6 +24,12 @@ pub const SELECT_PAST: &str = ord!(select; " WHERE status = ?1 AND expires < ?2"
 /// Shows the orders of a status.
 pub const SELECT_WITH_STATUS: &str = ord!(select; " WHERE status = ?1");
 
+/// Shows the order of each place that lists an authorization, by order and place.
+pub const SELECT_LISTING: &str = concat!(
+    "SELECT ord.num, ord.account, ord.made, ord.expires, ord.finalized, ord.csr, ord.certified, ord.cert, ord.failed, ord.problem, ord.status ",
+    "FROM ord_authz JOIN ord ON ord.num = ord_authz.ord WHERE ord_authz.authz = ?1 ORDER BY ord_authz.ord, ord_authz.place"
+);
+
 /// Shows the first order above a number.
 pub const SELECT_ABOVE: &str = ord!(select; " WHERE num > ?1"; " LIMIT 1");
 
