@@ -1,4 +1,4 @@
-//! The store as a source of rows: one statement a look-up, and one more for the children of each row, but for the challenges that wait;
+//! The store as a source of rows: one statement a look-up, and one more for the children of each row, but where they are joined;
 //! none for what it knows.
 ghost use Rattle.desk_store.specs.Desks.{store_sight, HasTables};
 ghost use Rattle.std.specs.Prelude.{◌≡◌, [], None, IfOk, IsTrue};
@@ -70,13 +70,17 @@ impl<S: Alter> LookUps for Store<S> {
         self.or_fault(read)
     }
 
-    fn orders_listing(&mut self, alloc: Global, authorization: u64) -> Found<u64> {
-        let read = rows::orders_listing(alloc, &mut self.conn, authorization);
+    fn orders_with_authorization(&mut self, alloc: Global, authorization: u64) -> Found<OrderRow> {
+        let read = rows::orders_with_authorization(alloc, &mut self.conn, authorization);
         self.or_fault(read)
     }
 
-    fn owners_of(&mut self, alloc: Global, challenge: u64) -> Found<u64> {
-        let read = rows::owners_of(alloc, &mut self.conn, challenge);
+    fn authorizations_with_challenge(
+        &mut self,
+        alloc: Global,
+        challenge: u64,
+    ) -> Found<AuthorizationRow> {
+        let read = rows::authorizations_with_challenge(alloc, &mut self.conn, challenge);
         self.or_fault(read)
     }
 

@@ -264,8 +264,7 @@ impl LeadsTo<OrderRow> for AuthorizationRow {
         source: &mut S,
         table: &mut Table<OrderRow>,
     ) -> Result<(), StorageFault> {
-        let numbers = source.orders_listing(alloc, self.number)?;
-        add_each(alloc, source, table, numbers.as_slice())
+        add_found(table, source.orders_with_authorization(alloc, self.number))
     }
 }
 

@@ -1,7 +1,8 @@
 //! Look-ups in the tables of a desk, and its rows one by one.
 ghost use Rattle.std.specs.Prelude.{◌≡◌, [], ◌∷◌, map};
 ghost use Rattle.model_lives.specs.LookUps.{accounts_where, authorizations_where, nonces_where, orders_where, AreWaiting, bare_authorizations};
-ghost use Rattle.model_lives.specs.LookUps.{orders_listing, owners_of, summaries_of};
+ghost use Rattle.model_lives.specs.LookUps.{authorizations_numbered, orders_listing, orders_numbered, owners_of, summaries_of};
+ghost use Rattle.std.specs.List.{flat_map};
 ghost use Rattle.model_laws.specs.Ordered.{IsOrdered};
 ghost use Rattle.store_api.specs.Sight.{Gives};
 ghost use Rattle.model_lives.specs.Above.{accounts_above, authorizations_above, challenges_above, first_of, orders_above};
@@ -18,7 +19,7 @@ use store_columns::Waiting;
 /// What a look-up of rows gives.
 pub type Found<R> = Result<Vec<R>, StorageFault>;
 
-/// The tables of a desk, in which rows are looked up by queries, and numbers by those of others.
+/// The tables of a desk, in which rows are looked up by queries, and by the numbers of others.
 ///
 /// A look-up changes nothing, and may fail by `Memory`, where a growth was refused, or by `Device` or `Reopen`, where the
 /// tables could not be read.
@@ -55,13 +56,17 @@ pub trait LookUps: Kept {
     fn bare_authorizations(&mut self, alloc: Global, number: u64) -> Found<AuthorizationRow>
         ensures { Gives Self.sight self.old self.new (λ T rows. rows.items ≡ bare_authorizations T number) result };
 
-    /// The numbers of the orders that list an authorization.
-    fn orders_listing(&mut self, alloc: Global, authorization: u64) -> Found<u64>
-        ensures { Gives Self.sight self.old self.new (λ T numbers. numbers.items ≡ orders_listing T authorization) result };
+    /// The orders that list an authorization, by number, each as often as it lists it.
+    fn orders_with_authorization(&mut self, alloc: Global, authorization: u64) -> Found<OrderRow>
+        ensures { Gives Self.sight self.old self.new (λ T rows. rows.items ≡ flat_map (orders_numbered T) (orders_listing T authorization)) result };
 
-    /// The number of the authorization of a challenge.
-    fn owners_of(&mut self, alloc: Global, challenge: u64) -> Found<u64>
-        ensures { Gives Self.sight self.old self.new (λ T numbers. numbers.items ≡ owners_of T challenge) result };
+    /// The authorization of a challenge, with all its challenges.
+    fn authorizations_with_challenge(
+        &mut self,
+        alloc: Global,
+        challenge: u64,
+    ) -> Found<AuthorizationRow>
+        ensures { Gives Self.sight self.old self.new (λ T rows. rows.items ≡ flat_map (authorizations_numbered T) (owners_of T challenge)) result };
 
     /// The challenges that are stored as waiting for the validator, each beside its authorization; those of one authorization
     /// by number.

@@ -301,10 +301,10 @@ pub(crate) fn add_owner<S: LookUps>(
         (flat_map (λ c. flat_map (authorizations_numbered T) (owners_of T c)) (option_to_list challenge)) authorizations.old) }
 {
     match challenge {
-        Some(number) => {
-            let numbers = source.owners_of(alloc, number)?;
-            add_each(alloc, source, authorizations, numbers.as_slice())
-        }
+        Some(number) => add_found(
+            authorizations,
+            source.authorizations_with_challenge(alloc, number),
+        ),
         None => Ok(()),
     }
 }
