@@ -1,9 +1,9 @@
 -- What the join shows that begins with one challenge: all challenges of its authorization, each beside it, and beside the key of its answer.
-use Rattle.std.proofs.Common.{◌≡◌, ◌++◌, ◌&&◌, ◌==◌, ◌⊎◌, ℕ, pos, Bool, true, false, cond, List, [], ◌∷◌, map, filter, flat_map, inl, inr}
+use Rattle.std.proofs.Common.{◌≡◌, ◌++◌, ◌&&◌, ◌==◌, ◌⊎◌, ℕ, pos, cond, List, [], ◌∷◌, map, filter, flat_map, inl, inr}
 use Rattle.std.proofs.Common.{refl, sym, ap, subst, ◌∙◌, append-nil}
 use Rattle.std.specs.{List.list_all, Ordering.is_eq}
 use Rattle.std.proofs.lemmas.Bool.{eqb-true}
-use Rattle.std.proofs.{Math.Bool.and-true, lemmas.Simd.map-map}
+use Rattle.std.proofs.{lemmas.Simd.map-map}
 use Rattle.sqlite.specs.declared.types.Value.TheVariants.{Int}
 use Rattle.sqlite.specs.State.{State, Shown}
 use Rattle.sqlite_value.specs.Order.{Row}
@@ -17,7 +17,6 @@ use Rattle.store_columns.specs.declared.columns.{AnswerKey.AnswerKey, Owned.Owne
 use Rattle.model_laws.specs.Ordered.{Ascends}
 use Rattle.model_laws.proofs.Basics.{each, each-map, each_all, each_both}
 use Rattle.model_laws.proofs.{Keeps.each-filter, RowLists.ascends_filter, RowLists.ascends_map}
-use Rattle.model_lives.proofs.Lists.{filter_nothing}
 use Rattle.desk_model.specs.Kept.{EachOf}
 use Rattle.desk_model.specs.declared.rows.{AuthorizationRow.AuthorizationRow, ChallengeRow.ChallengeRow}
 use Rattle.sql_schema.specs.Schema.{desk_schema}

@@ -1,6 +1,6 @@
 -- What the join of places with orders shows: the order of each place that lists an authorization.
 use Rattle.std.proofs.Common.{◌≡◌, ◌++◌, ◌&&◌, ◌==◌, ℕ, pos, true, cond, List, [], ◌∷◌, map, filter, flat_map, refl, sym, ap, ◌∙◌}
-use Rattle.std.specs.{List.list_all, List.Sorted.IsPermutation}
+use Rattle.std.specs.{List.list_all}
 use Rattle.std.proofs.lemmas.{List.map-append, List.Kept.IsStrictlySortedBy-filter, List.Sorted.IsPermutation-sym}
 use Rattle.sqlite.specs.declared.types.Value.TheVariants.{Int}
 use Rattle.sqlite.specs.State.{State, Shown}
