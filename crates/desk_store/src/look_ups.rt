@@ -10,14 +10,15 @@ ghost use Rattle.store_api.specs.Sight.{ForTables, Reads};
 
 use crate::store::Store;
 use desk_model::{
-    AccountRow, AuthorizationRow, AuthzStatus, ChallengeRow, Meta, Nonce, OrderRow, OrderStatus,
+    AccountRow, AuthorizationRow, AuthzStatus, ChallengeRow, Listed, Meta, Nonce, OrderRow,
+    OrderStatus,
 };
 use model_lives::{AccountsWhere, AuthorizationsWhere, NoncesWhere, OrdersWhere};
 use sql_read as rows;
 use sqlite::Alter;
 use std::alloc::Global;
 use store_api::{Found, LookUps, RowsAbove, StorageFault};
-use store_columns::Waiting;
+use store_columns::{Owned, Waiting};
 use store_passes::{FaultKind, Orders, StatusFaults};
 
 impl<S: Alter> LookUps for Store<S> {
@@ -62,6 +63,16 @@ impl<S: Alter> LookUps for Store<S> {
 
     fn summaries_of(&mut self, alloc: Global, account: u64) -> Found<OrderRow> {
         let read = rows::summaries_of(alloc, &mut self.conn, account);
+        self.or_fault(read)
+    }
+
+    fn processing_orders(&mut self, alloc: Global) -> Found<OrderRow> {
+        let read = rows::processing_orders(alloc, &mut self.conn);
+        self.or_fault(read)
+    }
+
+    fn processing_places(&mut self, alloc: Global) -> Found<(Owned<Listed>, AuthorizationRow)> {
+        let read = rows::processing_places(alloc, &mut self.conn);
         self.or_fault(read)
     }
 

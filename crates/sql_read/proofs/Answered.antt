@@ -250,16 +250,21 @@ unfolding IsStrictlySortedBy
 strictly_shown q shown [] up = tt
 strictly_shown q shown (y ∷ ys) up = (all_map (λ o. output_cmp q (shown y) o ≡ Less) shown ys up.0, strictly_shown q shown ys up.1)
 
--- the rows come in the one order that is strict
-pub shown_in_order : {Y : Type 0} (q : Query) (shown : Y → Output) (zs ys : List Y) (rows : List Row) → IsPermutation zs ys
-    → IsStrictlySortedBy (λ x y. output_cmp q (shown x) (shown y)) ys → IsOrderedAs q (map shown zs) rows → rows ≡ map (λ y. (shown y).1) ys
-shown_in_order q shown zs ys rows same up a =
-    let moved = IsPermutation-trans a.ordered (map shown zs) (map shown ys) (IsPermutation-sym (map shown zs) a.ordered a.same)
-    (IsPermutation-map shown zs ys same) in
+-- outputs that are such rows in any order come in the one order of theirs that is strict
+pub shown_strictly : {Y : Type 0} (q : Query) (shown : Y → Output) (outputs : List Output) (ys : List Y) (rows : List Row)
+    → IsPermutation outputs (map shown ys) → IsStrictlySortedBy (λ x y. output_cmp q (shown x) (shown y)) ys → IsOrderedAs q outputs rows
+    → rows ≡ map (λ y. (shown y).1) ys
+shown_strictly q shown outputs ys rows same up a =
+    let moved = IsPermutation-trans a.ordered outputs (map shown ys) (IsPermutation-sym outputs a.ordered a.same) same in
     a.shown
     ∙ ap (map (λ (o : Output). o.1))
     (same_sorted (output_cmp q) (output_cmp_total q) a.ordered (map shown ys) a.sorted (strictly_shown q shown ys up) moved)
     ∙ map-map (λ (o : Output). o.1) shown ys
+
+-- so do those of rows
+pub shown_in_order : {Y : Type 0} (q : Query) (shown : Y → Output) (zs ys : List Y) (rows : List Row) → IsPermutation zs ys
+    → IsStrictlySortedBy (λ x y. output_cmp q (shown x) (shown y)) ys → IsOrderedAs q (map shown zs) rows → rows ≡ map (λ y. (shown y).1) ys
+shown_in_order q shown zs ys rows same up a = shown_strictly q shown (map shown zs) ys rows (IsPermutation-map shown zs ys same) up a
 
 -- ---- by one number
 

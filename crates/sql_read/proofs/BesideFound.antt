@@ -22,7 +22,7 @@ use Rattle.sql_read.specs.{Joined.gathered, Joined.joined_row, Joined.keyed_row,
 use Rattle.sql_read.specs.Spelled.{FitsJoined, joined_in}
 use Rattle.sql_read.specs.declared.formats.Format.TheVariants.{Second}
 use Rattle.sql_read.proofs.Answered.{all_rows}
-use Rattle.sql_read.proofs.Beside.{HasOne, Pair, owners_there, parts}
+use Rattle.sql_read.proofs.Beside.{IsOwned, Pair, owners_there, parts}
 use Rattle.sql_read.proofs.BesideRows.{IsAsked, companions, companions_shown, each_companion, one_asked}
 use Rattle.sql_read.proofs.{Failing.join_fails, FoundRows.finds_shown}
 use Rattle.sql_read.proofs.JoinFound.{waiting_of}
@@ -60,9 +60,9 @@ some_left p q xs x alone passes none =
 
 module _ {S : Type 0} (g : Ghosts S) (old : Held S) (T : Tables) (has : Holds (state g old).now T) (book : IsStoredBook T) (n : ℕ) where
   -- each challenge has one authorization
-  all_owned : EachOf (HasOne T.authorizations) (all_challenges T)
+  all_owned : EachOf (IsOwned T.authorizations) (all_challenges T)
   all_owned =
-      each_sorted challenge_layout.key (HasOne T.authorizations) (challenge_rows T.authorizations) (owners_there 0 T.authorizations has.rising.authorizations)
+      each_sorted challenge_layout.key (IsOwned T.authorizations) (challenge_rows T.authorizations) (owners_there 0 T.authorizations has.rising.authorizations)
 
   -- they are found
   pub beside_find : Finds g joined_in FitsJoined joined_columns IsStoredJoined (chall.SELECT_BESIDE.now, number n) old

@@ -8,6 +8,7 @@ use Rattle.sqlite.specs.declared.types.Value.TheVariants.{Int}
 use Rattle.sqlite.specs.State.{State, Shown}
 use Rattle.sqlite_value.specs.Order.{Row}
 use Rattle.sqlite_trees.specs.Tree.{Trees}
+use Rattle.sqlite_trees.proofs.ListLemmas.{map-flat_map}
 use Rattle.sqlite_sql.specs.Program.{overlay}
 use Rattle.sqlite_sql.specs.Query.{Output, end, inner, left, matches, output}
 use Rattle.sqlite_sql.specs.Term.{Env, holds}
@@ -26,10 +27,10 @@ use Rattle.sql_tables.specs.Layouts.{challenge_layout}
 use Rattle.sql_tables.proofs.Keyed.{one_or_none, three}
 use Rattle.sql_read.specs.{Bounded.bounded, Queries.number}
 use Rattle.sql_read.proofs.Answered.{all_rows, answers_from, picked_from, shown_in_order, strictly}
-use Rattle.sql_read.proofs.Beside.{HasOne, Pair, parts}
+use Rattle.sql_read.proofs.Beside.{IsOwned, Pair, parts}
 use Rattle.sql_read.proofs.JoinParts.{beside_from, beside_project, beside_tests, by_other, joined_columns, joined_params, on_key}
 use Rattle.sql_read.proofs.KeyedRows.{HasChallenges, HasOwnKey, key_cells, key_shows, with_key}
-use Rattle.sql_read.proofs.Lists.{as_it_is, each_flat, each_passing, map_flat}
+use Rattle.sql_read.proofs.Lists.{as_it_is, each_flat, each_passing}
 use Rattle.sql_read.proofs.LookUpReadings.{beside_reading}
 use Rattle.sql_read.proofs.SideBySide.{each_joined, each_spread, test_first, tests_first}
 use Rattle.sql_read.proofs.Tests.{eq_as, is_number, number_test, same_bounded}
@@ -56,12 +57,12 @@ module _ (cs : List (Owned ChallengeRow)) (rows : List AuthorizationRow) where
   -- what is made of what was made
   pub of_asked_again : {Y Z : Type 0} (n : ℕ) (g : Y → Z) (f : Owned ChallengeRow → Pair → Y) → map g (of_asked n f) ≡ of_asked n (λ b x. g (f b x))
   of_asked_again {Y} {Z} n g f =
-      map_flat g (λ b. of_owner (f b) b) (filter (λ b. b.row.number == n) cs)
+      map-flat_map g (λ b. of_owner (f b) b) (filter (λ b. b.row.number == n) cs)
       ∙ (λ i. flat_map (λ b. owner b i) (filter (λ b. b.row.number == n) cs))
     where
       owner : (b : Owned ChallengeRow) → map g (of_owner (f b) b) ≡ of_owner (λ x. g (f b x)) b
       owner b =
-          map_flat g (of_one (f b)) (filter (λ a. a.number == b.owner) rows)
+          map-flat_map g (of_one (f b)) (filter (λ a. a.number == b.owner) rows)
           ∙ (λ i. flat_map (λ a. map-map g (λ c. f b (c, a)) (filter (λ c. c.owner == a.number) cs) i) (filter (λ a. a.number == b.owner) rows))
 
   -- there is none of the number, or there are those of the authorization of the one
@@ -71,13 +72,13 @@ module _ (cs : List (Owned ChallengeRow)) (rows : List AuthorizationRow) where
     pub same : a.number ≡ b.owner
     pub all : companions n ≡ of_one (λ x. x) a
 
-  pub one_asked : (n : ℕ) → Ascends challenge_layout.key 0 cs → EachOf (HasOne rows) cs
+  pub one_asked : (n : ℕ) → Ascends challenge_layout.key 0 cs → EachOf (IsOwned rows) cs
       → ((filter (λ c. c.row.number == n) cs ≡ []) × (companions n ≡ [])) ⊎ ((b : Owned ChallengeRow) × (a : AuthorizationRow) × IsAsked n b a)
   one_asked n up owned = elim (one_or_none challenge_layout.key n 0 cs up) [
     | inl none ↦ inl (numbered ∙ none, ap (flat_map (λ b. of_owner (λ x. x) b)) (numbered ∙ none))
     | inr one ↦
         let alone = numbered ∙ one.2 in
-        let has = (subst (EachOf (HasOne rows)) alone (each-filter (HasOne rows) (λ c. c.row.number == n) cs owned)).0 in
+        let has = (subst (EachOf (IsOwned rows)) alone (each-filter (IsOwned rows) (λ c. c.row.number == n) cs owned)).0 in
         inr (
           one.0,
           has.0,
@@ -97,7 +98,7 @@ module _ (cs : List (Owned ChallengeRow)) (rows : List AuthorizationRow) where
       numbered = λ i. filter (λ c. sym (eq_as c.row.number n) i) cs
 
   -- they come by number
-  pub companions_rise : (n : ℕ) → Ascends challenge_layout.key 0 cs → EachOf (HasOne rows) cs → Ascends (λ x. x.0.row.number) 0 (companions n)
+  pub companions_rise : (n : ℕ) → Ascends challenge_layout.key 0 cs → EachOf (IsOwned rows) cs → Ascends (λ x. x.0.row.number) 0 (companions n)
   companions_rise n up owned = elim (one_asked n up owned) [
     | inl none ↦ subst (Ascends (λ x. x.0.row.number) 0) (sym none.1) tt
     | inr one ↦
@@ -189,7 +190,7 @@ shows n b x =
 
 -- the challenges of the authorization are shown, by number
 pub companions_shown : (old new : State) (cs : List (Owned ChallengeRow)) (rows : List AuthorizationRow) (keys : List AnswerKey) (n : ℕ) (given : List Row)
-    → old.now.schema ≡ desk_schema → HasChallenges old.now.trees cs keys → old.now.trees 5 ≡ map authorization_image rows → EachOf (HasOne rows) cs
+    → old.now.schema ≡ desk_schema → HasChallenges old.now.trees cs keys → old.now.trees 5 ≡ map authorization_image rows → EachOf (IsOwned rows) cs
     → Shown chall.SELECT_BESIDE.now (number n) old new given
     → given ≡ map (λ x. joined_params (joined_columns (parts x))) (companions cs rows n)
 companions_shown old new cs rows keys n given there has rows_are owned h =

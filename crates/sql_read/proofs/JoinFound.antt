@@ -24,7 +24,7 @@ use Rattle.sql_read.specs.{Joined.joined_row, Joined.keyed_row, Looking.Finds}
 use Rattle.sql_read.specs.Spelled.{FitsJoined, joined_in}
 use Rattle.sql_read.specs.declared.formats.Format.TheVariants.{Second}
 use Rattle.sql_read.proofs.Answered.{all_rows, by}
-use Rattle.sql_read.proofs.Beside.{HasOne, Pair, each_beside, each_pair, firsts, owners_there, pairs, parts}
+use Rattle.sql_read.proofs.Beside.{IsOwned, Pair, each_beside, each_pair, firsts, owner, owners_there, pairs, parts}
 use Rattle.sql_read.proofs.{Failing.join_fails, FoundRows.finds_shown}
 use Rattle.sql_read.proofs.JoinParts.{HasTextJoined, IsStoredJoined, IsStoredKeyed, join_from, join_tests, joined-apart, joined_back}
 use Rattle.sql_read.proofs.JoinParts.{joined_columns, joined_fits, joined_params, joined_project}
@@ -39,7 +39,7 @@ use Rattle.sql_read.proofs.WaitingChallenges.{are_waiting, found_waiting, number
 
 -- the challenges that wait, beside their authorizations
 abbrev pub waiting_pairs : Tables → List Pair
-waiting_pairs T = pairs T.authorizations (found_waiting T)
+waiting_pairs T = pairs owner T.authorizations (found_waiting T)
 
 -- a challenge with its authorization
 abbrev pub waiting_of : Pair → Waiting
@@ -50,11 +50,11 @@ waiting_rows T = map waiting_of (waiting_pairs T)
 
 module _ {S : Type 0} (g : Ghosts S) (old : Held S) (T : Tables) (has : Holds (state g old).now T) where
   -- each has one authorization
-  pub owned : EachOf (HasOne T.authorizations) (found_waiting T)
+  pub owned : EachOf (IsOwned T.authorizations) (found_waiting T)
   owned =
       let all = challenge_rows T.authorizations in
-      each-filter (HasOne T.authorizations) waits (sorted_by challenge_layout.key all)
-      (each_sorted challenge_layout.key (HasOne T.authorizations) all (owners_there 0 T.authorizations has.rising.authorizations))
+      each-filter (IsOwned T.authorizations) waits (sorted_by challenge_layout.key all)
+      (each_sorted challenge_layout.key (IsOwned T.authorizations) all (owners_there 0 T.authorizations has.rising.authorizations))
 
   -- the trees of the tables
   trees : HasTrees (state g old).now.trees (all_challenges T) T.authorizations (all_keys T)
@@ -75,11 +75,11 @@ module _ {S : Type 0} (g : Ghosts S) (old : Held S) (T : Tables) (has : Holds (s
       finds_shown parts joined_columns IsStoredJoined joined_in joined_params joined_back joined-apart HasTextJoined FitsJoined joined_fits g
       (chall.SELECT_JOINED.now, text (challenge_status_text challenge.Processing)) old (waiting_pairs T)
       (each _ _ (waiting_pairs T) (λ x p. ((p.0.0, p.1), p.0.1))
-      (each_pair (λ c. IsStoredKeyed (keyed_row c)) (λ a. IsStoredAuthorization (without_challenges a)) T.authorizations (found_waiting T)
+      (each_pair owner T.authorizations (λ c. IsStoredKeyed (keyed_row c)) (λ a. IsStoredAuthorization (without_challenges a)) (found_waiting T)
       (each-filter (λ c. IsStoredKeyed (keyed_row c)) waits (all_challenges T) (keyed_stored g old T has book))
       (each_of_map IsStoredAuthorization without_challenges T.authorizations (authorizations.stored book.stored))))
-      (each_pair (λ c. HasTextChallenge (columns challenge_facts c)) (λ a. HasTextAuthorization (columns authorization_facts a)) T.authorizations
-      (found_waiting T)
+      (each_pair owner T.authorizations (λ c. HasTextChallenge (columns challenge_facts c))
+      (λ a. HasTextAuthorization (columns authorization_facts a)) (found_waiting T)
       (each-filter (λ c. HasTextChallenge (columns challenge_facts c)) waits (all_challenges T) (keyed_texts g old T has book))
       (each_of_map HasTextAuthorization (columns authorization_facts) T.authorizations (authorizations.texts book.texts)))
       (λ new rows h.
@@ -96,19 +96,19 @@ module _ {S : Type 0} (g : Ghosts S) (old : Held S) (T : Tables) (has : Holds (s
       map-map joined_row waiting_of (waiting_pairs T)
       ∙ map-each (λ x. joined_row (waiting_of x)) parts (waiting_pairs T)
       (each _ _ (waiting_pairs T) (λ x it i. ((record { owner = it.1 i; row = bare x.0.row }, without_challenges x.1), answer_key x.0.row))
-      (each_beside T.authorizations (found_waiting T) owned))
+      (each_beside owner T.authorizations (found_waiting T) owned))
 
   -- those that wait, each with its authorization
   pub are_found : IsStoredBook T → AreWaiting T (map (λ w. (w.authorization.number, w.challenge)) (waiting_rows T))
       × EachOf (λ w. bare_authorizations T w.authorization.number ≡ w.authorization ∷ []) (waiting_rows T)
   are_found book =
       let xs = waiting_pairs T in
-      let beside = each_beside T.authorizations (found_waiting T) owned in
+      let beside = each_beside owner T.authorizations (found_waiting T) owned in
       let same : map (λ (w : Waiting). (w.authorization.number, w.challenge)) (waiting_rows T) ≡ map numbered (found_waiting T) =
       map-map (λ (w : Waiting). (w.authorization.number, w.challenge)) waiting_of xs
       ∙ map-each (λ (x : Pair). (x.1.number, x.0.row)) (λ (x : Pair). numbered x.0) xs (each _ _ xs (λ x it i. (it.1 i, x.0.row)) beside)
       ∙ sym (map-map numbered (λ (x : Pair). x.0) xs)
-      ∙ ap (map numbered) (firsts T.authorizations (found_waiting T) owned) in (
+      ∙ ap (map numbered) (firsts owner T.authorizations (found_waiting T) owned) in (
         subst (AreWaiting T) (sym same) (are_waiting T has.rising.challenges has.rising.authorizations book.book.in_order.challenges),
         each-map (λ (w : Waiting). bare_authorizations T w.authorization.number ≡ w.authorization ∷ []) waiting_of xs
             (each _ _ xs

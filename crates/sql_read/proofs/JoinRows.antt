@@ -26,7 +26,7 @@ use Rattle.sql_schema.specs.declared.challenges.TheConstants as chall
 use Rattle.sql_tables.specs.Images.{authorization_image, authorization_params, challenge_image, challenge_params, key_image}
 use Rattle.sql_tables.specs.Layouts.{challenge_layout}
 use Rattle.sql_read.proofs.Answered.{all_rows, answers_from, by, picked_from, shown_in_order, strictly}
-use Rattle.sql_read.proofs.Beside.{HasOne, Pair, beside, firsts, pairs, parts}
+use Rattle.sql_read.proofs.Beside.{IsOwned, Pair, beside, firsts, owner, pairs, parts}
 use Rattle.sql_read.proofs.JoinParts.{join_from, join_tests, joined_columns, joined_params, joined_project, on_key}
 use Rattle.sql_read.proofs.KeyedRows.{HasOwnKey, key_cells, key_shows, with_key}
 use Rattle.sql_read.proofs.Lists.{as_it_is, map-same}
@@ -62,7 +62,7 @@ module _ (db : Trees) (keys : List AnswerKey) (keys_are : db 17 ≡ map key_imag
   module _ (rows : List AuthorizationRow) (rows_are : db 5 ≡ map authorization_image rows) where
     -- of all authorizations those of the challenge's number, where it waits
     with_owner : (c : Owned ChallengeRow) → HasOwnKey keys c
-        → matches db join_tests (inner 5 (left 17 (on_key 3 1) end)) (asked ∷ challenge_image c ∷ []) ≡ map filled (cond (waits c) (beside rows c) [])
+        → matches db join_tests (inner 5 (left 17 (on_key 3 1) end)) (asked ∷ challenge_image c ∷ []) ≡ map filled (cond (waits c) (beside owner rows c) [])
     with_owner c own =
         ap (flat_map (λ r. matches db join_tests (left 17 (on_key 3 1) end) (asked ∷ challenge_image c ∷ r ∷ []))) rows_are
         ∙ each_joined authorization_image (λ a. filled (c, a)) (λ _. Unit {0}) (λ a. (a.number == c.owner) && waits c)
@@ -72,7 +72,8 @@ module _ (db : Trees) (keys : List AnswerKey) (keys_are : db 17 ≡ map key_imag
         (λ k. number_test k.challenge c.row.number) (passes_as (c, a)) own) rows (each_all _ rows (λ _. tt))
         ∙ by (waits c)
       where
-        by : (b : Bool) → map (λ a. filled (c, a)) (filter (λ (a : AuthorizationRow). (a.number == c.owner) && b) rows) ≡ map filled (cond b (beside rows c) [])
+        by : (b : Bool) → map (λ a. filled (c, a)) (filter (λ (a : AuthorizationRow). (a.number == c.owner) && b) rows)
+            ≡ map filled (cond b (beside owner rows c) [])
         by true =
             (λ i. map (λ a. filled (c, a)) (filter (λ (a : AuthorizationRow). and-true (a.number == c.owner) i) rows))
             ∙ sym (map-map filled (λ a. (c, a)) (filter (λ (a : AuthorizationRow). a.number == c.owner) rows))
@@ -83,13 +84,13 @@ module _ (db : Trees) (keys : List AnswerKey) (keys_are : db 17 ≡ map key_imag
     -- of all challenges those that wait
     all_match : (cs : List (Owned ChallengeRow)) → EachOf (HasOwnKey keys) cs
         → flat_map (λ r. matches db join_tests (inner 5 (left 17 (on_key 3 1) end)) (asked ∷ r ∷ [])) (map challenge_image cs)
-        ≡ map filled (pairs rows (filter waits cs))
+        ≡ map filled (pairs owner rows (filter waits cs))
     all_match [] own = refl
     all_match (c ∷ cs) own = (λ i. with_owner c own.0 i ++ all_match cs own.1 i) ∙ by (waits c) (filter waits cs)
       where
         by : (b : Bool) (rest : List (Owned ChallengeRow))
-            → map filled (cond b (beside rows c) []) ++ map filled (pairs rows rest) ≡ map filled (pairs rows (cond b (c ∷ rest) rest))
-        by true rest = sym (map-append filled (beside rows c) (pairs rows rest))
+            → map filled (cond b (beside owner rows c) []) ++ map filled (pairs owner rows rest) ≡ map filled (pairs owner rows (cond b (c ∷ rest) rest))
+        by true rest = sym (map-append filled (beside owner rows c) (pairs owner rows rest))
         by false rest = refl
 
 -- ---- what is shown
@@ -113,16 +114,16 @@ pub record HasTrees (db : Trees) (cs : List (Owned ChallengeRow)) (rows : List A
   pub authorizations : db 5 ≡ map authorization_image rows
   pub keys_are : db 17 ≡ map key_image keys
   pub rising : Ascends challenge_layout.key 0 cs
-  pub owned : EachOf (HasOne rows) (filter waits cs)
+  pub owned : EachOf (IsOwned rows) (filter waits cs)
   pub own : EachOf (HasOwnKey keys) cs
 
 -- the pairs of the challenges that wait are shown, by number
 pub pairs_shown : (old new : State) (cs : List (Owned ChallengeRow)) (rows : List AuthorizationRow) (keys : List AnswerKey) (given : List Row)
     → old.now.schema ≡ desk_schema → HasTrees old.now.trees cs rows keys → Shown chall.SELECT_JOINED.now asked old new given
-    → given ≡ map (λ x. joined_params (joined_columns (parts x))) (pairs rows (filter waits cs))
+    → given ≡ map (λ x. joined_params (joined_columns (parts x))) (pairs owner rows (filter waits cs))
 pairs_shown old new cs rows keys given there has h =
     let q = picked_from all_rows join_from join_tests joined_project (by 0 ∷ []) in
-    let xs = pairs rows (filter waits cs) in
+    let xs = pairs owner rows (filter waits cs) in
     let db = overlay old.now.trees [] in
     let answered = answers_from all_rows chall.SELECT_JOINED.now join_from join_tests joined_project (by 0 ∷ []) asked joined_reading old new
     (map shown xs) given there
@@ -132,5 +133,6 @@ pairs_shown old new cs rows keys given there has h =
     ∙ map-same (λ x. output q (filled x)) shown xs shows) h in
     let up = strictly 8 join_tests joined_project 0 (λ (x : Pair). x.0.row.number) (λ x. joined_params (joined_columns (parts x))) 0 xs
     (ascends_of_map challenge_layout.key (λ x. x.0) 0 xs
-    (subst (Ascends challenge_layout.key 0) (sym (firsts rows (filter waits cs) has.owned)) (ascends_filter challenge_layout.key waits 0 cs has.rising))) in
+    (subst (Ascends challenge_layout.key 0) (sym (firsts owner rows (filter waits cs) has.owned))
+    (ascends_filter challenge_layout.key waits 0 cs has.rising))) in
     answered.2 ∙ shown_in_order q shown xs xs answered.0 (as_it_is xs xs refl) up answered.1

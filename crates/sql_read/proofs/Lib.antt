@@ -34,6 +34,9 @@ pub mod LookUpReadings
 pub mod LookUpRows
 pub mod MetFaults
 pub mod NestLemmas
+pub mod PlaceFound
+pub mod PlaceParts
+pub mod PlaceRows
 pub mod ReadValues
 pub mod Readings
 pub mod Results

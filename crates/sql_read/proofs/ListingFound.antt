@@ -2,6 +2,7 @@
 use Rattle.std.proofs.Common.{◌≡◌, ◌==◌, ℕ, List, [], ◌∷◌, map, filter, flat_map, refl, sym, ap, ◌∙◌}
 use Rattle.sqlite.specs.Held.{Held, state}
 use Rattle.sqlite.specs.Store.{Ghosts}
+use Rattle.sqlite_trees.proofs.ListLemmas.{flat_map-map}
 use Rattle.store_columns.specs.{Columns.order_columns, Flat.listed_rows, Flat.without_listed, Limits.IsStoredOrder, TextColumns.HasTextOrder}
 use Rattle.store_columns.proofs.RowsApart.{orders-apart}
 use Rattle.model_laws.proofs.Basics.{each_all, each_of_map}
@@ -20,7 +21,7 @@ use Rattle.sql_read.proofs.{Failing.join_fails, KeptRows.orders_kept}
 use Rattle.sql_read.proofs.FoundRows.{FindsIn, finds_shown}
 use Rattle.sql_read.proofs.JoinParts.{listing_from, listing_project, listing_tests}
 use Rattle.sql_read.proofs.ListingRows.{its_orders, orders_shown}
-use Rattle.sql_read.proofs.Lists.{each_flat, flat_of_map}
+use Rattle.sql_read.proofs.Lists.{each_flat}
 use Rattle.sql_read.proofs.LookUpReadings.{listing_reading}
 use Rattle.sql_read.proofs.TableColumns.{order_back, order_fits}
 use Rattle.sql_read.proofs.TableFacts.{columns, order_facts}
@@ -39,7 +40,7 @@ of_each_order P T n h =
 -- they are those of the model
 pub listing_are : (T : Tables) (n : ℕ) → listing_orders T n ≡ flat_map (orders_numbered T) (orders_listing T n)
 listing_are T n =
-    sym (flat_of_map (orders_numbered T) (λ l. l.owner) (filter (λ l. l.row.authorization == n) (listed_rows T.orders)))
+    sym (flat_map-map (orders_numbered T) (λ l. l.owner) (filter (λ l. l.row.authorization == n) (listed_rows T.orders)))
     ∙ ap (flat_map (orders_numbered T)) (listing_is T n)
 
 module _ {S : Type 0} (g : Ghosts S) (old : Held S) (T : Tables) (has : Holds (state g old).now T) where

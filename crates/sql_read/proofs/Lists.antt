@@ -1,9 +1,10 @@
 -- Lists: maps, filters and their order.
-use Rattle.std.proofs.Common.{◌≡◌, ◌++◌, ℕ, zero, suc, take, List, [], ◌∷◌, map, filter, flat_map, Bool, true, false, cond, Option, Some, None, refl, ap, subst}
-use Rattle.std.proofs.Common.{◌∙◌}
+use Rattle.std.proofs.Common.{◌≡◌, ℕ, zero, suc, take, List, [], ◌∷◌, ◌++◌, ◌&&◌, map, filter, flat_map, Bool, true, false, cond, Option, Some, None}
+use Rattle.std.proofs.Common.{refl, ap, subst, ◌∙◌}
 use Rattle.std.specs.List.Sorted.{IsPermutation}
 use Rattle.std.proofs.lemmas.List.Sorted.{IsPermutation-refl}
-use Rattle.std.proofs.lemmas.List.{map-append, take-map}
+use Rattle.std.proofs.lemmas.{Grind.flat_map-append, List.take-map}
+use Rattle.sqlite_trees.proofs.ListLemmas.{flat_map_none}
 use Rattle.sqlite_sql.specs.Query.{limited}
 use Rattle.model_laws.proofs.Basics.{each-append, each-map, each_of_map}
 use Rattle.desk_model.specs.Kept.{EachOf}
@@ -30,16 +31,6 @@ filter-map {A} p f (x ∷ xs) = by (p (f x)) (filter-map p f xs)
     by true ih = ap (λ ys. f x ∷ ys) ih
     by false ih = ih
 
--- a map of lists that are joined
-pub map_flat : {X Y Z : Type 0} (g : Y → Z) (f : X → List Y) (xs : List X) → map g (flat_map f xs) ≡ flat_map (λ x. map g (f x)) xs
-map_flat g f [] = refl
-map_flat g f (x ∷ xs) = map-append g (f x) (flat_map f xs) ∙ ap (λ ys. map g (f x) ++ ys) (map_flat g f xs)
-
--- lists of what a map gives
-pub flat_of_map : {X Y Z : Type 0} (f : Y → List Z) (g : X → Y) (xs : List X) → flat_map f (map g xs) ≡ flat_map (λ x. f (g x)) xs
-flat_of_map f g [] = refl
-flat_of_map f g (x ∷ xs) = ap (λ ys. f (g x) ++ ys) (flat_of_map f g xs)
-
 -- what holds of each item of these lists
 pub each_flat : {X Y : Type 0} (P : Y → Type 0) (f : X → List Y) (xs : List X) → EachOf (λ x. EachOf P (f x)) xs → EachOf P (flat_map f xs)
 each_flat P f [] h = tt
@@ -57,6 +48,40 @@ each_passing {X} test (x ∷ xs) = by (test x) refl (each_passing test xs)
 -- equal lists are permutations
 pub as_it_is : {X : Type 0} (xs ys : List X) → xs ≡ ys → IsPermutation xs ys
 as_it_is xs ys same = subst (λ zs. IsPermutation xs zs) same (IsPermutation-refl xs)
+
+-- ---- lists of lists
+
+-- of two tests the last may come first
+pub last_first : {A : Type 0} (b c : Bool) (xs : List A) → cond (b && c) xs [] ≡ cond c (cond b xs []) []
+last_first true true xs = refl
+last_first true false xs = refl
+last_first false true xs = refl
+last_first false false xs = refl
+
+-- all of it, or nothing
+pub kept : {A B : Type 0} (b : Bool) (f : A → List B) (xs : List A) → flat_map (λ x. cond b (f x) []) xs ≡ cond b (flat_map f xs) []
+kept true f xs = refl
+kept false f xs = flat_map_none (λ x. []) (λ x. refl) xs
+
+-- what is made of the items that pass
+pub chosen : {A B : Type 0} (p : A → Bool) (f : A → List B) (xs : List A) → flat_map (λ x. cond (p x) (f x) []) xs ≡ flat_map f (filter p xs)
+chosen p f [] = refl
+chosen p f (x ∷ xs) = by (p x) (chosen p f xs)
+  where
+    by : (b : Bool) → flat_map (λ y. cond (p y) (f y) []) xs ≡ flat_map f (filter p xs)
+        → cond b (f x) [] ++ flat_map (λ y. cond (p y) (f y) []) xs ≡ flat_map f (cond b (x ∷ filter p xs) (filter p xs))
+    by true ih = ap (λ l. f x ++ l) ih
+    by false ih = ih
+
+-- of each item of each
+pub in_turn : {A B C : Type 0} (f : B → List C) (g : A → List B) (xs : List A) → flat_map f (flat_map g xs) ≡ flat_map (λ x. flat_map f (g x)) xs
+in_turn f g [] = refl
+in_turn f g (x ∷ xs) = flat_map-append f (g x) (flat_map g xs) ∙ ap (λ l. flat_map f (g x) ++ l) (in_turn f g xs)
+
+-- the same of each
+pub each_same : {A B : Type 0} (f g : A → List B) (xs : List A) → EachOf (λ x. f x ≡ g x) xs → flat_map f xs ≡ flat_map g xs
+each_same f g [] h = refl
+each_same f g (x ∷ xs) h = λ i. h.0 i ++ each_same f g xs h.1 i
 
 -- ---- lists that are cut
 

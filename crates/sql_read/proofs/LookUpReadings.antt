@@ -11,6 +11,7 @@ use Rattle.desk_model.specs.Document.{authorization_status_text, challenge_statu
 use Rattle.desk_model.specs.declared.status.AuthzStatus.{AuthzStatus}
 use Rattle.desk_model.specs.declared.status.ChallengeStatus.TheVariants as challenge
 use Rattle.desk_model.specs.declared.status.OrderStatus.{OrderStatus}
+use Rattle.desk_model.specs.declared.status.OrderStatus.TheVariants as order
 use Rattle.model_lives.specs.declared.queries.AccountsWhere.{AccountsWhere}
 use Rattle.model_lives.specs.declared.queries.AccountsWhere.TheVariants as accounts_by
 use Rattle.model_lives.specs.declared.queries.AuthorizationsWhere.{AuthorizationsWhere}
@@ -31,6 +32,7 @@ use Rattle.sql_read.specs.declared.formats.Format.TheVariants.{Second}
 use Rattle.sql_read.proofs.Answered.{IsReading, IsReadingFrom, all_rows, by, first_row}
 use Rattle.sql_read.proofs.JoinParts.{beside_from, beside_project, beside_tests, by_other, join_from, join_tests, joined_project, keyed_from, keyed_project}
 use Rattle.sql_read.proofs.JoinParts.{listing_from, listing_project, listing_tests}
+use Rattle.sql_read.proofs.PlaceParts.{place_from, place_order, place_project, place_tests}
 use Rattle.sql_read.proofs.Readings.{accounts_reading, authorizations_reading, nonces_reading, orders_reading}
 use Rattle.sql_read.proofs.TableColumns.{account_names, authorization_names, authorization_status_at, challenge_names, key_names}
 use Rattle.sql_read.proofs.TableColumns.{listed_names, listed_project, nonce_names, order_names, order_status_at, summary_names}
@@ -138,6 +140,12 @@ pub listing_reading : (n : ℕ)
     → IsReadingFrom desk_schema all_rows ord.SELECT_LISTING.now listing_from listing_tests listing_project (by 1 ∷ by 2 ∷ []) (number n)
 unfolding understood everything
 listing_reading n = record { names = order_names; means = refl; selecting = refl; sizes = refl; typed = refl }
+
+-- what the orders that wait list, joined with the authorizations that stand there
+pub places_reading : IsReadingFrom desk_schema all_rows ord_authz.SELECT_JOINED.now place_from place_tests place_project place_order
+    (text (order_status_text order.Processing))
+unfolding understood everything
+places_reading = record { names = listed_names ++ authorization_names; means = refl; selecting = refl; sizes = refl; typed = refl }
 
 -- challenges of an authorization, each beside the key of its answer
 pub challenges_of_reading : (n : ℕ)

@@ -84,6 +84,23 @@ module _ {P R : Type 0} (number : P → ℕ) (children : P → List R) where
 pub orders_have : (n : ℕ) (os : List OrderRow) → Ascends (λ o. o.number) n os → EachOf (HasItsListed os) os
 orders_have n os up = each_under (λ (o : OrderRow). o.number) (λ o. o.listed) n os up
 
+-- rows of one owner, as they stand under its number
+under_owned : {R : Type 0} (n : ℕ) (rs : List (Owned R)) → filter (λ r. r.owner == n) rs ≡ owned_by n (rows_under n rs)
+under_owned n [] = refl
+under_owned {R} n (r ∷ rs) = by (r.owner == n) refl (under_owned n rs)
+  where
+    by : (b : Bool) → (r.owner == n) ≡ b → filter (λ r. r.owner == n) rs ≡ owned_by n (rows_under n rs)
+        → cond b (r ∷ filter (λ r. r.owner == n) rs) (filter (λ r. r.owner == n) rs)
+        ≡ owned_by n (map (λ (o : Owned R). o.row) (cond b (r ∷ filter (λ r. r.owner == n) rs) (filter (λ r. r.owner == n) rs)))
+    by true is ih = λ i. (record { owner = eqb-true r.owner n is i; row = r.row }) ∷ ih i
+    by false is ih = ih
+
+-- so does what each order lists
+pub orders_own : (n : ℕ) (os : List OrderRow) → Ascends (λ o. o.number) n os
+    → EachOf (λ o. filter (λ l. l.owner == o.number) (listed_rows os) ≡ owned_by o.number o.listed) os
+orders_own n os up =
+    each _ _ os (λ (o : OrderRow) own. under_owned o.number (listed_rows os) ∙ ap (owned_by o.number) own) (orders_have n os up)
+
 -- each authorization has its challenges
 pub authorizations_have : (n : ℕ) (rs : List AuthorizationRow) → Ascends (λ a. a.number) n rs → EachOf (HasItsChallenges rs) rs
 authorizations_have n rs up = each_under (λ (a : AuthorizationRow). a.number) (λ a. a.challenges) n rs up

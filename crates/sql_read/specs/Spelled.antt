@@ -119,6 +119,10 @@ authorization_in = authorization_from 0
 abbrev pub listed_in : Row → OrderAuthzColumns
 listed_in r = record { ord = number_in (column r 0); place = number_in (column r 1); authz = number_in (column r 2) }
 
+-- of `ord_authz`, beside `authz`
+abbrev pub place_in : Row → OrderAuthzColumns × AuthzColumns
+place_in r = (listed_in r, authorization_from 3 r)
+
 -- of `chall`
 abbrev pub challenge_in : Row → ChallColumns
 challenge_in r =
@@ -233,6 +237,10 @@ FitsAuthorization = FitsAuthorizationFrom 0
 -- of `ord_authz`
 abbrev pub FitsListed : Row → Type 0
 FitsListed r = HasAt HoldsInt r 0 × HasAt HoldsInt r 1 × HasAt HoldsInt r 2
+
+-- of `ord_authz`, beside `authz`
+abbrev pub FitsPlace : Row → Type 0
+FitsPlace r = FitsListed r × FitsAuthorizationFrom 3 r
 
 -- of `chall`
 abbrev pub FitsChallenge : Row → Type 0

@@ -14,6 +14,7 @@ mod formats;
 mod meta;
 mod nonces;
 mod orders;
+mod places;
 mod rows;
 mod values;
 mod waiting;
@@ -30,7 +31,9 @@ pub use format::is_newer;
 pub use meta::meta_row;
 pub use nonces::{earliest_issue, find_nonces};
 pub use orders::{
-    earliest_order_end, find_orders, order_above, orders_with_authorization, summaries_of,
+    earliest_order_end, find_orders, order_above, orders_with_authorization, processing_orders,
+    summaries_of,
 };
+pub use places::processing_places;
 pub use rows::Selected;
 pub use waiting::{authorizations_with_challenge, waiting_challenges};

@@ -1,9 +1,9 @@
 //! Orders, each with what it lists, read from the rows of answers and looked up.
-ghost use Rattle.std.specs.Prelude.{◌≡◌};
+ghost use Rattle.std.specs.Prelude.{◌≡◌, map};
 ghost use Rattle.std.specs.List.{flat_map};
 ghost use Rattle.store_columns.specs.Flat.{without_listed};
 ghost use Rattle.model_lives.specs.Above.{first_of, orders_above};
-ghost use Rattle.model_lives.specs.LookUps.{orders_listing, orders_numbered, orders_where, summaries_of};
+ghost use Rattle.model_lives.specs.LookUps.{orders_listing, orders_numbered, orders_processing, orders_where, summaries_of};
 ghost use Rattle.sql_read.specs.Earliest.{TellsEarliest, order_ends};
 ghost use Rattle.sql_read.specs.{Looking.LooksUp, Queries.asked, Queries.order_query, Under.HasItsListed};
 ghost use Rattle.sql_read.specs.Spelled.{FitsListed, FitsOrder, FitsSummary, listed_in, order_in, summary_in};
@@ -124,6 +124,21 @@ pub fn find_orders<S: Alter>(
     ensures { LooksUp S.Store conn.old conn.new (λ T rows. rows.items ≡ orders_where T which) result }
 {
     find_wholes::<S, OrderColumns, _>(alloc, conn, query_of(which))
+}
+
+/// The orders that are stored as waiting for a certificate, by number, without what they list.
+///
+/// # Errors
+///
+/// As of each reading (`lib.rt`).
+pub fn processing_orders<S: Alter>(
+    alloc: Global,
+    conn: &mut Connection<S>,
+) -> Result<Vec<OrderRow>, ReadFault>
+    ensures { LooksUp S.Store conn.old conn.new (λ T rows. rows.items ≡ map without_listed (orders_processing T)) result }
+{
+    let query = query_of(OrdersWhere::Processing);
+    find_rows::<S, OrderColumns>(alloc, conn, query)
 }
 
 /// The orders of an account, by number, in summary.

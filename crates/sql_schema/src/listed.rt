@@ -26,3 +26,11 @@ pub const SELECT_OF: &str = select!(" WHERE ord = ?1");
 
 /// Shows what lists an authorization.
 pub const SELECT_LISTING: &str = select!(" WHERE authz = ?1");
+
+/// Shows what the orders of a status list, each place beside its authorization.
+pub const SELECT_JOINED: &str = concat!(
+    "SELECT ord_authz.ord, ord_authz.place, ord_authz.authz, ",
+    "authz.num, authz.account, authz.name, authz.wildcard, authz.made, authz.expires, authz.ended, authz.end_kind, authz.status ",
+    "FROM ord JOIN ord_authz ON ord_authz.ord = ord.num JOIN authz ON authz.num = ord_authz.authz ",
+    "WHERE ord.status = ?1 ORDER BY ord_authz.ord, ord_authz.place"
+);

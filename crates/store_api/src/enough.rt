@@ -1,8 +1,10 @@
 //! The book of the rows that are enough for a call.
-ghost use Rattle.std.specs.Prelude.{◌≡◌, [], ◌&&◌, filter, map, IfOk};
-ghost use Rattle.model_laws.specs.Ordered.{IsOrdered};
+ghost use Rattle.std.specs.Prelude.{◌≡◌, [], ◌&&◌, List, filter, map, IfErr, IfOk, OnOk};
+ghost use Rattle.desk_model.specs.declared.rows.OrderRow.{OrderRow as Order};
+ghost use Rattle.model_laws.specs.{Ordered.Ascends, Ordered.IsOrdered, Placing.puts};
+ghost use Rattle.store_columns.specs.Flat.{listed_rows, without_listed};
 ghost use Rattle.desk_model.specs.{Touched.only_meta, Lookup.holds};
-ghost use Rattle.store_api.specs.{Finding.Finds, Storing.Loads, Needing.NeedsFor};
+ghost use Rattle.store_api.specs.{Finding.Finds, Finding.LacksMemory, Storing.Loads, Needing.NeedsFor, Needing.lacking};
 ghost use Rattle.model_lives.specs.IsEnough.{challenge_work_rows, enough, is_worked_on, order_work_rows};
 ghost use Rattle.model_lives.specs.{LookUps.orders_processing, Thinned.without_challenges};
 ghost use Rattle.store_api.specs.Sight.{ForTables, Reads};
@@ -11,16 +13,17 @@ ghost use Rattle.identifiers.specs.Parsed.{ask_of};
 ghost use Rattle.model_lives.specs.MinimalPart.{is_end, needs_holders, needs_listed, changes_statuses, target_changes_statuses};
 
 use crate::fault::StorageFault;
-use crate::links::{add_bare_listed, add_found};
+use crate::links::{add_found, put_lacking};
 use crate::look_ups::LookUps;
 use crate::minimal_part::minimal_book;
 use crate::named::{Named, named_in};
 use crate::waiting::add_working;
 use desk_book::{Book, Table};
-use desk_model::{Ask, AuthorizationRow, DnsName, OfficeAsk, OrderRow, Target};
+use desk_model::{Ask, AuthorizationRow, DnsName, Listed, OfficeAsk, OrderRow, Target};
 use identifiers::{ParsedAsk, ParsedCall, ParsedSigned, says_deactivated};
-use model_lives::OrdersWhere;
-use std::alloc::Global;
+use std::alloc::{AllocError, Global};
+use store_book::with_listed;
+use store_columns::Owned;
 
 // ---- the work of the validator
 
@@ -43,6 +46,42 @@ fn challenge_work_book<S: LookUps>(alloc: Global, source: &mut S) -> Result<Book
 
 // ---- the work of the issuer
 
+// Puts the authorizations beside these places into a table, those alone that it lacks, and gives the places.
+fn take_places(
+    alloc: Global,
+    authorizations: &mut Table<AuthorizationRow>,
+    places: Vec<(Owned<Listed>, AuthorizationRow)>,
+) -> Result<Vec<Owned<Listed>>, AllocError>
+    ensures { IfOk result (λ listed. (listed.items ≡ map (λ p. p.0) places.items)
+        × (authorizations.new ≡ lacking (λ r. r.number) (map (λ p. p.1) places.items) authorizations.old)) }
+{
+    let mut listed = Vec::new(alloc);
+    for found in places {
+        let (place, authorization) = found;
+        put_lacking(authorizations, authorization)?;
+        listed.push(place)?;
+    }
+    Ok(listed)
+}
+
+// Puts orders with what they list into a table, and the authorizations beside that into another, those alone that it lacks.
+fn add_listing(
+    alloc: Global,
+    authorizations: &mut Table<AuthorizationRow>,
+    orders: &mut Table<OrderRow>,
+    bare: Vec<OrderRow>,
+    places: Vec<(Owned<Listed>, AuthorizationRow)>,
+) -> Result<(), StorageFault>
+    ensures put { OnOk result ((authorizations.new ≡ lacking (λ r. r.number) (map (λ p. p.1) places.items) authorizations.old)
+        × ((rows : List Order) → Ascends (λ o. o.number) 1 rows → bare.items ≡ map without_listed rows
+        → map (λ p. p.0) places.items ≡ listed_rows rows → orders.new ≡ puts (λ o. o.number) rows orders.old)) }
+    ensures lacks { IfErr result LacksMemory }
+{
+    let listed = take_places(alloc, authorizations, places)?;
+    let whole = with_listed(alloc, bare, listed)?;
+    add_found(orders, Ok(whole))
+}
+
 // Puts the orders that wait for a certificate into an empty table, and the authorizations that they list, without their challenges,
 // into another.
 fn add_processing<S: LookUps>(
@@ -54,8 +93,9 @@ fn add_processing<S: LookUps>(
     ensures { Finds S.sight source.old source.new result (λ T. IsOrdered T → authorizations.old ≡ [] → orders.old ≡ []
         → (authorizations.new ≡ map without_challenges (filter (is_worked_on T) T.authorizations)) × (orders.new ≡ orders_processing T)) }
 {
-    add_found(orders, source.find_orders(alloc, OrdersWhere::Processing))?;
-    add_bare_listed(alloc, source, authorizations, orders)
+    let bare = source.processing_orders(alloc)?;
+    let places = source.processing_places(alloc)?;
+    add_listing(alloc, authorizations, orders, bare, places)
 }
 
 // The book of these orders and authorizations.

@@ -1,7 +1,8 @@
 //! Look-ups in the tables of a desk, and its rows one by one.
 ghost use Rattle.std.specs.Prelude.{◌≡◌, [], ◌∷◌, map};
 ghost use Rattle.model_lives.specs.LookUps.{accounts_where, authorizations_where, nonces_where, orders_where, AreWaiting, bare_authorizations};
-ghost use Rattle.model_lives.specs.LookUps.{authorizations_numbered, orders_listing, orders_numbered, owners_of, summaries_of};
+ghost use Rattle.model_lives.specs.LookUps.{authorizations_numbered, orders_listing, orders_numbered, orders_processing, owners_of, summaries_of};
+ghost use Rattle.store_columns.specs.Flat.{listed_rows, without_listed};
 ghost use Rattle.std.specs.List.{flat_map};
 ghost use Rattle.model_laws.specs.Ordered.{IsOrdered};
 ghost use Rattle.store_api.specs.Sight.{Gives};
@@ -11,10 +12,10 @@ ghost use Rattle.store_book.specs.IsBook.{IsBook};
 
 use crate::fault::StorageFault;
 use crate::kept::Kept;
-use desk_model::{AccountRow, AuthorizationRow, ChallengeRow, Meta, Nonce, OrderRow};
+use desk_model::{AccountRow, AuthorizationRow, ChallengeRow, Listed, Meta, Nonce, OrderRow};
 use model_lives::{AccountsWhere, AuthorizationsWhere, NoncesWhere, OrdersWhere};
 use std::alloc::Global;
-use store_columns::Waiting;
+use store_columns::{Owned, Waiting};
 
 /// What a look-up of rows gives.
 pub type Found<R> = Result<Vec<R>, StorageFault>;
@@ -51,6 +52,15 @@ pub trait LookUps: Kept {
     /// The orders of an account, by number, in summary: without what they list, and without what calls have recorded of them.
     fn summaries_of(&mut self, alloc: Global, account: u64) -> Found<OrderRow>
         ensures { Gives Self.sight self.old self.new (λ T rows. rows.items ≡ summaries_of T account) result };
+
+    /// The orders that are stored as waiting for a certificate, by number, without what they list.
+    fn processing_orders(&mut self, alloc: Global) -> Found<OrderRow>
+        ensures { Gives Self.sight self.old self.new (λ T rows. rows.items ≡ map without_listed (orders_processing T)) result };
+
+    /// What these orders list, by order and place, each place beside its authorization, without challenges.
+    fn processing_places(&mut self, alloc: Global) -> Found<(Owned<Listed>, AuthorizationRow)>
+        ensures { Gives Self.sight self.old self.new (λ T rows. (map (λ p. p.0) rows.items ≡ listed_rows (orders_processing T))
+            × EachOf (λ p. (p.1.number ≡ p.0.row.authorization) × (bare_authorizations T p.1.number ≡ p.1 ∷ [])) rows.items) result };
 
     /// The authorization of a number, without its challenges.
     fn bare_authorizations(&mut self, alloc: Global, number: u64) -> Found<AuthorizationRow>

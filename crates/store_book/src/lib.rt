@@ -25,6 +25,7 @@ pub use keys::KeyCheck;
 pub use laws::rows_in_order_are_books;
 pub use listed::ListedCheck;
 pub use meta::MetaCheck;
+pub use nesting::with_listed;
 pub use nonces::NonceCheck;
 pub use numbers::Numbers;
 pub use owned::{ChallengeCheck, OwnedCheck};

@@ -1,7 +1,9 @@
 //! Tables of rows, each with the rows that belong to it.
-ghost use Rattle.std.specs.Prelude.{◌≡◌, List, [], ◌∷◌, IfOk, IsPermutation, MatchOption, refl};
+ghost use Rattle.std.specs.Prelude.{◌≡◌, List, [], ◌∷◌, IfOk, IsPermutation, MatchOption, map, refl};
 ghost use Rattle.std.specs.List.Sorted.{IsSorted};
 ghost use Rattle.model_laws.specs.Ordered.{Ascends};
+ghost use Rattle.desk_model.specs.declared.rows.OrderRow.{OrderRow as Order};
+ghost use Rattle.store_columns.specs.Flat.{listed_rows, without_listed};
 ghost use Rattle.store_book.specs.Nesting.{IsNesting, IsNestOf, behind, by_owner, first_of, nested};
 
 use desk_book::{Row, Table};
@@ -119,6 +121,22 @@ fn nest<T: Row + Drop, P: Parent<T> + Drop>(
         rows.push(parent.with_children(taken))?;
     }
     Ok(rows)
+}
+
+/// The orders, each with what it lists, of orders without it and of what they list, both in the order of their keys.
+///
+/// # Errors
+///
+/// Where there is no memory for them.
+pub fn with_listed(
+    alloc: Global,
+    orders: Vec<OrderRow>,
+    listed: Vec<Owned<Listed>>,
+) -> Result<Vec<OrderRow>, AllocError>
+    ensures { IfOk result (λ all. (rows : List Order) → Ascends (λ o. o.number) 1 rows → orders.items ≡ map without_listed rows
+        → listed.items ≡ listed_rows rows → all.items ≡ rows) }
+{
+    nest(alloc, orders, listed)
 }
 
 /// The table of rows whose numbers ascend.

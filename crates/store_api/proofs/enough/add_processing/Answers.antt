@@ -1,28 +1,34 @@
-use Rattle.std.proofs.Common.{◌≡◌, [], ap, ◌∙◌}
-use Rattle.store_api.proofs.Found.{finds_as, finds_put, finds_then}
-use Rattle.store_api.proofs.{Bare.worked_on, Gathered.put_into_none}
-use Rattle.store_api.proofs.enough.add_processing.Goals as goal
+use Rattle.std.proofs.Common.{ap, map, ◌∙◌}
+use Rattle.desk_model.specs.Order.{is_processing}
 use Rattle.desk_model.specs.declared.rows.{AuthorizationRow.AuthorizationRow, OrderRow.OrderRow}
-use Rattle.desk_model.specs.Derived.{numbers_of}
+use Rattle.model_laws.proofs.RowLists.{ascends_filter}
+use Rattle.model_laws.specs.Placing.{puts}
 use Rattle.model_lives.proofs.WorkLoading.{processing_loaded}
-use Rattle.model_lives.specs.LookUps.{bare_authorizations, orders_processing}
-use Rattle.std.specs.List.{flat_map}
-use Rattle.store_api.specs.Needing.{missings}
+use Rattle.model_lives.specs.LookUps.{orders_processing}
+use Rattle.store_api.proofs.Found.{fails_behind, finds_third}
+use Rattle.store_api.proofs.Places.{places_put, standing_at}
+use Rattle.store_api.proofs.Readings.{reads_unchanged, unchanged_here}
+use Rattle.store_api.proofs.enough.add_processing.Goals as goal
+use Rattle.store_api.specs.Needing.{lacking}
 
 pub returns : goal.returns
 returns g c =
     let order = λ (o : OrderRow). o.number in
-    let authorization = λ (r : AuthorizationRow). r.number in
-    let listed = λ (o : OrderRow). numbers_of o.listed in
-    finds_then c.add_bare_listed.result
-    (finds_as c.in_ok-add_found.was
-    (finds_put order (λ rows. rows.items) (λ T. orders_processing T) _ _
-    c.find_orders.ensures c.add_found.ensures.put c.add_found.ensures.lacks c.add_found.ensures.fails))
-    c.add_bare_listed.ensures
-    (λ T first second ordered none no_orders.
-    let all : c.add_found.new.table ≡ orders_processing T =
-    put_into_none order (orders_processing T) _ _ first no_orders ∙ processing_loaded T ordered in (
-      second ∙ ap (missings authorization (bare_authorizations T) (flat_map listed c.add_found.new.table)) none
-          ∙ ap (λ os. missings authorization (bare_authorizations T) (flat_map listed os) []) all ∙ worked_on T ordered,
-      all,
+    let items = c.in_ok-places.places.items in
+    finds_third c.add_listing.result
+    (record { reads = c.in_ok-bare.ensures.reads; found = c.in_ok-bare.ensures.found })
+    (record { reads = c.in_ok-places.ensures.reads; found = c.in_ok-places.ensures.found })
+    (record { reads = reads_unchanged c.add_listing.result c.add_listing.ensures.lacks unchanged_here; found = λ honest T held. c.add_listing.ensures.put })
+    (λ T bare places put_now ordered none no_orders. (
+      put_now.0
+          ∙ ap (lacking (λ (r : AuthorizationRow). r.number) (map standing_at items)) none
+          ∙ places_put T ordered items places.0 places.1,
+      put_now.1 (orders_processing T) (ascends_filter order (λ o. is_processing o.status) 1 T.orders ordered.orders.0) bare places.0
+          ∙ ap (puts order (orders_processing T)) no_orders
+          ∙ processing_loaded T ordered,
     ))
+
+pub returns-in_err-places : goal.returns-in_err-places
+returns-in_err-places g c =
+    fails_behind {Q = λ _. Unit {0}} _ (record { reads = c.in_ok-bare.ensures.reads; found = c.in_ok-bare.ensures.found })
+    (record { reads = c.in_err-places.ensures.reads; found = c.in_err-places.ensures.found }) c.from_residual-in_err-places.ensures.1
