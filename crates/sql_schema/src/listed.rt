@@ -24,9 +24,6 @@ pub const SELECT: &str = select!("");
 /// Shows what an order lists.
 pub const SELECT_OF: &str = select!(" WHERE ord = ?1");
 
-/// Shows what lists an authorization.
-pub const SELECT_LISTING: &str = select!(" WHERE authz = ?1");
-
 /// Shows what the orders of a status list, each place beside its authorization.
 pub const SELECT_JOINED: &str = concat!(
     "SELECT ord_authz.ord, ord_authz.place, ord_authz.authz, ",
