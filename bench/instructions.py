@@ -28,7 +28,7 @@ SIZE, TURNS = 10000, 8
 HEAD = "## Instructions of a call"
 # What is said of the goals that are missed.
 WHY = """A statement costs the engine several times what it costs SQLite, most of it fixed. The list of orders to certify takes
-one statement, and two more for each item, where C takes one more. A report reads its authorization by one join, and the
+two statements, where C takes one, and one more for each item. A report reads its authorization by one join, and the
 orders that list it by another."""
 ALLOWED = 1.05
 MEMORY = re.compile(r"mem(cpy|move|set)")
