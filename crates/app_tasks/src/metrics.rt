@@ -17,7 +17,7 @@ use model_lives::OrdersWhere;
 use std::alloc::Global;
 use std::io::{self, Write};
 use store_api::{LookUps, StorageFault};
-use store_columns::Waiting;
+use store_columns::JoinedChallenge;
 
 /// What is known of a desk that is served beside its rows.
 #[derive(Clone, Copy)]
@@ -148,7 +148,7 @@ fn count_challenges<K: LookUps>(alloc: Global, source: &mut K) -> Result<u64, St
 }
 
 // How many of these challenges are under an authorization that is stored as pending.
-fn count_pending(waiting: &[Waiting]) -> u64
+fn count_pending(waiting: &[JoinedChallenge]) -> u64
     ensures { result ≡ count_by (λ w. is_pending w.authorization.status) waiting.now }
 {
     waiting

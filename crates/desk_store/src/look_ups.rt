@@ -18,7 +18,7 @@ use sql_read as rows;
 use sqlite::Alter;
 use std::alloc::Global;
 use store_api::{Found, LookUps, RowsAbove, StorageFault};
-use store_columns::{Owned, Waiting};
+use store_columns::{JoinedChallenge, Owned};
 use store_passes::{FaultKind, Orders, StatusFaults};
 
 impl<S: Alter> LookUps for Store<S> {
@@ -95,7 +95,7 @@ impl<S: Alter> LookUps for Store<S> {
         self.or_fault(read)
     }
 
-    fn waiting_challenges(&mut self, alloc: Global) -> Found<Waiting> {
+    fn waiting_challenges(&mut self, alloc: Global) -> Found<JoinedChallenge> {
         let read = rows::waiting_challenges(alloc, &mut self.conn);
         self.or_fault(read)
     }

@@ -7,7 +7,7 @@ use Rattle.sqlite.specs.Store.{Ghosts}
 use Rattle.store_columns.specs.Flat.{answer_key, bare, challenge_rows, without_challenges}
 use Rattle.store_columns.specs.Limits.{IsStoredAuthorization}
 use Rattle.store_columns.specs.TextColumns.{HasTextAuthorization, HasTextChallenge}
-use Rattle.store_columns.specs.declared.columns.{Owned.Owned, Waiting.Waiting}
+use Rattle.store_columns.specs.declared.columns.{JoinedChallenge.JoinedChallenge, Owned.Owned}
 use Rattle.model_laws.proofs.Basics.{each, each_all, each_of_map, map-each}
 use Rattle.model_laws.proofs.Keeps.{each-filter}
 use Rattle.model_lives.specs.LookUps.{authorizations_numbered, owners_of}
@@ -36,7 +36,7 @@ use Rattle.sql_read.proofs.UnderLemmas.{authorizations_have, own_ascend, owners_
 use Rattle.sql_read.proofs.WaitingChallenges.{filter_turned}
 
 -- the challenges of the authorization that has the one of a number, each beside it
-abbrev pub beside_rows : Tables → ℕ → List Waiting
+abbrev pub beside_rows : Tables → ℕ → List JoinedChallenge
 beside_rows T n = map waiting_of (companions (all_challenges T) T.authorizations n)
 
 -- gathered, they are the authorization with its challenges
@@ -46,7 +46,7 @@ gathered_one a [] some = absurd (some refl)
 gathered_one a (c ∷ cs) some =
     λ i. record a {
       challenges =
-          c.row ∷ (map-map (λ (w : Waiting). w.challenge) waiting_of (map (λ (c : Owned ChallengeRow). (c, a)) cs)
+          c.row ∷ (map-map (λ (w : JoinedChallenge). w.challenge) waiting_of (map (λ (c : Owned ChallengeRow). (c, a)) cs)
           ∙ map-map (λ (x : Pair). x.0.row) (λ c. (c, a)) cs) i;
     } ∷ []
 

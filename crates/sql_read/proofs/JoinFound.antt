@@ -7,7 +7,7 @@ use Rattle.sqlite.specs.Store.{Ghosts}
 use Rattle.store_columns.specs.Flat.{answer_key, bare, challenge_rows, without_challenges}
 use Rattle.store_columns.specs.Limits.{IsStoredAuthorization}
 use Rattle.store_columns.specs.TextColumns.{HasTextAuthorization, HasTextChallenge}
-use Rattle.store_columns.specs.declared.columns.{Waiting.Waiting}
+use Rattle.store_columns.specs.declared.columns.{JoinedChallenge.JoinedChallenge}
 use Rattle.model_laws.proofs.Basics.{each, each-map, each_of_map, map-each}
 use Rattle.model_laws.proofs.Keeps.{each-filter}
 use Rattle.model_lives.specs.LookUps.{AreWaiting, bare_authorizations}
@@ -42,10 +42,10 @@ abbrev pub waiting_pairs : Tables → List Pair
 waiting_pairs T = pairs owner T.authorizations (found_waiting T)
 
 -- a challenge with its authorization
-abbrev pub waiting_of : Pair → Waiting
+abbrev pub waiting_of : Pair → JoinedChallenge
 waiting_of x = record { authorization = without_challenges x.1; challenge = x.0.row }
 
-abbrev pub waiting_rows : Tables → List Waiting
+abbrev pub waiting_rows : Tables → List JoinedChallenge
 waiting_rows T = map waiting_of (waiting_pairs T)
 
 module _ {S : Type 0} (g : Ghosts S) (old : Held S) (T : Tables) (has : Holds (state g old).now T) where
@@ -104,13 +104,13 @@ module _ {S : Type 0} (g : Ghosts S) (old : Held S) (T : Tables) (has : Holds (s
   are_found book =
       let xs = waiting_pairs T in
       let beside = each_beside owner T.authorizations (found_waiting T) owned in
-      let same : map (λ (w : Waiting). (w.authorization.number, w.challenge)) (waiting_rows T) ≡ map numbered (found_waiting T) =
-      map-map (λ (w : Waiting). (w.authorization.number, w.challenge)) waiting_of xs
+      let same : map (λ (w : JoinedChallenge). (w.authorization.number, w.challenge)) (waiting_rows T) ≡ map numbered (found_waiting T) =
+      map-map (λ (w : JoinedChallenge). (w.authorization.number, w.challenge)) waiting_of xs
       ∙ map-each (λ (x : Pair). (x.1.number, x.0.row)) (λ (x : Pair). numbered x.0) xs (each _ _ xs (λ x it i. (it.1 i, x.0.row)) beside)
       ∙ sym (map-map numbered (λ (x : Pair). x.0) xs)
       ∙ ap (map numbered) (firsts owner T.authorizations (found_waiting T) owned) in (
         subst (AreWaiting T) (sym same) (are_waiting T has.rising.challenges has.rising.authorizations book.book.in_order.challenges),
-        each-map (λ (w : Waiting). bare_authorizations T w.authorization.number ≡ w.authorization ∷ []) waiting_of xs
+        each-map (λ (w : JoinedChallenge). bare_authorizations T w.authorization.number ≡ w.authorization ∷ []) waiting_of xs
             (each _ _ xs
             (λ x it.
             ap (λ n. map without_challenges (filter (λ (r : AuthorizationRow). r.number == n) T.authorizations)) it.1

@@ -18,7 +18,7 @@ use sql_schema::challenges;
 use sqlite::{Alter, Connection, Error, Row};
 use std::alloc::{AllocError, Global};
 use store_columns::{
-    AnswerKey, AuthzColumns, BareChallenge, ChallColumns, ChallKeyColumns, Owned, Waiting,
+    AnswerKey, AuthzColumns, BareChallenge, ChallColumns, ChallKeyColumns, JoinedChallenge, Owned,
 };
 
 // The columns of a challenge, those of its authorization, and those of the key of its answer, if it has one.
@@ -42,7 +42,7 @@ impl Selected for JoinedColumns {
 
 // A row of the join, which has its part beside it: nothing is looked up.
 impl Parted for Joined {
-    type Whole = Waiting;
+    type Whole = JoinedChallenge;
 
     ghost bare = { joined_row };
 
@@ -52,11 +52,11 @@ impl Parted for Joined {
         self,
         _alloc: Global,
         _conn: &mut Connection<S>,
-    ) -> Result<Waiting, ReadFault> {
+    ) -> Result<JoinedChallenge, ReadFault> {
         let ((challenge, authorization), key) = self;
         let answered = answer_under(challenge.row.answered, key)?;
         let challenge = challenge.row.with_answer(answered);
-        Ok(Waiting {
+        Ok(JoinedChallenge {
             authorization,
             challenge,
         })
@@ -71,7 +71,7 @@ impl Parted for Joined {
 pub fn waiting_challenges<S: Alter>(
     alloc: Global,
     conn: &mut Connection<S>,
-) -> Result<Vec<Waiting>, ReadFault>
+) -> Result<Vec<JoinedChallenge>, ReadFault>
     ensures { LooksUp S.Store conn.old conn.new (λ T rows. AreWaiting T (map (λ w. (w.authorization.number, w.challenge)) rows.items)
         × EachOf (λ w. bare_authorizations T w.authorization.number ≡ w.authorization ∷ []) rows.items) result }
 {
@@ -81,7 +81,7 @@ pub fn waiting_challenges<S: Alter>(
 }
 
 // The challenges of these rows.
-fn challenges_of(alloc: Global, rows: &[Waiting]) -> Result<Vec<ChallengeRow>, AllocError>
+fn challenges_of(alloc: Global, rows: &[JoinedChallenge]) -> Result<Vec<ChallengeRow>, AllocError>
     ensures { IfOk result (λ all. all.items ≡ map (λ w. w.challenge) rows.now) }
 {
     rows.iter().map(|row| row.challenge).collect(alloc)
@@ -91,7 +91,7 @@ fn challenges_of(alloc: Global, rows: &[Waiting]) -> Result<Vec<ChallengeRow>, A
 fn with_all(
     alloc: Global,
     bare: &AuthorizationRow,
-    rows: &[Waiting],
+    rows: &[JoinedChallenge],
 ) -> Result<AuthorizationRow, AllocError>
     ensures { IfOk result (λ row. row ≡ record bare.now { challenges = map (λ w. w.challenge) rows.now }) }
 {
@@ -111,7 +111,7 @@ fn alone(alloc: Global, row: AuthorizationRow) -> Result<Vec<AuthorizationRow>, 
 }
 
 // The authorization beside these challenges, with all of them; none where there is no challenge.
-fn gathered(alloc: Global, rows: &[Waiting]) -> Result<Vec<AuthorizationRow>, ReadFault>
+fn gathered(alloc: Global, rows: &[JoinedChallenge]) -> Result<Vec<AuthorizationRow>, ReadFault>
     ensures rows { IfOk result (λ found. found.items ≡ gathered rows.now) }
     ensures fault { IfErr result IsOfMemory }
 {

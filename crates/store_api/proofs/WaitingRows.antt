@@ -15,12 +15,12 @@ use Rattle.model_lives.specs.Thinned.{waiting_challenges, with_challenges, witho
 use Rattle.model_lives.proofs.Lists.{filtered_each}
 use Rattle.store_api.proofs.Lacking.{rows_one}
 use Rattle.store_api.specs.Nesting.{joined, nested}
-use Rattle.store_columns.specs.declared.columns.Waiting.{Waiting}
+use Rattle.store_columns.specs.declared.columns.JoinedChallenge.{JoinedChallenge}
 
 -- ---- the challenges of rows
 
 -- a challenge behind the number of its authorization
-abbrev pub numbered : Waiting → ℕ × ChallengeRow
+abbrev pub numbered : JoinedChallenge → ℕ × ChallengeRow
 numbered w = (w.authorization.number, w.challenge)
 
 -- the challenge

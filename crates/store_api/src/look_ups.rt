@@ -15,7 +15,7 @@ use crate::kept::Kept;
 use desk_model::{AccountRow, AuthorizationRow, ChallengeRow, Listed, Meta, Nonce, OrderRow};
 use model_lives::{AccountsWhere, AuthorizationsWhere, NoncesWhere, OrdersWhere};
 use std::alloc::Global;
-use store_columns::{Owned, Waiting};
+use store_columns::{JoinedChallenge, Owned};
 
 /// What a look-up of rows gives.
 pub type Found<R> = Result<Vec<R>, StorageFault>;
@@ -80,7 +80,7 @@ pub trait LookUps: Kept {
 
     /// The challenges that are stored as waiting for the validator, each beside its authorization; those of one authorization
     /// by number.
-    fn waiting_challenges(&mut self, alloc: Global) -> Found<Waiting>
+    fn waiting_challenges(&mut self, alloc: Global) -> Found<JoinedChallenge>
         ensures { Gives Self.sight self.old self.new (λ T rows. IsOrdered T
             → AreWaiting T (map (λ w. (w.authorization.number, w.challenge)) rows.items)
             × EachOf (λ w. bare_authorizations T w.authorization.number ≡ w.authorization ∷ []) rows.items) result };

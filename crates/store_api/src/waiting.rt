@@ -13,12 +13,12 @@ use crate::look_ups::LookUps;
 use desk_book::Table;
 use desk_model::{AuthorizationRow, ChallengeRow, Sequence};
 use std::alloc::{AllocError, Global};
-use store_columns::Waiting;
+use store_columns::JoinedChallenge;
 
 // Puts the authorizations beside these challenges into a table, those alone that it lacks.
 fn add_owners(
     authorizations: &mut Table<AuthorizationRow>,
-    waiting: &[Waiting],
+    waiting: &[JoinedChallenge],
 ) -> Result<(), AllocError>
     ensures { OnOk result (authorizations.new ≡ lacking (λ r. r.number) (map (λ w. w.authorization) waiting.now) authorizations.old) }
 {
@@ -60,7 +60,7 @@ fn nest(
 // Puts these challenges under their authorizations, one after the other.
 fn nest_each(
     authorizations: &mut Table<AuthorizationRow>,
-    waiting: &[Waiting],
+    waiting: &[JoinedChallenge],
 ) -> Result<(), AllocError>
     ensures { OnOk result (Ascends (λ r. r.number) 1 authorizations.old
         → authorizations.new ≡ nested (map (λ w. (w.authorization.number, w.challenge)) waiting.now) authorizations.old) }
@@ -74,7 +74,7 @@ fn nest_each(
 // Puts the authorizations beside these challenges into a table, each with those of the challenges that are its own.
 fn add_nested(
     authorizations: &mut Table<AuthorizationRow>,
-    waiting: &[Waiting],
+    waiting: &[JoinedChallenge],
 ) -> Result<(), StorageFault>
     ensures nested { OnOk result (
         Ascends (λ r. r.number) 1 (lacking (λ r. r.number) (map (λ w. w.authorization) waiting.now) authorizations.old)

@@ -248,10 +248,10 @@ pub struct AnswerKey {
 
 /// A challenge beside its authorization, which has no challenges here.
 #[derive(Drop)]
-pub struct Waiting {
+pub struct JoinedChallenge {
     /// The authorization, without its challenges.
     pub authorization: AuthorizationRow,
-    /// One of its challenges that waits for the validator.
+    /// One of its challenges.
     pub challenge: ChallengeRow,
 }
 

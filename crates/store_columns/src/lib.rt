@@ -14,8 +14,8 @@ mod stored;
 
 pub use columns::{
     AccountColumns, AnswerKey, AuthzColumns, BareChallenge, ChallColumns, ChallKeyColumns,
-    FIRST_FORMAT, FORMAT, FlatRows, MetaColumns, NonceColumns, OrderAuthzColumns, OrderColumns,
-    OrderSummaryColumns, Owned, StoredRows, Waiting,
+    FIRST_FORMAT, FORMAT, FlatRows, JoinedChallenge, MetaColumns, NonceColumns, OrderAuthzColumns,
+    OrderColumns, OrderSummaryColumns, Owned, StoredRows,
 };
 pub use facts::{Columns, read_table};
 pub use laws::{columns_tell_rows_apart, texts_are_written};

@@ -10,12 +10,12 @@ use Rattle.store_api.proofs.Readings.{reads_unchanged, unchanged_here}
 use Rattle.store_api.proofs.WaitingRows.{nested_working, numbered, working_ascend}
 use Rattle.store_api.proofs.waiting.add_working.Goals as goal
 use Rattle.store_api.specs.{Needing.lacking, Needing.missings, Nesting.nested}
-use Rattle.store_columns.specs.declared.columns.Waiting.{Waiting}
+use Rattle.store_columns.specs.declared.columns.JoinedChallenge.{JoinedChallenge}
 
 pub returns : goal.returns
 returns g c =
     let number = λ (r : AuthorizationRow). r.number in
-    let owner = λ (w : Waiting). w.authorization in
+    let owner = λ (w : JoinedChallenge). w.authorization in
     let items = c.in_ok-waiting.waiting.items in
     let slice = c.as_slice.ensures.value in
     finds_then c.add_nested.result (record { reads = c.in_ok-waiting.ensures.reads; found = c.in_ok-waiting.ensures.found })
