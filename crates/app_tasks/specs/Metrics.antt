@@ -1,15 +1,14 @@
 -- The text by which a desk that is served is watched (OpenMetrics 1.0).
-use Rattle.std.specs.Prelude.{◌≡◌, ℕ, ◌+◌, ◌++◌, List, [], ◌∷◌, Option, Some, None, codes, decimal, if◌then◌else◌, length, map, unwrap_or}
+use Rattle.std.specs.Prelude.{◌≡◌, ℕ, ◌++◌, List, [], ◌∷◌, Option, Some, None, codes, decimal, length, unwrap_or}
 use Rattle.std.specs.Io.KnownBytes.{Appends}
-use Rattle.std.specs.List.{flat_map}
+use Rattle.std.specs.List.{filter, flat_map}
 use Rattle.app_reports.specs.About.{ahead}
 use Rattle.desk_model.specs.{Authorization.is_pending, Tables.Tables}
-use Rattle.desk_model.specs.declared.rows.{AuthorizationRow.AuthorizationRow, ChallengeRow.ChallengeRow, Counters.Counters}
+use Rattle.desk_model.specs.declared.rows.{ChallengeRow.ChallengeRow, Counters.Counters}
 use Rattle.http_routes.specs.declared.routes.Route.{Route}
 use Rattle.http_routes.specs.declared.routes.Route.TheVariants as route
 use Rattle.model_laws.specs.Ordered.{IsOrdered}
-use Rattle.model_lives.specs.LookUps.{AreWaiting, bare_authorizations, orders_processing}
-use Rattle.store_columns.specs.declared.columns.Owned.{Owned}
+use Rattle.model_lives.specs.LookUps.{orders_processing, waiting_of}
 use Rattle.app_tasks.specs.Totals.{calls_of, faults_of}
 use Rattle.app_tasks.specs.declared.metrics.{Reading.Reading, Snapshot.Snapshot}
 use Rattle.app_tasks.specs.declared.metrics.TheConstants as head
@@ -29,25 +28,14 @@ snapshot_of r c challenges orders = record {
   orders = orders;
 }
 
--- 1 where the first of these authorizations is stored as pending
-abbrev pub pending_among : List AuthorizationRow → ℕ
-pending_among [] = 0
-pending_among (r ∷ rest) = if is_pending r.status then 1 else 0
-
--- how many of these numbers are those of authorizations that are stored as pending
-abbrev pub pending_of : Tables → List ℕ → ℕ
-pending_of T [] = 0
-pending_of T (n ∷ rest) = pending_among (bare_authorizations T n) + pending_of T rest
-
--- so many challenges are stored as waiting for the validator, under an authorization that is stored as pending
-abbrev pub CountsWaiting : Tables → ℕ → Type 0
-CountsWaiting T n = IsOrdered T → (rows : List (Owned ChallengeRow)) × AreWaiting T (map (λ c. (c.owner, c.row)) rows)
-    × (n ≡ pending_of T (map (λ c. c.owner) rows))
+-- the challenges that are stored as waiting for the validator, under an authorization that is stored as pending
+abbrev pub challenges_waiting : Tables → List ChallengeRow
+challenges_waiting T = flat_map waiting_of (filter (λ a. is_pending a.status) T.authorizations)
 
 -- of these tables, beside what is known otherwise
 pub record IsSnapshotOf (r : Reading) (T : Tables) (s : Snapshot) : Type 0 where
   pub told : s ≡ snapshot_of r T.meta.counters s.challenges s.orders
-  pub challenges : CountsWaiting T s.challenges
+  pub challenges : IsOrdered T → s.challenges ≡ length (challenges_waiting T)
   pub orders : s.orders ≡ length (orders_processing T)
 
 -- ---- the text of it

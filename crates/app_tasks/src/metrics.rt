@@ -2,10 +2,11 @@
 ghost use Rattle.std.specs.Prelude.{◌≡◌, IfOk, OnOk, count_by, length};
 ghost use Rattle.std.specs.{Io.KnownBytes.Appends, List.flat_map};
 ghost use Rattle.app_reports.specs.Reported.{Reports};
-ghost use Rattle.app_tasks.specs.Metrics.{CountsWaiting, IsSnapshotOf, TellsMetrics, snapshot_of};
+ghost use Rattle.app_tasks.specs.Metrics.{IsSnapshotOf, TellsMetrics, challenges_waiting, snapshot_of};
 ghost use Rattle.app_tasks.specs.Metrics.{calls_text, class_text, classes_text, clock_text, counted_routes, fault_numbers, fault_text, files_text, label_of};
 ghost use Rattle.app_tasks.specs.Metrics.{made_text, metrics_text, number_text, seconds_text, served_text, slowest_text, waiting_text};
 ghost use Rattle.desk_model.specs.Authorization.{is_pending};
+ghost use Rattle.model_laws.specs.Ordered.{IsOrdered};
 ghost use Rattle.model_lives.specs.LookUps.{orders_processing};
 ghost use Rattle.store_api.specs.Sight.{ForTables, Reads};
 
@@ -141,7 +142,7 @@ fn counters_of<K: LookUps>(alloc: Global, source: &mut K) -> Result<Counters, St
 // its challenges as they are, and nobody validates them.
 fn count_challenges<K: LookUps>(alloc: Global, source: &mut K) -> Result<u64, StorageFault>
     ensures reads { Reads K.sight source.old source.new result }
-    ensures found { ForTables K.sight source.old source.new (λ T. IfOk result (CountsWaiting T)) }
+    ensures found { ForTables K.sight source.old source.new (λ T. IfOk result (λ count. IsOrdered T → count ≡ length (challenges_waiting T))) }
 {
     let waiting = source.waiting_challenges(alloc)?;
     Ok(count_pending(waiting.as_slice()))
