@@ -14,7 +14,6 @@ use crate::totals::{COUNTED, CallCounts, FAULT_NUMBERS, Totals};
 use app_reports::{Beside, ReportFault, seconds_ahead};
 use desk_model::Counters;
 use http_routes::Route;
-use model_lives::OrdersWhere;
 use std::alloc::Global;
 use std::io::{self, Write};
 use store_api::{LookUps, StorageFault};
@@ -163,7 +162,7 @@ fn count_orders<K: LookUps>(alloc: Global, source: &mut K) -> Result<u64, Storag
     ensures reads { Reads K.sight source.old source.new result }
     ensures found { ForTables K.sight source.old source.new (λ T. IfOk result (λ count. count ≡ length (orders_processing T))) }
 {
-    let orders = source.find_orders(alloc, OrdersWhere::Processing)?;
+    let orders = source.processing_orders(alloc)?;
     Ok(orders.len() as u64)
 }
 
