@@ -195,7 +195,7 @@ planted: ## tries the planted edits, of one crate by CRATE=name; the prover must
 	@python3 -B -m scripts.gate.edits try $(CRATE)
 
 # Proves and builds nothing of the desk: it times the program that is there.
-bench: ## times the program for docs/PERFORMANCE.md, in minutes
+bench: ## times the program, and writes docs/PERFORMANCE.md
 	@$(HAS_DESK)
 	@echo 'Timing durable calls against C over files of 100 to 100,000 orders (minutes), for docs/PERFORMANCE.md.'
 	@python3 bench/bench.py > bin/PERFORMANCE.md
@@ -203,10 +203,10 @@ bench: ## times the program for docs/PERFORMANCE.md, in minutes
 	@python3 bench/loopback.py >> bin/PERFORMANCE.md
 	@echo 'Timing what an operator does with finished orders.'
 	@python3 bench/finished.py >> bin/PERFORMANCE.md
-	@echo 'Timing the opening of a file of format 1.'
-	@python3 bench/upgrade.py >> bin/PERFORMANCE.md
 	@echo 'Timing a file of a million orders.'
 	@python3 bench/million.py >> bin/PERFORMANCE.md
+	@echo 'Timing the opening of a file of format 1.'
+	@python3 bench/upgrade.py >> bin/PERFORMANCE.md
 	@echo 'Counting the instructions of a call.'
 	@python3 bench/instructions.py --into bin/PERFORMANCE.md
 	@mv bin/PERFORMANCE.md docs/PERFORMANCE.md

@@ -1,12 +1,12 @@
 #!/usr/bin/env python3
-"""Times durable calls of bin/desk against bench/desk.c, and writes docs/PERFORMANCE.md to standard output.
+"""Times durable calls of bin/desk against bench/desk.c, and writes the head of docs/PERFORMANCE.md and its first sections to standard output.
 
 For each size a file with so many orders is written by Python's sqlite3, and copied for the program, for the program
 with `--sync once`, and for C. All run at the same time, each over its own copy. They are asked the same calls, a few of
 one kind by the one and then by the others, and must give the same lines. Where gcc or SQLite's header is missing, C is
 left out.
 
-    python3 bench/bench.py [--sizes 100,1000] [--only c|desk] > docs/PERFORMANCE.md
+    python3 bench/bench.py [--sizes 100,1000]
 """
 
 import argparse
@@ -29,9 +29,8 @@ HERE = os.path.dirname(os.path.abspath(__file__))
 TOP = os.path.dirname(HERE)
 SIZES = (100, 1000, 10000, 100000)
 RUNS, TURNS, CALLS = 3, 10, 10
-OPENINGS = 3
-# What is timed, and how the page names it.
-NAMES = {"desk": "the program", "once": "the program, `--sync once`", "c": "C"}
+# The seconds of a sync on a slower disk.
+SLOW_SYNC = 0.005
 # The least rates by C's that were the goals, of some kinds of calls and of all others; and the greatest growth.
 GOALS = {"once": ({"newNonce": 0.8, "newAccount, known": 0.8}, 0.6), "desk": ({}, 0.5)}
 GROWTH = 1.2
@@ -227,17 +226,6 @@ OF_ONE = ("read an account", "replace its contacts")
 # The lists of the whole desk.
 WORK_LISTS = ("challenge work", "order work")
 
-# What the time of a call goes to, by kinds of calls that differ in it.
-PARTS = (
-    ("a line is read, the reply written", ("directory",), ()),
-    ("an account is looked up", ("its key",), ("directory",)),
-    ("a nonce and the meta row are written; by C what has passed is looked up; the commit", ("newNonce",), ("directory",)),
-    ("a request is read, its nonce and account are looked up, the nonce goes", ("newAccount, known",), ("newNonce",)),
-    ("an order is looked up with its list and its authorization", ("read an order",), ("newAccount, known",)),
-    ("an account is shown by its number", ("read an account",), ("newAccount, known",)),
-    ("an order, its list, its authorization and two challenges are written", ("newOrder",), ("newAccount, known",)),
-)
-
 
 class Program:
     """A program that answers lines, over a file of its own."""
@@ -282,17 +270,6 @@ class Program:
             sys.exit(f"{self.process.args[0]} ended with status {self.process.returncode}")
 
 
-def opened(words):
-    """The program over its file, and the median time of opening it."""
-    times = []
-    for _ in range(OPENINGS - 1):
-        program = Program(words)
-        times.append(program.opening)
-        program.close()
-    program = Program(words)
-    return program, statistics.median([*times, program.opening])
-
-
 def compiled(folder, name="desk"):
     """A program in C, or None with a word on standard error."""
     path = os.path.join(folder, f"{name}_c")
@@ -303,16 +280,11 @@ def compiled(folder, name="desk"):
     return None
 
 
-def commands(only, folder):
+def commands(folder):
     """What is timed, by name: the words that a file's path follows."""
-    found = {}
-    if only != "c":
-        batch = [os.path.join(TOP, "bin/desk"), "batch"]
-        found = {"desk": [*batch, "--file"], "once": [*batch, "--sync", "once", "--file"]}
-    path = compiled(folder) if only != "desk" else None
-    if path:
-        found["c"] = [path]
-    return found
+    batch, in_c = [f"{TOP}/bin/desk", "batch"], compiled(folder)
+    found = {"desk": [*batch, "--file"], "once": [*batch, "--sync", "once", "--file"]}
+    return found | ({"c": [in_c]} if in_c else {})
 
 
 def check_replies(name, replies):
@@ -342,11 +314,8 @@ class Measured:
 
     def __init__(self, size, found, folder, each=ORDERS_OF_ACCOUNT):
         path = make_file(os.path.join(folder, f"{size}.{each}.db"), size, each=each)
-        starts = {who: opened([*words, copy_of(path, f"{path}.{who}")]) for who, words in found.items()}
         self.size = size
-        self.bytes = os.path.getsize(path)
-        self.opening = {who: opening for who, (_, opening) in starts.items()}
-        self.programs = {who: program for who, (program, _) in starts.items()}
+        self.programs = {who: Program([*words, copy_of(path, f"{path}.{who}")]) for who, words in found.items()}
         self.lines = Lines(each)
         first = self.lines.nonce()
         check_replies("newNonce", [[program.answer(first)] for program in self.programs.values()])
@@ -358,7 +327,6 @@ class Measured:
         check_replies(name, [program.answers(name, lines) for program in programs])
 
     def close(self):
-        self.memory = {who: program.memory() for who, program in self.programs.items()}
         for program in self.programs.values():
             program.close()
 
@@ -366,7 +334,6 @@ class Measured:
         """Adds what a later run measured over files of the same size."""
         for who, program in self.programs.items():
             program.add(later.programs[who])
-            self.memory[who] = max(self.memory[who], later.memory[who])
 
     @property
     def seconds(self):
@@ -400,19 +367,18 @@ def ask(turn, sizes, of_one):
 class Run:
     """What was measured over files in a folder, sizes taking turns as programs do, and the median time of a sync."""
 
-    def __init__(self, place, words, without=None):
-        self.place, self.words, self.without = place, words, without
+    def __init__(self, place, sizes, without=None):
         self.syncs, self.sizes, self.of_one = [], {}, None
         for _ in range(RUNS):
             with tempfile.TemporaryDirectory(dir=place) as folder:
-                self.measure(folder)
+                found = commands(folder)
+                found.pop(without, None)
+                self.measure(folder, sizes, found)
         self.sync = statistics.median(self.syncs)
 
-    def measure(self, folder):
+    def measure(self, folder, sizes, found):
         """One run over new files, whose turns are added to those of the runs before."""
-        found = commands(self.words.only, folder)
-        found.pop(self.without, None)
-        sizes = {size: Measured(size, found, folder) for size in map(int, self.words.sizes.split(","))}
+        sizes = {size: Measured(size, found, folder) for size in sizes}
         of_one = Measured(ORDERS_OF_ONE, found, folder, ORDERS_OF_ONE)
         for turn in range(TURNS):
             self.syncs += sync_times(folder)
@@ -426,9 +392,17 @@ class Run:
             self.sizes[size].add(measured)
         self.of_one.add(of_one)
 
-    def growth_of_one(self, who, name):
+    def growth(self, name):
+        """The time of the program's call at the largest size, by that at the smallest."""
+        return self.sizes[max(self.sizes)].seconds["desk"][name] / self.sizes[min(self.sizes)].seconds["desk"][name]
+
+    def growth_of_one(self, name):
         """The time of a call for the account that has all orders of its file, by that for one of few in the largest file."""
-        return self.of_one.seconds[who][name] / self.sizes[max(self.sizes)].seconds[who][name]
+        return self.of_one.seconds["desk"][name] / self.sizes[max(self.sizes)].seconds["desk"][name]
+
+    def ratio(self, size, name, who="desk"):
+        """The rate of a call by C's."""
+        return self.sizes[size].seconds["c"][name] / self.sizes[size].seconds[who][name]
 
 
 def syncs_of_call(words, folder):
@@ -446,25 +420,26 @@ def syncs_of_call(words, folder):
     return counts[2] - counts[1]
 
 
-def counted_syncs(only):
+def counted_syncs():
     """How often each program syncs for a call, where strace is there."""
     if not shutil.which("strace"):
         return {}
     with tempfile.TemporaryDirectory() as folder:
-        return {who: syncs_of_call(words, folder) for who, words in commands(only, folder).items()}
+        return {who: syncs_of_call(words, folder) for who, words in commands(folder).items()}
 
 
 # ---- the page
 
 
-def say(text):
-    """Writes a paragraph."""
-    print(textwrap.fill(" ".join(text.split()), 118, break_long_words=False, break_on_hyphens=False) + "\n")
+def table(titles, rows):
+    """The lines of a table, and an empty one."""
+    first, *lines = [f"| {' | '.join(cells)} |" for cells in (titles, *rows)]
+    return [first, "|" + "---|" * len(titles), *lines, ""]
 
 
-def millions(count):
-    """A count of orders, in millions."""
-    return f"{count / 1e6:.2g} million"
+def paragraph(text):
+    """The lines of a paragraph, and an empty one."""
+    return [*textwrap.wrap(" ".join(text.split()), 118, break_long_words=False, break_on_hyphens=False), ""]
 
 
 def figure(value):
@@ -473,192 +448,97 @@ def figure(value):
     return f"{value:,.{digits}f}"
 
 
-def growth(measured, who, name):
-    return measured[max(measured)].seconds[who][name] / measured[min(measured)].seconds[who][name]
+def head():
+    """What the page compares, where that was measured, and what writes it."""
+    return paragraph(
+        f"""`bin/desk` beside `bench/desk.c` (C), which does the same transactions by hand on SQLite {sqlite3.sqlite_version} and gives the same
+        replies. Measured on {os.cpu_count()} processors that other work shared: times are long by it, and a single one may differ by a third from run
+        to run; instructions do not vary. `make bench` writes this page, and takes gcc, SQLite's header, valgrind, strace, and room for the files below in
+        `/tmp` and `/dev/shm`."""
+    )
 
 
-def ratio(measured, size, name, who="desk"):
-    return measured[size].seconds["c"][name] / measured[size].seconds[who][name]
+def synced(counts, sync):
+    """The sentence on how often a call syncs, and how long that takes."""
+    times = {1: "once", 2: "twice"}
+    names = {"desk": "the desk syncs", "once": "with `--sync once`", "c": "C"}
+    counted = ", ".join(f"{names[who]} {times.get(count, f'{count} times')}" for who, count in counts.items())
+    return f"{f'In each {counted}; a' if counted else 'A'} sync took {1e6 * sync:,.0f} microseconds here."
 
 
-def print_rates(measured, who, memory=None):
-    """The rate of the program at the largest size and its growth; where C is measured, too, its own, and by these the program's rate with
-    two syncs, with `--sync once`, and over a file in memory, without a sync."""
-    largest = max(measured)
-    has_c = "c" in measured[largest].seconds
-    columns = [f"{NAMES[who]}, {largest:,} orders", "growth"]
-    columns += ["C", "growth", "ratio", "once"] if has_c else []
-    columns += ["no sync"] if has_c and memory else []
-    print("| calls a second | " + " | ".join(columns) + " |")
-    print("|---|" + "---|" * len(columns))
-    for name, _ in KINDS:
-        cells = [cell for maker in (who, "c") if maker == who or has_c for cell in (1 / measured[largest].seconds[maker][name], growth(measured, maker, name))]
-        cells += [ratio(measured, largest, name, maker) for maker in ("desk", "once") if has_c]
-        cells += [ratio(memory, max(memory), name)] if has_c and memory else []
-        print(f"| {name} | " + " | ".join(map(figure, cells)) + " |")
-    print()
+def carried(seconds, counts, sync):
+    """The seconds of an order's calls, by where they are made."""
+    life = {who: sum(found[name] * times for name, times in LIFE.items()) for who, found in seconds.items()}
+    lists = sum(seconds["desk"][name] for name in WORK_LISTS)
+    slower = {"desk": f"where a sync takes {1000 * SLOW_SYNC:.0f} ms", "once": "there, `--sync once`"}
+    more = {who: sum(LIFE.values()) * count * (SLOW_SYNC - sync) for who, count in counts.items()}
+    here = {"on this disk": life["desk"], "with both lists of work": life["desk"] + lists}
+    return here | {said: life[who] + more[who] for who, said in slower.items() if who in more}
 
 
-def print_of_one(run):
-    """The calls for the account of many orders, and how their time grew."""
-    programs = run.of_one.seconds
-    columns = [cell for who in programs for cell in (f"{NAMES[who]}, calls a second", "growth")]
-    print(f"| an account of {ORDERS_OF_ONE:,} orders | " + " | ".join(columns) + " |")
-    print("|---|" + "---|" * len(columns))
-    for name in OF_ONE:
-        cells = [cell for who in programs for cell in (1 / programs[who][name], run.growth_of_one(who, name))]
-        print(f"| {name} | " + " | ".join(map(figure, cells)) + " |")
-    print()
-
-
-def part(seconds, more, less):
-    return sum(seconds[name] for name in more) - sum(seconds[name] for name in less)
-
-
-def print_parts(measured):
-    """What the time goes to, at the largest size."""
-    seconds = measured[max(measured)].seconds
-    print(f"| microseconds, {max(measured):,} orders, no sync | " + " | ".join(NAMES[who] for who in seconds) + " |")
-    print("|---|" + "---|" * len(seconds))
-    for said, more, less in PARTS:
-        cells = [f"{1e6 * part(found, more, less):,.0f}" for found in seconds.values()]
-        print(f"| {said} | " + " | ".join(cells) + " |")
-    print()
+def carries(disk, counts):
+    """The section on what one desk carries."""
+    largest = max(disk.sizes)
+    calls = ", ".join(name if times == 1 else f"{name} {times} times" for name, times in LIFE.items())
+    found = carried(disk.sizes[largest].seconds, counts, disk.sync)
+    rows = [(said, f"{1000 * life:.{0 if life >= 0.01 else 1}f}", f"{86400 / life / 1e6:.2g}") for said, life in found.items()]
+    text = f"An order takes {sum(LIFE.values())} calls, each one transaction: {calls}. {synced(counts, disk.sync)}"
+    limit = """Old orders stay: when opening takes too long, a house puts the file aside and makes a new one. A house that outgrows one desk runs
+        several, each with its own file, base and accounts; the front tells them apart by host name."""
+    titles = (f"an order's calls, over {largest:,}", "ms", "million orders a day")
+    return ["## What one desk carries", "", *paragraph(text), *table(titles, rows), *paragraph(limit)]
 
 
 def listed(found):
     """The kinds of calls that miss a goal, each with its figure."""
-    return ", ".join(f"{name} ({figure(value)})" for name, value in found.items()) if found else "none"
+    return ", ".join(f"{name} ({figure(value)})" for name, value in found.items()) or "none"
 
 
-def slow(measured, who):
+def slow(disk, who):
     """The kinds of calls whose rate by C's is below the goal at some size, each with the least one."""
     goals, others = GOALS[who]
-    least = {name: min(ratio(measured, size, name, who) for size in measured) for name, _ in KINDS}
+    least = {name: min(disk.ratio(size, name, who) for size in disk.sizes) for name, _ in KINDS}
     return listed({name: value for name, value in least.items() if value < goals.get(name, others)})
 
 
-def missed(run):
-    """The sentences on the goals."""
-    measured = run.sizes
-    grown = {name: growth(measured, "desk", name) for name, _ in KINDS}
-    grown.update({f"{name}, of {ORDERS_OF_ONE:,} orders": run.growth_of_one("desk", name) for name in OF_ONE})
-    return f"""The goals were rates of at least 0.8 of C's for newNonce and newAccount and 0.6 for other calls with `--sync once`,
-        of at least 0.5 with two syncs, and a growth of at most {GROWTH}. At some size the first is missed by
-        {slow(measured, "once")}; the second by {slow(measured, "desk")}; the third by
-        {listed({name: value for name, value in grown.items() if value > GROWTH})}. The parts below are differences of two times, so
-        small ones are mostly noise."""
+def missed(disk):
+    """The sentence on the goals."""
+    grown = {name: disk.growth(name) for name, _ in KINDS} | {f"{name}, of {ORDERS_OF_ONE:,} orders": disk.growth_of_one(name) for name in OF_ONE}
+    return f"""Goals missed at some size: ratio 0.5 by {slow(disk, "desk")}; `--sync once` 0.8 for newNonce and newAccount, 0.6 for others, by
+        {slow(disk, "once")}; growth {GROWTH} by {listed({name: value for name, value in grown.items() if value > GROWTH})}."""
 
 
-CAPACITY = """A house that outgrows one desk runs several, each with a file, a base (`https://ca1.example`, `https://ca2.example`)
-and accounts of its own; the front sends a request on by its host name alone."""
+def rates(disk, memory):
+    """The section on calls a second, with ratios where C is measured."""
+    smallest, largest = min(disk.sizes), max(disk.sizes)
+    has_c = "c" in disk.sizes[largest].seconds
+    ratios = {"ratio": (disk, "desk"), "`--sync once`": (disk, "once"), **({"no sync": (memory, "desk")} if memory else {})} if has_c else {}
+    rows = []
+    for name, _ in KINDS:
+        cells = [1 / disk.sizes[largest].seconds["desk"][name], disk.growth(name), *(run.ratio(largest, name, who) for run, who in ratios.values())]
+        rows.append((name, *map(figure, cells)))
+    in_memory = ", and over files in memory" if memory else ""
+    by_c = f"; ratio the rate by C's, so also with `--sync once`{in_memory}" if has_c else ""
+    text = f"""One call after the other through pipes, over {largest:,} pending orders of one name, {ORDERS_OF_ACCOUNT} to an account; medians. Growth is
+        the time by that over {smallest:,} orders{by_c}."""
+    of_one = ", ".join(f"{name} {figure(disk.growth_of_one(name))}" for name in OF_ONE)
+    said = f"Growth to an account of {ORDERS_OF_ONE:,} orders: {of_one}. {missed(disk) if has_c else ''}"
+    return ["## Calls a second", "", *paragraph(text), *table(("call", "a second", "growth", *ratios), rows), *paragraph(said)]
 
 
-def say_how():
-    say(
-        f"""`make bench` writes this page. Python's sqlite3 makes files of pending orders of one name each, {ORDERS_OF_ACCOUNT} to an
-        account, and one file in which an account has all {ORDERS_OF_ONE:,}. `bin/desk batch --file`, the same with `--sync once`, and
-        `bench/desk.c`, which does the same transactions by hand on SQLite {sqlite3.sqlite_version}, each serve a copy, side by side,
-        and give the same replies. They are asked in {TURNS} turns of {CALLS} calls of a kind, one after the other, {RUNS} times over new
-        files; a time is the median of the turns, with the round through pipes. Growth is the time at the largest size by that at the
-        smallest ({min(SIZES):,} orders), ratio the program's rate by C's, "once" that with `--sync once`, "no sync" that over files in memory. Measured on {os.cpu_count()} processors that other work shared: rates are low by
-        it, and a single figure may differ by a third from run to run."""
-    )
-
-
-def say_syncs(counts, sync):
-    times = {1: "once", 2: "twice"}
-    names = {"desk": "the program syncs its log", "once": "with `--sync once`", "c": "C"}
-    counted = ", ".join(f"{names[who]} {times.get(count, f'{count} times')}" for who, count in counts.items())
-    say(
-        f"""A call that records something, as each signed request does, is one transaction.
-        {f"For it {counted} (counted by `strace`)." if counted else ""} One sync of 24 kB took {1e6 * sync:,.0f}
-        microseconds here. Without `--sync once` the program syncs the frames, then writes the byte that makes them count and syncs
-        again; SQLite trusts a checksum and syncs once."""
-    )
-
-
-def say_load(measured, who):
-    """What one desk carries."""
-    largest = max(measured)
-    seconds = measured[largest].seconds[who]
-    life = sum(seconds[name] * count for name, count in LIFE.items())
-    lists = sum(seconds[name] for name in WORK_LISTS)
-    calls = ", ".join(name if count == 1 else f"{name} {count} times" for name, count in LIFE.items())
-    say(
-        f"""An order takes {sum(LIFE.values())} calls from its nonce to its certificate ({calls}). At the rates over
-        {largest:,} orders on the disk these take {1000 * life:.1f} ms, one after the other: {millions(86400 / life)} orders
-        a day by the calls alone. With the two lists of work after each answer and each finalize it is {1000 * lists:.1f} ms more:
-        {millions(86400 / (life + lists))} orders a day. What limits a desk sooner is how many orders its file holds, done ones too, since
-        opening reads them all."""
-    )
-
-
-def slower(seconds, syncs, sync):
-    """What an order's calls would take on a disk whose sync takes 5 ms, and how many orders a day these are."""
-    count = syncs * sum(LIFE.values())
-    life = sum(seconds[name] * times for name, times in LIFE.items()) + count * (0.005 - sync)
-    return f"{count} times", f"{1000 * life:,.0f} ms: {millions(86400 / life)} orders a day"
-
-
-def say_disk(measured, counts, sync):
-    """What a slower disk leaves."""
-    seconds = measured[max(measured)].seconds
-    found = {who: slower(seconds[who], counts[who], sync) for who in ("desk", "once") if who in counts}
-    count, life = found["desk"]
-    once = "; with `--sync once` {}, and {}".format(*found["once"])
-    say(f"An order's calls sync {count}. On a disk whose sync takes 5 ms they would take {life}{once}.")
-
-
-def print_files(measured, who):
-    print("| orders | file, pending orders | time to open | memory at most |")
-    print("|---|---|---|---|")
-    for size, found in measured.items():
-        opening = f"{1000 * found.opening[who]:,.0f} ms"
-        print(f"| {size:,} | {found.bytes / 1e6:,.1f} MB | {opening} | {found.memory[who] / 1e6:,.0f} MB |")
-    print()
-
-
-def say_old():
-    say("""Old orders stay in the file: a house puts it aside and makes a new one when opening takes too long for it. Finished orders
-        take more, see below.""")
-
-
-def print_comparison(disk, memory):
-    """The program beside C."""
-    print_of_one(disk)
-    print("## Where the time goes\n")
-    say(missed(disk))
-    print_parts((memory or disk).sizes)
-
-
-def print_page(counts, disk, memory):
-    largest = max(disk.sizes)
-    who = next(iter(disk.sizes[largest].seconds))
-    print("# Performance\n\n## Calls a second\n")
-    say_how()
-    say_syncs(counts, disk.sync)
-    print_rates(disk.sizes, who, memory and memory.sizes)
-    if {"desk", "c"} <= set(disk.sizes[largest].seconds):
-        print_comparison(disk, memory)
-    print("## What one desk carries\n")
-    say_load(disk.sizes, who)
-    if "desk" in counts:
-        say_disk(disk.sizes, counts, disk.sync)
-    print_files(disk.sizes, who)
-    say_old()
-    say(CAPACITY)
+def page(counts, disk, memory):
+    """The lines of the page's head and of the sections that this script measures."""
+    return ["# Performance", "", *head(), *carries(disk, counts), *rates(disk, memory)]
 
 
 def main():
-    parser = argparse.ArgumentParser()
+    parser = argparse.ArgumentParser(description=__doc__.split("\n", maxsplit=1)[0])
     parser.add_argument("--sizes", default=",".join(map(str, SIZES)))
-    parser.add_argument("--only", choices=("c", "desk"))
-    words = parser.parse_args()
-    os.makedirs(os.path.join(TOP, "bin"), exist_ok=True)
-    disk = Run(os.path.join(TOP, "bin"), words)
-    memory = Run("/dev/shm", words, "once") if os.path.isdir("/dev/shm") else None
-    print_page(counted_syncs(words.only), disk, memory)
+    sizes = [int(size) for size in parser.parse_args().sizes.split(",")]
+    os.makedirs(f"{TOP}/bin", exist_ok=True)
+    disk = Run(f"{TOP}/bin", sizes)
+    memory = Run("/dev/shm", sizes, "once") if os.path.isdir("/dev/shm") else None
+    print("\n".join(page(counted_syncs(), disk, memory)))
 
 
 if __name__ == "__main__":

@@ -1,30 +1,27 @@
 #!/usr/bin/env python3
-"""Times what an operator does with files of finished orders, and writes sections of docs/PERFORMANCE.md to standard output: openings, reports,
-`backup` and `restore` over a file, and what a desk is asked that is served, with the longest wait of a client meanwhile.
+"""Times what an operator does with files of finished orders, and writes a section of docs/PERFORMANCE.md to standard output: openings, reports,
+`backup` and `restore` over a file, and what a desk is asked that is served, with the longest wait of a client beside a backup.
 
-Each file is one of bench.py's, whose orders a batch then answers, reports, finalizes and certifies. With --opening the openings alone are
-measured, beside bench/opening.c.
+Each file is one of bench.py's, whose orders a batch then answers, reports, finalizes and certifies. Where gcc or SQLite's header is missing,
+the opening in C (bench/opening.c) is left out.
 
-    python3 bench/finished.py [--program bin/desk] [--sizes 10000,100000,300000] [--turns 3] [--opening]
+    python3 bench/finished.py [--program bin/desk] [--sizes 10000,100000,300000] [--turns 3]
 """
 
 import argparse
 import contextlib
 import json
 import os
-import re
 import shutil
 import sqlite3
 import statistics
 import subprocess
 import sys
 import tempfile
-import textwrap
 import threading
 import time
 
-from bench import KINDS, TOP, Lines, base64url, compiled, make_file
-from instructions import instructions_of
+from bench import KINDS, TOP, Lines, base64url, compiled, make_file, paragraph, table
 from loopback import NONCE, Server
 
 SIZES = (10000, 100000, 300000)
@@ -34,13 +31,10 @@ CSR = bytes(range(256)) * 4
 CHAIN = ("-----BEGIN CERTIFICATE-----\n" + ("A" * 64 + "\n") * 30 + "A" * 43 + "\n-----END CERTIFICATE-----\n") * 2
 # The format of a desk, and a later one: a file of that is refused where the engine has audited it, before the desk reads its rows.
 FORMAT, LATER = 2, 3
-# How often the metrics are read, and by which request.
-READINGS = 50
-METRICS = b"GET /office/metrics HTTP/1.1\r\nHost: 127.0.0.1\r\n\r\n"
 # The reports, with the end of what each prints of so many orders.
 REPORTS = {"about": "log: ", "page": "</html>\n", "status": "orders {}\n", "check": "no fault\n"}
-# The parts of an opening, as the page names them.
-OPENINGS = ("opening", "the engine's audit", "the desk's own", "C", "C, CSRs and certificates unread", "C, its audit first")
+# An opening and its parts, and the one in C, as the page names them.
+OPENINGS = ("opening", "the engine's audit", "the desk's part", "the same in C (`bench/opening.c`)")
 
 
 def run(words, status=0):
@@ -108,57 +102,22 @@ def of_later_format(path):
             yield
 
 
-def counted(words, status, folder):
-    """The instructions that a program takes, but for those that copy or clear memory."""
-    dump = f"{folder}/opening.callgrind"
-    run(["valgrind", "--tool=callgrind", "-q", f"--callgrind-out-file={dump}", *words], status)
-    return instructions_of(dump)
+def measure_opening(program, in_c, path, turns):
+    """The medians of the seconds of an opening, of its parts and of one in C, and the most kilobytes of the program."""
+    words, found, most = [program, "batch", "--file", path], [], 0
+    for _ in range(turns):
+        whole, kilobytes, _ = run(words)
+        with of_later_format(path):
+            audit = run(words, 1)[0]
+        found.append((whole, audit, whole - audit, *([run([in_c, path])[0]] if in_c else [])))
+        most = max(most, kilobytes)
+    return dict(zip(OPENINGS, map(statistics.median, zip(*found)))), most
 
 
-def openings(program, in_c, path, take):
-    """What is taken of an opening, of one that ends behind the engine's audit, of the rest, and of C's over the same file."""
-    word = [program, "batch", "--file", path]
-    whole = take(word, 0)
-    with of_later_format(path):
-        audit = take(word, 1)
-    return [whole, audit, whole - audit, take([in_c, path], 0), take([in_c, "--bare", path], 0), take([in_c, "--audit", path], 0)]
-
-
-def measure_openings(program, in_c, path, turns):
-    """The bytes of a file, the medians of the seconds of the parts of its opening, and the most kilobytes."""
-    kilobytes = []
-
-    def seconds(words, status):
-        taken, most, _ = run(words, status)
-        kilobytes.append(most if words[0] == program else 0)
-        return taken
-
-    found = [openings(program, in_c, path, seconds) for _ in range(turns)]
-    return os.path.getsize(path), [statistics.median(it) for it in zip(*found)], max(kilobytes)
-
-
-def openings_page(found, counts, size, turns):
-    """The lines of the section on openings."""
-    text = f"""`bench/finished.py` writes this section. At each opening the engine audits the file: it reads each table whole, so the memory of an
-        opening is that of the largest table, and nothing in the desk can change that. The desk's own part reads the rows again, one after the
-        other, and checks them. They are told apart by a file that says it is of a later format, which is refused between the two.
-        `bench/opening.c` reads the same rows on SQLite and checks the same; it is measured as well where it leaves CSRs and certificates
-        unread, and where `PRAGMA integrity_check` and `foreign_key_check` come first. A time is the median of {turns} runs. The last row has
-        thousands of instructions an order, of {size:,}, by callgrind, without those that copy or clear memory."""
-    lines = ["## Opening finished orders", "", *textwrap.wrap(" ".join(text.split()), 118), ""]
-    lines += [f"| orders | file | {' | '.join(OPENINGS)} | own by C | memory |", "|" + "---|" * (len(OPENINGS) + 4)]
-    for orders, (held, seconds, kilobytes) in found.items():
-        times = " | ".join(f"{it:,.2f} s" for it in seconds)
-        lines.append(f"| {orders:,} | {held / 1e6:,.0f} MB | {times} | {seconds[2] / seconds[3]:.2f} | {kilobytes / 1024:,.0f} MB |")
-    each = " | ".join(f"{it / size / 1000:,.1f}" for it in counts)
-    return [*lines, f"| instructions | | {each} | {counts[2] / counts[3]:.2f} | |"]
-
-
-def measure(program, size, turns, folder):
-    """The bytes of a file, for each word the median of its seconds, and the most kilobytes of all."""
-    path, copy = f"{folder}/{size}.db", f"{folder}/{size}-copy.db"
-    words = {"opening": ("batch", "--file", path), **{name: (name, path) for name in REPORTS}, "backup": ("backup", path, copy),
-             "restore": ("restore", copy, path)}
+def measure(program, path, size, turns):
+    """For each word over a file the median of its seconds, and the most kilobytes of all."""
+    copy = f"{os.path.dirname(path)}/copy.db"
+    words = {**{name: (name, path) for name in REPORTS}, "backup": ("backup", path, copy), "restore": ("restore", copy, path)}
     taken = {name: [] for name in words}
     for _ in range(turns):
         for name, word in words.items():
@@ -166,8 +125,7 @@ def measure(program, size, turns, folder):
             see_end(name, size, printed)
             taken[name].append(found)
         os.remove(copy)
-    seconds = {name: statistics.median(it[0] for it in found) for name, found in taken.items()}
-    return os.path.getsize(path), seconds, max(it[1] for found in taken.values() for it in found)
+    return {name: statistics.median(it[0] for it in found) for name, found in taken.items()}, max(it[1] for found in taken.values() for it in found)
 
 
 class Waiting(threading.Thread):
@@ -180,7 +138,9 @@ class Waiting(threading.Thread):
 
     def run(self):
         while not self.over.is_set():
-            self.longest = max(self.longest, asked(self.desk, NONCE))
+            start = time.monotonic()
+            self.desk.ask(NONCE)
+            self.longest = max(self.longest, time.monotonic() - start)
 
     def end(self):
         self.over.set()
@@ -188,34 +148,10 @@ class Waiting(threading.Thread):
         return self.longest
 
 
-def asked(desk, request):
-    """The seconds that a request takes, from the connection to the end of the reply."""
-    start = time.monotonic()
-    desk.ask(request)
-    return time.monotonic() - start
-
-
-def ordered(desk, number):
-    """The seconds that a newOrder takes."""
-    request = desk.ordered(f"new{number}.example")
-    start = time.monotonic()
-    desk.call(request, 201)
-    return time.monotonic() - start
-
-
-def beside(desk):
-    """The medians of the seconds of a reading of the metrics, and of a newOrder, asked in turn."""
-    desk.call(NONCE, 204)
-    desk.call(desk.signed("/new-account", {}), 201)
-    found = [(asked(desk, METRICS), ordered(desk, number)) for number in range(READINGS)]
-    return [statistics.median(times) for times in zip(*found)]
-
-
-def measure_served(program, size, turns, folder):
-    """For each word the median of its seconds, the longest wait of a client beside a backup, the seconds of a reading of the metrics and of a
-    newOrder, and the most kilobytes of the desk that is served."""
-    path, copy = f"{folder}/{size}.db", f"{folder}/served-copy.db"
-    taken, waits = {name: [] for name in (*REPORTS, "backup")}, []
+def measure_served(program, path, size, turns):
+    """For each word asked of a desk that serves the file the median of its seconds, and of a client's longest wait beside a backup."""
+    copy, backup, wait = f"{os.path.dirname(path)}/copy.db", "backup", "longest wait beside backup"
+    taken = {name: [] for name in (*REPORTS, backup, wait)}
     desk = Server(program, "serve", path, "--port", "0")
     place = ("--port", str(desk.address[1]))
     for _ in range(turns):
@@ -224,41 +160,49 @@ def measure_served(program, size, turns, folder):
             see_end(name, size, printed)
             taken[name].append(seconds)
         client = Waiting(desk)
-        taken["backup"].append(run([program, "backup", copy, *place])[0])
-        waits.append(client.end())
+        taken[backup].append(run([program, backup, copy, *place])[0])
+        taken[wait].append(client.end())
         os.remove(copy)
-    calls = beside(desk)
-    with open(f"/proc/{desk.run.pid}/status", encoding="ascii") as status:
-        kilobytes = int(re.search(r"VmHWM:\s*(\d+)", status.read())[1])
     desk.close()
-    return {name: statistics.median(found) for name, found in taken.items()}, statistics.median(waits), calls, kilobytes
+    return {name: statistics.median(found) for name, found in taken.items()}
 
 
-def served_page(found, turns):
-    """The lines of the section on desks that are served."""
-    text = f"""`bench/finished.py` writes this section, too, of the same files, which are served. A time is the median of {turns} runs, of the
-        metrics and of a newOrder beside them that of {READINGS}. The desk is busy until a report is taken, and until the files of a backup are sent,
-        which the longest wait of a client tells that takes nonces meanwhile; the word checks the copy alone. A reading of the metrics takes some 3
-        microseconds more for each order that waits for the signing office."""
-    lines = ["## Asked while it serves", "", *textwrap.wrap(" ".join(text.split()), 118), ""]
-    lines += [f"| orders | {' | '.join(REPORTS)} | backup | wait beside it | metrics | newOrder | memory |", "|" + "---|" * (len(REPORTS) + 6)]
-    for size, (seconds, wait, calls, kilobytes) in found.items():
-        times = " | ".join([f"{it:,.1f} s" for it in (*seconds.values(), wait)] + [f"{1000 * it:,.2f} ms" for it in calls])
-        lines.append(f"| {size:,} | {times} | {kilobytes / 1024:,.0f} MB |")
-    return lines
+def shown(seconds):
+    """Seconds, as the page has them."""
+    return f"{seconds:,.{1 if seconds >= 0.1 else 2}f}"
 
 
-def page(found, turns):
-    """The lines of the section."""
-    text = f"""`bench/finished.py` writes this section. Each order has a CSR of {len(CSR):,} bytes and a chain of {len(CHAIN):,}. A time is the median
-        of {turns} runs; memory is the most that a process had. What opening takes grows with all that the file holds, since the engine reads
-        each table whole; each word opens the file, and that is in its time."""
-    lines = ["## Finished orders", "", *textwrap.wrap(" ".join(text.split()), 118), ""]
-    lines += [f"| orders | file | opening | {' | '.join(REPORTS)} | backup | restore | memory |", "|" + "---|" * (len(REPORTS) + 6)]
-    for size, (held, seconds, kilobytes) in found.items():
-        times = " | ".join(f"{it:,.1f} s" for it in seconds.values())
-        lines.append(f"| {size:,} | {held / 1e6:,.0f} MB | {times} | {kilobytes / 1024:,.0f} MB |")
-    return lines
+def columns(program, in_c, size, turns):
+    """What a file of so many orders adds to the two tables: a column of the file, and one of a desk that serves it."""
+    with tempfile.TemporaryDirectory(prefix="desk-finished-") as folder:
+        path = f"{folder}/desk.db"
+        make_finished(program, path, size)
+        held = os.path.getsize(path)
+        opened, before = measure_opening(program, in_c, path, turns)
+        seconds, most = measure(program, path, size, turns)
+        served = measure_served(program, path, size, turns)
+    over = {name: shown(it) for name, it in (opened | seconds).items()}
+    return over | megabytes(held, max(before, most)), {name: shown(it) for name, it in served.items()}
+
+
+def megabytes(held, kilobytes):
+    """The cells of the size of a file, and of memory."""
+    return {"file, MB": f"{held / 1e6:,.0f}", "most memory, MB": f"{kilobytes / 1024:,.0f}"}
+
+
+def by_size(found):
+    """The lines of a table that has a column for each size."""
+    rows = [(name, *(column[name] for column in found.values())) for name in next(iter(found.values()))]
+    return table(("orders", *(f"{size:,}" for size in found)), rows)
+
+
+def page(over, served, turns):
+    """The lines of the section, by the columns of each size."""
+    text = f"""Each finished order has a CSR of {len(CSR):,} bytes and a chain of {len(CHAIN):,}. At each opening the engine's own audit reads each table
+        whole, so memory is the largest table's; then the desk reads and checks each row. Each word opens the file first. Medians of {turns} runs, in
+        seconds:"""
+    asked = "Asked of a desk that serves the file; until a report is taken, or a backup's files are sent, it serves nobody else:"
+    return ["## Files", "", *paragraph(text), *by_size(over), *paragraph(asked), *by_size(served)]
 
 
 def main():
@@ -266,20 +210,12 @@ def main():
     words.add_argument("--sizes", default=",".join(map(str, SIZES)))
     words.add_argument("--turns", type=int, default=TURNS)
     words.add_argument("--program", default=f"{TOP}/bin/desk")
-    words.add_argument("--opening", action="store_true")
     given = words.parse_args()
-    with tempfile.TemporaryDirectory(prefix="desk-finished-") as folder:
-        program, turns, sizes = given.program, given.turns, [int(size) for size in given.sizes.split(",")]
-        in_c, least = compiled(folder, "opening") or sys.exit("finished: gcc or SQLite's header is missing"), min(sizes)
-        for size in sizes:
-            make_finished(program, f"{folder}/{size}.db", size)
-        opened = {size: measure_openings(program, in_c, f"{folder}/{size}.db", turns) for size in sizes}
-        counts = openings(program, in_c, f"{folder}/{least}.db", lambda words, status: counted(words, status, folder))
-        lines = openings_page(opened, counts, least, turns)
-        if not given.opening:
-            lines += ["", *page({size: measure(program, size, turns, folder) for size in sizes}, turns)]
-            lines += ["", *served_page({size: measure_served(program, size, turns, folder) for size in sizes}, turns)]
-    print("\n".join(lines))
+    sizes = [int(size) for size in given.sizes.split(",")]
+    with tempfile.TemporaryDirectory() as folder:
+        in_c = compiled(folder, "opening")
+        over, served = zip(*(columns(given.program, in_c, size, given.turns) for size in sizes))
+    print("\n".join(page(dict(zip(sizes, over)), dict(zip(sizes, served)), given.turns)))
 
 
 if __name__ == "__main__":

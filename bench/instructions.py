@@ -7,7 +7,7 @@ comes with one kind of call or another in every turn, is in none. An instruction
 the figures are the same on a machine under any load. Copying and clearing memory is left out, as the C library does it by
 other instructions on other processors.
 
-    python3 bench/instructions.py --into FILE       writes the section below the title of the page, in the place of the one there
+    python3 bench/instructions.py --into FILE       writes the section into the page, in the place of the one there, or behind all others
     python3 bench/instructions.py --against FILE    compares the desk with the section of the page, and ends with 1 where a call
                                                     takes a twentieth more than is written there
 """
@@ -20,16 +20,11 @@ import statistics
 import subprocess
 import sys
 import tempfile
-import textwrap
 
-from bench import CALLS, KINDS, TOP, Lines, check_replies, compiled, make_file, orders_of
+from bench import CALLS, KINDS, TOP, Lines, check_replies, compiled, make_file, orders_of, paragraph, table
 
 SIZE, TURNS = 10000, 8
 HEAD = "## Instructions of a call"
-# What is said of the goals that are missed.
-WHY = """A statement costs the engine several times what it costs SQLite, most of it fixed. The list of orders to certify takes
-two statements, where C takes one, and one more for each item. A report reads its authorization by one join, and the
-orders that list it by another."""
 ALLOWED = 1.05
 MEMORY = re.compile(r"mem(cpy|move|set)")
 TITLES = ("call", "desk", "C", "ratio", "goal")
@@ -116,26 +111,27 @@ def measure(folder, with_c):
     return {who: {name: statistics.median(turns) for name, turns in found.items()} for who, found in counts.items()}
 
 
-def row(*cells):
-    return "| " + " | ".join(cells) + " |"
-
-
 def cells(name, desk, in_c):
     """The row of a call."""
     goal = f"{GOALS[name]:.2f}" if name in GOALS else ""
-    return row(name, f"{desk / 1000:.1f}", f"{in_c / 1000:.1f}" if in_c else "-", f"{desk / in_c:.2f}" if in_c else "-", goal)
+    return name, f"{desk / 1000:.1f}", f"{in_c / 1000:.1f}" if in_c else "-", f"{desk / in_c:.2f}" if in_c else "-", goal
+
+
+def compared(desk, in_c):
+    """What is said of the ratios and the goals."""
+    ratios = {name: round(desk[name] / count, 2) for name, count in in_c.items()}
+    missed = ", ".join(name for name, goal in GOALS.items() if ratios[name] > goal) or "none"
+    return f"""A call takes {min(ratios.values()):.1f} to {max(ratios.values()):.1f} times C's: a statement costs the engine several times what it
+        costs SQLite, most of it fixed. Goals missed: {missed}."""
 
 
 def section(counts):
     """The section of docs/PERFORMANCE.md."""
-    said = (f"`make instructions` counts thousands of instructions of a call by callgrind, over a file of {SIZE:,} orders, without those that copy or "
-            f"clear memory: the median of {TURNS - 1} turns of {CALLS} calls. A list of work has ten items. The counts are the same on any machine and "
-            "under any load.")
     in_c = counts.get("c", {})
+    said = f"""Thousands, by callgrind, over {SIZE:,} orders, but for copying and clearing memory; a list of work has ten items. `make
+        instructions` writes this section; `make test` fails at a twentieth more. {compared(counts["desk"], in_c) if in_c else ""}"""
     rows = [cells(name, counts["desk"][name], in_c.get(name)) for name, _ in KINDS]
-    missed = [name for name, goal in GOALS.items() if name in in_c and round(counts["desk"][name] / in_c[name], 2) > goal]
-    lines = [HEAD, "", *textwrap.wrap(said, 118), "", row(*TITLES), "|" + "---|" * len(TITLES), *rows]
-    return "\n".join([*lines, "", *textwrap.wrap(f"The goals are missed by {', '.join(missed) or 'no call'}. {WHY}", 118)])
+    return "\n".join([HEAD, "", *paragraph(said), *table(TITLES, rows)])
 
 
 def written(path):
@@ -147,14 +143,12 @@ def written(path):
 
 
 def write_into(page, counts):
-    """Puts the section below the title of the page, in the place of the one that is there."""
+    """Puts the section into the page, in the place of the one that is there, or behind all others."""
     with open(page, encoding="utf-8") as file:
-        title, _, rest = file.read().partition("\n\n")
-    before, _, old = rest.partition(HEAD)
-    behind = old.partition("\n## ")
-    rest = before + (behind[1].lstrip("\n") + behind[2] if old else "")
+        before, _, old = file.read().partition(HEAD)
+    _, heading, behind = old.partition("\n## ")
     with open(page, "w", encoding="utf-8") as file:
-        file.write(f"{title}\n\n{section(counts)}\n\n{rest}")
+        file.write(f"{before.rstrip()}\n\n{section(counts)}{heading}{behind}")
 
 
 def compare(counts, path):

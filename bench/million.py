@@ -1,29 +1,25 @@
 #!/usr/bin/env python3
-"""Times opening and three calls over a file of a million pending orders, and writes a section of docs/PERFORMANCE.md.
+"""Times opening and three calls over a file of a million pending orders, and writes a paragraph of docs/PERFORMANCE.md.
 
-Both files are bench.py's, the smaller one to compare with. The calls are asked of the program and of bench/desk.c, each over a copy, in turns.
+The file is bench.py's. The calls are asked of the program and of bench/desk.c, each over a copy, in turns.
 
-    python3 bench/million.py [--sizes 100000,1000000] [--turns 10]
+    python3 bench/million.py [--size 1000000] [--turns 10]
 """
 
 import argparse
 import os
-import sys
 import tempfile
-import textwrap
 
-from bench import CALLS, KINDS, TOP, Lines, Program, check_replies, compiled, copy_of, make_file, orders_of
+from bench import KINDS, TOP, Lines, Program, check_replies, compiled, copy_of, make_file, orders_of, paragraph
 
-SIZES, TURNS = (100000, 1000000), 10
+SIZE, TURNS = 1000000, 10
 ASKED = ("newNonce", "newOrder", "read an order")
 
 
 def measure(path, size, turns, in_c):
     """The time of opening, the most bytes of memory by then, and the time of each kind of call: of the program, and of C."""
     words = {"desk": [f"{TOP}/bin/desk", "batch", "--file"], **({"c": [in_c]} if in_c else {})}
-    for who in words:
-        copy_of(path, f"{path}.{who}")
-    programs = {who: Program([*said, f"{path}.{who}"]) for who, said in words.items()}
+    programs = {who: Program([*said, copy_of(path, f"{path}.{who}")]) for who, said in words.items()}
     memory, lines = programs["desk"].memory(), Lines()
     check_replies("newNonce", [program.answers("newNonce", [first]) for first in [lines.nonce()] for program in programs.values()])
     for turn in range(turns):
@@ -33,59 +29,26 @@ def measure(path, size, turns, in_c):
                 check_replies(name, [program.answers(name, asked) for program in programs.values()])
     for program in programs.values():
         program.close()
-    return {who: {"opening": program.opening, **program.seconds()} for who, program in programs.items()}, memory
+    return programs["desk"].opening, memory, {who: program.seconds() for who, program in programs.items()}
 
 
-def row(*cells):
-    return "| " + " | ".join(cells) + " |"
-
-
-def cells_of(size, length, found, memory):
-    """A row of the table."""
-    rates = []
-    for name in ASKED:
-        seconds = found["desk"][name]
-        rates += [f"{1 / seconds:,.0f}", f"{found['c'][name] / seconds:.2f}" if "c" in found else "-"]
-    opening = found["desk"]["opening"]
-    return row(f"{size:,}", f"{length / 1e6:,.0f} MB", f"{opening:,.1f} s", f"{memory / 2**20:,.0f} MB", *rates)
-
-
-def page(rows, turns, limits):
-    """The lines of the section."""
-    text = f"""`bench/million.py` writes this section. A call is timed as in the section on rates, {CALLS} at a time in {turns} turns; beside each
-        rate stands the ratio to C's. {limits}"""
-    titles = ("orders", "file", "time to open", "memory", *(it for name in ASKED for it in (f"{name}, a second", "by C's")))
-    return ["", "## A million orders", "", *textwrap.wrap(" ".join(text.split()), 118), "", row(*titles), "|" + "---|" * len(titles), *rows]
-
-
-def limits_of(openings):
-    """What limits a desk of that size, by how the two times of opening grow."""
-    (small, first), (large, second) = openings
-    return (
-        f"Opening reads and checks every row, so it grows with the orders: {second / first:.1f} times the time for {large / small:.0f} times the orders. "
-        "The calls look rows up by indexes, and take hardly longer."
-    )
+def page(size, held, opening, memory, seconds):
+    """The lines of the paragraph."""
+    by_c = {name: f" ({seconds['c'][name] / seconds['desk'][name]:.2f})" if "c" in seconds else "" for name in ASKED}
+    rates = ", ".join(f"{name} {1 / seconds['desk'][name]:,.0f}{by_c[name]}" for name in ASKED)
+    said = "calls a second (by C's)" if "c" in seconds else "calls a second"
+    return paragraph(f"{size:,} pending orders ({held / 1e6:,.0f} MB) open in {opening:,.1f} s with {memory / 2**20:,.0f} MB; {said}: {rates}.")
 
 
 def main():
     words = argparse.ArgumentParser(description=__doc__.split("\n", maxsplit=1)[0])
-    words.add_argument("--sizes", default=",".join(map(str, SIZES)))
+    words.add_argument("--size", type=int, default=SIZE)
     words.add_argument("--turns", type=int, default=TURNS)
     given = words.parse_args()
-    rows, openings = [], []
     with tempfile.TemporaryDirectory(prefix="desk-million-") as folder:
-        in_c = compiled(folder)
-        for size in map(int, given.sizes.split(",")):
-            path = make_file(f"{folder}/{size}.db", size)
-            found, memory = measure(path, size, given.turns, in_c)
-            openings.append((size, found["desk"]["opening"]))
-            rows.append(cells_of(size, os.path.getsize(path), found, memory))
-            for name in os.listdir(folder):
-                if name.startswith(f"{size}.db"):
-                    os.remove(f"{folder}/{name}")
-    if len(openings) != 2:
-        sys.exit("million: two sizes are compared")
-    print("\n".join(page(rows, given.turns, limits_of(openings))))
+        path = make_file(f"{folder}/desk.db", given.size)
+        found = measure(path, given.size, given.turns, compiled(folder))
+        print("\n".join(page(given.size, os.path.getsize(path), *found)))
 
 
 if __name__ == "__main__":
