@@ -3,10 +3,9 @@
  * `bench/finished.py` times it beside the program. It reads the rows of the eight tables in the order of their keys, all columns whole, as
  * an opening of the desk does, and ends with 1 at the first that no book has: values of another kind, texts that are not UTF-8, numbers and
  * moments out of their limits, keys, contacts, names and problems of another form, tokens and thumbprints of another length, unknown words,
- * numbers that do not rise, references to no row. With --audit SQLite tests the whole file before, as the desk's engine does: its pages and
- * indexes, what the schema says of each row, and foreign keys. With --bare it leaves CSRs and certificates where they are.
+ * numbers that do not rise, references to no row. It does not audit the file before, as the desk's engine does.
  *
- *     opening [--audit] [--bare] FILE
+ *     opening FILE
  */
 #include <sqlite3.h>
 #include <stdbool.h>
@@ -20,7 +19,6 @@ static const int64_t LAST_MOMENT = 250000000000, LONGEST_LIFE = 315360000, LAST_
 static sqlite3 *database;
 /* The statement whose rows are read. */
 static sqlite3_stmt *rows;
-static bool is_bare;
 
 static void fail(const char *what)
 {
@@ -275,9 +273,7 @@ static void see_dated_bytes(int date, int column)
 {
     if (!is_dated(date, column))
         return;
-    ask(sqlite3_column_type(rows, column) == SQLITE_BLOB);
-    if (!is_bare)
-        ask(sqlite3_column_blob(rows, column) || sqlite3_column_bytes(rows, column) == 0);
+    ask(sqlite3_column_type(rows, column) == SQLITE_BLOB && (sqlite3_column_blob(rows, column) || sqlite3_column_bytes(rows, column) == 0));
 }
 
 /* ---- numbers of rows */
@@ -465,23 +461,6 @@ static void see_key(void)
 
 /* ---- the file */
 
-static void see_sound(void)
-{
-    if (!is(text_at(0), "ok"))
-        fail("the file is not sound");
-}
-
-static void see_no_row(void)
-{
-    fail("a row refers to none");
-}
-
-static void audit(void)
-{
-    each_row("PRAGMA integrity_check", see_sound);
-    each_row("PRAGMA foreign_key_check", see_no_row);
-}
-
 static void see_tables(void)
 {
     each_row("SELECT id, format, base, nonce_life, order_life, authz_life, clock, nonces, accounts, orders, authzs, challs FROM meta ORDER BY id", see_meta);
@@ -498,16 +477,8 @@ static void see_tables(void)
 
 int main(int argc, char **argv)
 {
-    bool is_audited = false;
-    int i = 1;
-    for (; i < argc - 1; i++) {
-        is_audited = is_audited || strcmp(argv[i], "--audit") == 0;
-        is_bare = is_bare || strcmp(argv[i], "--bare") == 0;
-    }
-    if (i != argc - 1 || sqlite3_open_v2(argv[i], &database, SQLITE_OPEN_READWRITE, NULL) != SQLITE_OK)
-        fail("usage: opening [--audit] [--bare] FILE");
-    if (is_audited)
-        audit();
+    if (argc != 2 || sqlite3_open_v2(argv[1], &database, SQLITE_OPEN_READWRITE, NULL) != SQLITE_OK)
+        fail("usage: opening FILE");
     see_tables();
     return sqlite3_close(database) == SQLITE_OK ? 0 : 1;
 }
