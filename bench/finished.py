@@ -1,6 +1,7 @@
 #!/usr/bin/env python3
 """Times what an operator does with files of finished orders, and writes a section of docs/PERFORMANCE.md to standard output: openings, reports,
-`backup` and `restore` over a file, and what a desk is asked that is served, with the longest wait of a client beside a backup.
+`backup` and `restore` over a file, and what a desk is asked that is served, with the longest wait of a client beside a backup. Of the first
+file callgrind counts the instructions of an opening, which do not vary.
 
 Each file is one of bench.py's, whose orders a batch then answers, reports, finalizes and certifies. Where gcc or SQLite's header is missing,
 the opening in C (bench/opening.c) is left out.
@@ -22,6 +23,7 @@ import threading
 import time
 
 from bench import KINDS, TOP, Lines, base64url, compiled, make_file, paragraph, table
+from instructions import instructions_of
 from loopback import NONCE, Server
 
 SIZES = (10000, 100000, 300000)
@@ -102,16 +104,42 @@ def of_later_format(path):
             yield
 
 
+def counted(words, status):
+    """The instructions that a program takes, but for those that copy or clear memory."""
+    with tempfile.NamedTemporaryFile() as dump:
+        run(["valgrind", "--tool=callgrind", "-q", f"--callgrind-out-file={dump.name}", *words], status)
+        return instructions_of(dump.name)
+
+
+def opening(program, in_c, path, take):
+    """What is taken of an opening, of the engine's audit, of the rest, and of the opening in C where that is there."""
+    words = [program, "batch", "--file", path]
+    whole = take(words, 0)
+    with of_later_format(path):
+        audit = take(words, 1)
+    return [whole, audit, whole - audit, *([take([in_c, path], 0)] if in_c else [])]
+
+
 def measure_opening(program, in_c, path, turns):
     """The medians of the seconds of an opening, of its parts and of one in C, and the most kilobytes of the program."""
-    words, found, most = [program, "batch", "--file", path], [], 0
-    for _ in range(turns):
-        whole, kilobytes, _ = run(words)
-        with of_later_format(path):
-            audit = run(words, 1)[0]
-        found.append((whole, audit, whole - audit, *([run([in_c, path])[0]] if in_c else [])))
-        most = max(most, kilobytes)
-    return dict(zip(OPENINGS, map(statistics.median, zip(*found)))), most
+    kilobytes = []
+
+    def seconds(words, status):
+        taken, most, _ = run(words, status)
+        kilobytes.append(most if words[0] == program else 0)
+        return taken
+
+    found = [opening(program, in_c, path, seconds) for _ in range(turns)]
+    return dict(zip(OPENINGS, map(statistics.median, zip(*found)))), max(kilobytes)
+
+
+def say_instructions(counts, size):
+    """The sentence on the instructions of an opening, or nothing where there is none in C to compare with."""
+    if len(counts) < len(OPENINGS):
+        return ""
+    whole, audit, own, in_c = (count / size / 1000 for count in counts)
+    return f"""By callgrind, of {size:,}, an opening takes {whole:,.0f} thousand instructions an order without copies, the audit {audit:,.0f} of them;
+        the desk's part takes {own / in_c:.2f} times C's."""
 
 
 def measure(program, path, size, turns):
@@ -172,17 +200,19 @@ def shown(seconds):
     return f"{seconds:,.{1 if seconds >= 0.1 else 2}f}"
 
 
-def columns(program, in_c, size, turns):
-    """What a file of so many orders adds to the two tables: a column of the file, and one of a desk that serves it."""
+def columns(program, in_c, size, turns, is_counted):
+    """What a file of so many orders adds to the page: a column of the file, one of a desk that serves it, and, where they are counted, the
+    instructions of its opening."""
     with tempfile.TemporaryDirectory(prefix="desk-finished-") as folder:
         path = f"{folder}/desk.db"
         make_finished(program, path, size)
+        counts = opening(program, in_c, path, counted) if is_counted else []
         held = os.path.getsize(path)
         opened, before = measure_opening(program, in_c, path, turns)
         seconds, most = measure(program, path, size, turns)
         served = measure_served(program, path, size, turns)
     over = {name: shown(it) for name, it in (opened | seconds).items()}
-    return over | megabytes(held, max(before, most)), {name: shown(it) for name, it in served.items()}
+    return over | megabytes(held, max(before, most)), {name: shown(it) for name, it in served.items()}, counts
 
 
 def megabytes(held, kilobytes):
@@ -196,11 +226,11 @@ def by_size(found):
     return table(("orders", *(f"{size:,}" for size in found)), rows)
 
 
-def page(over, served, turns):
-    """The lines of the section, by the columns of each size."""
+def page(over, served, turns, said):
+    """The lines of the section, by the columns of each size, with what is said of instructions."""
     text = f"""Each finished order has a CSR of {len(CSR):,} bytes and a chain of {len(CHAIN):,}. At each opening the engine's own audit reads each table
-        whole, so memory is the largest table's; then the desk reads and checks each row. Each word opens the file first. Medians of {turns} runs, in
-        seconds:"""
+        whole, so memory is the largest table's; then the desk reads and checks each row. {said} Each word opens the file first. Medians of {turns} runs,
+        in seconds:"""
     asked = "Asked of a desk that serves the file; until a report is taken, or a backup's files are sent, it serves nobody else:"
     return ["## Files", "", *paragraph(text), *by_size(over), *paragraph(asked), *by_size(served)]
 
@@ -214,8 +244,9 @@ def main():
     sizes = [int(size) for size in given.sizes.split(",")]
     with tempfile.TemporaryDirectory() as folder:
         in_c = compiled(folder, "opening")
-        over, served = zip(*(columns(given.program, in_c, size, given.turns) for size in sizes))
-    print("\n".join(page(dict(zip(sizes, over)), dict(zip(sizes, served)), given.turns)))
+        is_counted = bool(in_c and shutil.which("valgrind"))
+        over, served, counts = zip(*(columns(given.program, in_c, size, given.turns, is_counted and size == sizes[0]) for size in sizes))
+    print("\n".join(page(dict(zip(sizes, over)), dict(zip(sizes, served)), given.turns, say_instructions(counts[0], sizes[0]))))
 
 
 if __name__ == "__main__":
