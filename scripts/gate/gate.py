@@ -22,6 +22,8 @@ from scripts.repository import ROOT, crates
 
 # What `rt` says of a crate that is done: under `rt ci` by its name, otherwise by what its check counted.
 DONE_IN_GATE, DONE = re.compile(r"rt: (\w+) (proved|NOT PROVED|is kept)\b"), re.compile(r"logic=proved ()")
+# What it says of an edit that shows nothing, as what it leaves out is named elsewhere. It fails nothing there.
+BAD = re.compile(r"rt: must-fail (\S+): BAD EDIT")
 # The memory in GB that the newcomer's run takes at its most, and a check of `rt ci` at the same time.
 NEWCOMER, CHECK = 8, 2.5
 
@@ -43,6 +45,7 @@ class Proofs:
 
     def __init__(self, words, done, progress, of="", folder=ROOT):
         self.done, self.progress, self.of, self.count, self.lines = done, progress, of, 0, queue.Queue()
+        self.bad = []
         self.start = time.monotonic()
         self.run = subprocess.Popen(["rt", *words], cwd=folder, stdin=subprocess.DEVNULL, stdout=subprocess.PIPE, stderr=subprocess.STDOUT, text=True,
                                     encoding="utf-8", errors="replace")
@@ -66,6 +69,7 @@ class Proofs:
                     self.progress.clear()
                     print(line or "", end="", flush=True)
                     self.count += bool(line and self.done.match(line))
+                    self.bad += BAD.findall(line or "")
                 self.progress.show(self.say)
                 if beside:
                     beside.tell()
@@ -127,6 +131,8 @@ def gate():
         print(f"The proofs took {proofs.took()}.", flush=True)
         if status:
             return fail("rt ci did not pass")
+        if proofs.bad:
+            return fail(f"{', '.join(proofs.bad)} could not be tried")
         beside = beside or Newcomer(progress)
         if beside.wait():
             return fail("what a newcomer types did not end well")
