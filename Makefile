@@ -94,10 +94,11 @@ trials: ## what the gate tries of the program bin/desk
 	@$(MAKE) --no-print-directory house-test
 
 # What the gate tries, at length.
-growths: ## refuses each growth of memory of a call in turn, in a quarter of an hour or more
+growths: ## refuses each growth of memory of a call in turn, and fails disks in memory, in a quarter of an hour or more
 	@$(HAS_DESK)
 	@python3 -B -m scripts.files.growths bin/desk
 	@python3 -B -m scripts.gate.library_growths
+	@python3 -B -m scripts.gate.library_stops
 
 hostile kills: ## five minutes of hostile requests; 200 kills while the program serves
 	@$(HAS_DESK)
