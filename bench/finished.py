@@ -23,7 +23,7 @@ import threading
 import time
 
 from bench import KINDS, TOP, Lines, base64url, compiled, make_file, paragraph, table
-from instructions import instructions_of
+from instructions import counts_of
 from loopback import NONCE, Server
 
 SIZES = (10000, 100000, 300000)
@@ -108,7 +108,7 @@ def counted(words, status):
     """The instructions that a program takes, but for those that copy or clear memory."""
     with tempfile.NamedTemporaryFile() as dump:
         run(["valgrind", "--tool=callgrind", "-q", f"--callgrind-out-file={dump.name}", *words], status)
-        return instructions_of(dump.name)
+        return counts_of(dump.name).own
 
 
 def opening(program, in_c, path, take):

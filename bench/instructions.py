@@ -20,6 +20,7 @@ import statistics
 import subprocess
 import sys
 import tempfile
+import typing
 
 from bench import CALLS, KINDS, TOP, Lines, check_replies, compiled, make_file, orders_of, paragraph, table
 
@@ -27,7 +28,9 @@ SIZE, TURNS = 10000, 8
 HEAD = "## Instructions of a call"
 ALLOWED = 1.05
 MEMORY = re.compile(r"mem(cpy|move|set)")
-TITLES = ("call", "desk", "C", "ratio", "goal")
+# The functions of the engine.
+ENGINE = re.compile(r"sqlite\w*::")
+TITLES = ("call", "desk", "C", "ratio", "goal", "engine, %")
 # What a call was to take at most of what C takes for it.
 GOALS = {
     "newNonce": 1.35, "newAccount, known": 1.45, "newOrder": 2.0, "its orders": 1.8, "read an order": 1.65, "answer a challenge": 1.95,
@@ -35,9 +38,18 @@ GOALS = {
 }
 
 
-def instructions_of(path):
-    """The instructions that a dump of callgrind counts, but for those of functions that copy or clear memory."""
-    names, total, name, is_called = {}, 0, "", False
+class Counts(typing.NamedTuple):
+    """What a dump of callgrind counts: the instructions but for those of functions that copy or clear memory, all of them, and those of the
+    engine with all that it calls."""
+
+    own: int
+    all: int
+    engine: int
+
+
+def counts_of(path):
+    """The counts of a dump."""
+    names, own, every, engine, caller, called, is_call = {}, 0, 0, 0, "", "", False
     with open(path, encoding="utf-8", errors="replace") as dump:
         for line in dump:
             if line.startswith(("fn=", "cfn=")):
@@ -45,14 +57,18 @@ def instructions_of(path):
                 place, _, named = line.strip().partition("=")
                 number, _, text = named.partition(" ")
                 names.setdefault(number, text)
-                name = names[number] if place == "fn" else name
+                caller, called = (names[number], called) if place == "fn" else (caller, names[number])
             elif line.startswith("calls="):
-                is_called = True
+                is_call = True
             elif line[:1] in "0123456789+-*" and line.strip():
-                if not is_called and not MEMORY.search(name):
-                    total += int(line.split()[1])
-                is_called = False
-    return total
+                cost = int(line.split()[1])
+                if is_call:
+                    engine += cost if ENGINE.match(called) and not ENGINE.match(caller) else 0
+                else:
+                    every += cost
+                    own += 0 if MEMORY.search(caller) else cost
+                is_call = False
+    return Counts(own, every, engine)
 
 
 class Counted:
@@ -69,10 +85,10 @@ class Counted:
         return self.process.stdout.readline()
 
     def counted(self):
-        """The instructions since this was asked last."""
+        """The counts since this was asked last."""
         subprocess.run(["callgrind_control", "-d", str(self.process.pid)], stdout=subprocess.DEVNULL, stderr=subprocess.DEVNULL, check=True)
         self.dumps += 1
-        return instructions_of(f"{self.out}.{self.dumps}")
+        return counts_of(f"{self.out}.{self.dumps}")
 
     def close(self):
         self.process.stdin.close()
@@ -88,11 +104,16 @@ def ask(programs, lines, turn, counts):
         for who, program in programs.items():
             count = program.counted()
             if turn > 0:
-                counts[who].setdefault(name, []).append(count / CALLS)
+                counts[who].setdefault(name, []).append(count)
+
+
+def median(turns):
+    """The instructions of a call, and the engine's per cent of all that it takes, of the turns with ten calls each."""
+    return statistics.median(turn.own / CALLS for turn in turns), statistics.median(100 * turn.engine / turn.all for turn in turns)
 
 
 def measure(folder, with_c):
-    """The instructions of a call of each kind, the median of the turns, of each program."""
+    """The instructions of a call of each kind and the engine's part of them, the medians of the turns, of each program."""
     path = make_file(f"{folder}/orders.db", SIZE)
     words = {"desk": [f"{TOP}/bin/desk", "batch", "--file"]}
     in_c = compiled(folder) if with_c else None
@@ -108,18 +129,20 @@ def measure(folder, with_c):
         ask(programs, lines, turn, counts)
     for program in programs.values():
         program.close()
-    return {who: {name: statistics.median(turns) for name, turns in found.items()} for who, found in counts.items()}
+    return {who: {name: median(turns) for name, turns in found.items()} for who, found in counts.items()}
 
 
-def cells(name, desk, in_c):
+def cells(name, found, in_c):
     """The row of a call."""
+    desk, engine = found
     goal = f"{GOALS[name]:.2f}" if name in GOALS else ""
-    return name, f"{desk / 1000:.1f}", f"{in_c / 1000:.1f}" if in_c else "-", f"{desk / in_c:.2f}" if in_c else "-", goal
+    by_c = (f"{in_c[0] / 1000:.1f}", f"{desk / in_c[0]:.2f}") if in_c else ("-", "-")
+    return name, f"{desk / 1000:.1f}", *by_c, goal, f"{engine:.0f}"
 
 
 def compared(desk, in_c):
     """What is said of the ratios and the goals."""
-    ratios = {name: round(desk[name] / count, 2) for name, count in in_c.items()}
+    ratios = {name: round(desk[name][0] / count, 2) for name, (count, _) in in_c.items()}
     missed = ", ".join(name for name, goal in GOALS.items() if ratios[name] > goal) or "none"
     return f"""A call takes {min(ratios.values()):.1f} to {max(ratios.values()):.1f} times C's: a statement costs the engine several times what it
         costs SQLite, most of it fixed. Goals missed: {missed}."""
@@ -129,7 +152,8 @@ def section(counts):
     """The section of docs/PERFORMANCE.md."""
     in_c = counts.get("c", {})
     said = f"""Thousands, by callgrind, over {SIZE:,} orders, but for copying and clearing memory; a list of work has ten items. `make
-        instructions` writes this section; `make test` fails at a twentieth more. {compared(counts["desk"], in_c) if in_c else ""}"""
+        instructions` writes this section; `make test` fails at a twentieth more. {compared(counts["desk"], in_c) if in_c else ""} The engine's
+        part is counted of all instructions, with those in the C library that it has copy and clear memory."""
     rows = [cells(name, counts["desk"][name], in_c.get(name)) for name, _ in KINDS]
     return "\n".join([HEAD, "", *paragraph(said), *table(TITLES, rows)])
 
@@ -154,7 +178,7 @@ def write_into(page, counts):
 def compare(counts, path):
     """The lines that say which calls take a twentieth more than is written."""
     known = written(path)
-    now = {name: count / 1000 for name, count in counts["desk"].items()}
+    now = {name: count / 1000 for name, (count, _) in counts["desk"].items()}
     return [f"{name}: {now[name]:.1f} thousand instructions, {now[name] / known[name] - 1:.1%} more than the {known[name]:.1f} of {path}"
             for name in known if now[name] > ALLOWED * known[name]]
 
