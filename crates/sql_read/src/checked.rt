@@ -31,21 +31,6 @@ use store_columns::{
 
 // ---- those of one table
 
-// The columns of a row, or `None` where it has values of other kinds.
-fn columns_of<C: Selected>(row: &Row) -> Result<Option<C>, Error>
-    ensures read { IfOk result (λ columns. IfSome columns (λ columns. columns ≡ C.spelled row.now)) }
-    ensures none { IfOk result (λ columns. columns ≡ None → C.Fits row.now → ⊥) }
-    ensures fails { IfErr result IsOutOfMemory }
-{
-    match C::of(row) {
-        Ok(columns) => Ok(Some(columns)),
-        Err(Error::SqliteFailure(ErrorCode::OutOfMemory)) => {
-            Err(Error::SqliteFailure(ErrorCode::OutOfMemory))
-        }
-        Err(_) => Ok(None),
-    }
-}
-
 // Whether the next row is one in its limits that passes.
 fn check_row<C: Selected, K: RowCheck<C>>(
     alloc: Global,
@@ -59,13 +44,10 @@ fn check_row<C: Selected, K: RowCheck<C>>(
         → C.spelled row.now ≡ C.Columns.write found → Stops K.Passed K.AreAll check.old found) }
     ensures fails { IfErr result IsOutOfMemory }
 {
-    let Some(columns) = columns_of::<C>(row)? else {
+    let Some(like) = C::like(alloc, row)? else {
         return Ok(false);
     };
-    let Some(found) = columns.read(alloc)? else {
-        return Ok(false);
-    };
-    Ok(check.passes(&found)?)
+    Ok(check.passes(&like)?)
 }
 
 // Whether each row that a query shows passes, one after the other; the first that does not ends the query. More rows than can be

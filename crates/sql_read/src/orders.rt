@@ -1,5 +1,7 @@
 //! Orders, each with what it lists, read from the rows of answers and looked up.
-ghost use Rattle.std.specs.Prelude.{◌≡◌, map};
+ghost use Rattle.std.specs.Prelude.{◌≡◌, IfErr, IfOk, Ok, map};
+ghost use Rattle.store_columns.specs.Alike.{without_bytes};
+ghost use Rattle.sql_read.specs.Failures.{IsOfNoDevice, IsOutOfMemory};
 ghost use Rattle.std.specs.List.{flat_map};
 ghost use Rattle.store_columns.specs.Flat.{without_listed};
 ghost use Rattle.model_lives.specs.Above.{first_of, orders_above};
@@ -9,14 +11,58 @@ ghost use Rattle.sql_read.specs.{Looking.LooksUp, Queries.asked, Queries.order_q
 ghost use Rattle.sql_read.specs.Spelled.{FitsListed, FitsOrder, FitsSummary, listed_in, order_in, summary_in};
 
 use crate::fault::ReadFault;
-use crate::rows::{Parted, Query, Selected, earliest, find_rows, find_wholes, without_owners};
-use crate::values::{both, bytes_or_none, numbers, numbers_or_none, text, text_or_none};
+use crate::rows::{
+    Parted, Query, Selected, earliest, find_rows, find_wholes, if_of_kinds, without_owners,
+};
+use crate::values::{
+    both, bytes_or_none, no_bytes_or_none, numbers, numbers_or_none, text, text_or_none,
+};
 use desk_model::{OrderRow, OrderStatus, Sequence};
 use model_lives::OrdersWhere;
 use sql_schema::{listed, orders};
 use sqlite::{Alter, Connection, Error, Row};
 use std::alloc::Global;
-use store_columns::{OrderAuthzColumns, OrderColumns, OrderSummaryColumns};
+use store_columns::{Columns, OrderAuthzColumns, OrderColumns, OrderSummaryColumns};
+
+// The columns of an order with this CSR and this certificate.
+fn order_with(
+    row: &Row,
+    csr: Result<Option<Sequence<u8>>, Error>,
+    cert: Result<Option<Sequence<u8>>, Error>,
+) -> Result<OrderColumns, Error>
+    ensures read { IfOk result (λ c. (csr ≡ Ok c.csr) × (cert ≡ Ok c.cert)
+        × (c ≡ record (order_in row.now) { csr = c.csr; cert = c.cert })) }
+    ensures fails { FitsOrder row.now → IfErr csr IsOutOfMemory → IfErr cert IsOutOfMemory → IfErr result IsOutOfMemory }
+    ensures kind { IfErr csr IsOfNoDevice → IfErr cert IsOfNoDevice → IfErr result IsOfNoDevice }
+{
+    let [num, account, made, expires] = numbers(row, [0, 1, 2, 3])?;
+    let [finalized, certified, failed] = numbers_or_none(row, [4, 6, 8])?;
+    let ((csr, cert), (problem, status)) =
+        both(both(csr, cert), both(text_or_none(row, 9), text(row, 10)))?;
+    Ok(OrderColumns {
+        num,
+        account,
+        made,
+        expires,
+        finalized,
+        csr,
+        certified,
+        cert,
+        failed,
+        problem,
+        status,
+    })
+}
+
+// The columns of an order without the bytes of its CSR and its certificate.
+fn order_without_bytes(alloc: Global, row: &Row) -> Result<OrderColumns, Error>
+    ensures read { IfOk result (λ c. c ≡ without_bytes (order_in row.now)) }
+    ensures fails { FitsOrder row.now → IfErr result IsOutOfMemory }
+    ensures kind { IfErr result IsOfNoDevice }
+{
+    let csr = no_bytes_or_none(alloc, row, 5);
+    order_with(row, csr, no_bytes_or_none(alloc, row, 7))
+}
 
 impl Selected for OrderColumns {
     ghost spelled = { order_in };
@@ -24,25 +70,14 @@ impl Selected for OrderColumns {
     ghost Fits = { FitsOrder };
 
     fn of(row: &Row) -> Result<OrderColumns, Error> {
-        let [num, account, made, expires] = numbers(row, [0, 1, 2, 3])?;
-        let [finalized, certified, failed] = numbers_or_none(row, [4, 6, 8])?;
-        let ((csr, cert), (problem, status)) = both(
-            both(bytes_or_none(row, 5), bytes_or_none(row, 7)),
-            both(text_or_none(row, 9), text(row, 10)),
-        )?;
-        Ok(OrderColumns {
-            num,
-            account,
-            made,
-            expires,
-            finalized,
-            csr,
-            certified,
-            cert,
-            failed,
-            problem,
-            status,
-        })
+        order_with(row, bytes_or_none(row, 5), bytes_or_none(row, 7))
+    }
+
+    fn like(alloc: Global, row: &Row) -> Result<Option<OrderRow>, Error> {
+        let Some(columns) = if_of_kinds(order_without_bytes(alloc, row))? else {
+            return Ok(None);
+        };
+        Ok(columns.read(alloc)?)
     }
 }
 

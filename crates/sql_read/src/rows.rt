@@ -1,5 +1,5 @@
 //! Queries with their parameters, and the rows of a desk that their answers spell: by columns, with children, and under owners.
-ghost use Rattle.std.specs.Prelude.{◌≡◌, [], ◌∷◌, ◌≢◌, pos, ℕ, List, option_map, IfErr, IfOk, IsTrue, map};
+ghost use Rattle.std.specs.Prelude.{◌≡◌, [], ◌∷◌, ◌≢◌, pos, ℕ, List, None, Ok, option_map, IfErr, IfOk, IfSome, IsTrue, map};
 ghost use Rattle.sqlite.specs.declared.types.Value.TheVariants.{Int, Text as SqlText};
 ghost use Rattle.sql_read.specs.{Bounded.bounded, Queries.asked, Selecting.IsQuery};
 ghost use Rattle.sqlite.specs.{Values.bound, Held.state, Order.Row as SqlRow};
@@ -15,7 +15,7 @@ ghost use Rattle.sql_read.specs.Looking.{Finds, LooksFor};
 use crate::fault::ReadFault;
 use crate::values::numbers;
 use sqlite::types::ValueRef;
-use sqlite::{Alter, Connection, Error, Row};
+use sqlite::{Alter, Connection, Error, ErrorCode, Row};
 use std::alloc::Global;
 use store_columns::{Columns, Owned};
 
@@ -199,6 +199,43 @@ pub trait Selected: Columns {
         ensures read { IfOk result (λ c. c ≡ spelled row.now) }
         ensures fails { Fits row.now → IfErr result IsOutOfMemory }
         ensures kind { IfErr result IsOfNoDevice };
+
+    /// A row that no check of the table tells apart from the one with these columns, or `None` where no row in its limits has them.
+    ///
+    /// # Errors
+    ///
+    /// `OutOfMemory` alone.
+    fn like(alloc: Global, row: &Row) -> Result<Option<Self::Row>, Error>
+        ensures like { IfOk result (λ like. IfSome like (λ like. (found : Self.Row) × Self.IsStored found × (spelled row.now ≡ Self.write found)
+            × Self.AreAlike like found)) }
+        ensures none { IfOk result (λ like. like ≡ None → Fits row.now → (found : Self.Row) → Self.IsStored found
+            → spelled row.now ≡ Self.write found → ⊥) }
+        ensures fails { IfErr result IsOutOfMemory }
+    {
+        let Some(columns) = if_of_kinds(Self::of(row))? else {
+            return Ok(None);
+        };
+        Ok(columns.read(alloc)?)
+    }
+}
+
+/// What a row spells, or `None` where it has values of other kinds.
+///
+/// # Errors
+///
+/// `OutOfMemory` alone.
+pub(crate) fn if_of_kinds<T: Drop>(read: Result<T, Error>) -> Result<Option<T>, Error>
+    ensures read { IfOk result (λ found. IfSome found (λ found. read ≡ Ok found)) }
+    ensures none { IfOk result (λ found. found ≡ None → IfErr read IsOutOfMemory → ⊥) }
+    ensures fails { IfErr result IsOutOfMemory }
+{
+    match read {
+        Ok(found) => Ok(Some(found)),
+        Err(Error::SqliteFailure(ErrorCode::OutOfMemory)) => {
+            Err(Error::SqliteFailure(ErrorCode::OutOfMemory))
+        }
+        Err(_) => Ok(None),
+    }
 }
 
 // ---- the rows

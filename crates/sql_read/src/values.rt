@@ -1,5 +1,5 @@
 //! The values of a row of an answer.
-ghost use Rattle.std.specs.Prelude.{◌≡◌, IfErr, IfOk, Ok, map, option_map, string_bytes};
+ghost use Rattle.std.specs.Prelude.{◌≡◌, [], IfErr, IfOk, Ok, map, option_map, string_bytes};
 ghost use Rattle.sqlite.specs.Order.{column};
 ghost use Rattle.desk_model.specs.Kept.{EachOf};
 ghost use Rattle.sql_read.specs.Failures.{IsOfNoDevice, IsOutOfMemory};
@@ -7,7 +7,9 @@ ghost use Rattle.sql_read.specs.Spelled.{HasAt, HoldsBlob, HoldsBlobOrNull, Hold
 ghost use Rattle.sql_read.specs.Spelled.{bytes_or_none, number_in, number_or_none};
 
 use desk_model::{Sequence, Text};
+use sqlite::types::{Type, ValueRef};
 use sqlite::{Error, Row};
+use std::alloc::Global;
 
 // The number in a column.
 fn number(row: &Row, at: usize) -> Result<i64, Error>
@@ -133,6 +135,24 @@ pub(crate) fn bytes_or_none(row: &Row, at: usize) -> Result<Option<Sequence<u8>>
     match byte_vec_or_none(row, at)? {
         Some(found) => Ok(Some(Sequence::new(found))),
         None => Ok(None),
+    }
+}
+
+/// No bytes where a column has some, or `None` for NULL.
+pub(crate) fn no_bytes_or_none(
+    alloc: Global,
+    row: &Row,
+    at: usize,
+) -> Result<Option<Sequence<u8>>, Error>
+    ensures read { IfOk result (λ o. o ≡ option_map (λ _. []) (bytes_or_none (column row.now at))) }
+    ensures fails { HasAt HoldsBlobOrNull row.now at → IfErr result IsOutOfMemory }
+    ensures kind { IfErr result IsOfNoDevice }
+{
+    let value = row.get_ref(at)?;
+    match value {
+        ValueRef::Blob(_) => Ok(Some(Sequence::new(Vec::new(alloc)))),
+        ValueRef::Null => Ok(None),
+        _ => Err(Error::InvalidColumnType(at, Type::of(value))),
     }
 }
 

@@ -2,6 +2,7 @@
 ghost use Rattle.std.specs.Prelude.{◌≡◌, ◌++◌, [], OnOk, option_to_list, ⊤};
 ghost use Rattle.desk_model.specs.Kept.{EachOf};
 ghost use Rattle.sql_upgrade.specs.FoundKeys.{HasKey, account_of, account_rows, found_key, row_key, row_keys, thumb_of, thumb_rows};
+ghost use Rattle.std.proofs.Common.{sym};
 
 use desk_book::{Row, Table};
 use desk_model::{AccountRow, AuthorizationRow};
@@ -89,6 +90,10 @@ impl RowCheck<AccountColumns> for ThumbCheck {
     fn finish(self, _alloc: Global) -> Result<Option<Table<AccountThumb>>, AllocError> {
         Ok(Some(self.thumbs))
     }
+
+    ghost passed_alike = { λ first now rows row other same passed. rw same at passed };
+
+    ghost all_alike = { λ first rows rest row other same all. all };
 }
 
 // The account of this authorization.
@@ -135,6 +140,10 @@ impl RowCheck<AuthzColumns> for OwnerCheck {
     fn finish(self, _alloc: Global) -> Result<Option<Table<AuthorizationAccount>>, AllocError> {
         Ok(Some(self.accounts))
     }
+
+    ghost passed_alike = { λ first now rows row other same passed. rw same at passed };
+
+    ghost all_alike = { λ first rows rest row other same all. all };
 }
 
 /// Finds the key of each answer, by the accounts of authorizations and the thumbprints of their keys; no row passes whose account is
@@ -219,4 +228,8 @@ impl<'a> RowCheck<ChallColumns> for AnswerCheck<'a> {
     fn finish(self, _alloc: Global) -> Result<Option<Vec<AnswerKey>>, AllocError> {
         Ok(Some(self.keys))
     }
+
+    ghost passed_alike = { λ first now rows row other same passed. rw same at passed };
+
+    ghost all_alike = { λ first rows rest row other same all. rw (sym same) at all };
 }

@@ -10,7 +10,7 @@ use Rattle.desk_model.specs.declared.rows.Listed.{Listed}
 use Rattle.store_book.specs.BookRows.{IsAmong, PlacesRise, Rise, answered_number, answered_numbers}
 use Rattle.model_laws.specs.Ordered.{Ascends, Below, IsTable}
 use Rattle.model_laws.proofs.Basics.{each, each-append}
-use Rattle.store_book.specs.Passing.{Counts, IsPlacedNext, IsPlacedUpTo, IsUpTo, PlacedFrom}
+use Rattle.store_book.specs.Passing.{AreOwned, Counts, IsPlacedNext, IsPlacedUpTo, IsUpTo, PlacedFrom}
 use Rattle.store_book.specs.declared.counter.Counter.{Counter}
 
 -- what ascends goes on with a number above all
@@ -80,11 +80,6 @@ kept_more keep rows row before after pushed kept = pushed ∙ ap (λ l. l ++ kee
 -- what holds of each
 pub each_more : {X : Type 0} (P : X → Type 0) (rows : List X) (row : X) → EachOf P rows → P row → EachOf P (rows ++ row ∷ [])
 each_more P rows row h p = each-append P rows (row ∷ []) h (p, tt)
-
--- the rows so far, each of one of these owners
-abbrev pub AreOwned : {X : Type 0} → (number owner : X → ℕ) (first now : Counter) (owners first_owners numbers : List ℕ) → List X → Type 0
-AreOwned number owner first now owners first_owners numbers rows =
-    IsUpTo number first now rows × (numbers ≡ map number rows) × (owners ≡ first_owners) × EachOf (λ x. IsAmong first_owners (owner x)) rows
 
 -- one more that is taken
 pub owned_more : {X E : Type 0} (number owner : X → ℕ) (row : X) (old new : Counter) (owners still before after : List ℕ) (taken : Result Bool E)

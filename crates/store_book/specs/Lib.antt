@@ -1,3 +1,4 @@
+pub mod Alike
 pub mod BookRows
 pub mod ByKey
 pub mod FaultNumbers

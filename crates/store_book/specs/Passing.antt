@@ -1,9 +1,10 @@
 -- Rows that pass one after the other.
-use Rattle.std.specs.Prelude.{◌≡◌, ◌+◌, ◌<◌, ◌≤◌, ◌⊎◌, ℕ, List, [], ◌∷◌, Option, None, Some}
+use Rattle.std.specs.Prelude.{◌≡◌, ◌+◌, ◌<◌, ◌≤◌, ◌⊎◌, ℕ, List, [], ◌∷◌, Option, None, Some, map}
+use Rattle.desk_model.specs.Kept.{EachOf}
 use Rattle.model_laws.specs.Ordered.{Ascends, Below}
 use Rattle.store_columns.specs.declared.columns.Owned.{Owned}
 use Rattle.desk_model.specs.declared.rows.{Counters.Counters, Listed.Listed, Meta.Meta}
-use Rattle.store_book.specs.BookRows.{AreListed, Rise}
+use Rattle.store_book.specs.BookRows.{AreListed, IsAmong, Rise}
 use Rattle.store_book.specs.declared.counter.Counter.{Counter}
 
 -- the number is above that of the row before, and was given
@@ -20,6 +21,11 @@ pub record IsUpTo {X : Type 0} (number : X → ℕ) (first now : Counter) (rows 
   pub ascends : Ascends number 1 rows
   pub below : Below number (now.top + 1) rows
   pub reached : (n : ℕ) → 0 < n → Below number n rows → now.top < n
+
+-- the rows so far, each of one of these owners, and their numbers
+abbrev pub AreOwned : {X : Type 0} → (number owner : X → ℕ) (first now : Counter) (owners first_owners numbers : List ℕ) → List X → Type 0
+AreOwned number owner first now owners first_owners numbers rows =
+    IsUpTo number first now rows × (numbers ≡ map number rows) × (owners ≡ first_owners) × EachOf (λ x. IsAmong first_owners (owner x)) rows
 
 -- a place of an order
 abbrev pub ListedRow : Type 0

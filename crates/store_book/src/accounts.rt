@@ -4,6 +4,7 @@ ghost use Rattle.std.specs.List.{IsDistinct};
 ghost use Rattle.std.specs.Ordering.{eq_by_cmp, is_lt};
 ghost use Rattle.model_laws.specs.Distinct.{Distinct};
 ghost use Rattle.store_book.specs.{BookRows.AreAccounts, Passing.IsUpTo};
+ghost use Rattle.std.proofs.Common.{sym};
 
 use crate::counter::Counter;
 use crate::numbers::Numbers;
@@ -60,6 +61,10 @@ impl RowCheck<AccountColumns> for AccountCheck {
         }
         Ok(Some(self.numbers))
     }
+
+    ghost passed_alike = { λ first now rows row other same passed. rw same at passed };
+
+    ghost all_alike = { λ first rows rest row other same all. rw (sym same) at all };
 }
 
 // Whether no key stands twice.

@@ -1,6 +1,7 @@
 //! The rows of `chall_key`.
 ghost use Rattle.std.specs.Prelude.{◌≡◌, ◌++◌, map};
 ghost use Rattle.store_book.specs.BookRows.{AreKeys};
+ghost use Rattle.std.proofs.Common.{sym};
 
 use crate::numbers::Numbers;
 use crate::row_check::RowCheck;
@@ -51,4 +52,8 @@ impl<'a> RowCheck<ChallKeyColumns> for KeyCheck<'a> {
             Ok(None)
         }
     }
+
+    ghost passed_alike = { λ first now rows row other same passed. rw same at passed };
+
+    ghost all_alike = { λ first rows rest row other same all. rw (sym same) at all };
 }

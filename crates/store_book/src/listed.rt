@@ -3,6 +3,7 @@ ghost use Rattle.std.specs.Prelude.{◌≡◌, ◌++◌, ◌∷◌, IsTrue, List
 ghost use Rattle.desk_model.specs.Kept.{EachOf};
 ghost use Rattle.store_book.specs.BookRows.{AreListed, IsAmong, PlacesRise};
 ghost use Rattle.store_book.specs.Passing.{ArePlaced, IsPlacedNext, IsPlacedUpTo, ListedRow, PlacedFrom};
+ghost use Rattle.std.proofs.Common.{sym};
 
 use crate::numbers::Numbers;
 use crate::row_check::RowCheck;
@@ -69,4 +70,8 @@ impl<'a> RowCheck<OrderAuthzColumns> for ListedCheck<'a> {
     fn finish(self, _alloc: Global) -> Result<Option<()>, AllocError> {
         Ok(Some(()))
     }
+
+    ghost passed_alike = { λ first now rows row other same passed. rw same at passed };
+
+    ghost all_alike = { λ first rows rest row other same all. rw (sym same) at all };
 }

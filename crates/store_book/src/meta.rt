@@ -1,6 +1,7 @@
 //! The row of `meta`.
 ghost use Rattle.std.specs.Prelude.{◌≡◌, None};
 ghost use Rattle.store_book.specs.Passing.{IsOneRow, IsOnlyRow, IsRowSoFar};
+ghost use Rattle.std.proofs.Common.{sym};
 
 use crate::row_check::RowCheck;
 use desk_model::{Counters, Meta};
@@ -42,4 +43,8 @@ impl RowCheck<MetaColumns> for MetaCheck {
     fn finish(self, _alloc: Global) -> Result<Option<Counters>, AllocError> {
         Ok(self.counters)
     }
+
+    ghost passed_alike = { λ first now rows row other same passed. rw same at passed };
+
+    ghost all_alike = { λ first rows rest row other same all. rw (sym same) at all };
 }

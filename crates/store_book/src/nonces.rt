@@ -2,6 +2,7 @@
 ghost use Rattle.std.specs.Prelude.{◌≡◌};
 ghost use Rattle.model_laws.specs.Ordered.{IsTable};
 ghost use Rattle.store_book.specs.Passing.{IsUpTo};
+ghost use Rattle.std.proofs.Common.{sym};
 
 use crate::counter::Counter;
 use crate::row_check::RowCheck;
@@ -42,4 +43,8 @@ impl RowCheck<NonceColumns> for NonceCheck {
     fn finish(self, _alloc: Global) -> Result<Option<()>, AllocError> {
         Ok(Some(()))
     }
+
+    ghost passed_alike = { λ first now rows row other same passed. rw same at passed };
+
+    ghost all_alike = { λ first rows rest row other same all. rw (sym same) at all };
 }

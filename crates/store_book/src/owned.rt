@@ -3,6 +3,8 @@ ghost use Rattle.std.specs.Prelude.{◌≡◌, ◌<◌, ◌≤◌, ◌++◌, [],
 ghost use Rattle.desk_model.specs.Kept.{EachOf};
 ghost use Rattle.store_book.specs.BookRows.{AreAuthorizations, AreChallenges, AreOrders, IsAmong, Rise, answered_number, answered_numbers};
 ghost use Rattle.store_book.specs.Passing.{Counts, IsUpTo};
+ghost use Rattle.store_book.specs.Alike.{each_alike, owned_alike, table_alike};
+ghost use Rattle.std.proofs.Common.{subst, sym};
 
 use crate::counter::Counter;
 use crate::numbers::Numbers;
@@ -67,6 +69,14 @@ impl<'a> RowCheck<OrderColumns> for OwnedCheck<'a> {
     fn finish(self, _alloc: Global) -> Result<Option<Numbers>, AllocError> {
         Ok(Some(self.numbers))
     }
+
+    ghost passed_alike = { λ first now rows row other same passed. owned_alike row other (λ o. o.number) (λ o. o.account) first.counter now.counter
+        now.owners.now first.owners.now now.numbers rows same.number same.account passed };
+
+    ghost all_alike = { λ first rows rest row other same all. (all.0, record {
+        table = table_alike row other (λ o. o.number) first.counter.last rows rest (sym same.number) all.1.table;
+        accounts_found = each_alike row other (λ o. IsAmong first.owners.now o.account) rows rest (subst (IsAmong first.owners.now) (sym same.account)) all.1.accounts_found;
+    }) };
 }
 
 impl<'a> RowCheck<AuthzColumns> for OwnedCheck<'a> {
@@ -86,6 +96,10 @@ impl<'a> RowCheck<AuthzColumns> for OwnedCheck<'a> {
     fn finish(self, _alloc: Global) -> Result<Option<Numbers>, AllocError> {
         Ok(Some(self.numbers))
     }
+
+    ghost passed_alike = { λ first now rows row other same passed. rw same at passed };
+
+    ghost all_alike = { λ first rows rest row other same all. rw (sym same) at all };
 }
 
 /// Checks that numbers ascend, that none is above the last one given, and that each challenge is of one of these authorizations;
@@ -143,4 +157,8 @@ impl<'a> RowCheck<ChallColumns> for ChallengeCheck<'a> {
     fn finish(self, _alloc: Global) -> Result<Option<Numbers>, AllocError> {
         Ok(Some(self.answered))
     }
+
+    ghost passed_alike = { λ first now rows row other same passed. rw same at passed };
+
+    ghost all_alike = { λ first rows rest row other same all. rw (sym same) at all };
 }

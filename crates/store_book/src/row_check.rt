@@ -39,4 +39,12 @@ pub trait RowCheck<C: Columns>: Drop {
         ensures whole { IfOk result (λ kept. IfSome kept (λ kept. (first : Self) (rows : List C.Row) → Passed first self rows
             → IsWhole first rows kept)) }
         ensures fine { IfOk result (λ kept. (first : Self) (rows : List C.Row) → Passed first self rows → AreAll first rows → IsSome kept) };
+
+    // A row like the last one may have come in its place.
+    ghost passed_alike: { (first now : Self) (rows : List C.Row) (row other : C.Row) → C.AreAlike row other → Passed first now (rows ++ row ∷ [])
+        → Passed first now (rows ++ other ∷ []) };
+
+    // In a book's table a row like one of its own may stand in that one's place.
+    ghost all_alike: { (first : Self) (rows rest : List C.Row) (row other : C.Row) → C.AreAlike other row → AreAll first (rows ++ row ∷ rest)
+        → AreAll first (rows ++ other ∷ rest) };
 }

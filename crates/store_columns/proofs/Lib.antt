@@ -6,4 +6,5 @@ pub mod RowsApart
 pub mod SpellingApart
 pub mod StringLists
 pub mod TableRows
+pub mod Unread
 pub mod Utf8Columns

@@ -1,3 +1,4 @@
+pub mod Alike
 pub mod Columns
 pub mod Flat
 pub mod Laws

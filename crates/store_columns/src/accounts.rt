@@ -1,5 +1,5 @@
 //! Rows of the table `account`.
-ghost use Rattle.std.specs.Prelude.{◌≡◌, [], ◌∷◌, IfOk, Some};
+ghost use Rattle.std.specs.Prelude.{◌≡◌, [], ◌∷◌, IfOk, Some, refl};
 ghost use Rattle.store_columns.specs.{Columns.account_columns, Limits.IsStoredAccount, Spelling.contacts_text};
 ghost use Rattle.store_columns.specs.Reading.{IsRead, Unlimited};
 ghost use Rattle.serde_json.specs.{Read.read, View.view};
@@ -43,6 +43,8 @@ impl Columns for AccountColumns {
         let contacts = read_contacts(alloc, self.contacts.as_str())?;
         Ok(read_account(self, contacts))
     }
+
+    ghost alike_itself = { λ row. refl };
 }
 
 // ---- the column `contacts`: a compact JSON list of strings

@@ -1,4 +1,5 @@
 //! Rows of the table `authz`, and of `chall`, which has their challenges.
+ghost use Rattle.std.specs.Prelude.{refl};
 ghost use Rattle.store_columns.specs.Columns.{authorization_columns, challenge_columns, key_columns};
 ghost use Rattle.store_columns.specs.Limits.{IsStoredAuthorization, IsStoredChallenge, IsStoredKey};
 ghost use Rattle.store_columns.specs.{Reading.IsRead};
@@ -49,6 +50,8 @@ impl Columns for AuthzColumns {
     fn read(self, alloc: Global) -> Result<Option<AuthorizationRow>, AllocError> {
         Ok(read_authorization(alloc, self))
     }
+
+    ghost alike_itself = { λ row. refl };
 }
 
 // ---- challenges
@@ -80,6 +83,8 @@ impl Columns for ChallColumns {
     fn read(self, _alloc: Global) -> Result<Option<Owned<BareChallenge>>, AllocError> {
         Ok(read_challenge(&self))
     }
+
+    ghost alike_itself = { λ row. refl };
 }
 
 // The key of an answer with these columns, or `None` where none in its limits has them.
@@ -101,4 +106,6 @@ impl Columns for ChallKeyColumns {
     fn read(self, _alloc: Global) -> Result<Option<AnswerKey>, AllocError> {
         Ok(read_key(&self))
     }
+
+    ghost alike_itself = { λ row. refl };
 }

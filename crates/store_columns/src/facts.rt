@@ -228,6 +228,9 @@ pub trait Columns: Drop {
     // What a row keeps in the table.
     ghost IsStored: { Self.Row → Type 0 };
 
+    // Rows that no check of the table tells apart.
+    ghost AreAlike: { Self.Row → Self.Row → Type 0 } = { λ row other. row ≡ other };
+
     /// The row with these columns, or `None` where none in its limits has them.
     ///
     /// # Errors
@@ -235,6 +238,9 @@ pub trait Columns: Drop {
     /// Where there is no memory for it.
     fn read(self, alloc: Global) -> Result<Option<Self::Row>, AllocError>
         ensures { IfOk result (λ row. IsRead write IsStored self row) };
+
+    // It does not tell a row apart from itself.
+    ghost alike_itself: { (row : Self.Row) → AreAlike row row };
 }
 
 /// The rows with these columns, or `None` where no row in its limits has some of them.

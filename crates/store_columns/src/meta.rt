@@ -1,5 +1,5 @@
 //! The row of the table `meta`.
-ghost use Rattle.std.specs.Prelude.{◌≡◌, ◌≢◌, ◌↔◌, pos, IfOk, IsTrue, MatchOption};
+ghost use Rattle.std.specs.Prelude.{◌≡◌, ◌≢◌, ◌↔◌, pos, IfOk, IsTrue, MatchOption, refl};
 ghost use Rattle.desk_model.specs.declared.rows.Meta.{Meta as MetaRow};
 ghost use Rattle.store_columns.specs.Columns.{known_format, meta_columns};
 ghost use Rattle.store_columns.specs.{Limits.IsStoredMeta, Reading.IsRead};
@@ -83,4 +83,6 @@ impl Columns for MetaColumns {
     fn read(self, alloc: Global) -> Result<Option<Meta>, AllocError> {
         read_meta(alloc, &self)
     }
+
+    ghost alike_itself = { λ row. refl };
 }

@@ -1,4 +1,5 @@
 //! Rows of the table `nonce`.
+ghost use Rattle.std.specs.Prelude.{refl};
 ghost use Rattle.store_columns.specs.{Columns.nonce_columns, Limits.IsStoredNonce, Reading.IsRead};
 
 use crate::columns::NonceColumns;
@@ -30,4 +31,6 @@ impl Columns for NonceColumns {
     fn read(self, _alloc: Global) -> Result<Option<Nonce>, AllocError> {
         Ok(read_nonce(&self))
     }
+
+    ghost alike_itself = { λ row. refl };
 }

@@ -1,8 +1,8 @@
 //! Rows of the table `ord`, and of `ord_authz`, which has what an order lists.
-ghost use Rattle.std.specs.Prelude.{◌≡◌, ◌↔◌, string_bytes, IfOk, IsTrue};
+ghost use Rattle.std.specs.Prelude.{◌≡◌, ◌↔◌, string_bytes, IfOk, IsTrue, refl};
 ghost use Rattle.store_columns.specs.Columns.{dated_problem_columns, order_columns, listed_columns, summary_columns};
 ghost use Rattle.store_columns.specs.Limits.{IfRecorded, IsDatedProblem, IsStoredOrder, IsStoredSummary, IsProblem, IsStoredListed};
-ghost use Rattle.store_columns.specs.{Reading.IsRead};
+ghost use Rattle.store_columns.specs.{Alike.AreAlikeOrders, Reading.IsRead};
 ghost use Rattle.serde_json.specs.View.{view};
 ghost use Rattle.store_columns.specs.Spelling.{problem_document, problem_text};
 
@@ -56,12 +56,16 @@ impl Columns for OrderColumns {
 
     ghost IsStored = { IsStoredOrder };
 
+    ghost AreAlike = { AreAlikeOrders };
+
     fn read(self, alloc: Global) -> Result<Option<OrderRow>, AllocError> {
         match read_dated_problem(alloc, self.failed, &self.problem)? {
             Some(failed) => Ok(read_order(alloc, failed, self)),
             None => Ok(None),
         }
     }
+
+    ghost alike_itself = { λ row. record { number = refl; account = refl } };
 }
 
 // ---- an order in summary
@@ -98,6 +102,8 @@ impl Columns for OrderSummaryColumns {
     fn read(self, alloc: Global) -> Result<Option<OrderRow>, AllocError> {
         Ok(read_summary(alloc, &self))
     }
+
+    ghost alike_itself = { λ row. refl };
 }
 
 // ---- the column `problem`: a compact JSON object of a detail and a type
@@ -171,4 +177,6 @@ impl Columns for OrderAuthzColumns {
     fn read(self, _alloc: Global) -> Result<Option<Owned<Listed>>, AllocError> {
         Ok(read_listed(self))
     }
+
+    ghost alike_itself = { λ row. refl };
 }

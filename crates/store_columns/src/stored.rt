@@ -1,5 +1,5 @@
 //! The rows of all tables.
-ghost use Rattle.std.specs.Prelude.{IfOk, map, option_map};
+ghost use Rattle.std.specs.Prelude.{IfOk, map, option_map, refl};
 ghost use Rattle.desk_model.specs.Kept.{EachOf};
 ghost use Rattle.store_columns.specs.{Columns.rows_columns, Limits.AreStored, Limits.IfRecorded, Reading.IsRead};
 
@@ -26,6 +26,8 @@ impl<A: Columns, B: Columns> Columns for (A, B) {
         };
         Ok(Some((first, second)))
     }
+
+    ghost alike_itself = { λ row. refl };
 }
 
 // What may be missing is read where it is there.
@@ -45,6 +47,8 @@ impl<C: Columns> Columns for Option<C> {
             None => Ok(None),
         }
     }
+
+    ghost alike_itself = { λ row. refl };
 }
 
 impl<C: Columns> Columns for Sequence<C> {
@@ -57,6 +61,8 @@ impl<C: Columns> Columns for Sequence<C> {
     fn read(self, alloc: Global) -> Result<Option<Sequence<C::Row>>, AllocError> {
         read_table(alloc, self)
     }
+
+    ghost alike_itself = { λ row. refl };
 }
 
 /// The rows with these columns, table by table, or `None` where no rows in their limits have them.
