@@ -1,5 +1,5 @@
 //! Domain names of identifiers.
-ghost use Rattle.std.specs.Prelude.{◌≡◌, ◌==◌, ◌||◌, ◌-◌, ℕ, true, false, nat_le, length, slice_index, IsTrue, IfOk, MatchOption, string_bytes};
+ghost use Rattle.std.specs.Prelude.{◌≡◌, ◌==◌, ◌&&◌, ◌||◌, ◌-◌, ℕ, not, true, false, nat_le, length, slice_index, IsTrue, IfOk, MatchOption, string_bytes};
 ghost use Rattle.std.specs.{Int.is_in_range, List.list_all, Char.is_ascii_digit};
 ghost use Rattle.desk_model.specs.{Authorization.kinds_of, Name.same_name, Names.shown_name};
 ghost use Rattle.desk_model.specs.BaseName.{is_base_name, is_label, is_label_byte, labels_of, last_label};
@@ -110,7 +110,7 @@ impl Clone for DnsName {
 pub fn is_well_formed(name: &str) -> bool
     ensures { result ≡ is_base_name name.now }
 {
-    name.len() <= 253 && has_labels(name) && has_full_stop(name) && !ends_in_digits(name)
+    name.len() <= 253 && has_labels(name) && has_top_label(name)
 }
 
 // Whether each part between full stops is a label.
@@ -120,20 +120,13 @@ fn has_labels(name: &str) -> bool
     name.split('.').all(is_allowed_label)
 }
 
-// Whether there are two parts or more.
-fn has_full_stop(name: &str) -> bool
-    ensures { result ≡ nat_le 2 (length (labels_of name.now)) }
+// Whether there are two parts or more, of which the last one is not all digits.
+fn has_top_label(name: &str) -> bool
+    ensures { result ≡ (nat_le 2 (length (labels_of name.now)) && not (list_all is_ascii_digit (last_label name.now))) }
 {
-    name.split('.').count() >= 2
-}
-
-// Whether the part after the last full stop is all digits.
-fn ends_in_digits(name: &str) -> bool
-    ensures { result ≡ list_all is_ascii_digit (last_label name.now) }
-{
-    match name.split('.').last() {
-        Some(label) => is_all_digits(label),
-        None => true,
+    match name.rsplit_once('.') {
+        Some((_, last)) => !is_all_digits(last),
+        None => false,
     }
 }
 
