@@ -10,7 +10,7 @@ use Rattle.http_routes.specs.declared.routes.Route.TheVariants as route
 use Rattle.model_laws.specs.Ordered.{IsOrdered}
 use Rattle.model_lives.specs.LookUps.{orders_processing, waiting_of}
 use Rattle.app_tasks.specs.Totals.{calls_of, faults_of}
-use Rattle.app_tasks.specs.declared.metrics.{Reading.Reading, Snapshot.Snapshot}
+use Rattle.app_tasks.specs.declared.snapshot.{Reading.Reading, Snapshot.Snapshot}
 use Rattle.app_tasks.specs.declared.metrics.TheConstants as head
 use Rattle.app_tasks.specs.declared.totals.{CallCounts.CallCounts, Totals.Totals}
 

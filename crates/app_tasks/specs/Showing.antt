@@ -8,7 +8,7 @@ use Rattle.app_reports.specs.declared.{asked.AuthorizationFilter.AuthorizationFi
 use Rattle.app_reports.specs.declared.{beside.Beside.Beside, fault.ReportFault.ReportFault, form.Form.Form}
 use Rattle.app_reports.specs.declared.fault.ReportFault.TheVariants as reportfault
 use Rattle.app_reports.specs.declared.form.Form.TheVariants as form
-use Rattle.app_tasks.specs.{Metrics.TellsMetrics, Sending.SendsBackup, declared.metrics.Reading.Reading}
+use Rattle.app_tasks.specs.{Metrics.TellsMetrics, Sending.SendsBackup, declared.snapshot.Reading.Reading}
 use Rattle.desk.specs.{Looking.Shown, declared.looking.LookFault.LookFault}
 use Rattle.desk.specs.declared.looking.LookFault.TheVariants as lookfault
 use Rattle.desk_http.specs.Showing.{Shower, shower}

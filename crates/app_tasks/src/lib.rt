@@ -30,6 +30,7 @@ mod revoking;
 mod sending;
 mod showing;
 mod shown;
+mod snapshot;
 mod sockets;
 mod tasks;
 mod totals;

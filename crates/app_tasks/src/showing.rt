@@ -8,8 +8,9 @@ ghost use Rattle.desk.specs.Looking.{Looks};
 ghost use Rattle.desk_model.specs.Derived.{status_faults};
 
 use crate::beside::known_beside;
-use crate::metrics::{Reading, tell_metrics};
+use crate::metrics::tell_metrics;
 use crate::sending::send_backup;
+use crate::snapshot::Reading;
 use crate::totals::Counted;
 use app_page::write_page;
 use app_reports::{

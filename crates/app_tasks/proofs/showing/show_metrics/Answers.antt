@@ -1,5 +1,5 @@
 use Rattle.std.proofs.Common.{None}
-use Rattle.app_tasks.specs.{Totals.no_totals, declared.metrics.Reading.Reading}
+use Rattle.app_tasks.specs.{Totals.no_totals, declared.snapshot.Reading.Reading}
 use Rattle.app_tasks.proofs.Looked.{looks_by, shown_by}
 use Rattle.app_tasks.proofs.showing.show_metrics.Goals as goal
 

@@ -3,7 +3,7 @@ use Rattle.desk_model.specs.Authorization.{is_pending}
 use Rattle.store_api.proofs.Readings.{reads_unchanged, unchanged_read}
 use Rattle.store_columns.specs.declared.columns.JoinedChallenge.{JoinedChallenge}
 use Rattle.app_tasks.proofs.Pending.{waiting_counted}
-use Rattle.app_tasks.proofs.metrics.count_challenges.Goals as goal
+use Rattle.app_tasks.proofs.snapshot.count_challenges.Goals as goal
 
 pub returns-clause-reads : goal.returns-clause-reads
 returns-clause-reads g c = reads_unchanged _ tt (unchanged_read c.in_ok-waiting.ensures.reads)

@@ -2,7 +2,7 @@ use Rattle.std.proofs.Common.{◌≡◌, length, ap, ◌∙◌, rules}
 use Rattle.std.proofs.lemmas.List.{length-map}
 use Rattle.model_lives.specs.LookUps.{orders_processing}
 use Rattle.store_columns.specs.Flat.{without_listed}
-use Rattle.app_tasks.proofs.metrics.count_orders.Goals as goal
+use Rattle.app_tasks.proofs.snapshot.count_orders.Goals as goal
 
 pub returns-clause-found : goal.returns-clause-found
 returns-clause-found g c honest T held =

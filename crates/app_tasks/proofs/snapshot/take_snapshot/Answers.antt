@@ -1,7 +1,7 @@
 use Rattle.std.proofs.Common.{subst, sym}
 use Rattle.store_api.proofs.Readings.{reads_failing, reads_then, reads_unchanged, unchanged_both, unchanged_read}
 use Rattle.app_tasks.specs.Metrics.{IsSnapshotOf, snapshot_of}
-use Rattle.app_tasks.proofs.metrics.take_snapshot.Goals as goal
+use Rattle.app_tasks.proofs.snapshot.take_snapshot.Goals as goal
 
 pub returns-clause-reads : goal.returns-clause-reads
 returns-clause-reads g c =
