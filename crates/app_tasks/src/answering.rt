@@ -13,7 +13,7 @@ use app_batch::batch;
 use app_reports::seconds_ahead;
 use app_words::Serving;
 use desk::Desk;
-use desk_http::{MomentBound, Routes, ServeFault, Watch, serve_connections};
+use desk_http::{Listener, MomentBound, Routes, ServeFault, Watch, serve_connections};
 use std::alloc::Global;
 use std::io::{Read, Write};
 use store_api::{RowsAbove, Storage};
@@ -114,26 +114,40 @@ impl<'a, E: Write> ServeConnections<'a, E> {
             return Err(Fault::Output);
         }
         let counted = Counted::new();
-        let mut watch = Watch {
-            overseer: FileOverseer {
-                rt: self.rt,
-                files,
-                routes: Routes::new(),
-                counted: &counted,
-                log: self.serving.log,
-                out,
-            },
-            bound: MomentBound::new(self.serving.max_step, clock),
+        let overseer = FileOverseer {
+            rt: self.rt,
+            files,
+            routes: Routes::new(),
+            counted: &counted,
+            log: self.serving.log,
+            out,
         };
+        self.serve_overseen(desk, clock, &mut listener, overseer)
+    }
+
+    // Serves a desk whose clock stands so to the connections that come, which are overseen so; gives the exit status.
+    fn serve_overseen<K: Storage + RowsAbove + Drop, W: Write>(
+        &mut self,
+        desk: &mut Desk<K>,
+        clock: u64,
+        listener: &mut Listener,
+        overseer: FileOverseer<'_, W>,
+    ) -> Result<u8, Fault>
+        ensures { Serves K.Kept.sight K.Storage.causes self.old.serving clock desk.old desk.new result }
+    {
         let reports = Reports {
             rt: self.rt,
             path: self.path,
-            counted: &counted,
+            counted: overseer.counted,
+        };
+        let mut watch = Watch {
+            overseer,
+            bound: MomentBound::new(self.serving.max_step, clock),
         };
         serve_connections(
             self.rt.alloc(),
             self.rt,
-            &mut listener,
+            listener,
             &reports,
             desk,
             self.serving.count,
