@@ -27,56 +27,23 @@ pub(crate) fn explain<D: Disk, E: Write>(
     if !is_verbose {
         return;
     }
-    match (how, command) {
-        (Ok(BROKEN), Command::Make { terms, .. }) => {
-            let _ = writeln!(errors, "desk: {}", broken_limit(terms));
-        }
-        (Err(Fault::Copy(fault)), Command::BackUp { file, to }) => {
-            explain_copy(rt, errors, fault, file, to)
-        }
-        (Err(Fault::Copy(fault)), Command::BackUpServed { to, .. }) => {
-            explain_copy(rt, errors, fault, to, to)
-        }
-        (Err(Fault::Copy(fault)), Command::Restore { copy, file }) => {
-            explain_copy(rt, errors, fault, copy, file)
-        }
-        (Err(Fault::Place(fault)), Command::Restore { file, .. }) => {
-            let _ = writeln!(
-                errors,
-                "desk: {}: {}",
-                Visible(file),
-                place_cause(rt, file, fault)
-            );
-        }
-        (Err(Fault::Serve(fault)), Command::Serve { file, serving }) => {
-            explain_serving(
-                rt,
-                errors,
-                fault,
-                command,
-                file.path,
-                serving.listening,
-                left,
-            )
-        }
-        (Err(Fault::Socket(cause)), Command::Serve { serving, .. }) => {
-            explain_socket(errors, cause, serving.listening)
-        }
-        (Err(Fault::Desk(fault)), Command::BackUpServed { to, .. }) => {
-            let _ = writeln!(errors, "desk: {}: {}", Visible(to), FaultCause::of(fault));
-        }
-        (Err(Fault::Desk(fault)), _) => explain_desk_fault(rt, errors, command, fault, left),
-        (
-            Err(Fault::Connection(unheard)),
-            Command::Look { place, .. }
-            | Command::BackUpServed { place, .. }
-            | Command::RevokeServed { place, .. },
-        ) => explain_unheard(errors, unheard, place),
-        (
-            Err(Fault::Refused(refusal)),
-            Command::Revoke { target, .. } | Command::RevokeServed { target, .. },
-        ) => explain_refusal(errors, refusal, target),
-        _ => {}
+    match how {
+        Ok(BROKEN) => explain_limit(errors, command),
+        Err(Fault::Copy(fault)) => explain_copy(rt, errors, command, fault),
+        Err(Fault::Place(fault)) => explain_place(rt, errors, command, fault),
+        Err(Fault::Serve(fault)) => explain_serving(rt, errors, command, fault, left),
+        Err(Fault::Socket(cause)) => explain_socket(errors, command, cause),
+        Err(Fault::Desk(fault)) => explain_desk_fault(rt, errors, command, fault, left),
+        Err(Fault::Connection(unheard)) => explain_unheard(errors, command, unheard),
+        Err(Fault::Refused(refusal)) => explain_refusal(errors, command, refusal),
+        Ok(_) | Err(Fault::Output | Fault::Ahead) => {}
+    }
+}
+
+// Says which limit the terms break that a desk was to be made with.
+fn explain_limit<E: Write>(errors: &mut E, command: Command<'_>) {
+    if let Command::Make { terms, .. } = command {
+        let _ = writeln!(errors, "desk: {}", broken_limit(terms));
     }
 }
 
@@ -84,10 +51,15 @@ pub(crate) fn explain<D: Disk, E: Write>(
 fn explain_copy<E: Write>(
     rt: &HostRuntime,
     errors: &mut E,
+    command: Command<'_>,
     fault: CopyFault,
-    file: &str,
-    to: &str,
 ) {
+    let (file, to) = match command {
+        Command::BackUp { file, to } => (file, to),
+        Command::BackUpServed { to, .. } => (to, to),
+        Command::Restore { copy, file } => (copy, file),
+        _ => return,
+    };
     let _ = match fault {
         CopyFault::Taken => writeln!(
             errors,
@@ -108,20 +80,39 @@ fn explain_copy<E: Write>(
     };
 }
 
+// Says why the desk whose place a copy was to take could not be held.
+fn explain_place<E: Write>(
+    rt: &HostRuntime,
+    errors: &mut E,
+    command: Command<'_>,
+    fault: DeskFault,
+) {
+    if let Command::Restore { file, .. } = command {
+        let cause = place_cause(rt, file, fault);
+        let _ = writeln!(errors, "desk: {}: {cause}", Visible(file));
+    }
+}
+
 // Says why the desk of a file is served no longer, or was not; nothing where the fault's own line says it.
 fn explain_serving<D: Disk, E: Write>(
     rt: &HostRuntime,
     errors: &mut E,
-    fault: ServeFault,
     command: Command<'_>,
-    file: &str,
-    listening: Listening<'_>,
+    fault: ServeFault,
     left: &Left<D>,
 ) {
+    let Command::Serve { file, serving } = command else {
+        return;
+    };
     match fault {
-        ServeFault::Bind => explain_port(rt, errors, listening),
+        ServeFault::Bind => explain_port(rt, errors, serving.listening),
         ServeFault::Replaced => {
-            let _ = writeln!(errors, "desk: {}: {}", Visible(file), FaultCause::Replaced);
+            let _ = writeln!(
+                errors,
+                "desk: {}: {}",
+                Visible(file.path),
+                FaultCause::Replaced
+            );
         }
         ServeFault::Desk(fault) => explain_desk_fault(rt, errors, command, fault, left),
         ServeFault::Accept | ServeFault::Clock | ServeFault::Random | ServeFault::Output => {}
@@ -143,8 +134,11 @@ fn explain_port<E: Write>(rt: &HostRuntime, errors: &mut E, listening: Listening
 }
 
 // Says why the socket at which they were to be taken was not.
-fn explain_socket<E: Write>(errors: &mut E, cause: SocketCause, listening: Listening<'_>) {
-    match listening {
+fn explain_socket<E: Write>(errors: &mut E, command: Command<'_>, cause: SocketCause) {
+    let Command::Serve { serving, .. } = command else {
+        return;
+    };
+    match serving.listening {
         Listening::At(Place::Socket(path)) | Listening::AtBoth { socket: path, .. } => {
             let _ = writeln!(errors, "desk: {}: {cause}", Visible(path));
         }
@@ -153,7 +147,13 @@ fn explain_socket<E: Write>(errors: &mut E, cause: SocketCause, listening: Liste
 }
 
 // Says why nobody knows what came of a request to the desk that is served at a place, or all of what it shows.
-fn explain_unheard<E: Write>(errors: &mut E, unheard: Unheard, place: Place<'_>) {
+fn explain_unheard<E: Write>(errors: &mut E, command: Command<'_>, unheard: Unheard) {
+    let place = match command {
+        Command::Look { place, .. }
+        | Command::BackUpServed { place, .. }
+        | Command::RevokeServed { place, .. } => place,
+        _ => return,
+    };
     let _ = match place {
         Place::Port(port) => writeln!(errors, "desk: port {port}: {unheard}"),
         Place::Socket(path) => writeln!(errors, "desk: {}: {unheard}", Visible(path)),
@@ -161,7 +161,11 @@ fn explain_unheard<E: Write>(errors: &mut E, unheard: Unheard, place: Place<'_>)
 }
 
 // Says in words why the desk refuses to revoke something.
-fn explain_refusal<E: Write>(errors: &mut E, refusal: Refusal, target: Revocation) {
+fn explain_refusal<E: Write>(errors: &mut E, command: Command<'_>, refusal: Refusal) {
+    let target = match command {
+        Command::Revoke { target, .. } | Command::RevokeServed { target, .. } => target,
+        _ => return,
+    };
     let cause = match refusal {
         Refusal::NotFound => "the desk has none of this number",
         Refusal::Conflict => "it has ended already, otherwise than by being revoked",
@@ -175,7 +179,7 @@ fn explain_refusal<E: Write>(errors: &mut E, refusal: Refusal, target: Revocatio
     };
 }
 
-// Says which file a fault of a desk is of, and its cause; nothing of a desk in memory.
+// Says which file a fault of a desk is of, and its cause: where a desk that is served gave its files, the copy; nothing of a desk in memory.
 fn explain_desk_fault<D: Disk, E: Write>(
     rt: &HostRuntime,
     errors: &mut E,
@@ -183,7 +187,9 @@ fn explain_desk_fault<D: Disk, E: Write>(
     fault: DeskFault,
     left: &Left<D>,
 ) {
-    if let Some(file) = command.file() {
+    if let Command::BackUpServed { to, .. } = command {
+        let _ = writeln!(errors, "desk: {}: {}", Visible(to), FaultCause::of(fault));
+    } else if let Some(file) = command.file() {
         let cause = match fault {
             DeskFault::Device => FaultCause::OfFile(device_cause(rt, file, left)),
             DeskFault::NotADesk => FaultCause::OfFile(deskless_cause(rt, file, command)),
