@@ -1,4 +1,4 @@
-//! Batches: lines of which each asks a call, answered by a desk over any store. `app_tasks` and `app_trials` stand on it.
+//! Batches: lines of which each asks a call, answered by a desk over any store. `app_tasks` stands on it.
 #![tactic(auto)]
 
 mod fault;
