@@ -37,8 +37,10 @@ fn order_with(
 {
     let [num, account, made, expires] = numbers(row, [0, 1, 2, 3])?;
     let [finalized, certified, failed] = numbers_or_none(row, [4, 6, 8])?;
-    let ((csr, cert), (problem, status)) =
-        both(both(csr, cert), both(text_or_none(row, 9), text(row, 10)))?;
+    let ((csr, cert), (problem, status)) = both(
+        both(csr, cert),
+        both(text_or_none(row, 9), text(row, 10)),
+    )?;
     Ok(OrderColumns {
         num,
         account,

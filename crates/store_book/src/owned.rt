@@ -73,10 +73,13 @@ impl<'a> RowCheck<OrderColumns> for OwnedCheck<'a> {
     ghost passed_alike = { λ first now rows row other same passed. owned_alike row other (λ o. o.number) (λ o. o.account) first.counter now.counter
         now.owners.now first.owners.now now.numbers rows same.number same.account passed };
 
-    ghost all_alike = { λ first rows rest row other same all. (all.0, record {
+    ghost all_alike = { λ first rows rest row other same all. (
+      all.0,
+      record {
         table = table_alike row other (λ o. o.number) first.counter.last rows rest (sym same.number) all.1.table;
         accounts_found = each_alike row other (λ o. IsAmong first.owners.now o.account) rows rest (subst (IsAmong first.owners.now) (sym same.account)) all.1.accounts_found;
-    }) };
+      },
+    ) };
 }
 
 impl<'a> RowCheck<AuthzColumns> for OwnedCheck<'a> {
