@@ -392,9 +392,9 @@ class Run:
             self.sizes[size].add(measured)
         self.of_one.add(of_one)
 
-    def growth(self, name):
-        """The time of the program's call at the largest size, by that at the smallest."""
-        return self.sizes[max(self.sizes)].seconds["desk"][name] / self.sizes[min(self.sizes)].seconds["desk"][name]
+    def growth(self, name, who="desk"):
+        """The time of a program's call at the largest size, by that at the smallest."""
+        return self.sizes[max(self.sizes)].seconds[who][name] / self.sizes[min(self.sizes)].seconds[who][name]
 
     def growth_of_one(self, name):
         """The time of a call for the account that has all orders of its file, by that for one of few in the largest file."""
@@ -512,18 +512,21 @@ def rates(disk, memory):
     """The section on calls a second, with ratios where C is measured."""
     smallest, largest = min(disk.sizes), max(disk.sizes)
     has_c = "c" in disk.sizes[largest].seconds
+    growths = {"growth": "desk", **({"C's growth": "c"} if has_c else {})}
     ratios = {"ratio": (disk, "desk"), "`--sync once`": (disk, "once"), **({"no sync": (memory, "desk")} if memory else {})} if has_c else {}
     rows = []
     for name, _ in KINDS:
-        cells = [1 / disk.sizes[largest].seconds["desk"][name], disk.growth(name), *(run.ratio(largest, name, who) for run, who in ratios.values())]
-        rows.append((name, *map(figure, cells)))
+        rate = 1 / disk.sizes[largest].seconds["desk"][name]
+        grown = (disk.growth(name, who) for who in growths.values())
+        compared = (run.ratio(largest, name, who) for run, who in ratios.values())
+        rows.append((name, *map(figure, (rate, *grown, *compared))))
     in_memory = ", and over files in memory" if memory else ""
     by_c = f"; ratio the rate by C's, so also with `--sync once`{in_memory}" if has_c else ""
     text = f"""One call after the other through pipes, over {largest:,} pending orders of one name, {ORDERS_OF_ACCOUNT} to an account; medians. Growth is
         the time by that over {smallest:,} orders{by_c}."""
     of_one = ", ".join(f"{name} {figure(disk.growth_of_one(name))}" for name in OF_ONE)
     said = f"Growth to an account of {ORDERS_OF_ONE:,} orders: {of_one}. {missed(disk) if has_c else ''}"
-    return ["## Calls a second", "", *paragraph(text), *table(("call", "a second", "growth", *ratios), rows), *paragraph(said)]
+    return ["## Calls a second", "", *paragraph(text), *table(("call", "a second", *growths, *ratios), rows), *paragraph(said)]
 
 
 def page(counts, disk, memory):
