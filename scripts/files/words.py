@@ -366,15 +366,17 @@ def long_page(program, folder):
 
 
 def log_left(program, folder):
-    """`about` tells how many bytes the log has that a program left beside the file, and then it has none."""
+    """`about` tells how many bytes the log has that a program left beside the file, also by a link to that, and then it has none."""
     desk = desk_with_orders(program, folder, "log")
     server = Server(program, desk.path)
     see("a nonce", server.ask(NEW_NONCE)[:12], b"HTTP/1.1 204")
     server.kill()
     see("a log is left", log_of(desk.path) > PAGE, True)
-    for what in ("that is left", "behind the closing"):
+    linked = f"{folder}/log-linked.db"
+    os.symlink(desk.path, linked)
+    for what, path in (("that is left, by a link", linked), ("behind the closing", desk.path)):
         size = log_of(desk.path)
-        see(f"about: the log {what}", run(program, "about", desk.path)[1].splitlines()[-1], f"log: {size}".encode())
+        see(f"about: the log {what}", run(program, "about", path)[1].splitlines()[-1], f"log: {size}".encode())
     see("no log is left", log_of(desk.path) < PAGE, True)
 
 

@@ -50,11 +50,11 @@ pub fn known_beside(rt: &HostRuntime, file: &str) -> Result<Beside, DeskFault>
     }
 }
 
-// How many bytes the log beside a file has, 0 where there is none.
+// How many bytes the log beside a file has, where the links to that lead, 0 where there is none.
 fn log_len(rt: &HostRuntime, file: &str) -> Result<u64, DeskFault>
     ensures { IfErr result IsOfLog }
 {
-    let Ok(path) = format!(in rt.alloc(); "{file}-wal") else {
+    let Ok(path) = named(rt, file, "-wal") else {
         return Err(DeskFault::Memory);
     };
     match fs::metadata(rt, path.as_str()) {

@@ -10,8 +10,8 @@ use moments::capped_moment_text;
 use std::alloc::{AllocError, Global};
 use std::io::{self, Write};
 
-/// Writes the line of a connection that was served: the moment at which its call acted, method, path, status, number of the
-/// refusal or of the fault, number of the object, and microseconds.
+/// Writes the line of a connection that was served: the machine's moment at which it was accepted, method, path, status,
+/// number of the refusal or of the fault, number of the object, and microseconds.
 ///
 /// # Errors
 ///
@@ -40,7 +40,7 @@ pub(crate) fn write_entry<W: Write>(
     }
 }
 
-// What tells of the request: the moment at which its call acted, its method and its path.
+// What tells of the request: the machine's moment at which its connection was accepted, its method and its path.
 fn request_text(alloc: Global, form: LogForm, entry: Entry<'_>) -> Result<String, AllocError>
     ensures { IfOk result (λ text. string_bytes text ≡ request_text form (as_log_entry entry.entry)) }
 {
