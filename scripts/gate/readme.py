@@ -82,9 +82,11 @@ class Shell:
     """A shell in a folder, which is told one command after the other; what it prints goes to a file."""
 
     def __init__(self, folder, output):
-        self.output = open(output, "w+", encoding="utf-8")
-        self.run = subprocess.Popen(["bash"], cwd=folder, stdin=subprocess.PIPE, stdout=self.output, stderr=subprocess.STDOUT, text=True,
-                                    process_group=0, env={**os.environ, "TMPDIR": os.path.dirname(folder)})
+        # What reads the file has a place of its own in it; each write goes to its end.
+        with open(output, "ab") as printed:
+            self.run = subprocess.Popen(["bash"], cwd=folder, stdin=subprocess.PIPE, stdout=printed, stderr=subprocess.STDOUT, text=True,
+                                        process_group=0, env={**os.environ, "TMPDIR": os.path.dirname(folder)})
+        self.output = open(output, encoding="utf-8")
 
     def say(self, command, is_enough):
         """Runs a command, and gives the lines that it printed; of one in the background when they are enough."""
