@@ -3,9 +3,9 @@
 
 Both answer the same lines over a file of 10,000 orders of their own, kind by kind, in turns of ten calls as bench.py's;
 the first turn is not counted, and a figure is the median of the others: so the copying of the log into the file, which
-comes with one kind of call or another in every turn, is in none. An instruction is counted once however long it takes, so
-the figures are the same on a machine under any load. Copying and clearing memory is left out, as the C library does it by
-other instructions on other processors.
+comes with one kind of call or another in every turn, is in none. For the page the same is counted over the fewest and the
+most orders of bench.py's. An instruction is counted once however long it takes, so the figures are the same on a machine
+under any load. Copying and clearing memory is left out, as the C library does it by other instructions on other processors.
 
     python3 bench/instructions.py --into FILE       writes the section into the page, in the place of the one there, or behind all others
     python3 bench/instructions.py --against FILE    compares the desk with the section of the page, and ends with 1 where a call
@@ -22,7 +22,7 @@ import sys
 import tempfile
 import typing
 
-from bench import CALLS, KINDS, TOP, Lines, check_replies, compiled, make_file, orders_of, paragraph, table
+from bench import CALLS, KINDS, SIZES, TOP, Lines, check_replies, compiled, make_file, orders_of, paragraph, table
 
 SIZE, TURNS = 10000, 8
 HEAD = "## Instructions of a call"
@@ -30,7 +30,7 @@ ALLOWED = 1.05
 MEMORY = re.compile(r"mem(cpy|move|set)")
 # The functions of the engine.
 ENGINE = re.compile(r"sqlite\w*::")
-TITLES = ("call", "desk", "C", "ratio", "goal", "engine, %")
+TITLES = ("call", "desk", "C", "ratio", "goal", "engine, %", "growth", "C's")
 # What a call was to take at most of what C takes for it.
 GOALS = {
     "newNonce": 1.35, "newAccount, known": 1.45, "newOrder": 2.0, "its orders": 1.8, "read an order": 1.65, "answer a challenge": 1.95,
@@ -71,6 +71,14 @@ def counts_of(path):
     return Counts(own, every, engine)
 
 
+class Figures(typing.NamedTuple):
+    """What a call of a kind takes: instructions but for copying and clearing memory, the engine's per cent of all, and those that are not its."""
+
+    own: float
+    engine: float
+    rest: float
+
+
 class Counted:
     """A program under callgrind, which answers lines over a file of its own."""
 
@@ -96,25 +104,35 @@ class Counted:
             sys.exit(f"{self.process.args[-1]}: ended with status {self.process.returncode}")
 
 
-def ask(programs, lines, turn, counts):
-    """The calls of one turn, kind by kind; all but the first turn are counted."""
+def ask(programs, lines, orders, counts):
+    """The calls of one turn, kind by kind; each is counted where there are counts to add to."""
     for name, line_of in KINDS:
-        asked = [line_of(lines, order) for order in orders_of(SIZE, turn)]
+        asked = [line_of(lines, order) for order in orders]
         check_replies(name, [[program.answer(line) for line in asked] for program in programs.values()])
         for who, program in programs.items():
             count = program.counted()
-            if turn > 0:
+            if counts is not None:
                 counts[who].setdefault(name, []).append(count)
 
 
 def median(turns):
-    """The instructions of a call, and the engine's per cent of all that it takes, of the turns with ten calls each."""
-    return statistics.median(turn.own / CALLS for turn in turns), statistics.median(100 * turn.engine / turn.all for turn in turns)
+    """What a call takes, the medians of the turns with ten calls each."""
+    return Figures(
+        statistics.median(turn.own / CALLS for turn in turns),
+        statistics.median(100 * turn.engine / turn.all for turn in turns),
+        statistics.median((turn.all - turn.engine) / CALLS for turn in turns),
+    )
 
 
-def measure(folder, with_c):
-    """The instructions of a call of each kind and the engine's part of them, the medians of the turns, of each program."""
-    path = make_file(f"{folder}/orders.db", SIZE)
+def measure(size, with_c):
+    """What a call of each kind takes of each program, over so many orders."""
+    with tempfile.TemporaryDirectory(dir="/dev/shm" if os.path.isdir("/dev/shm") else None) as folder:
+        return measured(folder, size, with_c)
+
+
+def measured(folder, size, with_c):
+    """The same over files in a folder."""
+    path = make_file(f"{folder}/orders.db", size)
     words = {"desk": [f"{TOP}/bin/desk", "batch", "--file"]}
     in_c = compiled(folder) if with_c else None
     if in_c:
@@ -126,35 +144,43 @@ def measure(folder, with_c):
     for program in programs.values():
         program.counted()
     for turn in range(TURNS):
-        ask(programs, lines, turn, counts)
+        ask(programs, lines, orders_of(size, turn), counts if turn > 0 else None)
     for program in programs.values():
         program.close()
     return {who: {name: median(turns) for name, turns in found.items()} for who, found in counts.items()}
 
 
-def cells(name, found, in_c):
+def growth(name, who, fewest, most):
+    """What a call takes over the most orders, by what it takes over the fewest."""
+    return most[who][name].own / fewest[who][name].own
+
+
+def cells(name, counts, *ends):
     """The row of a call."""
-    desk, engine = found
+    desk, in_c = counts["desk"][name], counts.get("c", {}).get(name)
     goal = f"{GOALS[name]:.2f}" if name in GOALS else ""
-    by_c = (f"{in_c[0] / 1000:.1f}", f"{desk / in_c[0]:.2f}") if in_c else ("-", "-")
-    return name, f"{desk / 1000:.1f}", *by_c, goal, f"{engine:.0f}"
+    by_c = (f"{in_c.own / 1000:.1f}", f"{desk.own / in_c.own:.2f}") if in_c else ("-", "-")
+    grown = (f"{growth(name, who, *ends):.2f}" if who in counts else "-" for who in ("desk", "c"))
+    return name, f"{desk.own / 1000:.1f}", *by_c, goal, f"{desk.engine:.0f}", *grown
 
 
 def compared(desk, in_c):
     """What is said of the ratios and the goals."""
-    ratios = {name: round(desk[name][0] / count, 2) for name, (count, _) in in_c.items()}
+    ratios = {name: round(desk[name].own / count.own, 2) for name, count in in_c.items()}
     missed = ", ".join(name for name, goal in GOALS.items() if ratios[name] > goal) or "none"
     return f"""A call takes {min(ratios.values()):.1f} to {max(ratios.values()):.1f} times C's: a statement costs the engine several times what it
         costs SQLite, most of it fixed. Goals missed: {missed}."""
 
 
-def section(counts):
+def section(counts, fewest, most):
     """The section of docs/PERFORMANCE.md."""
     in_c = counts.get("c", {})
+    rest = max(most["desk"][name].rest / fewest["desk"][name].rest for name, _ in KINDS)
     said = f"""Thousands, by callgrind, over {SIZE:,} orders, but for copying and clearing memory; a list of work has ten items. `make
         instructions` writes this section; `make test` fails at a twentieth more. {compared(counts["desk"], in_c) if in_c else ""} The engine's
-        part is counted of all instructions, with those in the C library that it has copy and clear memory."""
-    rows = [cells(name, counts["desk"][name], in_c.get(name)) for name, _ in KINDS]
+        part is counted of all instructions, with those in the C library that it has copy and clear memory. Growth is that from {min(SIZES):,} to
+        {max(SIZES):,} orders: the trees of tables and indexes are deeper then. It is the engine's; what is not takes at most {rest:.2f} times as many."""
+    rows = [cells(name, counts, fewest, most) for name, _ in KINDS]
     return "\n".join([HEAD, "", *paragraph(said), *table(TITLES, rows)])
 
 
@@ -166,19 +192,19 @@ def written(path):
     return {cells[0]: float(cells[1]) for cells in rows if cells[0] != TITLES[0]}
 
 
-def write_into(page, counts):
+def write_into(page, text):
     """Puts the section into the page, in the place of the one that is there, or behind all others."""
     with open(page, encoding="utf-8") as file:
         before, _, old = file.read().partition(HEAD)
     _, heading, behind = old.partition("\n## ")
     with open(page, "w", encoding="utf-8") as file:
-        file.write(f"{before.rstrip()}\n\n{section(counts)}{heading}{behind}")
+        file.write(f"{before.rstrip()}\n\n{text}{heading}{behind}")
 
 
 def compare(counts, path):
     """The lines that say which calls take a twentieth more than is written."""
     known = written(path)
-    now = {name: count / 1000 for name, (count, _) in counts["desk"].items()}
+    now = {name: count.own / 1000 for name, count in counts["desk"].items()}
     return [f"{name}: {now[name]:.1f} thousand instructions, {now[name] / known[name] - 1:.1%} more than the {known[name]:.1f} of {path}"
             for name in known if now[name] > ALLOWED * known[name]]
 
@@ -200,14 +226,11 @@ def main():
     words = parser.parse_args()
     if not shutil.which("callgrind_control"):
         sys.exit("instructions: valgrind is missing; scripts/setup.sh installs it")
-    if words.against is not None:
-        check_calls(words.against)
-    with tempfile.TemporaryDirectory(dir="/dev/shm" if os.path.isdir("/dev/shm") else None) as folder:
-        counts = measure(folder, with_c=words.against is None)
     if words.against is None:
-        write_into(words.into, counts)
+        write_into(words.into, section(*(measure(size, with_c=True) for size in (SIZE, min(SIZES), max(SIZES)))))
         return
-    more = compare(counts, words.against)
+    check_calls(words.against)
+    more = compare(measure(SIZE, with_c=False), words.against)
     print("\n".join(more + [f"{len(KINDS)} kinds of calls, of which {len(more)} take a twentieth more instructions than {words.against} has"]))
     if more:
         print("Where that is meant, make instructions writes the figures of the program that is there.")
