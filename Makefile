@@ -8,7 +8,7 @@ PREFIX ?= /usr/local
 # What has blocks of commands with what they print.
 DOCUMENTS := README.md $(wildcard docs/*.md)
 
-.PHONY: bench check edits first gate growths help hostile install instructions kills planted predicted test trials try
+.PHONY: bench check edits first gate growths help hostile install instructions kills planted predicted test trials
 .DEFAULT_GOAL := help
 
 # Each target with two # behind it, in the order of this file.
@@ -23,11 +23,6 @@ bin/desk: $(SOURCES) ## proves and builds the program, in most of an hour at the
 	@cp crates/desk_app/out/desk_app $@
 	@touch $@
 	@echo 'The program is bin/desk.'
-
-try: ## a batch over a book in memory, WITHOUT PROOF, in a minute or so
-	@$(HAS_RT)
-	@echo 'Answering examples/first.jsonl by a desk over a book in memory, over the crates as they are, WITHOUT PROOF.'
-	@python3 -B -m scripts.gate.try
 
 first: bin/desk ## a batch by the proved program
 	@echo 'Answering examples/first.jsonl over a new desk in memory:'

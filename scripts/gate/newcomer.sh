@@ -10,10 +10,8 @@ git clone --quiet . "$clone"
 cd "$clone"
 documents=(README.md docs/*.md)
 mkdir bin
-for command in ./try 'make try'; do
-    $command | tee bin/said
-    python3 -B -m scripts.gate.readme said "$command" bin/said "${documents[@]}"
-done
+./try | tee bin/said
+python3 -B -m scripts.gate.readme said ./try bin/said "${documents[@]}"
 echo 'Running what documents show by the program that nobody proved, beside a desk of the same name, and the house around it.'
 echo 'no desk' > ca.db
 python3 -B -m scripts.gate.readme run bin/desk-unproved "${documents[@]}"

@@ -19,7 +19,7 @@ from scripts.repository import ROOT, blocks, read, tracked
 from scripts.trying import free_port
 
 # What installs packages, compiles or wants a house, and is run elsewhere.
-ELSEWHERE = ("./try", "./test", "make try", "make house")
+ELSEWHERE = ("./try", "./test", "make house")
 MASKS = [
     (re.compile(r"\b(127\.0\.0\.1|localhost):\d+"), r"\1:PORT"),
     (re.compile(r"/tmp/desk-house-\w+/"), "FOLDER/"),
