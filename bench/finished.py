@@ -22,7 +22,7 @@ import tempfile
 import threading
 import time
 
-from bench import KINDS, TOP, Lines, base64url, compiled, make_file, paragraph, table
+from bench import KINDS, TOP, Lines, base64url, compiled, go_first, make_file, paragraph, table
 from instructions import counts_of
 from loopback import NONCE, Server
 
@@ -241,6 +241,7 @@ def main():
     words.add_argument("--turns", type=int, default=TURNS)
     words.add_argument("--program", default=f"{TOP}/bin/desk")
     given = words.parse_args()
+    go_first()
     sizes = [int(size) for size in given.sizes.split(",")]
     with tempfile.TemporaryDirectory() as folder:
         in_c = compiled(folder, "opening")

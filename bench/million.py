@@ -10,7 +10,7 @@ import argparse
 import os
 import tempfile
 
-from bench import KINDS, TOP, Lines, Program, check_replies, compiled, copy_of, make_file, orders_of, paragraph
+from bench import KINDS, TOP, Lines, Program, check_replies, compiled, copy_of, go_first, make_file, orders_of, paragraph
 
 SIZE, TURNS = 1000000, 10
 ASKED = ("newNonce", "newOrder", "read an order")
@@ -45,6 +45,7 @@ def main():
     words.add_argument("--size", type=int, default=SIZE)
     words.add_argument("--turns", type=int, default=TURNS)
     given = words.parse_args()
+    go_first()
     with tempfile.TemporaryDirectory(prefix="desk-million-") as folder:
         path = make_file(f"{folder}/desk.db", given.size)
         found = measure(path, given.size, given.turns, compiled(folder))

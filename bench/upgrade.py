@@ -14,7 +14,7 @@ import sqlite3
 import statistics
 import tempfile
 
-from bench import NOW, TOP, make_file, paragraph
+from bench import NOW, TOP, go_first, make_file, paragraph
 from finished import run
 
 SIZE, TURNS = 100000, 3
@@ -59,6 +59,7 @@ def main():
     words.add_argument("--size", type=int, default=SIZE)
     words.add_argument("--turns", type=int, default=TURNS)
     given = words.parse_args()
+    go_first()
     with tempfile.TemporaryDirectory(prefix="desk-upgrade-") as folder:
         found = measure(f"{TOP}/bin/desk", given.size, given.turns, folder)
     print("\n".join(page(found, given.size)))
