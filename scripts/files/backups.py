@@ -19,6 +19,8 @@ from scripts.trying import (BASE, DEVICE, NOT_A_DESK, answered, bytes_of, change
 LOCK = (512, 1 << 30)
 HELD = "another program has it; one that serves it is asked by --socket or --port, and --wait SECONDS tries again"
 NO_ROOM = "no file can be made in its directory: this user may not, or that is read-only or full"
+DISK = "its disk failed, or is full"
+JOURNAL_ALONE = "a rollback journal of another file stands there, the file -journal beside it"
 TAKEN = "there is a file already, and it stays as it is"
 # How late a word may be that waits, in seconds.
 LATE = 20
@@ -274,7 +276,7 @@ def see_refused_names(program, folder, to, place):
     """A copy is not made beside what another file left there, which stays, nor where its name is too long."""
     put(f"{to}-journal", b"what another left")
     see("a backup beside a journal", run(program, "backup", to, *place, "--verbose"),
-        (1, b"", b"desk: there is a file already\n" + because(to, "a rollback journal of another file stands there, the file -journal beside it")))
+        (1, b"", b"desk: there is a file already\n" + because(to, JOURNAL_ALONE)))
     see("a copy beside a journal", run(program, "backup", fresh(program, folder, "closed"), to), (1, b"", b"desk: there is a file already\n"))
     os.remove(f"{to}-journal")
     put(f"{to}-part-wal", b"what another left")

@@ -3,7 +3,8 @@ import os
 import subprocess
 import time
 
-from scripts.files.backups import HELD, because, held, mode_of
+from scripts.files.backups import DISK, HELD, JOURNAL_ALONE, because, held, mode_of
+from scripts.files.stops import failed
 from scripts.serving.served import STOPPED, Server
 from scripts.trying import (DEVICE, NOT_A_DESK, answered, bytes_of, change, checked, copy, desk_with_calls, example, fresh, library, put, remove, run,
                             run_on_full, see, see_wrong, tables_of)
@@ -111,6 +112,11 @@ def restored_to_nothing(program, folder):
     log = bytes_of(f"{it.path}-wal")
     see("beside the log of another desk", it.restore("--verbose"), (1, b"", NOT_A_DESK[2] + because(it.path, LOG_ALONE)))
     see("it stays", (it.names(), bytes_of(f"{it.path}-wal") == log), (["desk.db-wal"], True))
+    remove(it.path)
+    put(f"{it.path}-journal", b"what another left")
+    see("beside a journal", it.restore("--verbose"), (1, b"", DEVICE + because(it.path, JOURNAL_ALONE)))
+    see("it stays", it.names(), ["desk.db-journal"])
+    os.remove(f"{it.path}-journal")
     none = f"{it.room}/none/desk.db"
     see("without a directory", run(program, "restore", it.copy, none, "--verbose"), (1, b"", DEVICE + because(none, "its directory is missing")))
     remove(it.path)
@@ -153,6 +159,22 @@ def not_restored(program, folder):
         see(f"{name} stays", bytes_of(f"{folder}/{name}") == before, True)
     with held(it.path):
         see("a desk that another program has", it.restore(), (1, b"", DEVICE))
+
+
+def failing_place(program, folder):
+    """Where a call to the disk of the desk fails whose place the copy is to take, the second line says so of that desk, and it stays."""
+    it, preload = Restoring(program, folder, "failing"), library(folder)
+    run(program, "check", it.source)
+    os.remove(f"{it.source}-wal")
+    opened, copied = (1, b"", DEVICE + because(it.path, DISK)), (1, b"no fault\n", b"desk: copy\n" + because(it.path, DISK))
+    for at in range(1, MOST):
+        it.again()
+        ran, is_failed = failed(preload, it.path, at, (program, "restore", it.copy, it.path, "--verbose"), b"")
+        if not is_failed:
+            see("a restoring without a failure", (ran, at > 1), (RESTORED, True))
+            break
+        see(f"call {at} to the disk failed", ran, opened if not ran[1] else copied)
+        it.see_stays(f"call {at} to the disk failed")
 
 
 def killed_at_each_step(said, preload, words, again):
@@ -298,4 +320,4 @@ def opened_meanwhile(program, folder):
         it.see_restored(name)
 
 
-TRIES = (restored, restored_to_nothing, not_restored, restorings_killed, opened_meanwhile, backups_killed, served_backups_killed, backups_together)
+TRIES = (restored, restored_to_nothing, not_restored, failing_place, restorings_killed, opened_meanwhile, backups_killed, served_backups_killed, backups_together)

@@ -8,7 +8,7 @@ import subprocess
 import threading
 import tty
 
-from scripts.files.backups import HELD, TAKEN, because, held, mode_of
+from scripts.files.backups import DISK, HELD, JOURNAL_ALONE, TAKEN, because, held, mode_of
 from scripts.files.stops import Desk
 from scripts.repository import read
 from scripts.serving.served import Server, stranger
@@ -18,7 +18,6 @@ from scripts.trying import (BASE, DEVICE, NOT_A_DESK, answered, bytes_of, exampl
 CONNECTION, BIND = b"desk: connection\n", b"desk: bind\n"
 REMOVE = "; what was begun is left: remove it, and the file -wal beside it"
 EMPTY = "; an empty file stands there, which may be removed"
-DISK = "its disk failed, or is full"
 UNREACHED = "nobody took a connection there, and nothing was asked"
 UNANSWERED = "no reply of a desk came, or none within 60 seconds: it may be done or not, and asking again is safe"
 NO_LOG_FILE = "its log, the file -wal beside it, is no regular file"
@@ -284,7 +283,7 @@ def stood_there(program, folder):
         server.bind(f"{room}/socket.db")
     refused(f"{room}/socket.db", "it is no regular file", DEVICE)
     put(f"{room}/journal.db-journal", b"a journal")
-    refused(f"{room}/journal.db", "SQLite's rollback journal stands beside it: open it by sqlite3 first", DEVICE)
+    refused(f"{room}/journal.db", JOURNAL_ALONE, DEVICE)
     os.mkdir(f"{room}/log.db-wal")
     refused(f"{room}/log.db", NO_LOG_FILE, DEVICE)
     refused(f"{room}/none/file.db", "its directory is missing", DEVICE)

@@ -4,7 +4,7 @@ use Rattle.std.specs.Prelude.{MatchOption, MatchResult}
 use Rattle.sqlite.specs.Recovery.{Image}
 use Rattle.sqlite_disk.specs.declared.Disk as disk
 use Rattle.app_words.specs.declared.command.{Command.Command, Report.Report, Syncs.Syncs}
-use Rattle.app_tasks.specs.{Filters.IsUnasked, Faults.IsOfOpening, declared.filters.Unasked.Unasked, declared.fault.Fault.Fault}
+use Rattle.app_tasks.specs.{Filters.IsUnasked, Faults.IsOfDesk, declared.filters.Unasked.Unasked, declared.fault.Fault.Fault}
 use Rattle.app_tasks.specs.Deeds.{ChecksStatuses, ListsRows, form_of}
 use Rattle.app_commands.specs.Statuses.{BySyncs, Ends, EndsList, EndsMake, EndsOverFiles, EndsReport, EndsUnasked, IsToldMade, terms_in_memory}
 use Rattle.app_tasks.specs.declared.filters.Unasked.TheVariants as unasked
@@ -65,7 +65,7 @@ met_ok r found P Q is holds = subst (λ x. MatchResult x P Q) (sym is) holds
 
 -- there was no memory for the policy of a desk in memory
 pub no_policy : (deed : Deed Fault) (was : Option (List ℕ)) (f : Fault) (how : Result ℕ Fault) → f ≡ fault.Desk deskfault.Memory
-    → IsErrAnd how (λ e. e ≡ f) → EndsInMemory IsOfOpening terms_in_memory deed was was how
+    → IsErrAnd how (λ e. e ≡ f) → EndsInMemory IsOfDesk terms_in_memory deed was was how
 no_policy deed was f (Ok status) is told = absurd told
 no_policy deed was f (Err e) is told = unmade_in_memory (Storage Memory) (told ∙ is) refl
 

@@ -14,7 +14,7 @@ use Rattle.app_tasks.specs.Asked.{IsSaid, RevokesServed, refused, revoked, unhea
 use Rattle.app_tasks.specs.Deeds.{AnswersReader, ChecksStatuses, ListsRows, RevokesTarget, ServesClients, TellsAbout, TellsPage, AnswersLines, ByDesk, IsTold}
 use Rattle.app_tasks.specs.Deeds.{Revokes, Serves, ServesByMoment, ServesUnlessAhead, adopted, clocked, clockless, served, unadopted, unserved}
 use Rattle.app_tasks.specs.Deeds.{IsUntaken, how_checked, how_listed, how_served}
-use Rattle.app_tasks.specs.{Faults.IsOfOpening, declared.fault.Fault.Fault}
+use Rattle.app_tasks.specs.{Faults.IsOfDesk, declared.fault.Fault.Fault}
 use Rattle.app_commands.specs.Statuses.{CopiesChecked, EndsBackUp, EndsBackUpServed, EndsReport, EndsRestore, IsToldCopied, IsToldWords}
 use Rattle.app_commands.specs.Statuses.{Ends, EndsBy, EndsList, EndsMake, EndsOverFiles, IsToldMade, status_of, terms_in_memory}
 use Rattle.app_tasks.specs.{Deeds.form_of, GivenTerms.terms_of}
@@ -171,7 +171,7 @@ small_serves s now was is S C D v causes rows old new how (clocked end clock mid
 
 -- a task by how the closing of its files ended
 small_end : (outcome : Result ℕ Fault) (closing : Result Unit OpenFault) (how : Result ℕ Fault) → IsSmall outcome
-    → ending.IsTold IsOfOpening outcome closing how → IsSmall how
+    → ending.IsTold IsOfDesk outcome closing how → IsSmall how
 small_end (Ok zero) (Ok u) how small told = small_as how _ (told.closed refl) (small_status 0 (omega arith))
 small_end (Ok zero) (Err cause) how small told = small_fault how _ (told.unclosed refl)
 small_end (Ok (suc n)) closing how small told = small_as how _ (told.otherwise (λ e. absurd (cc e))) small
@@ -203,7 +203,7 @@ small_words wordsfault.Memory was is status it = subst (λ n. n ≤ 3) (sym it.0
 
 -- a task in memory
 small_in_memory : (policy : Terms) (deed : Deed Fault) → AreSmall deed → (was is : Option (List ℕ)) (how : Result ℕ Fault)
-    → EndsInMemory IsOfOpening policy deed was is how → IsSmall how
+    → EndsInMemory IsOfDesk policy deed was is how → IsSmall how
 small_in_memory policy deed small was is how (ending.unmade_in_memory cause becomes same) = small_fault how _ becomes
 small_in_memory policy deed small was is how (ending.done_in_memory it) = small _ _ _ _ _ _ _ _ it.made it.ended how it.did
 

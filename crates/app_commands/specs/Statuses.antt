@@ -15,7 +15,7 @@ use Rattle.app_words.specs.declared.fault.WordsFault.TheVariants as wordsfault
 use Rattle.app_tasks.specs.{Asked.RevokesServed, Looking.LooksServed, declared.filters.Unasked.Unasked, declared.fault.Fault.Fault}
 use Rattle.app_tasks.specs.Filters.{AreRight, AsksForAuthorizations, AsksForOrders, StandsForName}
 use Rattle.app_tasks.specs.Deeds.{AnswersReader, ChecksStatuses, ListsRows, RevokesTarget, ServesClients, TellsAbout, TellsPage, form_of}
-use Rattle.app_tasks.specs.{Faults.IsOfLog, Faults.IsOfOpening, Faults.open_fault, GivenTerms.terms_of}
+use Rattle.app_tasks.specs.{Faults.IsOfLog, Faults.IsOfDesk, GivenTerms.terms_of}
 use Rattle.app_tasks.specs.declared.filters.Unasked.TheVariants as unasked
 use Rattle.app_tasks.specs.declared.fault.Fault.TheVariants as fault
 use Rattle.desk_model.specs.Terms.{Terms, are_terms}
@@ -25,6 +25,7 @@ use Rattle.desk.specs.declared.fault.DeskFault.TheVariants as deskfault
 use Rattle.app_files.specs.declared.left.Left.{Left}
 use Rattle.app_tasks.specs.{Doing.Deed, declared.copies.CopyFault.CopyFault}
 use Rattle.app_files.specs.Endings.{EndsInMemory, EndsMaking, EndsOver}
+use Rattle.app_files.specs.Faults.{open_fault}
 use Rattle.app_tasks.specs.declared.copies.CopyFault.TheVariants as copyfault
 use Rattle.app_files.specs.declared.left.Left.TheVariants as rest
 use Rattle.app_reports.specs.Listed.{accounts_roster, authorizations_roster, orders_roster}
@@ -63,7 +64,7 @@ IsOfCopyPath why = (why ≡ copyfault.Taken) ⊎ (why ≡ copyfault.Beside)
 
 -- a file whose place a copy is to take could not be held, by the fault of its desk, or is the copy
 abbrev pub IsOfPlace : Fault → Type 0
-IsOfPlace why = ((cause : OpenFault) × (why ≡ fault.Place (open_fault cause))) ⊎ (why ≡ fault.Copy copyfault.Same)
+IsOfPlace why = ((cause : OpenFault) × (is_unreached : Bool) × (why ≡ fault.Place (open_fault cause) is_unreached)) ⊎ (why ≡ fault.Copy copyfault.Same)
 
 module _ {D : Type 0} {g : disk.Ghosts D} where
   -- no file was opened, and nothing written
@@ -73,7 +74,7 @@ module _ {D : Type 0} {g : disk.Ghosts D} where
 module _ {D : Type 0} (g : disk.Ghosts D) (image : Image) where
   -- a task over files with these bytes ends so, and leaves these
   abbrev pub EndsOverFiles : Deed Fault → (was is : Option (List ℕ)) → Result ℕ Fault → Left D g → Type 0
-  EndsOverFiles deed was is how left = EndsOver IsOfOpening image deed was is how left
+  EndsOverFiles deed was is how left = EndsOver IsOfDesk image deed was is how left
 
   -- a desk of these terms was made in such files, or was not
   pub record Makes (policy : Terms) (how : Result ℕ Fault) (left : Left D g) : Type 0 where
@@ -169,7 +170,7 @@ module _ {D : Type 0} (g : disk.Ghosts D) (image : Image) where
   Ends bytes was is (command.RevokeServed place target) how left = RevokesServed target was is how × (left ≡ rest.Untouched)
   Ends bytes was is (command.Batch (Some file)) how left = EndsOverFiles (AnswersReader bytes) was is how left
   Ends bytes was is (command.Batch None) how left =
-      EndsInMemory IsOfOpening terms_in_memory (AnswersReader bytes) was is how × (left ≡ rest.Untouched)
+      EndsInMemory IsOfDesk terms_in_memory (AnswersReader bytes) was is how × (left ≡ rest.Untouched)
 
 -- the exit status, which after a fault is 1
 abbrev pub status_of : Result ℕ Fault → ℕ

@@ -30,7 +30,9 @@ pub(crate) fn explain<D: Disk, E: Write>(
     match how {
         Ok(BROKEN) => explain_limit(errors, command),
         Err(Fault::Copy(fault)) => explain_copy(rt, errors, command, fault),
-        Err(Fault::Place(fault)) => explain_place(rt, errors, command, fault),
+        Err(Fault::Place(fault, is_unreached)) => {
+            explain_place(rt, errors, command, fault, is_unreached)
+        }
         Err(Fault::Serve(fault)) => explain_serving(rt, errors, command, fault, left),
         Err(Fault::Socket(cause)) => explain_socket(errors, command, cause),
         Err(Fault::Desk(fault)) => explain_desk_fault(rt, errors, command, fault, left),
@@ -86,9 +88,10 @@ fn explain_place<E: Write>(
     errors: &mut E,
     command: Command<'_>,
     fault: DeskFault,
+    is_unreached: bool,
 ) {
     if let Command::Restore { file, .. } = command {
-        let cause = place_cause(rt, file, fault);
+        let cause = place_cause(rt, file, fault, is_unreached);
         let _ = writeln!(errors, "desk: {}: {cause}", Visible(file));
     }
 }
@@ -191,7 +194,7 @@ fn explain_desk_fault<D: Disk, E: Write>(
         let _ = writeln!(errors, "desk: {}: {}", Visible(to), FaultCause::of(fault));
     } else if let Some(file) = command.file() {
         let cause = match fault {
-            DeskFault::Device => FaultCause::OfFile(device_cause(rt, file, left)),
+            DeskFault::Device => { FaultCause::OfFile(device_cause(rt, file, left.is_unreached())) }
             DeskFault::NotADesk => FaultCause::OfFile(deskless_cause(rt, file, command)),
             _ => FaultCause::of(fault),
         };
@@ -204,9 +207,9 @@ fn explain_desk_fault<D: Disk, E: Write>(
 }
 
 // What a fault comes from of a desk whose place a copy was to take.
-fn place_cause(rt: &HostRuntime, file: &str, fault: DeskFault) -> FaultCause {
+fn place_cause(rt: &HostRuntime, file: &str, fault: DeskFault, is_unreached: bool) -> FaultCause {
     match fault {
-        DeskFault::Device => FaultCause::OfFile(FileCause::unreached(rt, file)),
+        DeskFault::Device => FaultCause::OfFile(device_cause(rt, file, is_unreached)),
         DeskFault::NotADesk => FaultCause::OfFile(FileCause::not_replaced(rt, file)),
         _ => FaultCause::of(fault),
     }
@@ -222,8 +225,8 @@ fn remains<D: Disk>(rt: &HostRuntime, file: &str, left: &Left<D>) -> &'static st
 }
 
 // Why a file was not reached, or failed.
-fn device_cause<D: Disk>(rt: &HostRuntime, file: &str, left: &Left<D>) -> FileCause {
-    if left.is_unreached() {
+fn device_cause(rt: &HostRuntime, file: &str, is_unreached: bool) -> FileCause {
+    if is_unreached {
         FileCause::unreached(rt, file)
     } else {
         FileCause::Failed

@@ -4,7 +4,7 @@ ghost use Rattle.sqlite.specs.WalFiles.{image_at};
 ghost use Rattle.app_commands.specs.Statuses.{EndsRestore, IsOfPlace};
 
 use crate::backing_up::copied;
-use app_files::{HeldFile, Left, Wary, hold, run_over_file};
+use app_files::{HeldFile, Left, Wary, desk_fault, hold, run_over_file};
 use app_reports::Form;
 use app_tasks::{CheckStatuses, CopyFault, Copying, Fault, are_same};
 use desk_http::moment;
@@ -52,6 +52,6 @@ fn hold_place(rt: &HostRuntime, copy: &str, file: &str) -> Result<HeldFile<FileF
     }
     match hold(rt, file, Wary) {
         Ok(held) => Ok(held),
-        Err((fault, _left)) => Err(Fault::of_place(fault)),
+        Err((fault, left)) => Err(Fault::Place(desk_fault(fault), left.is_unreached())),
     }
 }

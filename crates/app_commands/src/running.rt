@@ -4,7 +4,7 @@ ghost use Rattle.sqlite.specs.WalFiles.{image_at};
 ghost use Rattle.desk_model.specs.Terms.{are_terms};
 ghost use Rattle.desk.specs.declared.fault.DeskFault.TheVariants as deskfault;
 ghost use Rattle.app_tasks.specs.Deeds.{ChecksStatuses, ListsRows, TellsPage, form_of};
-ghost use Rattle.app_tasks.specs.{Faults.IsOfOpening, GivenTerms.terms_of};
+ghost use Rattle.app_tasks.specs.{Faults.IsOfDesk, GivenTerms.terms_of};
 ghost use Rattle.app_commands.specs.Statuses.{Ends, EndsAbout, EndsBy, EndsMake, EndsOverFiles, EndsReport, EndsRevoke, EndsServe, EndsUnasked, IsToldMade};
 ghost use Rattle.app_commands.specs.Statuses.{BySyncs, EndsSo, IsToldWords, status_of, supposes, syncs_of, terms_in_memory};
 ghost use Rattle.app_words.specs.declared.command.Command.{Command as CommandValue};
@@ -16,7 +16,7 @@ ghost use Rattle.app_tasks.specs.declared.fault.Fault.TheVariants as fault;
 use crate::backing_up::{back_up, back_up_served};
 use crate::explaining::explain;
 use crate::restoring::restore;
-use app_files::{Left, Unknown, Wary, make_desk, run_in_memory, run_over_file};
+use app_files::{Left, Unknown, Wary, desk_fault, make_desk, run_in_memory, run_over_file};
 use app_reports::{AllAccounts, RowList};
 use app_tasks::{
     AnswerLines, CheckStatuses, Fault, ListRows, Revoke, ServeConnections, ShowPage, Task,
@@ -236,7 +236,7 @@ fn tell_made<W: Write>(out: &mut W, made: Result<(), OpenFault>) -> Result<u8, F
             Ok(()) => Ok(0),
             Err(_) => Err(Fault::Output),
         },
-        Err(fault) => Err(Fault::from(fault)),
+        Err(fault) => Err(Fault::Desk(desk_fault(fault))),
     }
 }
 
@@ -436,7 +436,7 @@ fn answer_in_memory<T: Task<Fault = Fault> + Drop, W: Write>(
     task: T,
     out: &mut W,
 ) -> Result<u8, Fault>
-    ensures { EndsInMemory IsOfOpening terms_in_memory (T.Task.does task) (W.contents out.old) (W.contents out.new) result }
+    ensures { EndsInMemory IsOfDesk terms_in_memory (T.Task.does task) (W.contents out.old) (W.contents out.new) result }
 {
     run_in_memory(alloc, default_policy(alloc)?, task, out)
 }

@@ -9,12 +9,13 @@ use Rattle.desk_files.specs.Closing.{EndsAsStop, KeepsInFile, WasHonest}
 use Rattle.desk_files.specs.Opening.{FailedOver, FailedToMakeOver, FailsToMake, FoundNothing, LeavesAnOpening, LeavesAsFound, MakesFiles, OpensFiles}
 use Rattle.desk_files.specs.Opening.{OpensKnown, RefusedBy, RefusesNoDatabase, RefusesNoDesk, RefusesObjects}
 use Rattle.desk_files.specs.declared.opening.NotOpened.{NotOpened}
+use Rattle.desk.specs.declared.fault.DeskFault.{DeskFault}
 use Rattle.desk_model.specs.{History.first_history, Tables.picture, Terms.Terms}
 use Rattle.store_api.specs.Sight.{Keeps}
 use Rattle.desk_store.specs.{Causes.Failed, Desks.store_sight, Making.IsOfStorage}
 use Rattle.desk_store.specs.declared.{open_fault.OpenFault.OpenFault, open_fault.OpenFault.TheVariants.NotADesk, store.Store.Store}
 use Rattle.app_tasks.specs.{Doing.Deed, Doing.Doing, declared.begun.EmptyFile.EmptyFile}
-use Rattle.app_files.specs.declared.{holding.HeldFile.HeldFile, left.Left.Left}
+use Rattle.app_files.specs.{Faults.open_fault, declared.holding.HeldFile.HeldFile, declared.left.Left.Left}
 use Rattle.app_files.specs.declared.holding.HeldFile.TheVariants as held
 use Rattle.app_files.specs.declared.left.Left.TheVariants as rest
 
@@ -132,9 +133,9 @@ abbrev pub OverStore : {F S : Type 0} → Doing F → Ghosts S → Store S → S
 OverStore does g = does _ _ _ (store_sight g) (λ changes old new why. Failed g changes old.conn new.conn why) (store_sight g)
 
 -- how a task ends whose end was this, by how the closing of its files ended, which is told where the task ended well
-pub record IsTold {F : Type 0} (Becomes : OpenFault → F → Type 0) (outcome : Result ℕ F) (closing : Result Unit OpenFault) (how : Result ℕ F) : Type 0 where
+pub record IsTold {F : Type 0} (Becomes : DeskFault → F → Type 0) (outcome : Result ℕ F) (closing : Result Unit OpenFault) (how : Result ℕ F) : Type 0 where
   pub closed : outcome ≡ Ok 0 → IfOk closing (λ _. how ≡ Ok 0)
-  pub unclosed : outcome ≡ Ok 0 → IfErr closing (λ cause. IsErrAnd how (Becomes cause))
+  pub unclosed : outcome ≡ Ok 0 → IfErr closing (λ cause. IsErrAnd how (Becomes (open_fault cause)))
   pub otherwise : outcome ≢ Ok 0 → how ≡ outcome
 
 module _ {D : Type 0} (g : disk.Ghosts D) where
@@ -148,10 +149,10 @@ module _ {D : Type 0} (g : disk.Ghosts D) where
 
 module _ {D : Type 0} {g : disk.Ghosts D} where
   -- no desk was opened, and nothing written; or the task was done, and nothing with its store behind it but to close the files
-  pub data EndsOver {F : Type 0} (Becomes : OpenFault → F → Type 0) (bytes : Image) (deed : Deed F) (was is : Option (List ℕ)) (how : Result ℕ F)
+  pub data EndsOver {F : Type 0} (Becomes : DeskFault → F → Type 0) (bytes : Image) (deed : Deed F) (was is : Option (List ℕ)) (how : Result ℕ F)
       (left : Left D g) : Type 0 where
     unopened :
-        (cause : OpenFault) → IsErrAnd how (Becomes cause) → IsUnopened bytes cause left → is ≡ was → EndsOver Becomes bytes deed was is how left
+        (cause : OpenFault) → IsErrAnd how (Becomes (open_fault cause)) → IsUnopened bytes cause left → is ≡ was → EndsOver Becomes bytes deed was is how left
     done :
         (outcome : Result ℕ F) (over : IsDoneOver g bytes (deed was is) outcome) (closing : Result Unit OpenFault) → IsLeft over.ended closing left
         → IsTold Becomes outcome closing how → EndsOver Becomes bytes deed was is how left
@@ -170,7 +171,7 @@ pub record IsDoneInMemory {F : Type 0} (policy : Terms) (does : Doing F) (how : 
   pub did : OverStore does over_memory made ended how
 
 -- no desk was made, and nothing written; or the task ended so
-pub data EndsInMemory {F : Type 0} (Becomes : OpenFault → F → Type 0) (policy : Terms) (deed : Deed F) (was is : Option (List ℕ)) (how : Result ℕ F)
+pub data EndsInMemory {F : Type 0} (Becomes : DeskFault → F → Type 0) (policy : Terms) (deed : Deed F) (was is : Option (List ℕ)) (how : Result ℕ F)
     : Type 0 where
-  unmade_in_memory : (cause : OpenFault) → IsErrAnd how (Becomes cause) → is ≡ was → EndsInMemory Becomes policy deed was is how
+  unmade_in_memory : (cause : OpenFault) → IsErrAnd how (Becomes (open_fault cause)) → is ≡ was → EndsInMemory Becomes policy deed was is how
   done_in_memory : IsDoneInMemory policy (deed was is) how → EndsInMemory Becomes policy deed was is how

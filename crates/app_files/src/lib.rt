@@ -2,12 +2,14 @@
 //! `app_commands` stands on it.
 #![tactic(auto)]
 
+mod fault;
 mod files;
 mod holding;
 mod left;
 mod over_file;
 mod over_memory;
 
+pub use fault::desk_fault;
 pub use files::make_desk;
 pub use holding::{HeldFile, hold};
 pub use left::Left;

@@ -2,10 +2,13 @@
 ghost use Rattle.std.specs.Prelude.{◌≡◌, ◌≢◌, Ok, IfErr, IfOk, IsErrAnd};
 ghost use Rattle.sqlite.specs.WalFiles.{image_at};
 ghost use Rattle.app_files.specs.Endings.{OverStore, EndsOver};
+ghost use Rattle.app_files.specs.Faults.{open_fault};
 
+use crate::fault::desk_fault;
 use crate::files::{close, open};
 use crate::left::Left;
 use app_tasks::Task;
+use desk::DeskFault;
 use desk_store::{OpenFault, Store};
 use sqlite::{Alter, FileFrom, Start};
 use std::io::Write;
@@ -29,7 +32,7 @@ pub fn run_over_file<S: Start, T: Task + Drop, W: Write>(
     out: &mut W,
 ) -> (Result<u8, T::Fault>, Left<FileFrom<S>>)
 where
-    T::Fault: From<OpenFault>,
+    T::Fault: From<DeskFault>,
     ensures { EndsOver T.Fault.from_gives (image_at S.Start) (T.Task.does task) (W.contents out.old) (W.contents out.new) result.0 result.1 }
 {
     let mut task = task;
@@ -43,23 +46,23 @@ where
     }
 }
 
-// How a task ends that was not begun.
-fn failed<F: From<OpenFault>>(fault: OpenFault) -> Result<u8, F>
-    ensures { IsErrAnd result (F.from_gives fault) }
+/// How a task ends that was not begun.
+pub(crate) fn failed<F: From<DeskFault>>(fault: OpenFault) -> Result<u8, F>
+    ensures { IsErrAnd result (F.from_gives (open_fault fault)) }
 {
-    Err(F::from(fault))
+    Err(F::from(desk_fault(fault)))
 }
 
 // How a task ends once its file was closed, or could not be.
-fn ended<F: From<OpenFault>>(outcome: Result<u8, F>, closed: Result<(), OpenFault>) -> Result<u8, F>
+fn ended<F: From<DeskFault>>(outcome: Result<u8, F>, closed: Result<(), OpenFault>) -> Result<u8, F>
     ensures closed { outcome ≡ Ok 0 → IfOk closed (λ _. result ≡ Ok 0) }
-    ensures unclosed { outcome ≡ Ok 0 → IfErr closed (λ cause. IsErrAnd result (F.from_gives cause)) }
+    ensures unclosed { outcome ≡ Ok 0 → IfErr closed (λ cause. IsErrAnd result (F.from_gives (open_fault cause))) }
     ensures otherwise { outcome ≢ Ok 0 → result ≡ outcome }
 {
     match outcome {
         Ok(0) => match closed {
             Ok(()) => Ok(0),
-            Err(fault) => Err(F::from(fault)),
+            Err(fault) => failed(fault),
         },
         outcome => outcome,
     }

@@ -2,8 +2,9 @@
 ghost use Rattle.std.specs.Prelude.{IfOk};
 ghost use Rattle.app_files.specs.Endings.{EndsInMemory, IsNew};
 
-use crate::over_file::run_over;
+use crate::over_file::{failed, run_over};
 use app_tasks::Task;
+use desk::DeskFault;
 use desk_model::{Clock, Policy};
 use desk_store::{OpenFault, Store};
 use sqlite::{Connection, MemStore};
@@ -28,7 +29,7 @@ fn make_store(alloc: Global, policy: Policy) -> Result<Store<MemStore>, OpenFaul
 ///
 /// # Errors
 ///
-/// The task's own, and `Storage` where the desk was not made.
+/// The task's own, and those of making the desk.
 pub fn run_in_memory<T: Task + Drop, W: Write>(
     alloc: Global,
     policy: Policy,
@@ -36,11 +37,16 @@ pub fn run_in_memory<T: Task + Drop, W: Write>(
     out: &mut W,
 ) -> Result<u8, T::Fault>
 where
-    T::Fault: From<OpenFault>,
+    T::Fault: From<DeskFault>,
     ensures { EndsInMemory T.Fault.from_gives policy (T.Task.does task) (W.contents out.old) (W.contents out.new) result }
 {
     let mut task = task;
-    let (store, outcome) = run_over(make_store(alloc, policy)?, &mut task, out);
-    drop(store);
-    outcome
+    match make_store(alloc, policy) {
+        Ok(store) => {
+            let (store, outcome) = run_over(store, &mut task, out);
+            drop(store);
+            outcome
+        }
+        Err(fault) => failed(fault),
+    }
 }

@@ -7,7 +7,7 @@ use Rattle.sqlite_disk.specs.declared.Disk as disk
 use Rattle.sqlite_disk.specs.declared.Files.{Files}
 use Rattle.sqlite_store.specs.declared.store.FileStore.{FileStore}
 use Rattle.app_tasks.specs.Deeds.{ChecksStatuses, how_checked}
-use Rattle.app_tasks.specs.{Faults.IsOfOpening, declared.fault.Fault.Fault}
+use Rattle.app_tasks.specs.{Faults.IsOfDesk, declared.fault.Fault.Fault}
 use Rattle.app_commands.specs.Statuses.{CopiesChecked, EndsBackUp, EndsOverFiles, EndsRestore, IsToldCopied}
 use Rattle.desk_model.specs.{Entry.History, Tables.picture}
 use Rattle.desk_files.specs.LeftFiles.{HoldDesk, LeftFiles, file_sight}
@@ -26,7 +26,7 @@ checked_well (Ok (suc n)) told = sym (told.otherwise (λ e. absurd (cc e)))
 checked_well (Err why) told = sym (told.otherwise (λ e. absurd (cc e)))
 
 -- so did a task that is told to have
-done_well : (outcome : Result ℕ Fault) (closing : Result Unit OpenFault) → IsTold IsOfOpening outcome closing (Ok 0) → outcome ≡ Ok 0
+done_well : (outcome : Result ℕ Fault) (closing : Result Unit OpenFault) → IsTold IsOfDesk outcome closing (Ok 0) → outcome ≡ Ok 0
 done_well (Ok zero) closing told = refl
 done_well (Ok (suc n)) closing told = sym (told.otherwise (λ e. absurd (cc e)))
 done_well (Err why) closing told = sym (told.otherwise (λ e. absurd (cc e)))
@@ -45,7 +45,7 @@ module _ {D : Type 0} (g : disk.Ghosts D) where
 
   -- a store of which files are left that were closed
   closed_well : (store : Store (FileStore D g)) (closing : Result Unit OpenFault) (left : Left D g) → IsLeft store closing left
-      → IsTold IsOfOpening (Ok 0) closing (Ok 0) → (closed : Files D) × (left ≡ rest.Closed closed) × IsClosed store closed
+      → IsTold IsOfDesk (Ok 0) closing (Ok 0) → (closed : Files D) × (left ≡ rest.Closed closed) × IsClosed store closed
   closed_well store (Ok u) (rest.Closed closed) it told = (closed, refl, it)
   closed_well store (Ok u) (rest.Unclosed last) it told = absurd it
   closed_well store (Ok u) (rest.Unopened un) it told = absurd it
@@ -76,7 +76,7 @@ module _ {D : Type 0} (g : disk.Ghosts D) where
           shows = over.shows;
           did = subst (λ how. OverStore (ChecksStatuses form.Text was is) (over_files {g = g}) over.opened over.ended how) well over.did;
         } in
-        let it = closed_well over.ended closing left closes (subst (λ how. IsTold IsOfOpening how closing (Ok 0)) well told) in
+        let it = closed_well over.ended closing left closes (subst (λ how. IsTold IsOfDesk how closing (Ok 0)) well told) in
         (it.0, it.1, of_closed checked it.0 it.2)
 
   -- a check behind which a copy was made

@@ -104,10 +104,7 @@ impl FileCause {
                 FileCause::NoDirectory
                     if path.is_empty() || fs::symlink_metadata(rt, path).is_ok() =>
                     FileCause::NoPath,
-                FileCause::NoDirectory if has_directory(rt, path) => match of_neighbours(rt, path) {
-                    FileCause::Failed => FileCause::NoRoom,
-                    cause => cause,
-                },
+                FileCause::NoDirectory if has_directory(rt, path) => of_missing(rt, path),
                 FileCause::Failed => FileCause::NoPath,
                 cause => cause,
             },
@@ -210,7 +207,18 @@ fn is_linked(file: &fs::File) -> bool {
     file.metadata().is_ok_and(|found| found.nlink() != 1)
 }
 
-// Why a file was not reached, or not made, with which nothing is the matter itself.
+// Why no file was made at a path where there is none.
+fn of_missing(rt: &HostRuntime, path: &str) -> FileCause {
+    if has_journal(rt, path) {
+        return FileCause::JournalAlone;
+    }
+    match of_log(rt, path) {
+        FileCause::Failed => FileCause::NoRoom,
+        cause => cause,
+    }
+}
+
+// Why a file was not reached with which nothing is the matter itself.
 fn of_neighbours(rt: &HostRuntime, path: &str) -> FileCause {
     if has_journal(rt, path) {
         FileCause::Journal

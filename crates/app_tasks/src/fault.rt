@@ -1,7 +1,7 @@
 //! Why a command ends, and how that is said.
 ghost use Rattle.std.specs.Prelude.{◌≡◌};
-ghost use Rattle.app_tasks.specs.declared.fault.Fault.TheVariants.{Desk, Place, Serve};
-ghost use Rattle.app_tasks.specs.Faults.{IsOfOpening, open_fault, report_fault};
+ghost use Rattle.app_tasks.specs.declared.fault.Fault.TheVariants.{Serve};
+ghost use Rattle.app_tasks.specs.Faults.{IsOfDesk, report_fault};
 
 use crate::copies::CopyFault;
 use crate::sockets::SocketCause;
@@ -9,7 +9,6 @@ use app_reports::ReportFault;
 use desk::DeskFault;
 use desk_http::{ServeFault, Unheard};
 use desk_model::Refusal;
-use desk_store::OpenFault;
 use std::io::Write;
 use thiserror::Error;
 
@@ -19,9 +18,9 @@ pub enum Fault {
     /// A fault of the desk, 20 to 27.
     #[error(transparent)]
     Desk(DeskFault),
-    /// A fault of the desk, 20 to 27, whose place a copy was to take.
-    #[error(transparent)]
-    Place(DeskFault),
+    /// A fault of the desk, 20 to 27, whose place a copy was to take, and whether the engine could not even open its file.
+    #[error("{0}")]
+    Place(DeskFault, bool),
     /// The file is not copied.
     #[error(transparent)]
     Copy(CopyFault),
@@ -46,7 +45,7 @@ pub enum Fault {
 }
 
 impl From<DeskFault> for Fault {
-    ghost from_gives = { λ fault e. e ≡ Desk fault };
+    ghost from_gives = { IsOfDesk };
 
     fn from(fault: DeskFault) -> Fault {
         Fault::Desk(fault)
@@ -58,34 +57,6 @@ impl From<ServeFault> for Fault {
 
     fn from(fault: ServeFault) -> Fault {
         Fault::Serve(fault)
-    }
-}
-
-impl From<OpenFault> for Fault {
-    ghost from_gives = { IsOfOpening };
-
-    fn from(fault: OpenFault) -> Fault {
-        Fault::Desk(desk_fault(fault))
-    }
-}
-
-impl Fault {
-    /// That of a desk whose place a copy was to take, and which was not opened or not closed.
-    pub fn of_place(fault: OpenFault) -> Fault
-        ensures { result ≡ Place (open_fault fault) }
-    {
-        Fault::Place(desk_fault(fault))
-    }
-}
-
-// The fault of a desk that was not opened, made or closed.
-fn desk_fault(fault: OpenFault) -> DeskFault
-    ensures { result ≡ open_fault fault }
-{
-    match fault {
-        OpenFault::Storage(fault) => DeskFault::from(fault),
-        OpenFault::NotADesk => DeskFault::NotADesk,
-        OpenFault::NewerFormat => DeskFault::NewerFormat,
     }
 }
 
