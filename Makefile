@@ -208,7 +208,7 @@ bench: ## times the program, and writes docs/PERFORMANCE.md
 	@mv bin/PERFORMANCE.md docs/PERFORMANCE.md
 	@cat docs/PERFORMANCE.md
 
-# The same figures on any machine and under any load, in some minutes.
+# Nearly the same figures on any machine, and the same under any load, in some minutes.
 instructions: ## counts the instructions of each call for docs/PERFORMANCE.md, in some minutes
 	@$(HAS_DESK)
 	@echo 'Counting the instructions of a call, of the program and of C, for docs/PERFORMANCE.md.'

@@ -11,7 +11,6 @@ left out.
 
 import argparse
 import base64
-import contextlib
 import functools
 import hashlib
 import json
@@ -357,9 +356,9 @@ def sync_times(place):
 
 
 def ask(turn, sizes, of_one):
-    """The calls of one turn, kind by kind, over each size."""
+    """The calls of one turn, kind by kind, over each size, in two turns from the first on and in the next two from the last."""
     for name, line_of in KINDS:
-        for measured in sizes.values():
+        for measured in list(sizes.values())[:: 1 - 2 * (turn // 2 % 2)]:
             measured.ask(turn, name, line_of)
         if name in OF_ONE:
             of_one.ask(turn, name, line_of)
@@ -449,31 +448,34 @@ def figure(value):
     return f"{value:,.{digits}f}"
 
 
-def head():
-    """What the page compares, where that was measured, and what writes it."""
+def head(is_first):
+    """What the page compares, where that was measured, and what writes it. The room is what all scripts take, /tmp for finished.py's largest file thrice."""
+    before = "; the timed programs had real-time priority (SCHED_FIFO)" if is_first else ", and that work is in the times"
     return paragraph(
-        f"""`bin/desk` beside `bench/desk.c` (C), which does the same transactions by hand on SQLite {sqlite3.sqlite_version} and gives the same
-        replies. Measured on {os.cpu_count()} processors that other work shared; what is timed went before that, by its priority. A single time may differ
-        by a third from run to run; instructions do not vary. `make bench` writes this page, and takes gcc, SQLite's header, valgrind, strace, and room for the files below in
-        `/tmp` and `/dev/shm`."""
+        f"""`bin/desk`, over the kit's crate `sqlite` (the engine), beside `bench/desk.c` (C), which makes the same writes by hand on SQLite
+        {sqlite3.sqlite_version} and gives the same replies. C checks names, contacts and keys only as far as these calls need. In each call that needs them
+        it looks up the desk's own row, the nonce and what has ended; the desk remembers these. Measured on {os.cpu_count()} processors that other work
+        shared{before}. Times vary from run to run, instructions do not. `make bench` writes this page. It takes gcc, SQLite's header, valgrind, strace, and
+        room in `bin/` (0.5 GB), `/tmp` (6.5 GB) and `/dev/shm` (2.5 GB)."""
     )
 
 
 def synced(counts, sync):
     """The sentence on how often a call syncs, and how long that takes."""
     times = {1: "once", 2: "twice"}
-    names = {"desk": "the desk syncs", "once": "with `--sync once`", "c": "C"}
-    counted = ", ".join(f"{names[who]} {times.get(count, f'{count} times')}" for who, count in counts.items())
-    return f"{f'In each {counted}; a' if counted else 'A'} sync took {1e6 * sync:,.0f} microseconds here."
+    names = {"desk": "in the desk", "once": "with `--sync once`", "c": "in C"}
+    counted = ", ".join(f"{times.get(count, f'{count} times')} {names[who]}" for who, count in counts.items())
+    return f"{f'Each call syncs {counted}; a' if counted else 'A'} sync took {1e6 * sync:,.0f} microseconds here."
 
 
 def carried(seconds, counts, sync):
     """The seconds of an order's calls, by where they are made."""
     life = {who: sum(found[name] * times for name, times in LIFE.items()) for who, found in seconds.items()}
     lists = sum(seconds["desk"][name] for name in WORK_LISTS)
-    slower = {"desk": f"where a sync takes {1000 * SLOW_SYNC:.0f} ms", "once": "there, `--sync once`"}
+    computed = f"computed for syncs of {1000 * SLOW_SYNC:.0f} ms"
+    slower = {"desk": computed, "once": f"{computed}, `--sync once`"}
     more = {who: sum(LIFE.values()) * count * (SLOW_SYNC - sync) for who, count in counts.items()}
-    here = {"on this disk": life["desk"], "with both lists of work": life["desk"] + lists}
+    here = {"on this disk": life["desk"], f"with both lists of work, {CALLS} items each": life["desk"] + lists}
     return here | {said: life[who] + more[who] for who, said in slower.items() if who in more}
 
 
@@ -483,30 +485,39 @@ def carries(disk, counts):
     calls = ", ".join(name if times == 1 else f"{name} {times} times" for name, times in LIFE.items())
     found = carried(disk.sizes[largest].seconds, counts, disk.sync)
     rows = [(said, f"{1000 * life:.{0 if life >= 0.01 else 1}f}", f"{86400 / life / 1e6:.2g}") for said, life in found.items()]
-    text = f"An order takes {sum(LIFE.values())} calls, each one transaction: {calls}. {synced(counts, disk.sync)}"
+    computed = f"The last two rows are computed, with {1000 * SLOW_SYNC:.0f} ms for each of these syncs." if counts else ""
+    text = f"""An order takes {sum(LIFE.values())} calls, each one transaction: {calls}. {synced(counts, disk.sync)} The times are medians through pipes, so
+        neither the copying of the log into the file nor a connection for each call (below) is in them. {computed}"""
     limit = """Old orders stay: when opening takes too long, a house puts the file aside and makes a new one. A house that outgrows one desk runs
         several, each with its own file, base and accounts; the front tells them apart by host name."""
-    titles = (f"an order's calls, over {largest:,}", "ms", "million orders a day")
+    titles = (f"an order's calls, in a file of {largest:,} orders", "ms", "million orders a day")
     return ["## What one desk carries", "", *paragraph(text), *table(titles, rows), *paragraph(limit)]
 
 
+def beside(value, goal):
+    """A value that misses a goal, told apart from it."""
+    return figure(value) if figure(value) != figure(goal) else f"just {'below' if value < goal else 'above'} {figure(goal)}"
+
+
 def listed(found):
-    """The kinds of calls that miss a goal, each with its figure."""
-    return ", ".join(f"{name} ({figure(value)})" for name, value in found.items()) or "none"
+    """Which kinds of calls miss a goal, by the values and the goals of those that do."""
+    return "missed by " + ", ".join(f'"{name}" ({beside(*both)})' for name, both in found.items()) if found else "none misses it"
 
 
 def slow(disk, who):
-    """The kinds of calls whose rate by C's is below the goal at some size, each with the least one."""
+    """Which kinds of calls have a rate by C's below the goal at some size, each with the least one."""
     goals, others = GOALS[who]
-    least = {name: min(disk.ratio(size, name, who) for size in disk.sizes) for name, _ in KINDS}
-    return listed({name: value for name, value in least.items() if value < goals.get(name, others)})
+    least = {name: (min(disk.ratio(size, name, who) for size in disk.sizes), goals.get(name, others)) for name, _ in KINDS}
+    return listed({name: (value, goal) for name, (value, goal) in least.items() if value < goal})
 
 
 def missed(disk):
-    """The sentence on the goals."""
+    """The sentences on the goals."""
     grown = {name: disk.growth(name) for name, _ in KINDS} | {f"{name}, of {ORDERS_OF_ONE:,} orders": disk.growth_of_one(name) for name in OF_ONE}
-    return f"""Goals missed at some size: ratio 0.5 by {slow(disk, "desk")}; `--sync once` 0.8 for newNonce and newAccount, 0.6 for others, by
-        {slow(disk, "once")}; growth {GROWTH} by {listed({name: value for name, value in grown.items() if value > GROWTH})}."""
+    sizes = " and ".join(", ".join(f"{size:,}" for size in disk.sizes).rsplit(", ", 1))
+    return f"""The goals are for files of {sizes} orders; where a call misses one, its least value is given. At least 0.5 of C's rate:
+        {slow(disk, "desk")}. With `--sync once`, at least 0.8 of C's rate for newNonce and newAccount, 0.6 for others: {slow(disk, "once")}. Growth of at
+        most {GROWTH} in time: {listed({name: (value, GROWTH) for name, value in grown.items() if value > GROWTH})}; growth in instructions is below."""
 
 
 def rates(disk, memory):
@@ -514,42 +525,50 @@ def rates(disk, memory):
     smallest, largest = min(disk.sizes), max(disk.sizes)
     has_c = "c" in disk.sizes[largest].seconds
     growths = {"growth": "desk", **({"C's growth": "c"} if has_c else {})}
-    ratios = {"ratio": (disk, "desk"), "`--sync once`": (disk, "once"), **({"no sync": (memory, "desk")} if memory else {})} if has_c else {}
+    by_c = "of C's rate"
+    in_memory = {f"{by_c}, in memory": (memory, "desk")} if memory else {}
+    ratios = {by_c: (disk, "desk"), f"{by_c}, `--sync once`": (disk, "once"), **in_memory} if has_c else {}
     rows = []
     for name, _ in KINDS:
         rate = 1 / disk.sizes[largest].seconds["desk"][name]
         grown = (disk.growth(name, who) for who in growths.values())
         compared = (run.ratio(largest, name, who) for run, who in ratios.values())
         rows.append((name, *map(figure, (rate, *grown, *compared))))
-    in_memory = ", and over files in memory" if memory else ""
-    by_c = f"; ratio the rate by C's, so also with `--sync once`{in_memory}" if has_c else ""
-    text = f"""One call after the other through pipes, over {largest:,} pending orders of one name, {ORDERS_OF_ACCOUNT} to an account; medians. Growth is
-        the time by that over {smallest:,} orders{by_c}."""
-    of_one = ", ".join(f"{name} {figure(disk.growth_of_one(name))}" for name in OF_ONE)
-    said = f"Growth to an account of {ORDERS_OF_ONE:,} orders: {of_one}. {missed(disk) if has_c else ''}"
-    return ["## Calls a second", "", *paragraph(text), *table(("call", "a second", *growths, *ratios), rows), *paragraph(said)]
+    ways = f"as it is, with `--sync once`{', and over files in memory' if memory else ''}"
+    text = f"""One call after the other through pipes, over {largest:,} pending orders of one name, {ORDERS_OF_ACCOUNT} to an account. Times are
+        medians of {RUNS * TURNS} turns of {CALLS} calls; the calls of a turn are for the orders of one account. Growth is the time over {largest:,} orders
+        divided by that over {smallest:,}. {f"The last columns are the desk's rate divided by C's: {ways}." if has_c else ""}"""
+    read, replaced = (figure(disk.growth_of_one(name)) for name in OF_ONE)
+    of_one = f"""An account with all {ORDERS_OF_ONE:,} orders of its file takes {read} times as long to read as one with {ORDERS_OF_ACCOUNT} in the file of
+        {largest:,}, and its contacts {replaced} times as long to replace."""
+    said = [*paragraph(of_one), *(paragraph(missed(disk)) if has_c else [])]
+    return ["## Calls a second", "", *paragraph(text), *table(("call", "a second", *growths, *ratios), rows), *said]
 
 
-def page(counts, disk, memory):
+def page(counts, disk, memory, is_first):
     """The lines of the page's head and of the sections that this script measures."""
-    return ["# Performance", "", *head(), *carries(disk, counts), *rates(disk, memory)]
+    return ["# Performance", "", *head(is_first), *carries(disk, counts), *rates(disk, memory)]
 
 
 def go_first():
-    """Puts this program and those that it starts before others, where it may: on busy processors a sync else waits for a turn, up to 4 ms."""
-    with contextlib.suppress(PermissionError):
+    """Puts this program and those that it starts before others, and says whether it may: on busy processors a sync else waits for a turn, up to 4 ms."""
+    try:
         os.sched_setscheduler(0, os.SCHED_FIFO, os.sched_param(1))
+    except OSError as refused:
+        print(f"bench: no SCHED_FIFO ({refused.strerror}): other work is in the times", file=sys.stderr)
+        return False
+    return True
 
 
 def main():
     parser = argparse.ArgumentParser(description=__doc__.split("\n", maxsplit=1)[0])
     parser.add_argument("--sizes", default=",".join(map(str, SIZES)))
     sizes = [int(size) for size in parser.parse_args().sizes.split(",")]
-    go_first()
+    is_first = go_first()
     os.makedirs(f"{TOP}/bin", exist_ok=True)
     disk = Run(f"{TOP}/bin", sizes)
     memory = Run("/dev/shm", sizes, "once") if os.path.isdir("/dev/shm") else None
-    print("\n".join(page(counted_syncs(), disk, memory)))
+    print("\n".join(page(counted_syncs(), disk, memory, is_first)))
 
 
 if __name__ == "__main__":

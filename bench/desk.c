@@ -1,8 +1,9 @@
 /* The transactions of the desk by hand, on SQLite: a line of a batch in, a reply line out.
  *
- * `make bench` times it against the program. It reads the same lines, does the same look-ups and writes of rows in one
- * transaction a call, and writes the same replies for the calls that the bench makes; for other requests it is no desk:
- * it looks at names, contacts and keys only as far as the bench needs it.
+ * `make bench` times it against the program. It reads the same lines, makes the same writes of rows in one transaction a
+ * call, and writes the same replies for the calls that the bench makes. It remembers nothing from one call to the next: it
+ * looks up what a call needs of the desk's own row, the nonce and what has ended, which the program remembers. For other
+ * requests it is no desk: it looks at names, contacts and keys only as far as the bench needs it.
  *
  *     desk FILE < calls > replies
  */

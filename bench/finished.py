@@ -36,7 +36,7 @@ FORMAT, LATER = 2, 3
 # The reports, with the end of what each prints of so many orders.
 REPORTS = {"about": "log: ", "page": "</html>\n", "status": "orders {}\n", "check": "no fault\n"}
 # An opening and its parts, and the one in C, as the page names them.
-OPENINGS = ("opening", "the engine's audit", "the desk's part", "the same in C (`bench/opening.c`)")
+OPENINGS = ("opening", "the engine's audit", "the desk's part", "the desk's part in C")
 
 
 def run(words, status=0):
@@ -138,8 +138,8 @@ def say_instructions(counts, size):
     if len(counts) < len(OPENINGS):
         return ""
     whole, audit, own, in_c = (count / size / 1000 for count in counts)
-    return f"""By callgrind, of {size:,}, an opening takes {whole:,.0f} thousand instructions an order without copies, the audit {audit:,.0f} of them;
-        the desk's part takes {own / in_c:.2f} times C's."""
+    return f"""By callgrind, opening {size:,} orders takes {whole:,.0f} thousand instructions an order, copying left out: {audit:,.0f} are the audit's, the
+        rest is {own / in_c:.2f} times C's."""
 
 
 def measure(program, path, size, turns):
@@ -217,7 +217,7 @@ def columns(program, in_c, size, turns, is_counted):
 
 def megabytes(held, kilobytes):
     """The cells of the size of a file, and of memory."""
-    return {"file, MB": f"{held / 1e6:,.0f}", "most memory, MB": f"{kilobytes / 1024:,.0f}"}
+    return {"file, MB": f"{held / 1e6:,.0f}", "most memory, MiB": f"{kilobytes / 1024:,.0f}"}
 
 
 def by_size(found):
@@ -228,11 +228,16 @@ def by_size(found):
 
 def page(over, served, turns, said):
     """The lines of the section, by the columns of each size, with what is said of instructions."""
+    has_c = OPENINGS[-1] in next(iter(over.values()))
+    in_c = "C (`bench/opening.c`) does this without an audit, and fetches the bytes of CSR and chain, which the desk does not copy." if has_c else ""
     text = f"""Each finished order has a CSR of {len(CSR):,} bytes and a chain of {len(CHAIN):,}. At each opening the engine's own audit reads each table
-        whole, so memory is the largest table's; then the desk reads and checks each row. {said} Each word opens the file first. Medians of {turns} runs,
-        in seconds:"""
-    asked = "Asked of a desk that serves the file; until a report is taken, or a backup's files are sent, it serves nobody else:"
-    return ["## Files", "", *paragraph(text), *by_size(over), *paragraph(asked), *by_size(served)]
+        whole. So memory is what the largest table takes; short rows take more there than in the file. Then the desk reads and checks each row. {in_c} {said}"""
+    rows = f"""The audit is timed by a file of a later format, which is refused right after it. The desk's part is the median of the differences, so rows do
+        not add up, and a small difference says little. Each word opens the file first, `restore` both files. Seconds are medians of {turns} runs; memory
+        is the most of all runs."""
+    asked = """Asked of a desk that serves the file, in seconds as above. A report keeps all others waiting until it is taken. A backup does so only while the
+        file and its log are sent; for the rest of its time the word checks the copy. The last row is a client's longest wait for a nonce meanwhile."""
+    return ["## Files", "", *paragraph(text), *paragraph(rows), *by_size(over), *paragraph(asked), *by_size(served)]
 
 
 def main():

@@ -22,7 +22,7 @@ import sys
 import tempfile
 import typing
 
-from bench import CALLS, KINDS, SIZES, TOP, Lines, check_replies, compiled, make_file, orders_of, paragraph, table
+from bench import CALLS, GROWTH, KINDS, SIZES, TOP, Lines, check_replies, compiled, make_file, orders_of, paragraph, table
 
 SIZE, TURNS = 10000, 8
 HEAD = "## Instructions of a call"
@@ -30,7 +30,7 @@ ALLOWED = 1.05
 MEMORY = re.compile(r"mem(cpy|move|set)")
 # The functions of the engine.
 ENGINE = re.compile(r"sqlite\w*::")
-TITLES = ("call", "desk", "C", "ratio", "goal", "engine, %", "growth", "C's")
+TITLES = ("call", "desk", "C", "times C's", "goal", "engine, %", "growth", "C's growth")
 # What a call was to take at most of what C takes for it.
 GOALS = {
     "newNonce": 1.35, "newAccount, known": 1.45, "newOrder": 2.0, "its orders": 1.8, "read an order": 1.65, "answer a challenge": 1.95,
@@ -164,22 +164,29 @@ def cells(name, counts, *ends):
     return name, f"{desk.own / 1000:.1f}", *by_c, goal, f"{desk.engine:.0f}", *grown
 
 
+def quoted(names):
+    """The names of calls, or that there are none."""
+    return ", ".join(f'"{name}"' for name in names) or "none"
+
+
 def compared(desk, in_c):
     """What is said of the ratios and the goals."""
     ratios = {name: round(desk[name].own / count.own, 2) for name, count in in_c.items()}
-    missed = ", ".join(name for name, goal in GOALS.items() if ratios[name] > goal) or "none"
-    return f"""A call takes {min(ratios.values()):.1f} to {max(ratios.values()):.1f} times C's: a statement costs the engine several times what it
-        costs SQLite, most of it fixed. Goals missed: {missed}."""
+    missed = quoted(name for name, goal in GOALS.items() if ratios[name] > goal)
+    return f"A call takes {min(ratios.values()):.1f} to {max(ratios.values()):.1f} times C's. Goals missed: {missed}."
 
 
 def section(counts, fewest, most):
     """The section of docs/PERFORMANCE.md."""
     in_c = counts.get("c", {})
     rest = max(most["desk"][name].rest / fewest["desk"][name].rest for name, _ in KINDS)
-    said = f"""Thousands, by callgrind, over {SIZE:,} orders, but for copying and clearing memory; a list of work has ten items. `make
-        instructions` writes this section; `make test` fails at a twentieth more. {compared(counts["desk"], in_c) if in_c else ""} The engine's
-        part is counted of all instructions, with those in the C library that it has copy and clear memory. Growth is that from {min(SIZES):,} to
-        {max(SIZES):,} orders: the trees of tables and indexes are deeper then. It is the engine's; what is not takes at most {rest:.2f} times as many."""
+    share = statistics.median(figures.engine for figures in counts["desk"].values())
+    grown = quoted(name for name, _ in KINDS if growth(name, "desk", fewest, most) > GROWTH)
+    said = f"""Thousands of instructions, by callgrind, over {SIZE:,} orders, without copying and clearing memory and without the copying of the log into
+        the file; a list of work has {CALLS} items. `make instructions` writes this section; `make test` fails where a call takes a twentieth more.
+        {compared(counts["desk"], in_c) if in_c else ""} The engine's share is of all instructions, copying included; its median is {share:.0f} per cent.
+        Growth is from {min(SIZES):,} to {max(SIZES):,} orders, where the trees of tables and indexes are deeper. It is the engine's: the rest grows at most
+        {rest:.2f} times. Calls that grow more than {GROWTH} times: {grown}."""
     rows = [cells(name, counts, fewest, most) for name, _ in KINDS]
     return "\n".join([HEAD, "", *paragraph(said), *table(TITLES, rows)])
 

@@ -114,8 +114,9 @@ def measure(program, turns, calls):
 def page(found):
     """The lines of the paragraph."""
     rates = {who: " or ".join(f"{1 / seconds[kind]:,.0f} {kind}" for kind in seconds) for who, seconds in found.items()}
-    idle = f", and {rates['nothing']} of a server that does nothing (`bench/nothing.c`)" if rates["nothing"] else ""
-    return paragraph(f"Over loopback, with a connection for each request, one client in Python gets {rates['desk']} a second{idle}.")
+    idle = f", and {rates['nothing']} from a server that does nothing (`bench/nothing.c`)" if rates["nothing"] else ""
+    return paragraph(f"""Over loopback, with a connection for each request, one client in Python gets {rates['desk']} a second from a new desk with one
+        account{idle}.""")
 
 
 def main():

@@ -36,8 +36,9 @@ def page(size, held, opening, memory, seconds):
     """The lines of the paragraph."""
     by_c = {name: f" ({seconds['c'][name] / seconds['desk'][name]:.2f})" if "c" in seconds else "" for name in ASKED}
     rates = ", ".join(f"{name} {1 / seconds['desk'][name]:,.0f}{by_c[name]}" for name in ASKED)
-    said = "calls a second (by C's)" if "c" in seconds else "calls a second"
-    return paragraph(f"{size:,} pending orders ({held / 1e6:,.0f} MB) open in {opening:,.1f} s with {memory / 2**20:,.0f} MB; {said}: {rates}.")
+    said = "Calls a second (of C's rate)" if "c" in seconds else "Calls a second"
+    return paragraph(f"""{size:,} pending orders (a file of {held / 1e6:,.0f} MB) open in {opening:,.1f} s with {memory / 2**20:,.0f} MiB of memory, in one
+        run. {said}: {rates}.""")
 
 
 def main():

@@ -1,9 +1,9 @@
 /* An opening by hand, on SQLite: reads each row of a desk's file, and checks what the desk checks of it.
  *
- * `bench/finished.py` times it beside the program. It reads the rows of the eight tables in the order of their keys, all columns whole, as
- * an opening of the desk does, and ends with 1 at the first that no book has: values of another kind, texts that are not UTF-8, numbers and
- * moments out of their limits, keys, contacts, names and problems of another form, tokens and thumbprints of another length, unknown words,
- * numbers that do not rise, references to no row. It does not audit the file before, as the desk's engine does.
+ * `bench/finished.py` times it beside the program. It reads the rows of the eight tables in the order of their keys, all columns, also the
+ * bytes of CSR and certificate, which the desk does not copy. It ends with 1 at the first row that no book has: values of another kind, texts
+ * that are not UTF-8, numbers and moments out of their limits, keys, contacts, names and problems of another form, tokens and thumbprints of
+ * another length, unknown words, numbers that do not rise, references to no row. It does not audit the file before, as the desk's engine does.
  *
  *     opening FILE
  */
