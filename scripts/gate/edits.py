@@ -40,6 +40,8 @@ MEMORY = 4 << 30  # what one crate's edits take at most, in bytes
 LEFT_OUT = "#[cfg(test)] "  # before an item; a file of definitions or lemmas becomes a comment
 TRIED = f"{ROOT}/planted/tried.txt"
 LOST = re.compile(r"has no field|is not in scope|has no `|was not admitted")  # of a proof that names what an edit took away
+UNPROVED = re.compile(r"\berror: |: not proved|: no proof")  # what the prover says of what it refuses
+SPARE = re.compile(r"has no function `[^`]+` for this file to be the proof of")  # of a proof whose method an edit leaves out
 
 
 class Edit:
@@ -188,7 +190,7 @@ def tried():
 
 def is_as_at(crate, commit):
     """Whether a crate and its planted edits stand as they did at a commit."""
-    parts = [f"crates/{crate}/{part}" for part in ("src", "specs", "proofs")] + [f"planted/{crate}"]
+    parts = [f"crates/{crate}/{part}" for part in ("src", "specs", "proofs", "must-fail")] + [f"planted/{crate}"]
     asked = ["git", "diff", "--quiet", commit or "", "--", *parts]
     return bool(commit) and not subprocess.run(asked, cwd=ROOT, stderr=subprocess.DEVNULL).returncode
 
@@ -381,15 +383,16 @@ def refused_together(folder, edits):
 
 
 def unproved_without(crate, folder):
-    """The lines on the gate's edits of a crate that leave out what it is not proved without."""
+    """The lines on the gate's edits of a crate that leave out what it is not proved without; the proof of a method that is left out may lie idle."""
     bad = []
     for edit in gate_edits(crate):
         without = [(path, old, new) for path, old, new in edit.pairs if leaves_out(old, new)]
         if without:
             with made(folder, without):
                 status, said = run(folder, "check", "--jobs", "1")
-            if status:
-                bad += [f"{edit.name}: {crate} is not proved without what it leaves out", said[-2000:]]
+            open_ones = [line for line in said.split("\n") if UNPROVED.search(line) and not SPARE.search(line)]
+            if status and (open_ones or not SPARE.search(said)):
+                bad += [f"{edit.name}: {crate} is not proved without what it leaves out", *open_ones, said[-2000:]]
     return bad
 
 
