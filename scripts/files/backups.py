@@ -20,6 +20,9 @@ LOCK = (512, 1 << 30)
 HELD = "another program has it; one that serves it is asked by --socket or --port, and --wait SECONDS tries again"
 NO_ROOM = "no file can be made in its directory: this user may not, or that is read-only or full"
 DISK = "its disk failed, or is full"
+BESIDE = "a file that is there has its journal, its log or its part under this name"
+LONG_NAME = "its name is too long: a desk's has 247 bytes at most"
+LOG_ALONE = "the log of another desk stands there, the file -wal beside it"
 JOURNAL_ALONE = "a rollback journal of another file stands there, the file -journal beside it"
 TAKEN = "there is a file already, and it stays as it is"
 # How late a word may be that waits, in seconds.

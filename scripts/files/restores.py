@@ -3,7 +3,7 @@ import os
 import subprocess
 import time
 
-from scripts.files.backups import DISK, HELD, JOURNAL_ALONE, because, held, mode_of
+from scripts.files.backups import BESIDE, DISK, HELD, JOURNAL_ALONE, LOG_ALONE, LONG_NAME, because, held, mode_of
 from scripts.files.stops import failed
 from scripts.serving.served import STOPPED, Server
 from scripts.trying import (DEVICE, NOT_A_DESK, answered, bytes_of, change, checked, copy, desk_with_calls, example, fresh, library, put, remove, run,
@@ -11,7 +11,6 @@ from scripts.trying import (DEVICE, NOT_A_DESK, answered, bytes_of, change, chec
 
 RESTORED, COPIED = (0, b"no fault\nrestored\n", b""), (0, b"no fault\ncopied\n", b"")
 KILLED = -9
-LOG_ALONE = "the log of another desk stands there, the file -wal beside it"
 NOBODY = 65534
 # The most steps that are tried.
 MOST = 10000
@@ -117,6 +116,12 @@ def restored_to_nothing(program, folder):
     see("beside a journal", it.restore("--verbose"), (1, b"", DEVICE + because(it.path, JOURNAL_ALONE)))
     see("it stays", it.names(), ["desk.db-journal"])
     os.remove(f"{it.path}-journal")
+    for ending in ("-journal", "-wal", "-part"):
+        to = f"{it.copy}{ending}"
+        see(f"to the name of the {ending} of another", run(program, "restore", it.source, to, "--verbose"), (1, b"", NOT_A_DESK[2] + because(to, BESIDE)))
+    long = f"{it.room}/{'n' * 248}"
+    see("to a name that is too long", run(program, "restore", it.copy, long, "--verbose"), (1, b"", DEVICE + because(long, LONG_NAME)))
+    see("nothing is left", it.names(), [])
     none = f"{it.room}/none/desk.db"
     see("without a directory", run(program, "restore", it.copy, none, "--verbose"), (1, b"", DEVICE + because(none, "its directory is missing")))
     remove(it.path)

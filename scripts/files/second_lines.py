@@ -8,7 +8,7 @@ import subprocess
 import threading
 import tty
 
-from scripts.files.backups import DISK, HELD, JOURNAL_ALONE, TAKEN, because, held, mode_of
+from scripts.files.backups import BESIDE, DISK, HELD, JOURNAL_ALONE, LOG_ALONE, LONG_NAME, TAKEN, because, held, mode_of
 from scripts.files.stops import Desk
 from scripts.repository import read
 from scripts.serving.served import Server, stranger
@@ -287,6 +287,13 @@ def stood_there(program, folder):
     os.mkdir(f"{room}/log.db-wal")
     refused(f"{room}/log.db", NO_LOG_FILE, DEVICE)
     refused(f"{room}/none/file.db", "its directory is missing", DEVICE)
+    put(f"{room}/empty.db")
+    put(f"{room}/empty.db-journal", b"a journal")
+    refused(f"{room}/empty.db", JOURNAL_ALONE, DEVICE)
+    for ending in ("-journal", "-wal", "-part"):
+        refused(f"{text}{ending}", BESIDE)
+    refused(f"{room}/{'n' * 248}", LONG_NAME, DEVICE)
+    see("the longest name", run(program, *making(f"{room}/{'n' * 247}")), (0, b"made\n", b""))
     refused("", "its path leads to no file", DEVICE)
     unseen = "a\x1b[31m\n\u2028\u202e\u009b\u00e9\U0001f511b.db"
     escaped = r"a\u001b[31m\u000a\u2028\u202e\u009b\u00e9\ud83d\udd11b.db"
@@ -335,15 +342,14 @@ def log_alone(program, folder):
     with subprocess.Popen([program, "batch", "--file", path], stdin=subprocess.PIPE, stdout=subprocess.PIPE) as batch:
         answered(batch, example("first")[0][0])
         batch.kill()
-    os.remove(path)
     log = bytes_of(f"{path}-wal")
-    ended = run(program, *making(path))
-    if ended[0]:
-        cause = "the log of another desk stands there, the file -wal beside it"
-        see("make beside the log of another desk", ended, (1, b"", NOT_A_DESK[2] + because(path, cause)))
-        see("what stands there then", (os.path.exists(path), bytes_of(f"{path}-wal") == log), (False, True))
-    else:
-        see("a desk that is made beside the log of another", run(program, "check", path), (0, b"no fault\n", b""))
+    for said, is_there in (("no file", False), ("an empty one", True)):
+        os.remove(path)
+        if is_there:
+            put(path)
+        see(f"make beside the log of another desk, {said}", run(program, *making(path)), (1, b"", NOT_A_DESK[2] + because(path, LOG_ALONE)))
+        see(f"what stands there then, {said}", (os.path.exists(path), bytes_of(f"{path}-wal") == log), (is_there, True))
+        put(path)
 
 
 def together(program, folder):

@@ -6,7 +6,9 @@ ghost use Rattle.desk_store.specs.Making.{IsOfStorage};
 ghost use Rattle.app_files.specs.Endings.{EndsMaking, IsDisplaced, IsLeft, IsUnopened, IsUntouched};
 
 use crate::left::Left;
-use app_tasks::{Begun, Identity, Unfinished, lose_part, missing_log, remove_empty_log};
+use app_tasks::{
+    Begun, Identity, Unfinished, is_beside_file, lose_part, missing_log, remove_empty_log,
+};
 use desk_files::{close_from, make_from, open_from};
 use desk_model::{Clock, Policy};
 use desk_store::{OpenFault, Store};
@@ -36,10 +38,14 @@ pub(crate) fn holds_bytes(rt: &HostRuntime, path: &str) -> Result<bool, OpenFaul
     }
 }
 
-// Makes a file at the path, where there is none, which its user alone may read and write. An empty one stays as it is.
+// Makes a file at the path, where there is none, which its user alone may read and write. An empty one stays as it is. No file is made that
+// would take another's log for its own, or be taken for what stands beside another.
 fn make_empty(rt: &HostRuntime, path: &str) -> Result<Begun, OpenFault>
     ensures { IfErr result IsUntouched }
 {
+    if is_beside_file(rt, path) {
+        return Err(OpenFault::NotADesk);
+    }
     match holds_bytes(rt, path) {
         Ok(false) => {}
         Ok(true) => return Err(OpenFault::NotADesk),
@@ -47,7 +53,7 @@ fn make_empty(rt: &HostRuntime, path: &str) -> Result<Begun, OpenFault>
     }
     match Begun::at(rt, path) {
         Ok(begun) => Ok(begun),
-        Err(error) => Err(path_fault(error.kind())),
+        Err(error) => Err(empty_fault(error.kind())),
     }
 }
 
@@ -58,6 +64,17 @@ pub(crate) fn path_fault(kind: ErrorKind) -> OpenFault
     match kind {
         ErrorKind::OutOfMemory => OpenFault::Storage(StorageFault::Memory),
         _ => OpenFault::Storage(StorageFault::Device),
+    }
+}
+
+/// The fault of a file without bytes that is not made or can't be held: where a log stands alone, which is another desk's, that there is no
+/// desk.
+pub(crate) fn empty_fault(kind: ErrorKind) -> OpenFault
+    ensures { IsUntouched result }
+{
+    match kind {
+        ErrorKind::AlreadyExists => OpenFault::NotADesk,
+        kind => path_fault(kind),
     }
 }
 

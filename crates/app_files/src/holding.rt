@@ -1,14 +1,13 @@
 //! The file whose place a copy is to take, held against every other program.
 ghost use Rattle.sqlite.specs.WalFiles.{image_at};
-ghost use Rattle.app_files.specs.Endings.{EndsHolding, IsShut, IsUntouched};
+ghost use Rattle.app_files.specs.Endings.{EndsHolding, IsShut};
 
-use crate::files::{DeskFile, close, holds_bytes, open, path_fault};
+use crate::files::{DeskFile, close, empty_fault, holds_bytes, open};
 use crate::left::Left;
-use app_tasks::EmptyFile;
+use app_tasks::{EmptyFile, is_beside_file};
 use desk_store::{OpenFault, Store};
 use sqlite::{FileFrom, Start};
 use sqlite_disk::Disk;
-use std::io::ErrorKind;
 
 /// A file that is held until this is dropped.
 pub enum HeldFile<D: Disk> {
@@ -42,8 +41,8 @@ impl<D: Disk + Drop> Drop for HeldFile<D> {
 ///
 /// # Errors
 ///
-/// `NotADesk` where the file holds something else than a desk, or where it is missing or empty and a log stands there that holds
-/// something; `NewerFormat` where it holds a desk of a later format; `Storage` where the file or its store failed, or another program
+/// `NotADesk` where the file holds something else than a desk, where it is missing or empty and a log stands there that holds
+/// something, or where it has the name of what stands beside another file; `NewerFormat` where it holds a desk of a later format; `Storage` where the file or its store failed, or another program
 /// has it; with what is left of the files.
 pub fn hold<S: Start>(
     rt: &HostRuntime,
@@ -52,6 +51,9 @@ pub fn hold<S: Start>(
 ) -> Result<HeldFile<FileFrom<S>>, (OpenFault, Left<FileFrom<S>>)>
     ensures { EndsHolding (image_at S.Start) result }
 {
+    if is_beside_file(rt, path) {
+        return Err((OpenFault::NotADesk, Left::Untouched));
+    }
     match holds_bytes(rt, path) {
         Ok(true) => hold_desk(rt, path, start),
         Ok(false) => hold_empty(rt, path),
@@ -96,15 +98,5 @@ fn hold_empty<S: Start>(
     match EmptyFile::hold(rt, path) {
         Ok(file) => Ok(HeldFile::Empty(file)),
         Err(error) => Err((empty_fault(error.kind()), Left::Untouched)),
-    }
-}
-
-// The fault of a file without bytes that can't be held: where a log stands alone, which is another desk's, that there is no desk.
-fn empty_fault(kind: ErrorKind) -> OpenFault
-    ensures { IsUntouched result }
-{
-    match kind {
-        ErrorKind::AlreadyExists => OpenFault::NotADesk,
-        kind => path_fault(kind),
     }
 }

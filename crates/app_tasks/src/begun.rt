@@ -1,6 +1,6 @@
 //! What a making or a restoring begins at a path, and what is taken back of it where it fails.
 
-use crate::beside::{has_full_log, missing_log, stands};
+use crate::beside::{has_full_log, has_long_name, has_odd_log, missing_log, stands};
 use crate::causes::has_journal;
 use crate::copies::make_new;
 use crate::identity::Identity;
@@ -41,8 +41,10 @@ impl Begun {
     ///
     /// # Errors
     ///
-    /// Those of making it, and of looking at it.
+    /// Those of making it, and of looking at it; `AlreadyExists` where another desk's log stands beside it, `Unsupported` where something
+    /// else does that would be taken for its own, or its name is too long for a desk's.
     pub fn at(rt: &HostRuntime, path: &str) -> io::Result<Begun> {
+        may_begin(rt, path)?;
         let is_new = match make_new(rt, path) {
             Ok(_) => true,
             Err(error) if error.kind() == ErrorKind::AlreadyExists => false,
@@ -131,15 +133,9 @@ impl EmptyFile {
     ///
     /// # Errors
     ///
-    /// Those of making it and looking at it; `WouldBlock` where another program has it, put something into it, or took its place;
-    /// `Unsupported` where a journal of SQLite's stands beside it; `AlreadyExists` where a log does that holds something.
+    /// As of `Begun::at`; `WouldBlock` where another program has it, put something into it, or took its place.
     pub fn hold(rt: &HostRuntime, path: &str) -> io::Result<EmptyFile> {
-        if has_full_log(rt, path)? {
-            return Err(ErrorKind::AlreadyExists.into());
-        }
-        if has_journal(rt, path) {
-            return Err(ErrorKind::Unsupported.into());
-        }
+        may_begin(rt, path)?;
         // One that was stopped before it lost its first name has that, too.
         lose_part(rt, path);
         let begun = begin_owned(rt, path)?;
@@ -156,6 +152,17 @@ impl EmptyFile {
     pub fn give_up(&self, rt: &HostRuntime, path: &str) {
         self.begun.take_back(rt, path, Unfinished::Unmade);
     }
+}
+
+// That no other's log or journal stands beside a path, which would be taken for those of a desk that gets it, and that these have names.
+fn may_begin(rt: &HostRuntime, path: &str) -> io::Result<()> {
+    if has_long_name(path) || has_journal(rt, path) || has_odd_log(rt, path) {
+        return Err(ErrorKind::Unsupported.into());
+    }
+    if has_full_log(rt, path)? {
+        return Err(ErrorKind::AlreadyExists.into());
+    }
+    Ok(())
 }
 
 // Makes a file at a path where there is none; where the system allows that, it gets the path once it has the owner of its directory, so

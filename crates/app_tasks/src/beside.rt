@@ -98,6 +98,30 @@ pub(crate) fn has_full_log(rt: &HostRuntime, path: &str) -> io::Result<bool> {
     }
 }
 
+/// Whether something stands in the place of the log beside the path that is none: a link, a directory, a pipe or a socket.
+pub(crate) fn has_odd_log(rt: &HostRuntime, path: &str) -> bool {
+    match named(rt, path, "-wal") {
+        Ok(log) => fs::symlink_metadata(rt, log.as_str()).is_ok_and(|found| !found.is_file()),
+        Err(_) => false,
+    }
+}
+
+// The most bytes of the name of a desk's file: the longest name of what the engine looks for beside it, that of a journal, has 255 then.
+const LONGEST_NAME: usize = 247;
+
+/// Whether the name that a path ends with is too long for a desk's.
+pub(crate) fn has_long_name(path: &str) -> bool {
+    name_of(path).len() > LONGEST_NAME
+}
+
+/// The name that a path ends with.
+pub(crate) fn name_of(path: &str) -> &str {
+    match path.rsplit_once('/') {
+        Some((_, name)) => name,
+        None => path,
+    }
+}
+
 /// Whether there is a directory for the file at a path.
 pub(crate) fn has_directory(rt: &HostRuntime, path: &str) -> bool {
     match path.rsplit_once('/') {

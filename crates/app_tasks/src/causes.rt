@@ -1,6 +1,7 @@
 //! Why a file is not opened, made or copied, as looking at it tells.
 
-use crate::beside::{has_directory, has_log, is_beside_log, named, stands};
+use crate::beside::{has_directory, has_log, has_long_name, is_beside_log, named, stands};
+use crate::copies::is_beside_file;
 use crate::locks::is_held;
 use std::fs::{self, OpenOptions};
 use std::io::{self, ErrorKind};
@@ -34,6 +35,9 @@ pub enum FileCause {
     /// There is none, but SQLite's journal of one.
     #[error("a rollback journal of another file stands there, the file -journal beside it")]
     JournalAlone,
+    /// It is the journal, the log or the part of another file.
+    #[error("a file that is there has its journal, its log or its part under this name")]
+    Beside,
     /// Its bytes are not those of a desk.
     #[error("it holds something else than a desk")]
     NoDesk,
@@ -73,6 +77,9 @@ pub enum FileCause {
     /// No room is left in its name for the endings of what stands beside it.
     #[error("its name is too long: a copy's has 242 bytes at most")]
     LongName,
+    /// The same of the file of a desk.
+    #[error("its name is too long: a desk's has 247 bytes at most")]
+    LongDeskName,
     /// Its disk has no room.
     #[error("its disk is full")]
     Full,
@@ -116,6 +123,7 @@ impl FileCause {
         match fs::metadata(rt, path) {
             Ok(found) if !found.is_file() => FileCause::NotAFile,
             Ok(found) if found.len() > 0 => FileCause::Taken,
+            _ if is_beside_file(rt, path) => FileCause::Beside,
             _ if has_log(rt, path) => FileCause::LogAlone,
             _ => FileCause::Taken,
         }
@@ -169,6 +177,7 @@ impl FileCause {
     /// Why the file at a path holds no desk.
     pub fn deskless(rt: &HostRuntime, path: &str) -> FileCause {
         match fs::metadata(rt, path) {
+            Ok(found) if !found.is_file() => FileCause::NotAFile,
             Ok(found) if found.len() == 0 => FileCause::Empty,
             Ok(_) => FileCause::NoDesk,
             Err(_) if has_directory(rt, path) => FileCause::Missing,
@@ -178,7 +187,11 @@ impl FileCause {
 
     /// Why no copy takes the place of the file at a path, which holds no desk.
     pub fn not_replaced(rt: &HostRuntime, path: &str) -> FileCause {
-        if is_beside_log(rt, path) && !fs::metadata(rt, path).is_ok_and(|found| found.len() > 0) {
+        if is_beside_file(rt, path) {
+            FileCause::Beside
+        } else if is_beside_log(rt, path)
+            && !fs::metadata(rt, path).is_ok_and(|found| found.len() > 0)
+        {
             FileCause::LogAlone
         } else {
             FileCause::deskless(rt, path)
@@ -194,8 +207,10 @@ fn of_file(rt: &HostRuntime, path: &str) -> FileCause {
                 FileCause::Linked
             } else if is_held(&file) {
                 FileCause::Held
+            } else if has_journal(rt, path) {
+                of_journal(&file)
             } else {
-                of_neighbours(rt, path)
+                of_log(rt, path)
             }
         }
         Err(error) => FileCause::of(error),
@@ -209,6 +224,9 @@ fn is_linked(file: &fs::File) -> bool {
 
 // Why no file was made at a path where there is none.
 fn of_missing(rt: &HostRuntime, path: &str) -> FileCause {
+    if has_long_name(path) {
+        return FileCause::LongDeskName;
+    }
     if has_journal(rt, path) {
         return FileCause::JournalAlone;
     }
@@ -218,12 +236,12 @@ fn of_missing(rt: &HostRuntime, path: &str) -> FileCause {
     }
 }
 
-// Why a file was not reached with which nothing is the matter itself.
-fn of_neighbours(rt: &HostRuntime, path: &str) -> FileCause {
-    if has_journal(rt, path) {
-        FileCause::Journal
+// Why a file was not reached beside which a journal stands: one without bytes has none of its own.
+fn of_journal(file: &fs::File) -> FileCause {
+    if file.metadata().is_ok_and(|found| found.len() == 0) {
+        FileCause::JournalAlone
     } else {
-        of_log(rt, path)
+        FileCause::Journal
     }
 }
 
@@ -236,7 +254,7 @@ pub(crate) fn has_journal(rt: &HostRuntime, path: &str) -> bool {
     }
 }
 
-// The same where no journal stands beside it.
+// Why a file was not reached, or not made, with which nothing is the matter itself, and beside which no journal stands.
 fn of_log(rt: &HostRuntime, path: &str) -> FileCause {
     let Ok(log) = named(rt, path, "-wal") else {
         return FileCause::Failed;

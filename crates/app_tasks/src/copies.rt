@@ -2,7 +2,7 @@
 ghost use Rattle.std.specs.Prelude.{IsTrue};
 ghost use Rattle.std.specs.Fs.{asks_create_new};
 
-use crate::beside::{is_beside_log, stands, take_log_away};
+use crate::beside::{is_beside_log, name_of, stands, take_log_away};
 use crate::causes::{FileCause, has_journal};
 use crate::identity::Identity;
 use crate::parts::Part;
@@ -158,14 +158,6 @@ pub(crate) fn begin_new(rt: &HostRuntime, to: &str) -> Result<Part, CopyFault> {
         return Err(CopyFault::Failed(FileCause::LongName));
     }
     begin(rt, to)
-}
-
-// The name that a path ends with.
-fn name_of(path: &str) -> &str {
-    match path.rsplit_once('/') {
-        Some((_, name)) => name,
-        None => path,
-    }
 }
 
 // The part of the copy that gets a path; `Failed` where it can't be made.
